@@ -1,0 +1,142 @@
+-- Documents of BSON 1.1 as lists of elements.
+use Rattle.std.specs.Prelude.{◌≡◌, ◌≢◌, ℕ, zero, suc, ◌+◌, ◌-◌, ◌^◌, ◌<◌, ◌≤◌, ◌==◌, ◌⊎◌, Option, None, Some, List, [], ◌∷◌, ◌++◌, length, take, drop, map, slice_index, flat_map, IsUtf8, if◌then◌else◌, ⊤}
+use Rattle.std.specs.List.{AllByRecursion}
+use Rattle.std.specs.Int.{from_le_bytes, w32}
+use Rattle.mongo_bson.specs.Framed.{IsFramed, body_of}
+
+-- an element: its kind byte, its key, and the bytes of its value
+pub record Element : Type 0 where
+  pub kind : ℕ
+  pub key : List ℕ
+  pub value : List ℕ
+
+-- the bytes of an element
+abbrev pub spell : Element → List ℕ
+spell e = e.kind ∷ (e.key ++ 0 ∷ e.value)
+
+-- How the bytes of a value lie.
+pub data Shape : Type 0 where
+  fixed : ℕ → Shape
+  truth : Shape
+  string : Shape
+  document : Shape
+  binary : Shape
+  two_texts : Shape
+  string_and_id : Shape
+  code_with_scope : Shape
+
+-- the table of kinds
+abbrev pub shape_of : ℕ → Option Shape
+shape_of kind =
+    if kind == 0x01 then Some (fixed 8)
+    else if kind == 0x02 then Some string
+    else if kind == 0x03 then Some document
+    else if kind == 0x04 then Some document
+    else if kind == 0x05 then Some binary
+    else if kind == 0x06 then Some (fixed 0)
+    else if kind == 0x07 then Some (fixed 12)
+    else if kind == 0x08 then Some truth
+    else if kind == 0x09 then Some (fixed 8)
+    else if kind == 0x0A then Some (fixed 0)
+    else if kind == 0x0B then Some two_texts
+    else if kind == 0x0C then Some string_and_id
+    else if kind == 0x0D then Some string
+    else if kind == 0x0E then Some string
+    else if kind == 0x0F then Some code_with_scope
+    else if kind == 0x10 then Some (fixed 4)
+    else if kind == 0x11 then Some (fixed 8)
+    else if kind == 0x12 then Some (fixed 8)
+    else if kind == 0x13 then Some (fixed 16)
+    else if kind == 0x7F then Some (fixed 0)
+    else if kind == 0xFF then Some (fixed 0)
+    else None
+
+-- a text that a zero ends: UTF-8 without a zero
+pub record IsName (text : List ℕ) : Type 0 where
+  pub utf8 : IsUtf8 text
+  pub without_zero : AllByRecursion (λ b. b ≢ 0) text
+
+-- what stands between a string's length and its final zero
+abbrev pub text_of : List ℕ → List ℕ
+text_of v = take (length v - 5) (drop 4 v)
+
+-- an int32 that counts the text and its zero, the text, a zero
+pub record IsString (v : List ℕ) : Type 0 where
+  pub least : 5 ≤ length v
+  pub most : from_le_bytes w32 v < 2 ^ 31
+  pub counted : from_le_bytes w32 v + 4 ≡ length v
+  pub ended : slice_index v (length v - 1) ≡ 0
+  pub utf8 : IsUtf8 (text_of v)
+
+-- an int32 that counts the bytes after it and the subtype, the subtype, the bytes
+pub record IsBinary (v : List ℕ) : Type 0 where
+  pub least : 5 ≤ length v
+  pub most : from_le_bytes w32 v < 2 ^ 31
+  pub counted : from_le_bytes w32 v + 5 ≡ length v
+
+-- a pattern and its options, each ended by a zero
+pub record IsTwoTexts (v first second : List ℕ) : Type 0 where
+  pub spelled : v ≡ first ++ (0 ∷ (second ++ 0 ∷ []))
+  pub first_name : IsName first
+  pub second_name : IsName second
+
+-- a string and an object id
+pub record IsStringAndId (v name id : List ℕ) : Type 0 where
+  pub spelled : v ≡ name ++ id
+  pub string : IsString name
+  pub twelve : length id ≡ 12
+
+-- an int32 that counts the whole value, a string, a document
+pub record IsCodeWithScope (v code scope : List ℕ) : Type 0 where
+  pub most : length v < 2 ^ 31
+  pub counted : from_le_bytes w32 v ≡ length v
+  pub spelled : drop 4 v ≡ code ++ scope
+  pub string : IsString code
+  pub document : IsFramed scope
+
+-- the bytes of a value have this shape
+abbrev pub Holds : Shape → List ℕ → Type 0
+Holds (fixed n) v = length v ≡ n
+Holds truth v = (v ≡ 0 ∷ []) ⊎ (v ≡ 1 ∷ [])
+Holds string v = IsString v
+Holds document v = IsFramed v
+Holds binary v = IsBinary v
+Holds two_texts v = (first second : List ℕ) × IsTwoTexts v first second
+Holds string_and_id v = (name id : List ℕ) × IsStringAndId v name id
+Holds code_with_scope v = (code scope : List ℕ) × IsCodeWithScope v code scope
+
+pub record IsElement (e : Element) : Type 0 where
+  pub shape : Shape
+  pub known : shape_of e.kind ≡ Some shape
+  pub key : IsName e.key
+  pub value : Holds shape e.value
+
+-- b is the document of these elements, which fill it exactly
+pub record IsDocument (b : List ℕ) (elements : List Element) : Type 0 where
+  pub framed : IsFramed b
+  pub filled : body_of b ≡ flat_map spell elements
+  pub each : AllByRecursion IsElement elements
+
+-- d is the document or array that a value is, or the scope that it holds
+abbrev pub IsInside : Element → List ℕ → Type 0
+IsInside e d = ((shape_of e.kind ≡ Some document) × (d ≡ e.value)) ⊎ ((e.kind ≡ 0x0F) × (code : List ℕ) × IsCodeWithScope e.value code d)
+
+-- each value and each document inside is a document's, down to so many levels, of which b is the first
+unfoldable pub IsReadable : ℕ → List ℕ → Type 0
+IsReadable zero b = ⊥
+IsReadable (suc levels) b = (elements : List Element) × IsDocument b elements × AllByRecursion (λ e. (d : List ℕ) → IsInside e d → IsReadable levels d) elements
+
+-- how deep a readable document may be
+abbrev pub greatest_depth : ℕ
+greatest_depth = 100
+
+-- no key stands twice
+abbrev pub HasDistinctKeys : List Element → Type 0
+HasDistinctKeys [] = ⊤
+HasDistinctKeys (e ∷ es) = AllByRecursion (λ later. later.key ≢ e.key) es × HasDistinctKeys es
+
+-- readable, and no top-level key stands twice
+pub record IsWellFormed (b : List ℕ) (elements : List Element) : Type 0 where
+  pub document : IsDocument b elements
+  pub readable : IsReadable greatest_depth b
+  pub distinct : HasDistinctKeys elements

@@ -1,0 +1,4 @@
+pub mod Framed
+pub mod Document
+pub mod Value
+pub mod Steps

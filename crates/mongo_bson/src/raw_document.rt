@@ -1,0 +1,50 @@
+ghost use Rattle.std.specs.Prelude.{◌≡◌, ◌↔◌, IsTrue, IsOk, IfOk, IfErr};
+ghost use Rattle.mongo_bson.specs.Framed.{IsFramed};
+
+use crate::BsonFault;
+
+/// A document borrowed from bytes: its length field is its length, and its last byte is zero. Its elements are judged
+/// as they are read.
+#[derive(Debug, Clone, Copy, Drop)]
+pub struct RawDocument<'a> {
+    pub(crate) bytes: &'a [u8],
+    pub ghost framed: { IsFramed bytes.now },
+}
+
+impl<'a> RawDocument<'a> {
+    /// The document that the bytes are.
+    ///
+    /// `Malformed` where the length field isn't their length, that is below 5, or the last byte isn't zero.
+    pub fn from_bytes(bytes: &'a [u8]) -> Result<RawDocument<'a>, BsonFault>
+        ensures framed { IsOk result ↔ IsFramed bytes.now }
+        ensures bytes { IfOk result (λ document. document.bytes.now ≡ bytes.now) }
+        ensures malformed { IfErr result (λ fault. fault ≡ BsonFault.Malformed) }
+    {
+        if is_framed(bytes) {
+            Ok(RawDocument { bytes })
+        } else {
+            Err(BsonFault::Malformed)
+        }
+    }
+
+    /// The bytes of the document, its length and final zero included.
+    pub fn as_bytes(&self) -> &'a [u8]
+        ensures bytes { result.now ≡ self.now.bytes.now }
+        ensures framed { IsFramed result.now }
+    {
+        self.bytes
+    }
+}
+
+// Whether the bytes have the frame of a document.
+pub(crate) fn is_framed(bytes: &[u8]) -> bool
+    ensures { IsTrue result ↔ IsFramed bytes.now }
+{
+    match bytes {
+        [a, b, c, d, .., last] => {
+            let length = u32::from_le_bytes([*a, *b, *c, *d]);
+            length < 0x8000_0000 && length as usize == bytes.len() && *last == 0
+        }
+        _ => false,
+    }
+}

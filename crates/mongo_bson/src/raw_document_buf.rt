@@ -1,0 +1,91 @@
+ghost use Rattle.std.specs.Prelude.{◌≡◌, ◌++◌, ◌+◌, ◌^◌, ◌<◌, ◌≤◌, ◌↔◌, List, ℕ, [], ◌∷◌, length, Contains, IsOk, IfOk, IfErr, IsErrOf, OnOk, OnErr};
+ghost use Rattle.std.specs.Cmp.Lexicographic.{pointwise};
+ghost use Rattle.std.specs.Cmp.Rules.{comparing};
+ghost use Rattle.std.specs.Prelude.{◌==◌};
+ghost use Rattle.std.proofs.Common.{rules};
+ghost use Rattle.mongo_bson.specs.Framed.{IsFramed, body_of, enclosed};
+
+use crate::raw_document::is_framed;
+use crate::{BsonFault, Bytes, RawDocument};
+use std::alloc::Global;
+use std::marker::Model;
+
+/// A document that owns its memory. Contracts see its bytes.
+#[derive(Debug, Drop)]
+pub struct RawDocumentBuf {
+    held: Vec<u8>,
+}
+
+impl Model for RawDocumentBuf {
+    ghost Value = { List ℕ };
+
+    ghost view = { λ d. d.held.items };
+
+    ghost invariant = { λ d. IsFramed d.held.items };
+}
+
+impl RawDocumentBuf {
+    /// The document without elements. Want of memory is the only refusal.
+    pub fn new(alloc: Global) -> Result<RawDocumentBuf, BsonFault>
+        ensures empty { IfOk result (λ document. document ≡ enclosed []) }
+        ensures refused { IfErr result (λ fault. fault ≡ BsonFault.OutOfMemory) }
+    {
+        Ok(RawDocumentBuf {
+            held: Vec::from_slice(alloc, &[5, 0, 0, 0, 0])?,
+        })
+    }
+
+    /// The document that the bytes are.
+    ///
+    /// `Malformed` where [`RawDocument::from_bytes`] answers it. The bytes are dropped then.
+    pub fn from_bytes(bytes: Bytes) -> Result<RawDocumentBuf, BsonFault>
+        ensures framed { IsOk result ↔ IsFramed bytes }
+        ensures bytes { IfOk result (λ document. document ≡ bytes) }
+        ensures malformed { IfErr result (λ fault. fault ≡ BsonFault.Malformed) }
+    {
+        if is_framed(bytes.as_bytes()) {
+            Ok(RawDocumentBuf {
+                held: bytes.into_vec(),
+            })
+        } else {
+            Err(BsonFault::Malformed)
+        }
+    }
+
+    /// The document, borrowed.
+    pub fn borrow(&self) -> RawDocument<'_>
+        ensures { result.bytes.now ≡ self.now }
+    {
+        RawDocument {
+            bytes: self.held.as_slice(),
+        }
+    }
+
+    /// The bytes of the document, its length and final zero included.
+    pub fn as_bytes(&self) -> &[u8]
+        ensures bytes { result.now ≡ self.now }
+        ensures framed { IsFramed result.now }
+    {
+        self.held.as_slice()
+    }
+
+    /// A copy of the document. Want of memory is the only refusal.
+    pub fn try_clone(&self, alloc: Global) -> Result<RawDocumentBuf, BsonFault>
+        ensures copied { IfOk result (λ document. document ≡ self.now) }
+        ensures refused { IfErr result (λ fault. fault ≡ BsonFault.OutOfMemory) }
+    {
+        Ok(RawDocumentBuf {
+            held: Vec::from_slice(alloc, self.as_bytes())?,
+        })
+    }
+}
+
+impl PartialEq for RawDocumentBuf {
+    ghost eq = { pointwise ◌==◌ };
+
+    ghost laws = { Prim.search (comparing, rules) };
+
+    fn eq(&self, other: &RawDocumentBuf) -> bool {
+        self.as_bytes() == other.as_bytes()
+    }
+}

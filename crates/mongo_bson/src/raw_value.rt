@@ -1,0 +1,30 @@
+use crate::{ObjectId, RawDocument};
+
+/// A value of a document, borrowed from its bytes.
+#[derive(Debug, Clone, Copy, Drop)]
+pub enum RawValue<'a> {
+    /// A double as its 64 bits, the IEEE 754 binary64 pattern.
+    Double(u64),
+    /// A text without its length and final zero.
+    Str(&'a str),
+    /// A document.
+    Document(RawDocument<'a>),
+    /// An array: a document whose keys are `0`, `1` and so on.
+    Array(RawDocument<'a>),
+    /// A subtype and the bytes of a binary.
+    Binary(u8, &'a [u8]),
+    /// An object id.
+    ObjectId(ObjectId),
+    /// A truth value.
+    Bool(bool),
+    /// Milliseconds since 1970, UTC.
+    DateTime(i64),
+    /// Null.
+    Null,
+    /// A 32-bit integer.
+    Int32(i32),
+    /// A 64-bit integer.
+    Int64(i64),
+    /// A value of another kind: its kind byte and its bytes as they lie in the document.
+    Other(u8, &'a [u8]),
+}
