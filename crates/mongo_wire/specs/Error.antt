@@ -1,0 +1,16 @@
+-- What the faults of documents and sinks are as causes.
+use Rattle.mongo_bson.specs.declared.fault.BsonFault.{BsonFault}
+use Rattle.mongo_bson.specs.declared.fault.BsonFault.TheVariants.{Malformed, KeyHasZero, TooLong, DuplicateKey, UpdateEmpty, UpdateNotModifiers, ReplacementHasModifiers, OutOfMemory as NoMemory}
+use Rattle.mongo_wire.specs.declared.error.ErrorKind.{ErrorKind}
+use Rattle.mongo_wire.specs.declared.error.ErrorKind.TheVariants.{InvalidArgument, WriteFault, OutOfMemory}
+use Rattle.mongo_wire.specs.declared.outside.SinkError.{SinkError}
+use Rattle.mongo_wire.specs.declared.outside.SinkError.TheVariants.{Failed as SinkFailed, OutOfMemory as SinkMemory}
+use Rattle.mongo_wire.specs.declared.fault.ArgumentFault.TheVariants.{Bson}
+
+abbrev pub kind_of_fault : BsonFault → ErrorKind
+kind_of_fault NoMemory = OutOfMemory
+kind_of_fault fault = InvalidArgument (Bson fault)
+
+abbrev pub kind_of_sink_error : SinkError → ErrorKind
+kind_of_sink_error SinkFailed = WriteFault
+kind_of_sink_error SinkMemory = OutOfMemory

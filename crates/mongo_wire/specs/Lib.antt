@@ -1,0 +1,6 @@
+pub mod Outside
+pub mod Frame
+pub mod Bytes
+pub mod Plain
+pub mod Message
+pub mod Error

@@ -1,0 +1,32 @@
+ghost use Rattle.std.specs.Prelude.{◌≡◌, IfOk, IfErr};
+
+use mongo_bson::{BsonFault, Text, Texts};
+use std::alloc::Global;
+
+/// A server's answer that a command failed. Texts that the reply lacks are empty, labels that it lacks are none.
+#[derive(Debug, Drop, PartialEq)]
+pub struct CommandError {
+    /// The server's number for the error.
+    pub code: i32,
+    /// The name of the code.
+    pub code_name: Text,
+    /// What the server says of it.
+    pub message: Text,
+    /// The error labels.
+    pub labels: Texts,
+}
+
+impl CommandError {
+    /// A copy of the error. Want of memory is the only refusal.
+    pub fn try_clone(&self, alloc: Global) -> Result<CommandError, BsonFault>
+        ensures copied { IfOk result (λ error. error ≡ self.now) }
+        ensures refused { IfErr result (λ fault. fault ≡ BsonFault.OutOfMemory) }
+    {
+        Ok(CommandError {
+            code: self.code,
+            code_name: self.code_name.try_clone(alloc)?,
+            message: self.message.try_clone(alloc)?,
+            labels: self.labels.try_clone(alloc)?,
+        })
+    }
+}

@@ -1,0 +1,104 @@
+ghost use Rattle.std.specs.Prelude.{◌≡◌};
+ghost use Rattle.mongo_wire.specs.Error.{kind_of_fault, kind_of_sink_error};
+
+use crate::{
+    ArgumentFault, AuthFault, CommandError, InsertManyError, ResponseFault, SinkError, WriteFailure,
+};
+use mongo_bson::{BsonFault, Text};
+use std::alloc::{AllocError, AllocFailed};
+
+/// Why a call was refused.
+#[derive(Debug, Drop)]
+pub struct Error {
+    /// The cause.
+    pub kind: ErrorKind,
+}
+
+/// The causes of a refusal.
+#[derive(Debug, Drop)]
+pub enum ErrorKind {
+    /// What was handed in can't be used.
+    InvalidArgument(ArgumentFault),
+    /// The server's reply isn't what it has to be.
+    InvalidResponse(ResponseFault),
+    /// The server answered that the command failed.
+    Command(CommandError),
+    /// The login was refused.
+    Authentication(AuthFault),
+    /// The server doesn't fit what was asked for: a load balancer that names no service.
+    IncompatibleServer,
+    /// A single write was refused.
+    Write(WriteFailure),
+    /// Something of an insert was refused.
+    InsertMany(InsertManyError),
+    /// The link failed to read; its count of read faults rose.
+    ReadFault,
+    /// The link failed to write or flush; its count of write faults rose.
+    WriteFault,
+    /// The link ended before the bytes that were awaited; its count of ends rose.
+    EndOfInput,
+    /// The helper's callback failed, with its text.
+    Callback(Text),
+    /// The password has a character past ASCII, which isn't prepared here.
+    PasswordNotAscii,
+    /// What the server sent can't be read yet.
+    NotBuilt,
+    /// Memory ran out.
+    OutOfMemory,
+}
+
+impl From<ErrorKind> for Error {
+    ghost from_gives = { λ kind error. error.kind ≡ kind };
+
+    fn from(kind: ErrorKind) -> Error {
+        Error { kind }
+    }
+}
+
+impl From<BsonFault> for Error {
+    ghost from_gives = { λ fault error. error.kind ≡ kind_of_fault fault };
+
+    fn from(fault: BsonFault) -> Error {
+        let kind = match fault {
+            BsonFault::OutOfMemory => ErrorKind::OutOfMemory,
+            fault => ErrorKind::InvalidArgument(ArgumentFault::Bson(fault)),
+        };
+        Error { kind }
+    }
+}
+
+impl From<AllocError> for Error {
+    ghost use Rattle.mongo_wire.specs.declared.error.ErrorKind.TheVariants.{OutOfMemory};
+
+    ghost from_gives = { λ _ error. error.kind ≡ OutOfMemory };
+
+    fn from(_error: AllocError) -> Error {
+        Error {
+            kind: ErrorKind::OutOfMemory,
+        }
+    }
+}
+
+impl<T: Drop> From<AllocFailed<T>> for Error {
+    ghost use Rattle.mongo_wire.specs.declared.error.ErrorKind.TheVariants.{OutOfMemory};
+
+    ghost from_gives = { λ _ error. error.kind ≡ OutOfMemory };
+
+    fn from(_error: AllocFailed<T>) -> Error {
+        Error {
+            kind: ErrorKind::OutOfMemory,
+        }
+    }
+}
+
+impl From<SinkError> for Error {
+    ghost from_gives = { λ fault error. error.kind ≡ kind_of_sink_error fault };
+
+    fn from(fault: SinkError) -> Error {
+        let kind = match fault {
+            SinkError::Failed => ErrorKind::WriteFault,
+            SinkError::OutOfMemory => ErrorKind::OutOfMemory,
+        };
+        Error { kind }
+    }
+}

@@ -1,0 +1,42 @@
+//! OP_MSG frames over a link that is handed in, by the OP_MSG specification, and the errors of this workspace.
+//!
+//! A frame is a header of 16 bytes (`int32` length, request id, response-to and op code 2013), a `uint32` of flags,
+//! sections (one of kind 0, which holds the body, and any number of document sequences of kind 1), and an optional
+//! `uint32` checksum. `specs/Frame.antt` says so, both kinds of section and the checksum included; `specs/Bytes.antt`
+//! says what it means that commands and replies stand on a link as frames one after another.
+//!
+//! The outside is three traits: a [`Source`] gives bytes, a [`Sink`] takes them, a [`Link`] does both. What they mean
+//! stands on their calls: told bytes are lists, counts of faults and ends never fall.
+#![tactic(auto)]
+
+mod auth_fault;
+mod command_error;
+mod document_sequence;
+mod error;
+mod fault;
+mod memory_link;
+mod message;
+mod message_flags;
+mod outside;
+mod plain;
+mod reading;
+mod request_ids;
+mod standard;
+mod write_error;
+mod writing;
+
+pub use auth_fault::AuthFault;
+pub use command_error::CommandError;
+pub use document_sequence::{DocumentSequence, Sequences};
+pub use error::{Error, ErrorKind};
+pub use fault::{ArgumentFault, ResponseFault};
+pub use memory_link::MemoryLink;
+pub use message::Message;
+pub use message_flags::MessageFlags;
+pub use outside::{Failed, Link, Sink, SinkError, Source};
+pub use request_ids::RequestIds;
+pub use standard::{StdSink, StdSource};
+pub use write_error::{
+    IndexedWriteError, InsertManyError, WriteConcernError, WriteError, WriteErrors, WriteFailure,
+    WriteFailureCause,
+};

@@ -1,0 +1,120 @@
+ghost use Rattle.std.specs.Prelude.{◌≡◌, ◌≤◌, [], List, ℕ, length, drop, Some};
+ghost use Rattle.mongo_wire.specs.Outside.{Half};
+
+use crate::{Failed, Link, Sink, SinkError, Source};
+use mongo_bson::Bytes;
+use std::alloc::Global;
+use std::io::Read;
+
+/// A [`Link`] over lists in memory: it gives the bytes of its input and keeps what is written. It tells both and never
+/// fails.
+#[derive(Drop)]
+pub struct MemoryLink {
+    input: Vec<u8>,
+    at: usize,
+    output: Vec<u8>,
+    flushed: usize,
+    ends: u64,
+    ghost placed: { at ≤ length input.items },
+    ghost within: { flushed ≤ length output.items },
+}
+
+impl MemoryLink {
+    /// A link that gives these bytes, and to which nothing was written. It takes no memory.
+    pub fn new(alloc: Global, input: Bytes) -> MemoryLink
+        ensures input { result.input.items ≡ input }
+        ensures at { result.at ≡ 0 }
+        ensures output { result.output.items ≡ [] }
+        ensures flushed { result.flushed ≡ 0 }
+        ensures ends { result.ends ≡ 0 }
+    {
+        MemoryLink {
+            input: input.into_vec(),
+            at: 0,
+            output: Vec::new(alloc),
+            flushed: 0,
+            ends: 0,
+        }
+    }
+
+    /// All that was written.
+    pub fn written(&self) -> &[u8]
+        ensures { result.now ≡ self.now.output.items }
+    {
+        self.output.as_slice()
+    }
+
+    /// What is left of the input.
+    pub fn left(&self) -> &[u8]
+        ensures { result.now ≡ drop self.now.at self.now.input.items }
+    {
+        &self.input.as_slice()[self.at..]
+    }
+}
+
+impl Source for MemoryLink {
+    ghost left = { λ s. Some (drop s.at s.input.items) };
+
+    ghost faults_read = { λ _. 0 };
+
+    ghost ends_met = { λ s. s.ends };
+
+    ghost beside_left = { λ s. record { bytes = Some s.output.items; mark = s.flushed; faults = 0 } };
+
+    fn read(&mut self, buf: &mut [u8]) -> Result<usize, Failed> {
+        let mut rest = &self.input.as_slice()[self.at..];
+        match rest.read(buf) {
+            Ok(0) => {
+                self.ends = self.ends.saturating_add(1);
+                Ok(0)
+            }
+            Ok(count) => {
+                self.at += count;
+                Ok(count)
+            }
+            Err(_) => unreachable!(),
+        }
+    }
+
+    fn read_faults(&self) -> u64 {
+        0
+    }
+
+    fn ends(&self) -> u64 {
+        self.ends
+    }
+}
+
+impl Sink for MemoryLink {
+    ghost written = { λ s. Some s.output.items };
+
+    ghost flushed = { λ s. s.flushed };
+
+    ghost faults_written = { λ _. 0 };
+
+    ghost beside_written = { λ s. record { bytes = Some (drop s.at s.input.items); mark = s.ends; faults = 0 } };
+
+    fn write(&mut self, piece: &[u8]) -> Result<usize, SinkError> {
+        match self.output.extend_from_slice(piece) {
+            Ok(()) => Ok(piece.len()),
+            Err(_) => Err(SinkError::OutOfMemory),
+        }
+    }
+
+    fn flush(&mut self) -> Result<(), SinkError> {
+        self.flushed = self.output.len();
+        Ok(())
+    }
+
+    fn write_faults(&self) -> u64 {
+        0
+    }
+}
+
+impl Link for MemoryLink {
+    ghost use Rattle.std.specs.Prelude.{refl};
+
+    ghost reads_keep_written = { λ _. refl };
+
+    ghost writes_keep_left = { λ _. refl };
+}

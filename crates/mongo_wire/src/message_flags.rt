@@ -1,0 +1,37 @@
+ghost use Rattle.std.specs.Prelude.{◌≡◌, ⊤, [], ◌∷◌, codes};
+
+use bitflags::{Flag, Flags, bitflag_items};
+
+/// The flags of an OP_MSG that have a meaning. Other bits of the flag word are dropped on reading.
+#[derive(Clone, Copy, Debug, PartialEq, Eq)]
+pub struct MessageFlags(u32);
+
+bitflag_items! {
+    impl MessageFlags: u32 {
+        const CHECKSUM_PRESENT = 1;
+        const MORE_TO_COME = 2;
+        const EXHAUST_ALLOWED = 65536;
+    }
+}
+
+impl Flags for MessageFlags {
+    type Bits = u32;
+
+    ghost exact = { ⊤ };
+
+    ghost table = { (codes "CHECKSUM_PRESENT", 1) ∷ (codes "MORE_TO_COME", 2) ∷ (codes "EXHAUST_ALLOWED", 65536) ∷ [] };
+
+    ghost set_of = { λ flags. flags.0 };
+
+    fn flags<'a>() -> &'a [Flag<MessageFlags>] {
+        MessageFlags::FLAGS
+    }
+
+    fn bits(&self) -> u32 {
+        self.0
+    }
+
+    fn from_bits_retain(bits: u32) -> MessageFlags {
+        MessageFlags(bits)
+    }
+}

@@ -1,0 +1,38 @@
+ghost use Rattle.std.specs.Prelude.{◌≡◌, ◌<◌, ◌≤◌, ◌+◌, length, [], IfOk, IfErr, OnOk};
+ghost use Rattle.std.specs.Io.KnownBytes.{Appends, Keeps};
+ghost use Rattle.mongo_wire.specs.Outside.{WritesOn, WriteStops, IsFlushed};
+
+use crate::{Error, ErrorKind, Sink, SinkError};
+
+/// Writes all bytes to the sink.
+///
+/// `WriteFault` where the sink failed, `OutOfMemory` where it wanted memory; a front of the bytes is written then.
+pub fn write_out<K: Sink>(sink: &mut K, bytes: &[u8]) -> Result<(), Error>
+    ensures written { OnOk result (Appends (K.written sink.old) (K.written sink.new) bytes.now) }
+    ensures refused { IfErr result (λ e. WriteStops e.kind (K.written sink.old) (K.written sink.new) (K.faults_written sink.old) (K.faults_written sink.new) bytes.now) }
+    ensures on { WritesOn K.written K.flushed K.faults_written K.beside_written sink.old sink.new }
+{
+    let mut at = 0;
+    'writing: while at < bytes.len() {
+        match sink.write(&bytes[at..]) {
+            Ok(count) => at += count,
+            Err(fault) => return Err(fault.into()),
+        }
+    }
+    Ok(())
+}
+
+/// Flushes the sink.
+///
+/// `WriteFault` where the sink failed, `OutOfMemory` where it wanted memory.
+pub fn flush_out<K: Sink>(sink: &mut K) -> Result<(), Error>
+    ensures flushed { OnOk result (IsFlushed (K.written sink.new) (K.flushed sink.new)) }
+    ensures kept { Keeps (K.written sink.old) (K.written sink.new) }
+    ensures refused { IfErr result (λ e. WriteStops e.kind (K.written sink.old) (K.written sink.new) (K.faults_written sink.old) (K.faults_written sink.new) []) }
+    ensures on { WritesOn K.written K.flushed K.faults_written K.beside_written sink.old sink.new }
+{
+    match sink.flush() {
+        Ok(()) => Ok(()),
+        Err(fault) => Err(fault.into()),
+    }
+}
