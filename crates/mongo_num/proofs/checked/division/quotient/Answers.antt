@@ -1,0 +1,9 @@
+use Rattle.std.proofs.Common.{rules}
+use Rattle.mongo_num.proofs.ExactLemmas.{quotient_holds}
+use Rattle.mongo_num.proofs.checked.division.quotient.Goals as goal
+
+pub returns-in-Some : goal.returns-in-Some
+returns-in-Some g c =
+    rw (← c.wide.ensures.value, ← c.wide-2.ensures.value) (
+    quotient_holds _ _ _ c.wide.result c.wide-2.result c.in-Some.n _ c.wide.ensures.narrow c.wide-2.ensures.narrow
+    (search rules) c.in-Some.ensures c.of_i128.ensures)

@@ -1,0 +1,31 @@
+// What a checked number prints.
+ghost use Rattle.std.specs.Prelude.{Some, codes};
+ghost use Rattle.mongo_num.specs.CheckedText.{text_of};
+
+use crate::checked::Checked;
+use std::fmt;
+use std::fmt::{Debug, Display, Formatter, Write};
+
+/// The number, or `overflow`.
+impl<T: Display> Display for Checked<T> {
+    ghost output = { λ c. text_of T.output (codes "overflow") c.0 };
+
+    fn fmt<W: Write>(&self, f: &mut Formatter<W>) -> fmt::Result {
+        match &self.0 {
+            Some(x) => Display::fmt(x, f),
+            None => Display::fmt(&"overflow", f),
+        }
+    }
+}
+
+/// The number, or `"overflow"` with its quotation marks.
+impl<T: Debug> Debug for Checked<T> {
+    ghost debug_output = { λ c. text_of T.debug_output (codes "\"overflow\"") c.0 };
+
+    fn fmt<W: Write>(&self, f: &mut Formatter<W>) -> fmt::Result {
+        match &self.0 {
+            Some(x) => Debug::fmt(x, f),
+            None => f.write_str("\"overflow\""),
+        }
+    }
+}
