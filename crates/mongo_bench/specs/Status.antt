@@ -1,0 +1,10 @@
+-- The exit status of the program.
+use Rattle.std.specs.Prelude.{ℕ}
+use Rattle.mongo_bench.specs.declared.run.Status.{Status}
+use Rattle.mongo_bench.specs.declared.run.Status.TheVariants.{Done, Usage, SinkFault, NoWords}
+
+abbrev pub code_of : Status → ℕ
+code_of Done = 0
+code_of Usage = 3
+code_of SinkFault = 5
+code_of NoWords = 6

@@ -1,0 +1,30 @@
+//! The program of the benchmark: it runs one task and prints what the task derives.
+//!
+//! `hi-sha1 COUNT` and `hi-sha256 COUNT` print the hex of Hi (RFC 5802, section 2.2) of a fixed
+//! password and salt, after COUNT steps. `bench/hi` measures them.
+#![tactic(auto)]
+
+mod run;
+mod task;
+#[cfg(test)]
+mod tests;
+
+use run::{Status, run_counted};
+use std::marker::Brand;
+use std::process::ExitCode;
+use std::rt::Env;
+use std::sync::ledger::Blank;
+use std::{env, io};
+
+fn main(rt: HostRuntime) -> ExitCode {
+    let status = match words_of(&rt) {
+        Ok(words) => run_counted::<_, Brand>(&words, &mut rt.stdout(), Blank::new(1)),
+        Err(_) => Status::NoWords,
+    };
+    ExitCode::from(status.code())
+}
+
+/// The words after the program's name.
+fn words_of(rt: &(impl Env + AllocGlobal)) -> io::Result<Vec<String>> {
+    Ok(env::args(rt)?.skip(1).collect(rt.alloc())?)
+}

@@ -1,0 +1,4 @@
+pub mod Keys
+pub mod Rounds
+pub mod XorBytes
+pub mod ZeroFilled

@@ -1,0 +1,5 @@
+pub mod Bytes
+pub mod Digests
+pub mod Hi
+pub mod Hmac
+pub mod TagStore
