@@ -1,4 +1,13 @@
 pub mod Framed
 pub mod Document
 pub mod Value
+pub mod Reading
+pub mod Elements
 pub mod Steps
+pub mod Refusals
+pub mod Keys
+pub mod Find
+pub mod Checks
+pub mod Array
+pub mod Merge
+pub mod Writable

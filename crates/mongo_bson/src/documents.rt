@@ -1,4 +1,7 @@
 ghost use Rattle.std.specs.Prelude.{◌≡◌, ◌++◌, List, ℕ, [], ◌∷◌, ◌==◌, length, slice_get, option_copied, IfOk, IfErr, OnOk, OnErr};
+ghost use Rattle.std.specs.Cmp.Lexicographic.{pointwise};
+ghost use Rattle.std.specs.Cmp.Rules.{comparing};
+ghost use Rattle.std.proofs.Common.{rules};
 
 use crate::{BsonFault, RawDocumentBuf};
 use std::alloc::Global;
@@ -57,6 +60,13 @@ impl Documents {
         self.items.as_slice().get(index)
     }
 
+    /// The documents in their order.
+    pub fn as_slice(&self) -> &[RawDocumentBuf]
+        ensures { result.now ≡ self.now }
+    {
+        self.items.as_slice()
+    }
+
     /// A copy of the list. Want of memory is the only refusal.
     pub fn try_clone(&self, alloc: Global) -> Result<Documents, BsonFault>
         ensures copied { IfOk result (λ d. d ≡ self.now) }
@@ -67,5 +77,15 @@ impl Documents {
             copies.push(document.try_clone(alloc)?)?;
         }
         Ok(Documents { items: copies })
+    }
+}
+
+impl PartialEq for Documents {
+    ghost eq = { pointwise (pointwise ◌==◌) };
+
+    ghost laws = { Prim.search (comparing, rules) };
+
+    fn eq(&self, other: &Documents) -> bool {
+        self.items.as_slice() == other.items.as_slice()
     }
 }

@@ -4,24 +4,55 @@
 //! and a zero byte. An element is a kind byte, a key ended by a zero byte, and a value whose kind says how its bytes
 //! lie. `specs/Document.antt` says so for every kind; the readers here are proved against it.
 //!
-//! Reading borrows: a [`RawDocument`] is a slice of the bytes that it was read from. Building grows a
-//! [`RawDocumentBuf`] element by element.
+//! Reading borrows: a [`RawDocument`] is a slice of the bytes that it was read from, and takes no memory but for the
+//! keys that [`RawDocument::distinct_keys`] sorts. Building grows a [`RawDocumentBuf`] or a [`RawArrayBuf`] in place,
+//! element by element.
+//!
+//! Proved: each byte string has at most one list of elements; each reader answers by that list, and answers
+//! [`BsonFault::Malformed`] exactly where there is none; what was appended is the last element, and is read back; a
+//! refused call leaves what it would have changed as it was.
 #![tactic(auto)]
 
+mod arrays;
 mod bytes;
+mod checks;
+mod distinct;
 mod documents;
+mod element;
+mod extend;
 mod fault;
+mod find;
+mod id_field;
+mod iter;
+mod meaning;
+mod name;
 mod object_id;
+mod owned_value;
+mod raw_array_buf;
 mod raw_document;
 mod raw_document_buf;
 mod raw_value;
+mod readable;
+mod shape;
+#[cfg(test)]
+mod tests;
 mod text;
 mod texts;
+mod writing;
 
+pub use arrays::{to_raw_bson_array, vec_to_raw_array_buf};
 pub use bytes::Bytes;
+pub use checks::{
+    first_key, replacement_document_check, replacement_raw_document_check, update_document_check,
+};
 pub use documents::Documents;
+pub use extend::extend_raw_document_buf;
 pub use fault::BsonFault;
+pub use id_field::get_or_prepend_id_field;
+pub use iter::Iter;
 pub use object_id::ObjectId;
+pub use owned_value::OwnedValue;
+pub use raw_array_buf::RawArrayBuf;
 pub use raw_document::RawDocument;
 pub use raw_document_buf::RawDocumentBuf;
 pub use raw_value::RawValue;

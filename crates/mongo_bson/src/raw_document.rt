@@ -1,11 +1,11 @@
 ghost use Rattle.std.specs.Prelude.{◌≡◌, ◌↔◌, IsTrue, IsOk, IfOk, IfErr};
-ghost use Rattle.mongo_bson.specs.Framed.{IsFramed};
+ghost use Rattle.mongo_bson.specs.Framed.{IsFramed, body_of};
 
 use crate::BsonFault;
 
 /// A document borrowed from bytes: its length field is its length, and its last byte is zero. Its elements are judged
 /// as they are read.
-#[derive(Debug, Clone, Copy, Drop)]
+#[derive(Debug, Clone, Copy, PartialEq, Drop)]
 pub struct RawDocument<'a> {
     pub(crate) bytes: &'a [u8],
     pub ghost framed: { IsFramed bytes.now },
@@ -33,6 +33,17 @@ impl<'a> RawDocument<'a> {
         ensures framed { IsFramed result.now }
     {
         self.bytes
+    }
+}
+
+// What stands between the length and the final zero of a document.
+pub(crate) fn body<'a>(document: &'a [u8]) -> &'a [u8]
+    requires { IsFramed document.now }
+    ensures { result.now ≡ body_of document.now }
+{
+    match document {
+        [_, _, _, _, body @ .., _] => body,
+        _ => unreachable!(),
     }
 }
 

@@ -1,19 +1,23 @@
-ghost use Rattle.std.specs.Prelude.{◌≡◌, ◌++◌, ◌+◌, ◌^◌, ◌<◌, ◌≤◌, ◌↔◌, List, ℕ, [], ◌∷◌, length, Contains, IsOk, IfOk, IfErr, IsErrOf, OnOk, OnErr};
+ghost use Rattle.std.specs.Prelude.{◌≡◌, ◌++◌, ◌+◌, ◌-◌, ◌^◌, ◌<◌, ◌≤◌, ◌↔◌, List, ℕ, [], ◌∷◌, length, Contains, IsOk, IfOk, IfErr, IsErrOf, OnOk, OnErr};
 ghost use Rattle.std.specs.Cmp.Lexicographic.{pointwise};
 ghost use Rattle.std.specs.Cmp.Rules.{comparing};
 ghost use Rattle.std.specs.Prelude.{◌==◌};
 ghost use Rattle.std.proofs.Common.{rules};
 ghost use Rattle.mongo_bson.specs.Framed.{IsFramed, body_of, enclosed};
+ghost use Rattle.mongo_bson.specs.Document.{spell};
+ghost use Rattle.mongo_bson.specs.Value.{element_of};
+ghost use Rattle.mongo_bson.specs.Refusals.{AppendRefuses, PushRefuses};
 
 use crate::raw_document::is_framed;
-use crate::{BsonFault, Bytes, RawDocument};
+use crate::writing::{has_room, has_room_for, has_zero, push_element, push_elements};
+use crate::{BsonFault, Bytes, RawDocument, RawValue};
 use std::alloc::Global;
 use std::marker::Model;
 
 /// A document that owns its memory. Contracts see its bytes.
 #[derive(Debug, Drop)]
 pub struct RawDocumentBuf {
-    held: Vec<u8>,
+    pub(crate) held: Vec<u8>,
 }
 
 impl Model for RawDocumentBuf {
@@ -50,6 +54,41 @@ impl RawDocumentBuf {
         } else {
             Err(BsonFault::Malformed)
         }
+    }
+
+    /// Puts an element at the end: a key and a value. The element is written in place, so a document is built in time
+    /// linear in its length.
+    ///
+    /// `KeyHasZero` where the key holds a zero byte, then `TooLong` where the document would pass 2147483647 bytes.
+    /// A refusal leaves the document as it was.
+    pub fn append(&mut self, key: &str, value: RawValue<'_>) -> Result<(), BsonFault>
+        ensures added { OnOk result (self.new ≡ enclosed (body_of self.old ++ spell (element_of key.now value.entry))) }
+        ensures key_has_zero { IsErrOf result BsonFault.KeyHasZero ↔ Contains key.now 0 }
+        ensures too_long { IsErrOf result BsonFault.TooLong ↔ ((¬ Contains key.now 0) × (2 ^ 31 - 1 < length self.old + length (spell (element_of key.now value.entry)))) }
+        ensures unchanged { OnErr result (self.new ≡ self.old) }
+        ensures framed { OnOk result (IsFramed self.new) }
+        ensures refused { IfErr result AppendRefuses }
+    {
+        if has_zero(key) {
+            return Err(BsonFault::KeyHasZero);
+        }
+        if !has_room(self.held.len(), key, value) {
+            return Err(BsonFault::TooLong);
+        }
+        push_element(&mut self.held, key, value)
+    }
+
+    // Puts elements at the end. `TooLong` where the document would pass 2147483647 bytes.
+    pub(crate) fn append_elements(&mut self, elements: &[u8]) -> Result<(), BsonFault>
+        ensures added { OnOk result (self.new ≡ enclosed (body_of self.old ++ elements.now)) }
+        ensures too_long { IsErrOf result BsonFault.TooLong ↔ (2 ^ 31 - 1 < length self.old + length elements.now) }
+        ensures unchanged { OnErr result (self.new ≡ self.old) }
+        ensures refused { IfErr result PushRefuses }
+    {
+        if !has_room_for(self.held.len(), elements.len()) {
+            return Err(BsonFault::TooLong);
+        }
+        push_elements(&mut self.held, elements)
     }
 
     /// The document, borrowed.

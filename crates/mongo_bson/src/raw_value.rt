@@ -1,7 +1,7 @@
 use crate::{ObjectId, RawDocument};
 
 /// A value of a document, borrowed from its bytes.
-#[derive(Debug, Clone, Copy, Drop)]
+#[derive(Debug, Clone, Copy, PartialEq, Drop)]
 pub enum RawValue<'a> {
     /// A double as its 64 bits, the IEEE 754 binary64 pattern.
     Double(u64),

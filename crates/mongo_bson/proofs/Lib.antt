@@ -1,0 +1,16 @@
+pub mod Names
+pub mod Sizes
+pub mod ByKind
+pub mod OneElement
+pub mod Shapes
+pub mod AtFront
+pub mod Enclosed
+pub mod Levels
+pub mod Filled
+pub mod Apart
+pub mod Passed
+pub mod Numbered
+pub mod Searched
+pub mod IdFirst
+pub mod ReadBack
+pub mod Found

@@ -1,0 +1,101 @@
+-- What was appended is read back.
+use Rattle.std.proofs.Common.{◌≡◌, ℕ, ◌+◌, ◌-◌, ◌^◌, ◌<◌, inl, inr, Bool, true, false, ℤ, Fits, FitsSigned, List, [], ◌∷◌, ◌++◌, length, get_or, refl, sym, ap, ◌∙◌, subst, arith}
+use Rattle.std.specs.Int.{to_le_bytes, from_le_bytes, from_bool, cast_signed, cast_unsigned, w32, w64}
+use Rattle.std.specs.List.{flat_map}
+use Rattle.std.specs.Str.{IsUtf8}
+use Rattle.std.proofs.Math.Facts.{Fits-of_z}
+use Rattle.std.proofs.lemmas.Int.{to_z-of_z}
+use Rattle.std.proofs.lemmas.List.{append_assoc, append-nil, length-append, get_or_at, take_at}
+use Rattle.std.proofs.lemmas.List.Concat.{flat_map-append}
+use Rattle.std.proofs.lemmas.Nat.{from_le_bytes-to_le_bytes_4, from_le_bytes-to_le_bytes_8}
+use Rattle.mongo_bson.specs.Framed.{IsFramed, body_of, enclosed}
+use Rattle.mongo_bson.specs.Document.{Element, fixed, truth, string, document, binary, Holds, IsName, IsString, IsBinary, IsElement, IsDocument, spell, text_of}
+use Rattle.mongo_bson.specs.Reading.{HoldsKind}
+use Rattle.mongo_bson.specs.Value.{IsValue, kind_of, bytes_of, element_of}
+use Rattle.mongo_bson.specs.Writable.{IsWritable}
+use Rattle.mongo_bson.specs.declared.raw_value.RawValue.{RawValue}
+use Rattle.mongo_bson.specs.declared.raw_value.RawValue.TheVariants.{Double, Str, Document, Array, Binary, ObjectId, Bool as Truth, DateTime, Null, Int32, Int64, Other}
+use Rattle.mongo_bson.proofs.Passed.{all_push}
+use Rattle.mongo_bson.proofs.Enclosed.{body_of-enclosed}
+
+-- a text, counted and ended, is a string
+text_is_string : (text : List ℕ) → IsUtf8 text → length text < 2 ^ 31 - 1 → IsString (to_le_bytes w32 (length text + 1) ++ (text ++ 0 ∷ []))
+text_is_string text utf8 short =
+    let v = to_le_bytes w32 (length text + 1) ++ (text ++ 0 ∷ []) in
+    let number : from_le_bytes w32 v ≡ length text + 1 = from_le_bytes-to_le_bytes_4 (length text + 1) (omega arith) in
+    let size : length v ≡ length text + 5 = omega (arith, length-append text (0 ∷ [])) in
+    let inner : text_of v ≡ text = take_at text (0 ∷ []) (length v - 5) (omega (arith, size)) in
+    record {
+      least = omega (arith, size);
+      most = omega (arith, number);
+      counted = omega (arith, number, size);
+      ended = ap (λ w. get_or w (length v - 1) 0) (sym (append_assoc (to_le_bytes w32 (length text + 1)) text (0 ∷ []))) ∙ get_or_at (to_le_bytes w32 (length text + 1) ++ text) 0 [] 0 (length v - 1) (omega (arith, size, length-append (to_le_bytes w32 (length text + 1)) text));
+      utf8 = subst IsUtf8 (sym inner) utf8;
+    }
+
+content_is_binary : (subtype : ℕ) (content : List ℕ) → length content < 2 ^ 31 → IsBinary (to_le_bytes w32 (length content) ++ (subtype ∷ content))
+content_is_binary subtype content short =
+    let number : from_le_bytes w32 (to_le_bytes w32 (length content) ++ (subtype ∷ content)) ≡ length content = from_le_bytes-to_le_bytes_4 (length content) (omega arith) in
+    record { least = omega arith; most = omega (arith, number); counted = omega (arith, number) }
+
+byte_is_truth : (b : Bool) → Holds truth (from_bool b ∷ [])
+byte_is_truth true = inr refl
+byte_is_truth false = inl refl
+
+-- the bytes of a value are a value of its kind
+pub written_holds : (value : RawValue) → IsWritable value → HoldsKind (kind_of value) (bytes_of value)
+written_holds (Double bits) is = (fixed 8, refl, refl)
+written_holds (Str text) is = (string, refl, text_is_string text.now is.0 is.1)
+written_holds (Document d) is = (document, refl, is)
+written_holds (Array a) is = (document, refl, is)
+written_holds (Binary subtype content) is = (binary, refl, content_is_binary subtype content.now is)
+written_holds (ObjectId id) is = (fixed 12, refl, is)
+written_holds (Truth b) is = (truth, refl, byte_is_truth b)
+written_holds (DateTime milliseconds) is = (fixed 8, refl, refl)
+written_holds Null is = (fixed 0, refl, refl)
+written_holds (Int32 number) is = (fixed 4, refl, refl)
+written_holds (Int64 number) is = (fixed 8, refl, refl)
+written_holds (Other kind content) is = is.0
+
+-- a signed number, written and read
+signed_64 : (z : ℤ) → FitsSigned w64 z → cast_signed w64 (from_le_bytes w64 (to_le_bytes w64 (cast_unsigned w64 z))) ≡ z
+signed_64 z fits =
+    let small : Fits w64 (cast_unsigned w64 z) = Fits-of_z fits in
+    ap (cast_signed w64) (from_le_bytes-to_le_bytes_8 (cast_unsigned w64 z) (omega (arith, small))) ∙ to_z-of_z w64 z fits
+
+signed_32 : (z : ℤ) → FitsSigned w32 z → cast_signed w32 (from_le_bytes w32 (to_le_bytes w32 (cast_unsigned w32 z))) ≡ z
+signed_32 z fits =
+    let small : Fits w32 (cast_unsigned w32 z) = Fits-of_z fits in
+    ap (cast_signed w32) (from_le_bytes-to_le_bytes_4 (cast_unsigned w32 z) (omega (arith, small))) ∙ to_z-of_z w32 z fits
+
+-- and mean that value
+pub written_means : (value : RawValue) → IsWritable value → IsValue (kind_of value) (bytes_of value) value
+written_means (Double bits) is = (refl, sym (from_le_bytes-to_le_bytes_8 bits is))
+written_means (Str text) is = (refl, sym (take_at text.now (0 ∷ []) (length (bytes_of (Str text)) - 5) (omega (arith, length-append text.now (0 ∷ [])))))
+written_means (Document d) is = (refl, refl)
+written_means (Array a) is = (refl, refl)
+written_means (Binary subtype content) is = (refl, refl, refl)
+written_means (ObjectId id) is = (refl, refl)
+written_means (Truth b) is = (refl, refl)
+written_means (DateTime milliseconds) is = (refl, sym (signed_64 milliseconds is))
+written_means Null is = refl
+written_means (Int32 number) is = (refl, sym (signed_32 number is))
+written_means (Int64 number) is = (refl, sym (signed_64 number is))
+written_means (Other kind content) is = (refl, refl, is.1)
+
+-- so a key and a value are written as an element
+pub written_element : (key : List ℕ) (value : RawValue) → IsName key → IsWritable value → IsElement (element_of key value)
+written_element key value name is = let held = written_holds value is in record { shape = held.0; known = held.1; key = name; value = held.2 }
+
+-- and a document that it was appended to has it as its last element
+pub appended_document : (old new key : List ℕ) (value : RawValue) (elements : List Element) → IsDocument old elements → IsName key → IsWritable value → IsFramed new → new ≡ enclosed (body_of old ++ spell (element_of key value)) → IsDocument new (elements ++ element_of key value ∷ [])
+appended_document old new key value elements is name writable framed grown =
+    let element = element_of key value in
+    let body = body_of old ++ spell element in
+    let short : length body + 5 < 2 ^ 32 = omega (arith, ap length grown, length-append body (0 ∷ []), framed.most) in
+    let one : flat_map spell (element ∷ []) ≡ spell element = append-nil (spell element) in
+    record {
+      framed = framed;
+      filled = ap body_of grown ∙ body_of-enclosed body short ∙ ap (λ w. w ++ spell element) is.filled ∙ ap (λ w. flat_map spell elements ++ w) (sym one) ∙ sym (flat_map-append spell elements (element ∷ []));
+      each = all_push IsElement elements element is.each (written_element key value name writable);
+    }

@@ -1,0 +1,15 @@
+use Rattle.std.proofs.Common.{Err, ap, subst, arith}
+use Rattle.std.specs.Fmt.{decimal}
+use Rattle.std.specs.List.{Contains}
+use Rattle.mongo_bson.specs.Value.{bytes_of}
+use Rattle.mongo_bson.proofs.Numbered.{decimal_no_zero, push_refuses, too_long_at_number}
+use Rattle.mongo_bson.proofs.raw_array_buf.RawArrayBuf.push.Goals as goal
+
+pub returns-in-Err-clause-too_long : goal.returns-in-Err-clause-too_long
+returns-in-Err-clause-too_long c =
+    let array = c.args.self.now in
+    too_long_at_number array.document (bytes_of c.args.value) c.format.result.now (decimal array.count) _ c.format.ensures.text (decimal_no_zero array.count (omega arith)) c.in-Err.ensures.too_long
+
+pub returns-in-Err-clause-refused : goal.returns-in-Err-clause-refused
+returns-in-Err-clause-refused c =
+    push_refuses c.in-Err.fault c.in-Err.ensures.refused (λ same. decimal_no_zero c.args.self.now.count (omega arith) (subst (λ k. Contains k 0) c.format.ensures.text (c.in-Err.ensures.key_has_zero.0 (ap Err same))))

@@ -1,0 +1,25 @@
+-- The values that can stand in a document.
+use Rattle.std.specs.Prelude.{◌≡◌, ◌-◌, ◌^◌, ◌<◌, false, ⊤, FitsSigned, length}
+use Rattle.std.specs.Int.{w32, w64}
+use Rattle.std.specs.Str.{IsUtf8}
+use Rattle.mongo_bson.specs.Framed.{IsFramed}
+use Rattle.mongo_bson.specs.Reading.{HoldsKind}
+use Rattle.mongo_bson.specs.Value.{has_variant}
+use Rattle.mongo_bson.specs.declared.raw_value.RawValue.{RawValue}
+use Rattle.mongo_bson.specs.declared.raw_value.RawValue.TheVariants.{Double, Str, Document, Array, Binary, ObjectId, Bool as Truth, DateTime, Null, Int32, Int64, Other}
+
+-- Its numbers are within their types, its text is UTF-8, and its length is one that an int32 counts. A program's values
+-- are so but for lengths, and for `Other`, whose bytes may be any.
+abbrev pub IsWritable : RawValue → Type 0
+IsWritable (Double bits) = bits < 2 ^ 64
+IsWritable (Str text) = IsUtf8 text.now × (length text.now < 2 ^ 31 - 1)
+IsWritable (Document document) = IsFramed document.bytes.now
+IsWritable (Array array) = IsFramed array.bytes.now
+IsWritable (Binary subtype content) = length content.now < 2 ^ 31
+IsWritable (ObjectId id) = length id.0 ≡ 12
+IsWritable (Truth truth) = ⊤
+IsWritable (DateTime milliseconds) = FitsSigned w64 milliseconds
+IsWritable Null = ⊤
+IsWritable (Int32 number) = FitsSigned w32 number
+IsWritable (Int64 number) = FitsSigned w64 number
+IsWritable (Other kind content) = HoldsKind kind content.now × (has_variant kind ≡ false)

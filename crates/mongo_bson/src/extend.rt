@@ -1,0 +1,83 @@
+ghost use Rattle.std.specs.Prelude.{◌≡◌, ◌↔◌, ◌++◌, ◌+◌, ◌-◌, ◌^◌, ◌<◌, List, length, Contains, IsTrue, IfOk, IfErr, IsErrOf, OnOk, OnErr};
+ghost use Rattle.std.specs.Ordering.{nat_cmp};
+ghost use Rattle.std.specs.List.Sorted.{IsSorted};
+ghost use Rattle.std.specs.Cmp.Lexicographic.{slice_cmp};
+ghost use Rattle.mongo_bson.specs.Framed.{IsFramed, body_of, enclosed};
+ghost use Rattle.mongo_bson.specs.Keys.{bytes_of_texts};
+ghost use Rattle.mongo_bson.specs.Merge.{HaveCommon, BothFilled, ShareKey, ShareNoKey, TellsShared};
+ghost use Rattle.mongo_bson.specs.Refusals.{ExtendRefuses, ReadRefuses};
+
+use crate::distinct::keys_in;
+use crate::raw_document::body;
+use crate::{BsonFault, RawDocumentBuf};
+use std::alloc::Global;
+
+/// Puts the elements of `other` at the end of `this`.
+///
+/// `Malformed` where elements don't fill one of them, then `DuplicateKey` where a key stands in both, then `TooLong`
+/// where the document would pass 2147483647 bytes; else want of memory is the only refusal. A refusal leaves `this`
+/// as it was. The keys of one are sorted, so that `n` keys take time in proportion to `n log n`.
+pub fn extend_raw_document_buf(
+    alloc: Global,
+    this: &mut RawDocumentBuf,
+    other: &RawDocumentBuf,
+) -> Result<(), BsonFault>
+    ensures added { OnOk result (this.new ≡ enclosed (body_of this.old ++ body_of other.now)) }
+    ensures apart { OnOk result (ShareNoKey this.old other.now) }
+    ensures malformed { IsErrOf result BsonFault.Malformed → BothFilled this.old other.now → ⊥ }
+    ensures duplicate_key { IsErrOf result BsonFault.DuplicateKey → ShareKey this.old other.now }
+    ensures too_long { IsErrOf result BsonFault.TooLong → ShareNoKey this.old other.now × (2 ^ 31 - 1 < length this.old + length (body_of other.now)) }
+    ensures unchanged { OnErr result (this.new ≡ this.old) }
+    ensures refused { IfErr result ExtendRefuses }
+{
+    match share_key(alloc, this.as_bytes(), other.as_bytes()) {
+        Ok(true) => Err(BsonFault::DuplicateKey),
+        Ok(false) => this.append_elements(body(other.as_bytes())),
+        Err(fault) => Err(fault),
+    }
+}
+
+// Whether a key stands in both documents.
+fn share_key(alloc: Global, this: &[u8], other: &[u8]) -> Result<bool, BsonFault>
+    requires framed { IsFramed this.now }
+    requires other_framed { IsFramed other.now }
+    ensures shared { IfOk result (TellsShared this.now other.now) }
+    ensures malformed { IsErrOf result BsonFault.Malformed → BothFilled this.now other.now → ⊥ }
+    ensures refused { IfErr result ReadRefuses }
+{
+    let mut mine = keys_in(alloc, body(this))?;
+    let others = keys_in(alloc, body(other))?;
+    Ok(share_text(mine.as_mut_slice(), others.as_slice()))
+}
+
+// Whether a text stands in both lists. It sorts the first.
+fn share_text(texts: &mut [&str], others: &[&str]) -> bool
+    ensures { IsTrue result ↔ HaveCommon (bytes_of_texts texts.old) (bytes_of_texts others.now) }
+{
+    texts.sort_unstable();
+    share_text_with_sorted(texts, others)
+}
+
+// Whether a text stands in both lists, the first of which is sorted.
+fn share_text_with_sorted(sorted: &[&str], others: &[&str]) -> bool
+    requires { IsSorted (λ x y. slice_cmp nat_cmp x.now y.now) sorted.now }
+    ensures { IsTrue result ↔ HaveCommon (bytes_of_texts sorted.now) (bytes_of_texts others.now) }
+{
+    for text in others {
+        if holds_text(sorted, text) {
+            return true;
+        }
+    }
+    false
+}
+
+// Whether a text stands in a sorted list.
+fn holds_text(sorted: &[&str], text: &str) -> bool
+    requires { IsSorted (λ x y. slice_cmp nat_cmp x.now y.now) sorted.now }
+    ensures { IsTrue result ↔ Contains (bytes_of_texts sorted.now) text.now }
+{
+    match sorted.binary_search(&text) {
+        Ok(_) => true,
+        Err(_) => false,
+    }
+}

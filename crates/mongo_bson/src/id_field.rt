@@ -1,0 +1,82 @@
+ghost use Rattle.std.specs.Prelude.{◌≡◌, ◌+◌, ◌-◌, ◌^◌, ◌<◌, ◌++◌, length, IfOk, IfErr, IsErrOf, OnOk, OnErr};
+ghost use Rattle.mongo_bson.specs.Framed.{IsFramed, body_of, enclosed};
+ghost use Rattle.mongo_bson.specs.Document.{spell};
+ghost use Rattle.mongo_bson.specs.Find.{HasNone, BreaksOff};
+ghost use Rattle.mongo_bson.specs.Merge.{HasIdNow, id_key, id_element};
+ghost use Rattle.mongo_bson.specs.Refusals.{IdRefuses, PushRefuses};
+
+use crate::raw_document::body;
+use crate::writing::{has_room_for, push_element, push_elements};
+use crate::{BsonFault, Bytes, ObjectId, OwnedValue, RawDocumentBuf, RawValue};
+use std::alloc::Global;
+
+// How many bytes an element `_id` with an object id takes.
+const ID_ELEMENT: usize = 17;
+
+/// The value of the first `_id` of the document. Where there is none, the object id is put first under that key, and
+/// is the answer.
+///
+/// `Malformed` where the elements break off before an `_id`, `TooLong` where the document would pass 2147483647 bytes;
+/// else want of memory is the only refusal. A refusal leaves the document as it was.
+pub fn get_or_prepend_id_field(
+    alloc: Global,
+    document: &mut RawDocumentBuf,
+    id: ObjectId,
+) -> Result<OwnedValue, BsonFault>
+    ensures id { IfOk result (λ value. HasIdNow document.old document.new id.0 value.kind value.bytes) }
+    ensures malformed { IsErrOf result BsonFault.Malformed → BreaksOff (body_of document.old) id_key }
+    ensures too_long { IsErrOf result BsonFault.TooLong → HasNone (body_of document.old) id_key × (2 ^ 31 - 1 < length document.old + length (spell (id_element id.0))) }
+    ensures unchanged { OnErr result (document.new ≡ document.old) }
+    ensures refused { IfErr result IdRefuses }
+{
+    match document.borrow().get_bytes("_id") {
+        Ok(Some((kind, bytes))) => match Bytes::from_slice(alloc, bytes) {
+            Ok(bytes) => Ok(OwnedValue { kind, bytes }),
+            Err(fault) => Err(fault),
+        },
+        Ok(None) => prepend_id(alloc, document, id),
+        Err(fault) => Err(fault),
+    }
+}
+
+// Puts the object id first in a document that has no `_id`, and answers it.
+fn prepend_id(
+    alloc: Global,
+    document: &mut RawDocumentBuf,
+    id: ObjectId,
+) -> Result<OwnedValue, BsonFault>
+    ensures id { IfOk result (λ value. (value.kind ≡ 0x07) × (value.bytes ≡ id.0)) }
+    ensures first { OnOk result (document.new ≡ enclosed (spell (id_element id.0) ++ body_of document.old)) }
+    ensures too_long { IsErrOf result BsonFault.TooLong → 2 ^ 31 - 1 < length document.old + length (spell (id_element id.0)) }
+    ensures unchanged { OnErr result (document.new ≡ document.old) }
+    ensures refused { IfErr result PushRefuses }
+{
+    let value = OwnedValue {
+        kind: 0x07,
+        bytes: Bytes::from_slice(alloc, &id.0)?,
+    };
+    match with_id_first(alloc, document.as_bytes(), id) {
+        Ok(with_id) => {
+            *document = with_id;
+            Ok(value)
+        }
+        Err(fault) => Err(fault),
+    }
+}
+
+// A copy of the document with the object id put first.
+fn with_id_first(alloc: Global, document: &[u8], id: ObjectId) -> Result<RawDocumentBuf, BsonFault>
+    requires { IsFramed document.now }
+    ensures first { IfOk result (λ with_id. with_id ≡ enclosed (spell (id_element id.0) ++ body_of document.now)) }
+    ensures too_long { IsErrOf result BsonFault.TooLong → 2 ^ 31 - 1 < length document.now + length (spell (id_element id.0)) }
+    ensures refused { IfErr result PushRefuses }
+{
+    if !has_room_for(document.len(), ID_ELEMENT) {
+        return Err(BsonFault::TooLong);
+    }
+    let mut held = Vec::with_capacity(alloc, document.len() + ID_ELEMENT)?;
+    held.extend_from_slice(&[5, 0, 0, 0, 0])?;
+    push_element(&mut held, "_id", RawValue::ObjectId(id))?;
+    push_elements(&mut held, body(document))?;
+    Ok(RawDocumentBuf { held })
+}

@@ -1,0 +1,94 @@
+ghost use Rattle.std.specs.Prelude.{◌≡◌, ◌∷◌, [], length};
+ghost use Rattle.std.specs.Int.{from_le_bytes, from_bool, w32, w64};
+ghost use Rattle.mongo_bson.specs.Document.{IsString, IsBinary, Holds, truth, text_of};
+ghost use Rattle.mongo_bson.specs.Value.{IsValue};
+ghost use Rattle.mongo_bson.specs.Reading.{HoldsKind};
+
+use crate::{ObjectId, RawDocument, RawValue};
+
+// What the bytes of a value of this kind mean.
+pub(crate) fn value_of<'a>(kind: u8, bytes: &'a [u8]) -> RawValue<'a>
+    requires { HoldsKind kind bytes.now }
+    ensures { IsValue kind bytes.now result }
+{
+    match kind {
+        0x01 => RawValue::Double(word_of(bytes)),
+        0x02 => RawValue::Str(text_of_string(bytes)),
+        0x03 => RawValue::Document(RawDocument { bytes }),
+        0x04 => RawValue::Array(RawDocument { bytes }),
+        0x05 => binary_of(bytes),
+        0x07 => RawValue::ObjectId(id_of(bytes)),
+        0x08 => RawValue::Bool(truth_of(bytes)),
+        0x09 => RawValue::DateTime(word_of(bytes).cast_signed()),
+        0x0A => RawValue::Null,
+        0x10 => RawValue::Int32(half_word_of(bytes).cast_signed()),
+        0x12 => RawValue::Int64(word_of(bytes).cast_signed()),
+        _ => RawValue::Other(kind, bytes),
+    }
+}
+
+// Eight bytes as a number, the lowest first.
+fn word_of(bytes: &[u8]) -> u64
+    requires { length bytes.now ≡ 8 }
+    ensures { result ≡ from_le_bytes w64 bytes.now }
+{
+    match bytes {
+        [a, b, c, d, e, f, g, h] => u64::from_le_bytes([*a, *b, *c, *d, *e, *f, *g, *h]),
+        _ => unreachable!(),
+    }
+}
+
+// Four bytes as a number, the lowest first.
+fn half_word_of(bytes: &[u8]) -> u32
+    requires { length bytes.now ≡ 4 }
+    ensures { result ≡ from_le_bytes w32 bytes.now }
+{
+    match bytes {
+        [a, b, c, d] => u32::from_le_bytes([*a, *b, *c, *d]),
+        _ => unreachable!(),
+    }
+}
+
+// The text of a string.
+fn text_of_string<'a>(bytes: &'a [u8]) -> &'a str
+    requires { IsString bytes.now }
+    ensures { result.now ≡ text_of bytes.now }
+{
+    match bytes {
+        [_, _, _, _, text @ .., _] => unsafe { str::from_utf8_unchecked(text) },
+        _ => unreachable!(),
+    }
+}
+
+// The subtype and the content of a binary.
+fn binary_of<'a>(bytes: &'a [u8]) -> RawValue<'a>
+    requires { IsBinary bytes.now }
+    ensures { IsValue 0x05 bytes.now result }
+{
+    match bytes {
+        [_, _, _, _, subtype, content @ ..] => RawValue::Binary(*subtype, content),
+        _ => unreachable!(),
+    }
+}
+
+// The twelve bytes of an object id.
+fn id_of(bytes: &[u8]) -> ObjectId
+    requires { length bytes.now ≡ 12 }
+    ensures { result.0 ≡ bytes.now }
+{
+    match bytes.first_chunk::<12>() {
+        Some(id) => ObjectId(*id),
+        None => unreachable!(),
+    }
+}
+
+// Whether a truth value's byte is 1.
+fn truth_of(bytes: &[u8]) -> bool
+    requires { Holds truth bytes.now }
+    ensures { bytes.now ≡ from_bool result ∷ [] }
+{
+    match bytes {
+        [byte] => *byte == 1,
+        _ => unreachable!(),
+    }
+}

@@ -1,0 +1,79 @@
+ghost use Rattle.std.specs.Prelude.{◌≡◌, ◌↔◌, IsTrue, MatchOption};
+ghost use Rattle.mongo_bson.specs.Framed.{IsFramed};
+ghost use Rattle.mongo_bson.specs.Document.{IsReadable, greatest_depth, Holds, code_with_scope};
+ghost use Rattle.mongo_bson.specs.Elements.{element_read};
+ghost use Rattle.mongo_bson.specs.Reading.{HoldsKind, IsOnlyInside, HoldsNoDocument, IsScopeOf};
+
+use crate::RawDocument;
+use crate::element::{RawElement, take_element};
+use crate::raw_document::body;
+use crate::shape::counted_len;
+
+// How many levels of documents may stand in one another.
+const GREATEST_DEPTH: u32 = 100;
+
+impl<'a> RawDocument<'a> {
+    /// Whether the document and each document inside, down to 100 levels of which this is the first, is made of
+    /// elements of BSON 1.1 alone: known kinds, texts in UTF-8, truth values 0 or 1, lengths that fit.
+    ///
+    /// It takes no memory, and time linear in the document's length.
+    pub fn readable(&self) -> bool
+        ensures { IsTrue result ↔ IsReadable greatest_depth self.now.bytes.now }
+    {
+        is_readable(self.bytes, GREATEST_DEPTH)
+    }
+}
+
+// Whether a document is readable down to so many levels.
+fn is_readable(document: &[u8], levels: u32) -> bool
+    requires { IsFramed document.now }
+    ensures { IsTrue result ↔ IsReadable levels document.now }
+{
+    if levels == 0 {
+        return false;
+    }
+    let mut rest = body(document);
+    'elements: while !rest.is_empty() {
+        let Some((element, after)) = take_element(rest) else {
+            return false;
+        };
+        match document_inside(element) {
+            Some(inner) => {
+                if !is_readable(inner, levels - 1) {
+                    return false;
+                }
+            }
+            None => {}
+        }
+        rest = after;
+    }
+    true
+}
+
+// The document or array that a value is, or the scope that it holds.
+fn document_inside<'a>(element: RawElement<'a>) -> Option<&'a [u8]>
+    requires { HoldsKind element.kind element.value.now }
+    ensures { MatchOption result (HoldsNoDocument (element_read element.entry)) (λ d. IsOnlyInside (element_read element.entry) d.now) }
+{
+    match element.kind {
+        0x03 => Some(element.value),
+        0x04 => Some(element.value),
+        0x0F => Some(scope_of(element.value)),
+        _ => None,
+    }
+}
+
+// The document of a code with scope.
+fn scope_of<'a>(value: &'a [u8]) -> &'a [u8]
+    requires { Holds code_with_scope value.now }
+    ensures { IsScopeOf value.now result.now }
+{
+    let (_count, parts) = value.split_at(4);
+    match counted_len(parts, 4) {
+        Some(size) => {
+            let (_code, scope) = parts.split_at(size);
+            scope
+        }
+        None => unreachable!(),
+    }
+}

@@ -1,0 +1,205 @@
+ghost use Rattle.std.specs.Prelude.{◌≡◌, ◌≢◌, ◌↔◌, ◌+◌, ◌^◌, ◌<◌, ◌≤◌, ◌⊎◌, List, ℕ, length, drop, IsTrue, MatchOption};
+ghost use Rattle.std.specs.Int.{from_le_bytes, w32};
+ghost use Rattle.mongo_bson.specs.Framed.{IsFramed};
+ghost use Rattle.mongo_bson.specs.Document.{Holds, fixed, truth, two_texts, string_and_id, code_with_scope, IsString, IsBinary, IsCodeWithScope};
+ghost use Rattle.mongo_bson.specs.Reading.{IsAtFront, NoneAtFront, HoldsKind, IsCounted, IsNotCounted, IsCodeAndScope};
+
+use crate::name::take_name;
+use crate::raw_document::is_framed;
+
+// How many bytes the value of a kind takes at the front. None where no value of that kind stands there, as for a kind
+// that BSON 1.1 doesn't have.
+pub(crate) fn value_len(kind: u8, bytes: &[u8]) -> Option<usize>
+    ensures { MatchOption result (NoneAtFront (HoldsKind kind) bytes.now) (IsAtFront (HoldsKind kind) bytes.now) }
+{
+    match kind {
+        // double
+        0x01 => fixed_len(8, bytes),
+        // string
+        0x02 => string_len(bytes),
+        // document
+        0x03 => document_len(bytes),
+        // array
+        0x04 => document_len(bytes),
+        // binary
+        0x05 => binary_len(bytes),
+        // undefined
+        0x06 => fixed_len(0, bytes),
+        // object id
+        0x07 => fixed_len(12, bytes),
+        // boolean
+        0x08 => truth_len(bytes),
+        // UTC date and time
+        0x09 => fixed_len(8, bytes),
+        // null
+        0x0A => fixed_len(0, bytes),
+        // regular expression
+        0x0B => two_texts_len(bytes),
+        // DBPointer
+        0x0C => string_and_id_len(bytes),
+        // JavaScript code
+        0x0D => string_len(bytes),
+        // symbol
+        0x0E => string_len(bytes),
+        // code with scope
+        0x0F => code_with_scope_len(bytes),
+        // int32
+        0x10 => fixed_len(4, bytes),
+        // timestamp
+        0x11 => fixed_len(8, bytes),
+        // int64
+        0x12 => fixed_len(8, bytes),
+        // decimal128
+        0x13 => fixed_len(16, bytes),
+        // max key
+        0x7F => fixed_len(0, bytes),
+        // min key
+        0xFF => fixed_len(0, bytes),
+        _ => None,
+    }
+}
+
+// The size, where so many bytes are left.
+fn fixed_len(size: usize, bytes: &[u8]) -> Option<usize>
+    ensures { MatchOption result (NoneAtFront (Holds (fixed size)) bytes.now) (IsAtFront (Holds (fixed size)) bytes.now) }
+{
+    if size <= bytes.len() {
+        Some(size)
+    } else {
+        None
+    }
+}
+
+// The length of a truth value, a byte that is 0 or 1.
+fn truth_len(bytes: &[u8]) -> Option<usize>
+    ensures { MatchOption result (NoneAtFront (Holds truth) bytes.now) (IsAtFront (Holds truth) bytes.now) }
+{
+    match bytes {
+        [0 | 1, ..] => Some(1),
+        _ => None,
+    }
+}
+
+// The length of a string: its int32, the text and the final zero.
+fn string_len(bytes: &[u8]) -> Option<usize>
+    ensures { MatchOption result (NoneAtFront IsString bytes.now) (IsAtFront IsString bytes.now) }
+{
+    let size = counted_len(bytes, 4)?;
+    if is_string(&bytes[..size]) {
+        Some(size)
+    } else {
+        None
+    }
+}
+
+// The length of a document.
+fn document_len(bytes: &[u8]) -> Option<usize>
+    ensures { MatchOption result (NoneAtFront IsFramed bytes.now) (IsAtFront IsFramed bytes.now) }
+{
+    let size = counted_len(bytes, 0)?;
+    if is_framed(&bytes[..size]) {
+        Some(size)
+    } else {
+        None
+    }
+}
+
+// The length of a binary: its int32, the subtype and the content.
+fn binary_len(bytes: &[u8]) -> Option<usize>
+    ensures { MatchOption result (NoneAtFront IsBinary bytes.now) (IsAtFront IsBinary bytes.now) }
+{
+    counted_len(bytes, 5)
+}
+
+// The length of a regular expression: a pattern and its options, each ended by a zero.
+fn two_texts_len(bytes: &[u8]) -> Option<usize>
+    ensures { MatchOption result (NoneAtFront (Holds two_texts) bytes.now) (IsAtFront (Holds two_texts) bytes.now) }
+{
+    let (_pattern, rest) = take_name(bytes)?;
+    let (_options, rest) = take_name(rest)?;
+    Some(bytes.len() - rest.len())
+}
+
+// The length of a string and an object id.
+fn string_and_id_len(bytes: &[u8]) -> Option<usize>
+    ensures { MatchOption result (NoneAtFront (Holds string_and_id) bytes.now) (IsAtFront (Holds string_and_id) bytes.now) }
+{
+    let size = string_len(bytes)?;
+    if bytes.len() - size < 12 {
+        None
+    } else {
+        Some(size + 12)
+    }
+}
+
+// The length of a code with scope: its int32, a string and a document.
+fn code_with_scope_len(bytes: &[u8]) -> Option<usize>
+    ensures { MatchOption result (NoneAtFront (Holds code_with_scope) bytes.now) (IsAtFront (Holds code_with_scope) bytes.now) }
+{
+    let size = counted_len(bytes, 0)?;
+    if is_code_with_scope(&bytes[..size]) {
+        Some(size)
+    } else {
+        None
+    }
+}
+
+// What the int32 at the front counts and `more`, where the int32 isn't negative and so many bytes are there.
+pub(crate) fn counted_len(bytes: &[u8], more: usize) -> Option<usize>
+    requires { more < 6 }
+    ensures { MatchOption result (IsNotCounted bytes.now more) (IsCounted bytes.now more) }
+{
+    match bytes {
+        [a, b, c, d, ..] => {
+            let count = u32::from_le_bytes([*a, *b, *c, *d]) as usize;
+            if count < 0x8000_0000 && count + more <= bytes.len() {
+                Some(count + more)
+            } else {
+                None
+            }
+        }
+        _ => None,
+    }
+}
+
+// Whether the bytes are a string.
+fn is_string(bytes: &[u8]) -> bool
+    ensures { IsTrue result ↔ IsString bytes.now }
+{
+    match bytes {
+        [a, b, c, d, text @ .., last] => {
+            let count = u32::from_le_bytes([*a, *b, *c, *d]) as usize;
+            count < 0x8000_0000
+                && count + 4 == bytes.len()
+                && *last == 0
+                && str::from_utf8(text).is_ok()
+        }
+        _ => false,
+    }
+}
+
+// Whether the bytes are a code with scope.
+fn is_code_with_scope(bytes: &[u8]) -> bool
+    ensures { IsTrue result ↔ Holds code_with_scope bytes.now }
+{
+    match bytes {
+        [a, b, c, d, rest @ ..] => {
+            let count = u32::from_le_bytes([*a, *b, *c, *d]) as usize;
+            count < 0x8000_0000 && count == bytes.len() && is_code_and_scope(rest)
+        }
+        _ => false,
+    }
+}
+
+// Whether the bytes are a string and a document.
+fn is_code_and_scope(bytes: &[u8]) -> bool
+    ensures { IsTrue result ↔ IsCodeAndScope bytes.now }
+{
+    match string_len(bytes) {
+        Some(size) => {
+            let (_code, scope) = bytes.split_at(size);
+            is_framed(scope)
+        }
+        None => false,
+    }
+}

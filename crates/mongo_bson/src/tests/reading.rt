@@ -1,0 +1,124 @@
+use crate::{BsonFault, ObjectId, RawDocument, RawDocumentBuf, RawValue, first_key};
+use std::alloc::Global;
+use std::test::Fail;
+
+// The bytes of a value of each kind of BSON 1.1, as its grammar spells them.
+fn value_of_kind(kind: u8) -> Option<&'static [u8]> {
+    match kind {
+        0x01 => Some(b"\x00\x00\x00\x00\x00\x00\xF0\x3F"),
+        0x02 | 0x0D | 0x0E => Some(b"\x02\x00\x00\x00b\x00"),
+        0x03 | 0x04 => Some(b"\x05\x00\x00\x00\x00"),
+        0x05 => Some(b"\x02\x00\x00\x00\x80xy"),
+        0x06 | 0x0A | 0x7F | 0xFF => Some(b""),
+        0x07 => Some(b"\x00\x01\x02\x03\x04\x05\x06\x07\x08\x09\x0A\x0B"),
+        0x08 => Some(b"\x01"),
+        0x09 => Some(b"\xFF\xFF\xFF\xFF\xFF\xFF\xFF\xFF"),
+        0x0B => Some(b"p\x00i\x00"),
+        0x0C => Some(b"\x02\x00\x00\x00b\x00\x00\x01\x02\x03\x04\x05\x06\x07\x08\x09\x0A\x0B"),
+        0x0F => Some(b"\x0F\x00\x00\x00\x02\x00\x00\x00b\x00\x05\x00\x00\x00\x00"),
+        0x10 => Some(b"\xFE\xFF\xFF\xFF"),
+        0x11 | 0x12 => Some(b"\x01\x00\x00\x00\x00\x00\x00\x00"),
+        0x13 => Some(b"\x01\x00\x00\x00\x00\x00\x00\x00\x00\x00\x00\x00\x00\x00\x40\x30"),
+        _ => None,
+    }
+}
+
+// The document of one element, the key `a` and these bytes, whatever they are.
+fn document_of(alloc: Global, kind: u8, value: &[u8]) -> Result<RawDocumentBuf, BsonFault> {
+    let mut document = RawDocumentBuf::new(alloc)?;
+    document.append("a", RawValue::Other(kind, value))?;
+    Ok(document)
+}
+
+#[test]
+fn each_kind_is_read_whole_and_refused_cut(rt: HostRuntime) -> Result<(), Fail> {
+    for kind in 0..=255u8 {
+        let Some(value) = value_of_kind(kind) else {
+            let unknown = document_of(rt.alloc(), kind, b"")?;
+            assert!(rt; !unknown.borrow().readable(), "kind {kind}");
+            continue;
+        };
+        let whole = document_of(rt.alloc(), kind, value)?;
+        assert!(rt; whole.borrow().readable(), "kind {kind}");
+        assert_eq!(rt; whole.borrow().iter().count(), 1, "kind {kind}");
+        let found = whole.borrow().get_bytes("a")?;
+        assert!(rt; found == Some((kind, value)), "kind {kind}");
+        for cut in 0..value.len() {
+            let short = document_of(rt.alloc(), kind, &value[..cut])?;
+            assert!(rt; !short.borrow().readable(), "kind {kind} cut to {cut}");
+            assert!(rt;
+                short.borrow().get("a") == Err(BsonFault::Malformed),
+                "kind {kind} cut to {cut}"
+            );
+        }
+    }
+    Ok(())
+}
+
+#[test]
+fn values_mean_what_their_bytes_say(rt: HostRuntime) -> Result<(), Fail> {
+    let id = ObjectId([0, 1, 2, 3, 4, 5, 6, 7, 8, 9, 10, 11]);
+    let empty = RawDocument::from_bytes(b"\x05\x00\x00\x00\x00")?;
+    let table = [
+        (0x01, RawValue::Double(0x3FF0_0000_0000_0000)),
+        (0x02, RawValue::Str("b")),
+        (0x03, RawValue::Document(empty)),
+        (0x04, RawValue::Array(empty)),
+        (0x05, RawValue::Binary(0x80, b"xy")),
+        (0x07, RawValue::ObjectId(id)),
+        (0x08, RawValue::Bool(true)),
+        (0x09, RawValue::DateTime(-1)),
+        (0x0A, RawValue::Null),
+        (0x0B, RawValue::Other(0x0B, b"p\x00i\x00")),
+        (0x10, RawValue::Int32(-2)),
+        (0x12, RawValue::Int64(1)),
+    ];
+    for (kind, want) in table {
+        let bytes = value_of_kind(kind).ok_or("no bytes")?;
+        let read = document_of(rt.alloc(), kind, bytes)?;
+        assert!(rt; read.borrow().get("a")? == Some(want), "kind {kind}");
+        let mut written = RawDocumentBuf::new(rt.alloc())?;
+        written.append("a", want)?;
+        assert!(rt; written == read, "kind {kind}");
+    }
+    Ok(())
+}
+
+#[test]
+fn a_frame_is_as_long_as_it_says(rt: HostRuntime) -> Result<(), Fail> {
+    let refused: [&[u8]; 6] = [
+        b"",
+        b"\x04\x00\x00\x00",
+        b"\x05\x00\x00\x00\x01",
+        b"\x04\x00\x00\x00\x00",
+        b"\x06\x00\x00\x00\x00",
+        b"\x05\x00\x00\x80\x00",
+    ];
+    for bytes in refused {
+        assert!(rt;
+            RawDocument::from_bytes(bytes) == Err(BsonFault::Malformed),
+            "{bytes:?}"
+        );
+    }
+    let empty = RawDocument::from_bytes(b"\x05\x00\x00\x00\x00")?;
+    assert!(rt; empty.readable());
+    assert!(rt; first_key(empty)?.is_none());
+    Ok(())
+}
+
+#[test]
+fn texts_may_hold_zeros_and_must_be_utf8(rt: HostRuntime) -> Result<(), Fail> {
+    let inner_zero = document_of(rt.alloc(), 0x02, b"\x04\x00\x00\x00b\x00c\x00")?;
+    assert!(rt; inner_zero.borrow().get("a")? == Some(RawValue::Str("b\0c")));
+    let not_utf8 = document_of(rt.alloc(), 0x02, b"\x02\x00\x00\x00\xFF\x00")?;
+    assert!(rt; !not_utf8.borrow().readable());
+    let no_length = document_of(rt.alloc(), 0x02, b"\x00\x00\x00\x00")?;
+    assert!(rt; !no_length.borrow().readable());
+    let two = document_of(rt.alloc(), 0x08, b"\x02")?;
+    assert!(rt; !two.borrow().readable());
+    let wide_key = RawDocument::from_bytes(b"\x09\x00\x00\x00\x0A\xC3\xA9\x00\x00")?;
+    assert!(rt; wide_key.get("é")? == Some(RawValue::Null));
+    let broken_key = RawDocument::from_bytes(b"\x08\x00\x00\x00\x0A\xFF\x00\x00")?;
+    assert!(rt; broken_key.get("a") == Err(BsonFault::Malformed));
+    Ok(())
+}

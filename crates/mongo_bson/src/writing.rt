@@ -1,0 +1,206 @@
+ghost use Rattle.std.specs.Prelude.{◌≡◌, ◌↔◌, ◌+◌, ◌-◌, ◌^◌, ◌<◌, ◌≤◌, ◌++◌, ◌∷◌, [], length, take, drop, slice_set, Contains, IsTrue, IfErr, OnOk, OnErr};
+ghost use Rattle.std.specs.Int.{to_le_bytes, w32};
+ghost use Rattle.mongo_bson.specs.Framed.{IsFramed, body_of, enclosed};
+ghost use Rattle.mongo_bson.specs.Document.{spell};
+ghost use Rattle.mongo_bson.specs.Value.{kind_of, bytes_of, element_of};
+
+use crate::name::name_end;
+use crate::{BsonFault, RawValue};
+
+// The greatest length of a document, the greatest `int32`.
+const LONGEST: usize = 0x7FFF_FFFF;
+
+// Puts an element at the end of a document. Want of memory is the only refusal, and leaves the document as it was.
+pub(crate) fn push_element(
+    document: &mut Vec<u8>,
+    key: &str,
+    value: RawValue<'_>,
+) -> Result<(), BsonFault>
+    requires framed { IsFramed document.old.items }
+    requires room { length document.old.items + length (spell (element_of key.now value)) < 2 ^ 31 }
+    ensures added { OnOk result (document.new.items ≡ enclosed (body_of document.old.items ++ spell (element_of key.now value.entry))) }
+    ensures unchanged { OnErr result (document.new.items ≡ document.old.items) }
+    ensures framed { IsFramed document.new.items }
+    ensures refused { IfErr result (λ fault. fault ≡ BsonFault.OutOfMemory) }
+{
+    let length = document.len();
+    match write_after(document, key, value) {
+        Ok(()) => {
+            seal(document, length - 1, kind_byte(value));
+            Ok(())
+        }
+        Err(fault) => {
+            document.truncate(length);
+            Err(fault)
+        }
+    }
+}
+
+// Puts elements at the end of a document. Want of memory is the only refusal, and leaves the document as it was.
+pub(crate) fn push_elements(document: &mut Vec<u8>, elements: &[u8]) -> Result<(), BsonFault>
+    requires framed { IsFramed document.old.items }
+    requires room { length document.old.items + length elements.now < 2 ^ 31 }
+    ensures added { OnOk result (document.new.items ≡ enclosed (body_of document.old.items ++ elements.now)) }
+    ensures unchanged { OnErr result (document.new.items ≡ document.old.items) }
+    ensures framed { IsFramed document.new.items }
+    ensures refused { IfErr result (λ fault. fault ≡ BsonFault.OutOfMemory) }
+{
+    let Some((kind, rest)) = elements.split_first() else {
+        return Ok(());
+    };
+    let length = document.len();
+    match write_rest(document, rest) {
+        Ok(()) => {
+            seal(document, length - 1, *kind);
+            Ok(())
+        }
+        Err(fault) => {
+            document.truncate(length);
+            Err(fault)
+        }
+    }
+}
+
+// Writes bytes and a final zero after what is there. What was there stays, whatever the result.
+fn write_rest(out: &mut Vec<u8>, bytes: &[u8]) -> Result<(), BsonFault>
+    ensures added { OnOk result (out.new.items ≡ out.old.items ++ (bytes.now ++ 0 ∷ [])) }
+    ensures kept { take (length out.old.items) out.new.items ≡ out.old.items }
+    ensures refused { IfErr result (λ fault. fault ≡ BsonFault.OutOfMemory) }
+{
+    out.extend_from_slice(bytes)?;
+    out.push(0)?;
+    Ok(())
+}
+
+// Writes a key and its zero, a value and a final zero after what is there. What was there stays, whatever the result.
+fn write_after(out: &mut Vec<u8>, key: &str, value: RawValue<'_>) -> Result<(), BsonFault>
+    requires { length (bytes_of value) < 2 ^ 31 }
+    ensures added { OnOk result (out.new.items ≡ out.old.items ++ (key.now ++ 0 ∷ (bytes_of value.entry ++ 0 ∷ []))) }
+    ensures kept { take (length out.old.items) out.new.items ≡ out.old.items }
+    ensures refused { IfErr result (λ fault. fault ≡ BsonFault.OutOfMemory) }
+{
+    out.extend_from_slice(key.as_bytes())?;
+    out.push(0)?;
+    write_value(out, value)?;
+    out.push(0)?;
+    Ok(())
+}
+
+// Writes the bytes of a value after what is there. What was there stays, whatever the result.
+fn write_value(out: &mut Vec<u8>, value: RawValue<'_>) -> Result<(), BsonFault>
+    requires { length (bytes_of value) < 2 ^ 31 }
+    ensures added { OnOk result (out.new.items ≡ out.old.items ++ bytes_of value.entry) }
+    ensures kept { take (length out.old.items) out.new.items ≡ out.old.items }
+    ensures refused { IfErr result (λ fault. fault ≡ BsonFault.OutOfMemory) }
+{
+    match value {
+        RawValue::Double(bits) => out.extend_from_slice(&bits.to_le_bytes())?,
+        RawValue::Str(text) => {
+            out.extend_from_slice(&(text.len() as u32 + 1).to_le_bytes())?;
+            out.extend_from_slice(text.as_bytes())?;
+            out.push(0)?;
+        }
+        RawValue::Document(document) => out.extend_from_slice(document.as_bytes())?,
+        RawValue::Array(array) => out.extend_from_slice(array.as_bytes())?,
+        RawValue::Binary(subtype, content) => {
+            out.extend_from_slice(&(content.len() as u32).to_le_bytes())?;
+            out.push(subtype)?;
+            out.extend_from_slice(content)?;
+        }
+        RawValue::ObjectId(id) => out.extend_from_slice(&id.0)?,
+        RawValue::Bool(truth) => out.push(u8::from(truth))?,
+        RawValue::DateTime(milliseconds) => out.extend_from_slice(&milliseconds.to_le_bytes())?,
+        RawValue::Null => {}
+        RawValue::Int32(number) => out.extend_from_slice(&number.to_le_bytes())?,
+        RawValue::Int64(number) => out.extend_from_slice(&number.to_le_bytes())?,
+        RawValue::Other(_, content) => out.extend_from_slice(content)?,
+    }
+    Ok(())
+}
+
+// The kind byte that a value is written with.
+fn kind_byte(value: RawValue<'_>) -> u8
+    ensures { result ≡ kind_of value.entry }
+{
+    match value {
+        RawValue::Double(_) => 0x01,
+        RawValue::Str(_) => 0x02,
+        RawValue::Document(_) => 0x03,
+        RawValue::Array(_) => 0x04,
+        RawValue::Binary(_, _) => 0x05,
+        RawValue::ObjectId(_) => 0x07,
+        RawValue::Bool(_) => 0x08,
+        RawValue::DateTime(_) => 0x09,
+        RawValue::Null => 0x0A,
+        RawValue::Int32(_) => 0x10,
+        RawValue::Int64(_) => 0x12,
+        RawValue::Other(kind, _) => kind,
+    }
+}
+
+// How many bytes a value is written as.
+fn value_size(value: RawValue<'_>) -> usize
+    ensures { result ≡ length (bytes_of value.entry) }
+{
+    match value {
+        RawValue::Double(_) => 8,
+        RawValue::Str(text) => text.len() + 5,
+        RawValue::Document(document) => document.as_bytes().len(),
+        RawValue::Array(array) => array.as_bytes().len(),
+        RawValue::Binary(_, content) => content.len() + 5,
+        RawValue::ObjectId(_) => 12,
+        RawValue::Bool(_) => 1,
+        RawValue::DateTime(_) => 8,
+        RawValue::Null => 0,
+        RawValue::Int32(_) => 4,
+        RawValue::Int64(_) => 8,
+        RawValue::Other(_, content) => content.len(),
+    }
+}
+
+// Whether a document of this length has room for an element.
+pub(crate) fn has_room(held: usize, key: &str, value: RawValue<'_>) -> bool
+    requires { held < 2 ^ 31 }
+    ensures { IsTrue result ↔ (held + length (spell (element_of key.now value.entry)) ≤ 2 ^ 31 - 1) }
+{
+    let size = value_size(value);
+    key.len() <= LONGEST && size <= LONGEST && held + key.len() + size + 2 <= LONGEST
+}
+
+// Whether a document of this length has room for so many bytes more.
+pub(crate) fn has_room_for(held: usize, more: usize) -> bool
+    requires { held < 2 ^ 31 }
+    ensures { IsTrue result ↔ (held + more ≤ 2 ^ 31 - 1) }
+{
+    more <= LONGEST && held + more <= LONGEST
+}
+
+// Makes the zero at a place the kind byte of what follows it, and the length field the length.
+fn seal(document: &mut Vec<u8>, at: usize, kind: u8)
+    requires after_length { 4 ≤ at }
+    requires within { at < length document.old.items }
+    requires most { length document.old.items < 2 ^ 31 }
+    ensures { document.new.items ≡ to_le_bytes w32 (length document.old.items) ++ drop 4 (slice_set document.old.items at kind) }
+{
+    seal_bytes(document.as_mut_slice(), at, kind);
+}
+
+// The same in a slice.
+fn seal_bytes(bytes: &mut [u8], at: usize, kind: u8)
+    requires after_length { 4 ≤ at }
+    requires within { at < length bytes.old }
+    requires most { length bytes.old < 2 ^ 31 }
+    ensures { bytes.new ≡ to_le_bytes w32 (length bytes.old) ++ drop 4 (slice_set bytes.old at kind) }
+{
+    bytes[at] = kind;
+    let length = bytes.len() as u32;
+    let (field, _elements) = bytes.split_at_mut(4);
+    field.copy_from_slice(&length.to_le_bytes());
+}
+
+// Whether a key holds a zero.
+pub(crate) fn has_zero(key: &str) -> bool
+    ensures { IsTrue result ↔ Contains key.now 0 }
+{
+    name_end(key.as_bytes()).is_some()
+}
