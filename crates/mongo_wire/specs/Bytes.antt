@@ -1,7 +1,7 @@
 -- Commands and replies as bytes: frames one after another.
-use Rattle.std.specs.Prelude.{◌≡◌, ℕ, ℤ, pos, ◌+ℤ◌, ◌≤ℤ◌, None, List, [], ◌∷◌, ◌++◌, length}
+use Rattle.std.specs.Prelude.{◌≡◌, ℕ, ℤ, pos, ◌≤ℤ◌, None, List, [], ◌∷◌, ◌++◌, length}
 use Rattle.std.specs.Int.{int_wrapping_add, w32}
-use Rattle.mongo_wire.specs.Frame.{Frame, IsFrame}
+use Rattle.mongo_wire.specs.Frame.{Frame, IsFrame, IsFrameWith}
 
 -- the greatest frame before a description
 abbrev pub first_maximum : ℤ
@@ -12,9 +12,8 @@ abbrev pub next_id : ℤ → ℤ
 next_id id = int_wrapping_add w32 id (pos 1)
 
 -- a frame of a command that has no sequences: response-to 0, no checksum, and a flag word of zero
-pub record IsCommandFrame (frame : List ℕ) (id : ℤ) (command : List ℕ) : Type 0 where
-  pub is_frame : IsFrame frame (record { request_id = id; response_to = pos 0; flags = 0; body = command; sequences = []; checksum = None })
-  pub word_is : is_frame.word ≡ 0
+abbrev pub IsCommandFrame : List ℕ → ℤ → List ℕ → Type 0
+IsCommandFrame frame id command = IsFrameWith frame (record { request_id = id; response_to = pos 0; flags = 0; body = command; sequences = []; checksum = None }) 0
 
 -- The bytes are the frames of these commands, joined, ids counted up; the first is within the first maximum, the
 -- later ones within the later one.

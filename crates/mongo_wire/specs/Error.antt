@@ -1,6 +1,6 @@
 -- What the faults of documents and sinks are as causes.
 use Rattle.mongo_bson.specs.declared.fault.BsonFault.{BsonFault}
-use Rattle.mongo_bson.specs.declared.fault.BsonFault.TheVariants.{Malformed, KeyHasZero, TooLong, DuplicateKey, UpdateEmpty, UpdateNotModifiers, ReplacementHasModifiers, OutOfMemory as NoMemory}
+use Rattle.mongo_bson.specs.declared.fault.BsonFault.TheVariants.{OutOfMemory as NoMemory}
 use Rattle.mongo_wire.specs.declared.error.ErrorKind.{ErrorKind}
 use Rattle.mongo_wire.specs.declared.error.ErrorKind.TheVariants.{InvalidArgument, WriteFault, OutOfMemory}
 use Rattle.mongo_wire.specs.declared.outside.SinkError.{SinkError}

@@ -84,3 +84,8 @@ pub record IsFrame (f : List ℕ) (parts : Frame) : Type 0 where
   pub one_body : bodies sections ≡ parts.body ∷ []
   pub sequences_are : sequences_of sections ≡ parts.sequences
   pub checksum_is : IsChecksum word tail parts.checksum
+
+-- f is a frame of these parts whose flag word is this one
+pub record IsFrameWith (f : List ℕ) (parts : Frame) (flag_word : ℕ) : Type 0 where
+  pub is_frame : IsFrame f parts
+  pub word_is : is_frame.word ≡ flag_word

@@ -1,8 +1,8 @@
 -- What reading and writing a message answers.
-use Rattle.std.specs.Prelude.{◌≡◌, ℕ, ℤ, pos, ◌+◌, ◌-◌, ◌≤◌, ◌≤ℤ◌, ◌<ℤ◌, Option, None, Some, Result, Ok, Err, List, [], ◌∷◌, ◌++◌, length, take, drop, unwrap_or, ⊤}
-use Rattle.std.specs.Io.KnownBytes.{Appends, Consumes, Keeps}
+use Rattle.std.specs.Prelude.{◌≡◌, ℕ, ℤ, pos, ◌+◌, ◌≤ℤ◌, ◌<ℤ◌, Option, None, Some, Result, Ok, Err, List, [], ◌∷◌, ◌++◌, length, drop, unwrap_or, bit_and, ⊤}
+use Rattle.std.specs.Io.KnownBytes.{Appends, Keeps}
 use Rattle.mongo_wire.specs.Outside.{Rose, AppendsFront, ConsumesAtMost, IsFlushed}
-use Rattle.mongo_wire.specs.Frame.{Frame, IsFrame, int32, uint32, message_code}
+use Rattle.mongo_wire.specs.Frame.{Frame, IsFrame, IsFrameWith, int32, uint32, message_code, known_flags}
 use Rattle.mongo_wire.specs.Bytes.{next_id}
 use Rattle.mongo_wire.specs.Plain.{bytes_judged}
 use Rattle.mongo_wire.specs.declared.message.Message.{Message}
@@ -11,9 +11,9 @@ use Rattle.mongo_wire.specs.declared.error.ErrorKind.{ErrorKind}
 use Rattle.mongo_wire.specs.declared.error.ErrorKind.TheVariants.{ReadFault, WriteFault, EndOfInput, OutOfMemory, NotBuilt, InvalidArgument}
 use Rattle.mongo_wire.specs.declared.fault.ArgumentFault.TheVariants.{MaximumNegative, TooLong}
 
--- the parts of a message's frame under this request id
+-- the parts of a message's frame under this request id; its flags are those that have a meaning
 abbrev pub parts_of : ℤ → Message → Frame
-parts_of id m = record { request_id = id; response_to = m.response_to; flags = m.flags.0; body = m.document_payload; sequences = m.document_sequences; checksum = m.checksum }
+parts_of id m = record { request_id = id; response_to = m.response_to; flags = bit_and m.flags.0 known_flags; body = m.document_payload; sequences = m.document_sequences; checksum = m.checksum }
 
 -- the bytes begin with a frame of the message within the maximum, and the rest is left
 pub record Begins (most : ℤ) (bytes : List ℕ) (left : Option (List ℕ)) (m : Message) : Type 0 where
@@ -52,7 +52,11 @@ LeavesRefused kind most bytes left = ConsumesAtMost (Some bytes) left (bytes_jud
 
 -- the frame that a message without sequences and checksum is written as
 abbrev pub written_frame : ℤ → Message → List ℕ
-written_frame id m = uint32 (21 + length m.document_payload) ++ (int32 id ++ (int32 m.response_to ++ (uint32 message_code ++ (uint32 m.flags.0 ++ (0 ∷ m.document_payload)))))
+written_frame id m = uint32 (21 + length m.document_payload) ++ (int32 id ++ (int32 m.response_to ++ (uint32 message_code ++ (uint32 (bit_and m.flags.0 known_flags) ++ (0 ∷ m.document_payload)))))
+
+-- a frame of the message under this id, whose flag word holds the message's flags and no other bit
+abbrev pub IsFrameOf : ℤ → Message → List ℕ → Type 0
+IsFrameOf id m frame = IsFrameWith frame (parts_of id m) (bit_and m.flags.0 known_flags)
 
 -- the id that a message is written with, and the next id after it
 abbrev pub id_of : Message → ℤ → ℤ

@@ -1,5 +1,5 @@
 -- The frames that are read today: one section, of kind 0, and no checksum. Every other frame is not built yet.
-use Rattle.std.specs.Prelude.{◌≡◌, ℕ, ℤ, pos, ◌+◌, ◌-◌, ◌%◌, ◌≤ℤ◌, ◌==◌, ◌&&◌, not, Bool, true, false, nat_lt, nat_le, int_le, Option, None, Some, Result, Ok, Err, List, [], length, take, drop, slice_index, bit_and, if◌then◌else◌, unwrap_or}
+use Rattle.std.specs.Prelude.{ℕ, ℤ, pos, ◌-◌, ◌%◌, ◌==◌, ◌&&◌, Bool, nat_lt, nat_le, int_le, Option, None, Result, Ok, Err, List, [], length, take, drop, slice_index, bit_and, if◌then◌else◌, unwrap_or}
 use Rattle.std.specs.Int.{from_le_bytes, cast_signed, w32}
 use Rattle.mongo_bson.specs.Framed.{is_framed}
 use Rattle.mongo_wire.specs.Frame.{message_code, known_flags}

@@ -1,4 +1,4 @@
-ghost use Rattle.std.specs.Prelude.{◌≡◌, ◌++◌, ◌==◌, List, [], ◌∷◌, length, slice_get, option_copied, IfErr, OnOk, OnErr};
+ghost use Rattle.std.specs.Prelude.{◌≡◌, ◌++◌, ◌==◌, List, [], ◌∷◌, length, slice_get, option_copied, IfOk, IfErr, OnOk, OnErr};
 
 use mongo_bson::{BsonFault, Documents, Text};
 use std::alloc::Global;
@@ -11,6 +11,19 @@ pub struct DocumentSequence {
     pub identifier: Text,
     /// The documents.
     pub documents: Documents,
+}
+
+impl DocumentSequence {
+    /// A copy of the sequence. Want of memory is the only refusal.
+    pub fn try_clone(&self, alloc: Global) -> Result<DocumentSequence, BsonFault>
+        ensures copied { IfOk result (λ sequence. sequence ≡ self.now) }
+        ensures refused { IfErr result (λ fault. fault ≡ BsonFault.OutOfMemory) }
+    {
+        Ok(DocumentSequence {
+            identifier: self.identifier.try_clone(alloc)?,
+            documents: self.documents.try_clone(alloc)?,
+        })
+    }
 }
 
 /// A list of document sequences.
@@ -67,5 +80,17 @@ impl Sequences {
         ensures { option_copied result ≡ slice_get self.now index }
     {
         self.items.as_slice().get(index)
+    }
+
+    /// A copy of the list. Want of memory is the only refusal.
+    pub fn try_clone(&self, alloc: Global) -> Result<Sequences, BsonFault>
+        ensures copied { IfOk result (λ sequences. sequences ≡ self.now) }
+        ensures refused { IfErr result (λ fault. fault ≡ BsonFault.OutOfMemory) }
+    {
+        let mut copies = Vec::new(alloc);
+        for sequence in self.items.as_slice() {
+            copies.push(sequence.try_clone(alloc)?)?;
+        }
+        Ok(Sequences { items: copies })
     }
 }

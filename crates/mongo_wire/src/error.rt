@@ -1,17 +1,29 @@
-ghost use Rattle.std.specs.Prelude.{◌≡◌};
+ghost use Rattle.std.specs.Prelude.{◌≡◌, IfOk, IfErr};
 ghost use Rattle.mongo_wire.specs.Error.{kind_of_fault, kind_of_sink_error};
 
 use crate::{
     ArgumentFault, AuthFault, CommandError, InsertManyError, ResponseFault, SinkError, WriteFailure,
 };
 use mongo_bson::{BsonFault, Text};
-use std::alloc::{AllocError, AllocFailed};
+use std::alloc::{AllocError, AllocFailed, Global};
 
 /// Why a call was refused.
 #[derive(Debug, Drop)]
 pub struct Error {
     /// The cause.
     pub kind: ErrorKind,
+}
+
+impl Error {
+    /// A copy of the error. Want of memory is the only refusal.
+    pub fn try_clone(&self, alloc: Global) -> Result<Error, BsonFault>
+        ensures copied { IfOk result (λ error. error ≡ self.now) }
+        ensures refused { IfErr result (λ fault. fault ≡ BsonFault.OutOfMemory) }
+    {
+        Ok(Error {
+            kind: self.kind.try_clone(alloc)?,
+        })
+    }
 }
 
 /// The causes of a refusal.
@@ -45,6 +57,32 @@ pub enum ErrorKind {
     NotBuilt,
     /// Memory ran out.
     OutOfMemory,
+}
+
+impl ErrorKind {
+    /// A copy of the cause. Want of memory is the only refusal.
+    pub fn try_clone(&self, alloc: Global) -> Result<ErrorKind, BsonFault>
+        ensures copied { IfOk result (λ kind. kind ≡ self.now) }
+        ensures refused { IfErr result (λ fault. fault ≡ BsonFault.OutOfMemory) }
+    {
+        let copy = match self {
+            ErrorKind::InvalidArgument(fault) => ErrorKind::InvalidArgument(*fault),
+            ErrorKind::InvalidResponse(fault) => ErrorKind::InvalidResponse(*fault),
+            ErrorKind::Command(error) => ErrorKind::Command(error.try_clone(alloc)?),
+            ErrorKind::Authentication(fault) => ErrorKind::Authentication(fault.try_clone(alloc)?),
+            ErrorKind::IncompatibleServer => ErrorKind::IncompatibleServer,
+            ErrorKind::Write(failure) => ErrorKind::Write(failure.try_clone(alloc)?),
+            ErrorKind::InsertMany(error) => ErrorKind::InsertMany(error.try_clone(alloc)?),
+            ErrorKind::ReadFault => ErrorKind::ReadFault,
+            ErrorKind::WriteFault => ErrorKind::WriteFault,
+            ErrorKind::EndOfInput => ErrorKind::EndOfInput,
+            ErrorKind::Callback(text) => ErrorKind::Callback(text.try_clone(alloc)?),
+            ErrorKind::PasswordNotAscii => ErrorKind::PasswordNotAscii,
+            ErrorKind::NotBuilt => ErrorKind::NotBuilt,
+            ErrorKind::OutOfMemory => ErrorKind::OutOfMemory,
+        };
+        Ok(copy)
+    }
 }
 
 impl From<ErrorKind> for Error {

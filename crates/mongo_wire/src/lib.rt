@@ -13,6 +13,7 @@ mod auth_fault;
 mod command_error;
 mod document_sequence;
 mod error;
+mod failing_link;
 mod fault;
 mod memory_link;
 mod message;
@@ -29,6 +30,7 @@ pub use auth_fault::AuthFault;
 pub use command_error::CommandError;
 pub use document_sequence::{DocumentSequence, Sequences};
 pub use error::{Error, ErrorKind};
+pub use failing_link::FailingLink;
 pub use fault::{ArgumentFault, ResponseFault};
 pub use memory_link::MemoryLink;
 pub use message::Message;
@@ -40,3 +42,6 @@ pub use write_error::{
     IndexedWriteError, InsertManyError, WriteConcernError, WriteError, WriteErrors, WriteFailure,
     WriteFailureCause,
 };
+
+#[cfg(test)]
+mod tests;

@@ -20,6 +20,9 @@ pub struct MemoryLink {
 }
 
 impl MemoryLink {
+    ghost use Rattle.std.specs.Prelude.{◌≡◌, []};
+    ghost use Rattle.mongo_wire.specs.Memory.{bytes_left, bytes_written};
+
     /// A link that gives these bytes, and to which nothing was written. It takes no memory.
     pub fn new(alloc: Global, input: Bytes) -> MemoryLink
         ensures input { result.input.items ≡ input }
@@ -39,14 +42,14 @@ impl MemoryLink {
 
     /// All that was written.
     pub fn written(&self) -> &[u8]
-        ensures { result.now ≡ self.now.output.items }
+        ensures { result.now ≡ bytes_written self.now }
     {
         self.output.as_slice()
     }
 
     /// What is left of the input.
     pub fn left(&self) -> &[u8]
-        ensures { result.now ≡ drop self.now.at self.now.input.items }
+        ensures { result.now ≡ bytes_left self.now }
     {
         &self.input.as_slice()[self.at..]
     }

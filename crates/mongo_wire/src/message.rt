@@ -1,15 +1,16 @@
 ghost use Rattle.std.specs.Prelude.{◌≡◌, ℕ, pos, ◌≤ℤ◌, List, [], None, Some, length, IfOk, IfErr, OnOk};
 ghost use Rattle.mongo_wire.specs.Outside.{ReadsOn, WritesOn, ReadStops};
 ghost use Rattle.mongo_wire.specs.Plain.{frame_answer, maximum_of};
-ghost use Rattle.mongo_wire.specs.Message.{Answers, Begins, ReadRefused, LeavesRefused, Writes, WriteRefused, written_frame, parts_of, id_of};
-ghost use Rattle.mongo_wire.specs.Frame.{IsFrame};
+ghost use Rattle.mongo_wire.specs.Message.{Answers, Begins, ReadRefused, LeavesRefused, Writes, WriteRefused, IsFrameOf, written_frame, id_of, id_after};
+ghost use Rattle.mongo_wire.specs.declared.fault.ArgumentFault.{ArgumentFault};
+ghost use Rattle.mongo_wire.specs.declared.error.ErrorKind.TheVariants.{InvalidArgument};
 
 use crate::plain::{plain_header, plain_length, plain_message, section_start};
 use crate::reading::{fill, take_bytes};
-use crate::writing::{flush_out, write_out};
+use crate::writing::write_parts;
 use crate::{ArgumentFault, Error, ErrorKind, MessageFlags, RequestIds, Sequences, Sink, Source};
 use bitflags::Flags;
-use mongo_bson::{Bytes, RawDocumentBuf};
+use mongo_bson::{BsonFault, RawDocumentBuf};
 use std::alloc::Global;
 
 /// The greatest frame where no maximum is given: 48 MiB.
@@ -33,6 +34,21 @@ pub struct Message {
 }
 
 impl Message {
+    /// A copy of the message. Want of memory is the only refusal.
+    pub fn try_clone(&self, alloc: Global) -> Result<Message, BsonFault>
+        ensures copied { IfOk result (λ message. message ≡ self.now) }
+        ensures refused { IfErr result (λ fault. fault ≡ BsonFault.OutOfMemory) }
+    {
+        Ok(Message {
+            document_payload: self.document_payload.try_clone(alloc)?,
+            document_sequences: self.document_sequences.try_clone(alloc)?,
+            response_to: self.response_to,
+            flags: self.flags,
+            checksum: self.checksum,
+            request_id: self.request_id,
+        })
+    }
+
     /// Reads the next frame of the source, of at most `max` bytes, 50331648 where none is given.
     ///
     /// Refusals, in this order: `EndOfInput` before 16 bytes came; `NotBuilt` where the header isn't an OP_MSG's whose
@@ -54,7 +70,7 @@ impl Message {
     {
         let mut head = [0u8; 16];
         fill(source, &mut head)?;
-        let Some(length) = plain_length(&head, max.unwrap_or(FIRST_MAXIMUM)) else {
+        let Some(length) = plain_length(&head, max) else {
             return Err(Error {
                 kind: ErrorKind::NotBuilt,
             });
@@ -81,8 +97,10 @@ impl Message {
         requires checksum { self.now.checksum ≡ None }
         ensures written { OnOk result (Writes (maximum_of max) self.now (K.written sink.old) (K.written sink.new) (K.flushed sink.new) ids.old ids.new) }
         // It is a frame of the grammar.
-        ensures frame { OnOk result (IsFrame (written_frame (id_of self.now ids.old) self.now) (parts_of (id_of self.now ids.old) self.now)) }
+        ensures frame { OnOk result (IsFrameOf (id_of self.now ids.old) self.now (written_frame (id_of self.now ids.old) self.now)) }
         ensures refused { IfErr result (λ e. WriteRefused e.kind (maximum_of max) self.now (K.written sink.old) (K.written sink.new) (K.faults_written sink.old) (K.faults_written sink.new) ids.old ids.new) }
+        // Nothing is done where the message is refused before its id is drawn.
+        ensures untouched { (fault : ArgumentFault) → IfErr result (λ e. e.kind ≡ InvalidArgument fault → sink.new ≡ sink.old) }
         ensures on { WritesOn K.written K.flushed K.faults_written K.beside_written sink.old sink.new }
     {
         let maximum = max.unwrap_or(FIRST_MAXIMUM);
@@ -97,14 +115,19 @@ impl Message {
                 kind: ErrorKind::InvalidArgument(ArgumentFault::TooLong),
             });
         }
-        let id = match self.request_id {
+        let id = self.drawn_id(ids);
+        let head = plain_header((document.len() + 21) as u32, id, self.response_to);
+        write_parts(sink, &head, &section_start(self.flags), document)
+    }
+
+    // The id to write the message with: its own, or the next one.
+    fn drawn_id(&self, ids: &mut RequestIds) -> i32
+        ensures id { result ≡ id_of self.now ids.old }
+        ensures drawn { ids.new ≡ id_after self.now.request_id ids.old }
+    {
+        match self.request_id {
             Some(id) => id,
             None => ids.draw(),
-        };
-        let head = plain_header((document.len() + 21) as u32, id, self.response_to);
-        write_out(sink, &head)?;
-        write_out(sink, &section_start(self.flags))?;
-        write_out(sink, document)?;
-        flush_out(sink)
+        }
     }
 }

@@ -1,8 +1,9 @@
-ghost use Rattle.std.specs.Prelude.{◌≡◌, ⊤, [], ◌∷◌, codes};
+ghost use Rattle.std.specs.Prelude.{◌≡◌, ⊤, [], ◌∷◌, codes, bit_and};
+ghost use Rattle.mongo_wire.specs.Frame.{known_flags};
 
 use bitflags::{Flag, Flags, bitflag_items};
 
-/// The flags of an OP_MSG that have a meaning. Other bits of the flag word are dropped on reading.
+/// The flags of an OP_MSG that have a meaning. Other bits of the flag word are dropped on reading and on writing.
 #[derive(Clone, Copy, Debug, PartialEq, Eq)]
 pub struct MessageFlags(u32);
 
@@ -33,5 +34,14 @@ impl Flags for MessageFlags {
 
     fn from_bits_retain(bits: u32) -> MessageFlags {
         MessageFlags(bits)
+    }
+}
+
+impl MessageFlags {
+    /// The flag word of a frame: the flags that have a meaning, and no other bit.
+    pub fn word(&self) -> u32
+        ensures { result ≡ bit_and self.now.0 known_flags }
+    {
+        self.0 & 65_539
     }
 }

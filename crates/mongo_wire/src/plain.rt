@@ -1,20 +1,25 @@
-ghost use Rattle.std.specs.Prelude.{◌≡◌, ◌+◌, ◌≤◌, true, ℕ, ℤ, pos, IfOk, IfErr, IfSome, IfNone, false, Ok, Err, length, ◌++◌, ◌∷◌, []};
-ghost use Rattle.mongo_wire.specs.Plain.{is_plain_head, number_at, judged_body};
-ghost use Rattle.mongo_wire.specs.Frame.{int32, uint32, message_code};
-ghost use Rattle.mongo_wire.specs.Message.{Answers};
+ghost use Rattle.std.specs.Prelude.{◌≡◌, ◌+◌, ◌^◌, ◌<◌, ◌≤◌, true, ℕ, ℤ, pos, ◌≤ℤ◌, bit_and, IfOk, IfErr, IfSome, IfNone, false, Ok, Err, length, ◌++◌, ◌∷◌, []};
+ghost use Rattle.std.specs.Int.{cast_signed, w32};
+ghost use Rattle.mongo_wire.specs.Plain.{is_plain_head, number_at, judged_body, maximum_of};
+ghost use Rattle.mongo_wire.specs.Frame.{IsFrame, int32, uint32, message_code, known_flags};
+ghost use Rattle.mongo_wire.specs.Message.{Answers, parts_of};
 
+use crate::message::FIRST_MAXIMUM;
 use crate::{Error, ErrorKind, Message, MessageFlags, Sequences};
 use bitflags::Flags;
 use mongo_bson::{Bytes, RawDocumentBuf};
 use std::alloc::Global;
 
-// The length that a header gives, where it is one of a frame that is read today.
-pub fn plain_length(head: &[u8], most: i32) -> Option<usize>
+// The length that a header gives, where it is one of a frame that is read today, of at most `max` bytes.
+pub fn plain_length(head: &[u8], max: Option<i32>) -> Option<usize>
     requires { length head.now ≡ 16 }
-    ensures found { IfSome result (λ n. (n ≡ number_at 0 head.now) × (is_plain_head most head.now ≡ true)) }
-    ensures none { IfNone result (is_plain_head most head.now ≡ false) }
+    ensures found { IfSome result (λ n. (n ≡ number_at 0 head.now) × (is_plain_head (maximum_of max) head.now ≡ true)) }
+    ensures code { IfSome result (λ _. number_at 12 head.now ≡ message_code) }
+    ensures within { IfSome result (λ n. (26 ≤ n) × (n < 2 ^ 31) × (pos n ≤ℤ maximum_of max)) }
+    ensures none { IfNone result (is_plain_head (maximum_of max) head.now ≡ false) }
 {
     let length = number(head, 0);
+    let most = max.unwrap_or(FIRST_MAXIMUM);
     if number(head, 12) == 2013 && length >= 26 && length as i64 <= most as i64 {
         Some(length as usize)
     } else {
@@ -39,7 +44,12 @@ pub fn plain_message(
 ) -> Result<Message, Error>
     requires head { length head.now ≡ 16 }
     requires start { length start.now ≡ 5 }
-    ensures { Answers result (judged_body head.now start.now document.items) }
+    requires code { number_at 12 head.now ≡ message_code }
+    requires counted { number_at 0 head.now ≡ 21 + length document.items }
+    requires fits { number_at 0 head.now < 2 ^ 31 }
+    ensures exact { Answers result (judged_body head.now start.now document.items) }
+    ensures found { IfOk result (λ message. IsFrame (head.now ++ (start.now ++ document.items)) (parts_of (cast_signed w32 (number_at 4 head.now)) message)) }
+    ensures refused { IfErr result (λ e. e.kind ≡ ErrorKind.NotBuilt) }
 {
     if number(start, 0) % 2 != 0 || start[4] != 0 {
         return Err(Error {
@@ -50,7 +60,7 @@ pub fn plain_message(
         Ok(document_payload) => Ok(Message {
             document_payload,
             document_sequences: Sequences::new(alloc),
-            response_to: i32::from_le_bytes([head[8], head[9], head[10], head[11]]),
+            response_to: number(head, 8).cast_signed(),
             flags: MessageFlags::from_bits_truncate(number(start, 0)),
             checksum: None,
             request_id: None,
@@ -76,8 +86,8 @@ pub fn plain_header(length: u32, request_id: i32, response_to: i32) -> [u8; 16]
 
 // The flags and the kind byte of the section that holds the body.
 pub fn section_start(flags: MessageFlags) -> [u8; 5]
-    ensures { result ≡ uint32 flags.0 ++ (0 ∷ []) }
+    ensures { result ≡ uint32 (bit_and flags.0 known_flags) ++ (0 ∷ []) }
 {
-    let [f0, f1, f2, f3] = flags.bits().to_le_bytes();
+    let [f0, f1, f2, f3] = flags.word().to_le_bytes();
     [f0, f1, f2, f3, 0]
 }

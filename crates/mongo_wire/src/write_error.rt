@@ -17,6 +17,21 @@ pub struct WriteError {
     pub details: Option<RawDocumentBuf>,
 }
 
+impl WriteError {
+    /// A copy of the write error. Want of memory is the only refusal.
+    pub fn try_clone(&self, alloc: Global) -> Result<WriteError, BsonFault>
+        ensures copied { IfOk result (λ error. error ≡ self.now) }
+        ensures refused { IfErr result (λ fault. fault ≡ BsonFault.OutOfMemory) }
+    {
+        Ok(WriteError {
+            code: self.code,
+            code_name: copy_of_text(alloc, &self.code_name)?,
+            message: self.message.try_clone(alloc)?,
+            details: copy_of_document(alloc, &self.details)?,
+        })
+    }
+}
+
 /// A refused write of a batch and its place there, counted from 0.
 #[derive(Debug, Drop)]
 pub struct IndexedWriteError {
@@ -24,6 +39,19 @@ pub struct IndexedWriteError {
     pub index: u32,
     /// Why it was refused.
     pub error: WriteError,
+}
+
+impl IndexedWriteError {
+    /// A copy of the write error and its place. Want of memory is the only refusal.
+    pub fn try_clone(&self, alloc: Global) -> Result<IndexedWriteError, BsonFault>
+        ensures copied { IfOk result (λ error. error ≡ self.now) }
+        ensures refused { IfErr result (λ fault. fault ≡ BsonFault.OutOfMemory) }
+    {
+        Ok(IndexedWriteError {
+            index: self.index,
+            error: self.error.try_clone(alloc)?,
+        })
+    }
 }
 
 /// A list of refused writes.
@@ -81,6 +109,18 @@ impl WriteErrors {
     {
         self.items.as_slice().get(index)
     }
+
+    /// A copy of the list. Want of memory is the only refusal.
+    pub fn try_clone(&self, alloc: Global) -> Result<WriteErrors, BsonFault>
+        ensures copied { IfOk result (λ errors. errors ≡ self.now) }
+        ensures refused { IfErr result (λ fault. fault ≡ BsonFault.OutOfMemory) }
+    {
+        let mut copies = Vec::new(alloc);
+        for error in self.items.as_slice() {
+            copies.push(error.try_clone(alloc)?)?;
+        }
+        Ok(WriteErrors { items: copies })
+    }
 }
 
 /// A write concern that a server couldn't meet.
@@ -98,6 +138,22 @@ pub struct WriteConcernError {
     pub labels: Texts,
 }
 
+impl WriteConcernError {
+    /// A copy of the write concern error. Want of memory is the only refusal.
+    pub fn try_clone(&self, alloc: Global) -> Result<WriteConcernError, BsonFault>
+        ensures copied { IfOk result (λ error. error ≡ self.now) }
+        ensures refused { IfErr result (λ fault. fault ≡ BsonFault.OutOfMemory) }
+    {
+        Ok(WriteConcernError {
+            code: self.code,
+            code_name: self.code_name.try_clone(alloc)?,
+            message: self.message.try_clone(alloc)?,
+            details: copy_of_document(alloc, &self.details)?,
+            labels: self.labels.try_clone(alloc)?,
+        })
+    }
+}
+
 /// Why a single write was refused.
 #[derive(Debug, Drop)]
 pub enum WriteFailureCause {
@@ -105,6 +161,23 @@ pub enum WriteFailureCause {
     WriteError(WriteError),
     /// Its write concern.
     WriteConcernError(WriteConcernError),
+}
+
+impl WriteFailureCause {
+    /// A copy of the cause. Want of memory is the only refusal.
+    pub fn try_clone(&self, alloc: Global) -> Result<WriteFailureCause, BsonFault>
+        ensures copied { IfOk result (λ cause. cause ≡ self.now) }
+        ensures refused { IfErr result (λ fault. fault ≡ BsonFault.OutOfMemory) }
+    {
+        match self {
+            WriteFailureCause::WriteError(error) => {
+                Ok(WriteFailureCause::WriteError(error.try_clone(alloc)?))
+            }
+            WriteFailureCause::WriteConcernError(error) => {
+                Ok(WriteFailureCause::WriteConcernError(error.try_clone(alloc)?))
+            }
+        }
+    }
 }
 
 /// A single write that was refused.
@@ -116,6 +189,19 @@ pub struct WriteFailure {
     pub labels: Texts,
 }
 
+impl WriteFailure {
+    /// A copy of the write failure. Want of memory is the only refusal.
+    pub fn try_clone(&self, alloc: Global) -> Result<WriteFailure, BsonFault>
+        ensures copied { IfOk result (λ failure. failure ≡ self.now) }
+        ensures refused { IfErr result (λ fault. fault ≡ BsonFault.OutOfMemory) }
+    {
+        Ok(WriteFailure {
+            cause: self.cause.try_clone(alloc)?,
+            labels: self.labels.try_clone(alloc)?,
+        })
+    }
+}
+
 /// An insert of which something was refused.
 #[derive(Debug, Drop)]
 pub struct InsertManyError {
@@ -125,4 +211,51 @@ pub struct InsertManyError {
     pub write_concern_error: Option<WriteConcernError>,
     /// The error labels of the reply.
     pub labels: Texts,
+}
+
+impl InsertManyError {
+    /// A copy of the insert error. Want of memory is the only refusal.
+    pub fn try_clone(&self, alloc: Global) -> Result<InsertManyError, BsonFault>
+        ensures copied { IfOk result (λ error. error ≡ self.now) }
+        ensures refused { IfErr result (λ fault. fault ≡ BsonFault.OutOfMemory) }
+    {
+        let write_errors = match &self.write_errors {
+            Some(errors) => Some(errors.try_clone(alloc)?),
+            None => None,
+        };
+        let write_concern_error = match &self.write_concern_error {
+            Some(error) => Some(error.try_clone(alloc)?),
+            None => None,
+        };
+        Ok(InsertManyError {
+            write_errors,
+            write_concern_error,
+            labels: self.labels.try_clone(alloc)?,
+        })
+    }
+}
+
+// A copy of the text, where there is one.
+fn copy_of_text(alloc: Global, text: &Option<Text>) -> Result<Option<Text>, BsonFault>
+    ensures copied { IfOk result (λ copy. copy ≡ text.now) }
+    ensures refused { IfErr result (λ fault. fault ≡ BsonFault.OutOfMemory) }
+{
+    match text {
+        Some(text) => Ok(Some(text.try_clone(alloc)?)),
+        None => Ok(None),
+    }
+}
+
+// A copy of the document, where there is one.
+fn copy_of_document(
+    alloc: Global,
+    document: &Option<RawDocumentBuf>,
+) -> Result<Option<RawDocumentBuf>, BsonFault>
+    ensures copied { IfOk result (λ copy. copy ≡ document.now) }
+    ensures refused { IfErr result (λ fault. fault ≡ BsonFault.OutOfMemory) }
+{
+    match document {
+        Some(document) => Ok(Some(document.try_clone(alloc)?)),
+        None => Ok(None),
+    }
 }

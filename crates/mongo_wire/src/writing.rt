@@ -1,4 +1,4 @@
-ghost use Rattle.std.specs.Prelude.{◌≡◌, ◌<◌, ◌≤◌, ◌+◌, length, [], IfOk, IfErr, OnOk};
+ghost use Rattle.std.specs.Prelude.{◌≡◌, ◌<◌, ◌≤◌, ◌+◌, ◌++◌, length, [], IfOk, IfErr, OnOk};
 ghost use Rattle.std.specs.Io.KnownBytes.{Appends, Keeps};
 ghost use Rattle.mongo_wire.specs.Outside.{WritesOn, WriteStops, IsFlushed};
 
@@ -35,4 +35,24 @@ pub fn flush_out<K: Sink>(sink: &mut K) -> Result<(), Error>
         Ok(()) => Ok(()),
         Err(fault) => Err(fault.into()),
     }
+}
+
+/// Writes a header, what follows it and a document, each as pieces of its own, and flushes the sink.
+///
+/// `WriteFault` where the sink failed, `OutOfMemory` where it wanted memory; a front of the bytes is written then.
+pub fn write_parts<K: Sink>(
+    sink: &mut K,
+    head: &[u8],
+    start: &[u8],
+    document: &[u8],
+) -> Result<(), Error>
+    ensures written { OnOk result (Appends (K.written sink.old) (K.written sink.new) (head.now ++ (start.now ++ document.now))) }
+    ensures flushed { OnOk result (IsFlushed (K.written sink.new) (K.flushed sink.new)) }
+    ensures refused { IfErr result (λ e. WriteStops e.kind (K.written sink.old) (K.written sink.new) (K.faults_written sink.old) (K.faults_written sink.new) (head.now ++ (start.now ++ document.now))) }
+    ensures on { WritesOn K.written K.flushed K.faults_written K.beside_written sink.old sink.new }
+{
+    write_out(sink, head)?;
+    write_out(sink, start)?;
+    write_out(sink, document)?;
+    flush_out(sink)
 }

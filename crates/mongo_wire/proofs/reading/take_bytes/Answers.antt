@@ -1,0 +1,14 @@
+use Rattle.std.proofs.Common.{arith, ◌≡◌, ◌≤◌, length, ◌++◌, take}
+use Rattle.std.proofs.lemmas.Grind.{common_steps}
+use Rattle.std.proofs.lemmas.Result.{err_from_is_err_and}
+use Rattle.std.proofs.KnownBytes.{Consumes-trans}
+use Rattle.mongo_wire.proofs.reading.take_bytes.Goals as goal
+
+pub returns-in_err-extend_from_slice-in-Ok-clause-refused :
+    goal.returns-in_err-extend_from_slice-in-Ok-clause-refused
+returns-in_err-extend_from_slice-in-Ok-clause-refused g c =
+    let piece = take c.in-Ok.count c.read.new.buf in
+    let room : length c.read.new.buf ≡ c.min-room.result = grind (arith, common_steps, c.read.auto.buf) in
+    let short : length (c.taking.taken.items ++ piece) ≤ c.args.wanted = grind (arith, common_steps) in
+    let (e, is, gives) = err_from_is_err_and c.from_residual.result c.from_residual.ensures.1 in
+    rw (is, gives) (c.taking.taken.items ++ piece, short, Consumes-trans _ _ _ _ piece c.taking.invariant.front c.in-Ok.ensures.bytes.0)

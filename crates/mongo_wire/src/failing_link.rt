@@ -1,0 +1,186 @@
+ghost use Rattle.std.specs.Prelude.{◌≡◌, ◌<◌, ◌≤◌, ◌↔◌, [], length, drop, true, is_some, IfOk, OnOk, OnErr, IsErr, IsErrOf};
+ghost use Rattle.std.specs.Io.KnownBytes.{Keeps, ReadConsumes, WriteAppends};
+ghost use Rattle.mongo_wire.specs.Outside.{Rose, IsFlushed, risen};
+ghost use Rattle.mongo_wire.specs.Failing.{fails_at, counted_fault, unread, output_of, written_half, unread_half};
+
+use crate::{Failed, Link, MemoryLink, Sink, SinkError, Source};
+use mongo_bson::Bytes;
+use std::alloc::Global;
+
+/// A [`Link`] over lists in memory that fails at chosen calls and moves a few bytes at a time. It tells both lists.
+///
+/// Reads, writes and flushes are counted together, from 0.
+#[derive(Drop)]
+pub struct FailingLink {
+    link: MemoryLink,
+    failing: Bytes,
+    most: usize,
+    calls: usize,
+    read_faults: u64,
+    write_faults: u64,
+    ghost moves: { 0 < most },
+}
+
+impl FailingLink {
+    /// A link that gives the bytes of `input`, and to which nothing was written. A call fails where its byte in
+    /// `failing` isn't 0; calls past the end of `failing` don't. A read or a write moves at most `most` bytes. It takes
+    /// no memory.
+    pub fn new(alloc: Global, input: Bytes, failing: Bytes, most: usize) -> FailingLink
+        requires { 0 < most }
+        ensures input { result.link.input.items ≡ input }
+        ensures at { result.link.at ≡ 0 }
+        ensures output { result.link.output.items ≡ [] }
+        ensures flushed { result.link.flushed ≡ 0 }
+        ensures ends { result.link.ends ≡ 0 }
+        ensures failing { result.failing ≡ failing }
+        ensures most { result.most ≡ most }
+        ensures calls { result.calls ≡ 0 }
+        ensures read_faults { result.read_faults ≡ 0 }
+        ensures write_faults { result.write_faults ≡ 0 }
+    {
+        FailingLink {
+            link: MemoryLink::new(alloc, input),
+            failing,
+            most,
+            calls: 0,
+            read_faults: 0,
+            write_faults: 0,
+        }
+    }
+
+    /// All that was written.
+    pub fn written(&self) -> &[u8]
+        ensures { result.now ≡ self.now.link.output.items }
+    {
+        self.link.written()
+    }
+
+    /// What is left of the input.
+    pub fn left(&self) -> &[u8]
+        ensures { result.now ≡ drop self.now.link.at self.now.link.input.items }
+    {
+        self.link.left()
+    }
+
+    // Counts a call, and says whether it fails.
+    fn fails(&mut self) -> bool
+        ensures fails { result ≡ fails_at self.old.failing self.old.calls }
+        ensures counted { self.new ≡ record self.old { calls = risen self.old.calls } }
+    {
+        let fails = match self.failing.as_bytes().get(self.calls) {
+            Some(byte) => *byte != 0,
+            None => false,
+        };
+        self.calls = self.calls.saturating_add(1);
+        fails
+    }
+}
+
+impl Source for FailingLink {
+    ghost left = { λ s. unread s.link };
+
+    ghost faults_read = { λ s. s.read_faults };
+
+    ghost ends_met = { λ s. s.link.ends };
+
+    ghost beside_left = { λ s. written_half s.link s.write_faults };
+
+    fn read(&mut self, buf: &mut [u8]) -> Result<usize, Failed>
+        ensures most { IfOk result (λ count. count ≤ length buf.new) }
+        ensures bytes { ReadConsumes (unread self.old.link) (unread self.new.link) result buf.new }
+        ensures tells { is_some (unread self.new.link) ≡ is_some (unread self.old.link) }
+        ensures failed { OnErr result (Rose self.old.read_faults self.new.read_faults) }
+        ensures ended { IfOk result (λ count. count ≡ 0 → 0 < length buf.new → Rose self.old.link.ends self.new.link.ends) }
+        ensures faults_stay { self.old.read_faults ≤ self.new.read_faults }
+        ensures ends_stay { self.old.link.ends ≤ self.new.link.ends }
+        ensures beside { written_half self.new.link self.new.write_faults ≡ written_half self.old.link self.old.write_faults }
+        // It fails just where its byte isn't 0, moves at most so many bytes, and each call counts.
+        ensures fails { IsErr result ↔ (fails_at self.old.failing self.old.calls ≡ true) }
+        ensures few { IfOk result (λ count. count ≤ self.old.most) }
+        ensures calls { self.new.calls ≡ risen self.old.calls }
+        ensures faults { self.new.read_faults ≡ counted_fault (fails_at self.old.failing self.old.calls) self.old.read_faults }
+        ensures schedule { (self.new.failing ≡ self.old.failing) × (self.new.most ≡ self.old.most) }
+    {
+        if self.fails() {
+            self.read_faults = self.read_faults.saturating_add(1);
+            return Err(Failed);
+        }
+        let room = buf.len().min(self.most);
+        self.link.read(&mut buf[..room])
+    }
+
+    fn read_faults(&self) -> u64 {
+        self.read_faults
+    }
+
+    fn ends(&self) -> u64 {
+        self.link.ends()
+    }
+}
+
+impl Sink for FailingLink {
+    ghost written = { λ s. output_of s.link };
+
+    ghost flushed = { λ s. s.link.flushed };
+
+    ghost faults_written = { λ s. s.write_faults };
+
+    ghost beside_written = { λ s. unread_half s.link s.read_faults };
+
+    fn write(&mut self, piece: &[u8]) -> Result<usize, SinkError>
+        ensures most { IfOk result (λ count. count ≤ length piece.now) }
+        ensures some { IfOk result (λ count. 0 < length piece.now → 0 < count) }
+        ensures bytes { WriteAppends (output_of self.old.link) (output_of self.new.link) result piece.now }
+        ensures tells { is_some (output_of self.new.link) ≡ is_some (output_of self.old.link) }
+        ensures failed { IsErrOf result SinkError.Failed → Rose self.old.write_faults self.new.write_faults }
+        ensures faults_stay { self.old.write_faults ≤ self.new.write_faults }
+        ensures flushed_stays { self.old.link.flushed ≤ self.new.link.flushed }
+        ensures beside { unread_half self.new.link self.new.read_faults ≡ unread_half self.old.link self.old.read_faults }
+        // It fails just where its byte isn't 0, moves at most so many bytes, and each call counts.
+        ensures fails { IsErrOf result SinkError.Failed ↔ (fails_at self.old.failing self.old.calls ≡ true) }
+        ensures few { IfOk result (λ count. count ≤ self.old.most) }
+        ensures calls { self.new.calls ≡ risen self.old.calls }
+        ensures faults { self.new.write_faults ≡ counted_fault (fails_at self.old.failing self.old.calls) self.old.write_faults }
+        ensures schedule { (self.new.failing ≡ self.old.failing) × (self.new.most ≡ self.old.most) }
+    {
+        if self.fails() {
+            self.write_faults = self.write_faults.saturating_add(1);
+            return Err(SinkError::Failed);
+        }
+        let room = piece.len().min(self.most);
+        self.link.write(&piece[..room])
+    }
+
+    fn flush(&mut self) -> Result<(), SinkError>
+        ensures bytes { Keeps (output_of self.old.link) (output_of self.new.link) }
+        ensures tells { is_some (output_of self.new.link) ≡ is_some (output_of self.old.link) }
+        ensures all { OnOk result (IsFlushed (output_of self.new.link) self.new.link.flushed) }
+        ensures failed { IsErrOf result SinkError.Failed → Rose self.old.write_faults self.new.write_faults }
+        ensures faults_stay { self.old.write_faults ≤ self.new.write_faults }
+        ensures flushed_stays { self.old.link.flushed ≤ self.new.link.flushed }
+        ensures beside { unread_half self.new.link self.new.read_faults ≡ unread_half self.old.link self.old.read_faults }
+        // It fails just where its byte isn't 0, and each call counts.
+        ensures fails { IsErrOf result SinkError.Failed ↔ (fails_at self.old.failing self.old.calls ≡ true) }
+        ensures calls { self.new.calls ≡ risen self.old.calls }
+        ensures faults { self.new.write_faults ≡ counted_fault (fails_at self.old.failing self.old.calls) self.old.write_faults }
+        ensures schedule { (self.new.failing ≡ self.old.failing) × (self.new.most ≡ self.old.most) }
+    {
+        if self.fails() {
+            self.write_faults = self.write_faults.saturating_add(1);
+            return Err(SinkError::Failed);
+        }
+        self.link.flush()
+    }
+
+    fn write_faults(&self) -> u64 {
+        self.write_faults
+    }
+}
+
+impl Link for FailingLink {
+    ghost use Rattle.std.specs.Prelude.{refl};
+
+    ghost reads_keep_written = { λ _. refl };
+
+    ghost writes_keep_left = { λ _. refl };
+}
