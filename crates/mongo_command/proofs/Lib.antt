@@ -1,0 +1,4 @@
+pub mod Phases
+pub mod Elements
+pub mod HelloElements
+pub mod HelloResponse

@@ -1,0 +1,26 @@
+//! One exchange of a command and its reply over a link, and what the reply to a hello says.
+//!
+//! A command is a body and the fields that every command carries; its document is written as one frame, and one frame
+//! is taken as the reply ([`Connection::send_message`]). A connection keeps a fault of its link or of a frame, answers
+//! it again and writes nothing more. The reply to a hello gives the [`StreamDescription`] of the server.
+#![tactic(auto)]
+
+mod command;
+mod connection;
+mod exchange;
+mod hello;
+mod hello_reading;
+mod raw_command_response;
+mod server_address;
+mod server_type;
+mod stream_description;
+#[cfg(test)]
+mod tests;
+
+pub use command::Command;
+pub use connection::Connection;
+pub use hello::{HelloCommandResponse, HelloReply, LEGACY_HELLO_COMMAND_NAME, hello_command};
+pub use raw_command_response::RawCommandResponse;
+pub use server_address::ServerAddress;
+pub use server_type::ServerType;
+pub use stream_description::StreamDescription;
