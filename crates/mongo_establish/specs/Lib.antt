@@ -1,0 +1,5 @@
+pub mod Client
+pub mod Generation
+pub mod Script
+pub mod Established
+pub mod Phase

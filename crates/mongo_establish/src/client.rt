@@ -1,0 +1,55 @@
+ghost use Rattle.std.specs.Prelude.{◌≡◌, IfOk, IfErr};
+ghost use Rattle.mongo_establish.specs.Client.{driver_document, os_document, client_document, hello_with_client};
+ghost use Rattle.mongo_wire.specs.declared.error.ErrorKind.TheVariants.{OutOfMemory};
+
+use mongo_bson::{RawDocumentBuf, RawValue};
+use mongo_command::hello_command;
+use mongo_wire::Error;
+use std::alloc::Global;
+
+// The name and version of the driver.
+fn driver(alloc: Global) -> Result<RawDocumentBuf, Error>
+    ensures document { IfOk result (λ document. document ≡ driver_document) }
+    ensures refused { IfErr result (λ e. e.kind ≡ OutOfMemory) }
+{
+    let mut document = RawDocumentBuf::new(alloc)?;
+    document.append("name", RawValue::Str("mongo-rust-driver"))?;
+    document.append("version", RawValue::Str("3.9.1"))?;
+    Ok(document)
+}
+
+// The operating system and the machine.
+fn os(alloc: Global) -> Result<RawDocumentBuf, Error>
+    ensures document { IfOk result (λ document. document ≡ os_document) }
+    ensures refused { IfErr result (λ e. e.kind ≡ OutOfMemory) }
+{
+    let mut document = RawDocumentBuf::new(alloc)?;
+    document.append("type", RawValue::Str("linux"))?;
+    document.append("architecture", RawValue::Str("x86_64"))?;
+    Ok(document)
+}
+
+// The client's metadata.
+fn client(alloc: Global) -> Result<RawDocumentBuf, Error>
+    ensures document { IfOk result (λ document. document ≡ client_document) }
+    ensures refused { IfErr result (λ e. e.kind ≡ OutOfMemory) }
+{
+    let driver = driver(alloc)?;
+    let os = os(alloc)?;
+    let mut document = RawDocumentBuf::new(alloc)?;
+    document.append("driver", RawValue::Document(driver.borrow()))?;
+    document.append("os", RawValue::Document(os.borrow()))?;
+    document.append("platform", RawValue::Str("rattle / sync"))?;
+    Ok(document)
+}
+
+/// The body of the hello that opens a connection, with the client's metadata. Want of memory is the only refusal.
+pub fn hello_body(alloc: Global) -> Result<RawDocumentBuf, Error>
+    ensures body { IfOk result (λ document. document ≡ hello_with_client) }
+    ensures refused { IfErr result (λ e. e.kind ≡ OutOfMemory) }
+{
+    let client = client(alloc)?;
+    let mut body = hello_command(alloc)?.body;
+    body.append("client", RawValue::Document(client.borrow()))?;
+    Ok(body)
+}
