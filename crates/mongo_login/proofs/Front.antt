@@ -1,0 +1,49 @@
+-- What was held of an input and what is left of it.
+use Rattle.std.proofs.Common.{◌≡◌, ℕ, ◌+◌, ◌<◌, ◌≤◌, Option, None, Some, Err, List, ◌++◌, length, take, drop, refl, sym, ap, ◌∙◌, subst, inl, inr, append-nil, arith, length-append}
+use Rattle.std.proofs.Math.Seq.{take-append_seam, drop-append_seam}
+use Rattle.std.proofs.lemmas.Bool.{lt-leb}
+use Rattle.std.specs.Io.KnownBytes.{Consumes, IsAtEnd}
+use Rattle.mongo_login.specs.Settings.{limit, judged}
+use Rattle.mongo_login.specs.Input.{ReadsInput}
+use Rattle.mongo_login.specs.declared.settings.SettingsError.TheVariants.{BadSettings}
+
+-- the bytes held of a told input are its front
+held_front : (old left : Option (List ℕ)) (held input : List ℕ) → old ≡ Some input → Consumes old left held → (rest : List ℕ) × (left ≡ Some rest) × (input ≡ held ++ rest)
+held_front old None held input told consumed = absurd (subst (λ o. Consumes o None held) told consumed)
+held_front old (Some rest) held input told consumed = (rest, refl, subst (λ o. Consumes o (Some rest) held) told consumed)
+
+-- a front is as many bytes as it has
+cut : (n : ℕ) (held rest input : List ℕ) → input ≡ held ++ rest → length held ≡ n → (held ≡ take n input) × (rest ≡ drop n input)
+cut n held rest input joined is = (
+  sym (ap (λ m. take m input) (sym is) ∙ ap (take (length held)) joined ∙ take-append_seam held rest),
+  sym (ap (λ m. drop m input) (sym is) ∙ ap (drop (length held)) joined ∙ drop-append_seam held rest),
+)
+
+-- where the source has ended, all of its input is held
+pub reads_whole : (old left : Option (List ℕ)) (held input : List ℕ) → old ≡ Some input → Consumes old left held → IsAtEnd left → length held ≤ limit → ReadsInput input held left
+reads_whole old left held input told consumed end short =
+    let (rest, is, joined) = held_front old left held input told consumed in
+    let none = subst IsAtEnd is end in
+    let all = joined ∙ ap (λ l. held ++ l) none ∙ append-nil held in
+    inl (subst (λ n. n ≤ limit) (ap length (sym all)) short, sym all, is ∙ ap Some none)
+
+-- past the limit its front is held
+pub reads_front : (old left : Option (List ℕ)) (held input : List ℕ) → old ≡ Some input → Consumes old left held → length held ≡ limit + 1 → ReadsInput input held left
+reads_front old left held input told consumed past =
+    let (rest, is, joined) = held_front old left held input told consumed in
+    let longer : limit < length input = omega (arith, ap length joined, length-append held rest) in
+    let parts = cut (limit + 1) held rest input joined past in
+    inr (longer, parts.0, is ∙ ap Some parts.1)
+
+-- a text past the limit is no settings
+pub judged-past_limit : (text : List ℕ) → limit < length text → judged text ≡ Err BadSettings
+unfolding judged
+judged-past_limit text past = rw (lt-leb (length text) limit past) refl
+
+-- so its front past the limit is judged alike
+pub judged-front : (old left : Option (List ℕ)) (held input : List ℕ) → old ≡ Some input → Consumes old left held → length held ≡ limit + 1 → judged held ≡ judged input
+judged-front old left held input told consumed past =
+    let (rest, is, joined) = held_front old left held input told consumed in
+    let longer : limit < length input = omega (arith, ap length joined, length-append held rest) in
+    let held_longer : limit < length held = omega arith in
+    judged-past_limit held held_longer ∙ sym (judged-past_limit input longer)

@@ -1,0 +1,17 @@
+use Rattle.std.proofs.Common.{length, take, ◌-◌, ◌≤◌}
+use Rattle.std.specs.Io.KnownBytes.{Appends}
+use Rattle.mongo_wire.specs.Outside.{WritesOn}
+use Rattle.mongo_login.proofs.output.write_report.Given as goal
+
+-- a front of the text is written so far
+abbrev pub invariant-writing : goal.invariant-writing
+invariant-writing g l =
+    let k = g.K.Sink in
+    record {
+      within : l.at ≤ length l.text;
+      front : Appends (k.written l.fn.sink) (k.written l.sink) (take l.at l.text);
+      on : WritesOn k.written k.flushed k.faults_written k.beside_written l.fn.sink l.sink;
+    }
+
+abbrev pub decreases-writing : goal.decreases-writing
+decreases-writing g l = length l.text - l.at

@@ -1,0 +1,46 @@
+//! `mongo_login`: the part of a MongoDB driver that turns a fresh byte stream into a described connection and logs it
+//! in, rehearsed on reply bytes that are handed in.
+//!
+//! `mongo_login rehearse` reads settings from standard input and writes a report to standard output. The call that does
+//! it is [`run::run`], and its clauses say what each end means.
+#![tactic(auto)]
+
+mod input;
+mod output;
+mod rehearsal;
+mod report;
+mod run;
+mod settings;
+mod status;
+mod words;
+
+use mongo_establish::{StdSink, StdSource};
+use run::run_counted;
+use status::Status;
+use std::alloc::AllocGlobal;
+use std::marker::Brand;
+use std::process::ExitCode;
+use std::rt::Env;
+use std::sync::ledger::Blank;
+use std::{env, io};
+
+/// Runs the command that the words name on standard input and standard output, and ends with its status; with 6 where
+/// the words can't be had.
+fn main(rt: HostRuntime) -> ExitCode {
+    let status = match words_of(&rt) {
+        Ok(words) => run_counted::<_, _, Brand>(
+            rt.alloc(),
+            words,
+            &mut StdSource::new(rt.stdin()),
+            &mut StdSink::new(rt.stdout()),
+            Blank::new(1),
+        ),
+        Err(_) => Status::NoMemory,
+    };
+    ExitCode::from(status.code())
+}
+
+/// The words after the program's name.
+fn words_of(rt: &(impl Env + AllocGlobal)) -> io::Result<Vec<String>> {
+    Ok(env::args(rt)?.skip(1).collect(rt.alloc())?)
+}

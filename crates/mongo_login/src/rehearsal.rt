@@ -1,0 +1,133 @@
+//! One establishment over reply bytes in memory, and the report of it.
+ghost use Rattle.std.specs.Prelude.{◌≡◌, ◌++◌, ◌-◌, ℕ, List, Some, length, IfOk, IfErr, IsErrOf, OnOk};
+ghost use Rattle.std.specs.List.{AllByRecursion, concat};
+ghost use Rattle.mongo_wire.specs.declared.error.ErrorKind.TheVariants.{NotBuilt as FrameNotBuilt};
+ghost use Rattle.mongo_wire.specs.Memory.{bytes_left, bytes_written};
+ghost use Rattle.mongo_command.specs.declared.stream_description.StreamDescription.{StreamDescription};
+ghost use Rattle.mongo_login.specs.Report.{CountsItself, sent_lines, read_line, accepted_lines, refused_lines};
+ghost use Rattle.mongo_login.specs.Rehearsal.{IsRehearsal, RehearsalRefused, IsAccepted, IsRefused, IsReported};
+ghost use Rattle.mongo_login.specs.Headline.{pending_to};
+ghost use Rattle.mongo_login.specs.declared.rehearsal.RehearsalError.TheVariants.{OutOfMemory};
+
+use crate::report::outcome::{push_accepted, push_refused};
+use crate::report::sent::{push_read, push_sent};
+use crate::settings::Settings;
+use mongo_bson::Text;
+use mongo_establish::{
+    ConnectionEstablisher, ErrorKind, EstablishError, MemoryLink, PendingConnection,
+    PoolGeneration, PooledConnection, RequestIds, ServerAddress,
+};
+use std::alloc::{AllocError, Global};
+
+/// A rehearsal that was made, with its report.
+#[derive(Debug, Drop)]
+pub enum Rehearsal {
+    /// The connection was made.
+    Accepted(Vec<u8>),
+    /// It was refused for another cause than memory.
+    Refused(Vec<u8>),
+}
+
+/// Why there is no report.
+#[derive(Clone, Copy, Debug, PartialEq, Eq)]
+pub enum RehearsalError {
+    /// The server's reply can't be read yet.
+    NotBuilt,
+    /// Memory ran out.
+    OutOfMemory,
+}
+
+impl From<AllocError> for RehearsalError {
+    ghost from_gives = { λ _ e. e ≡ OutOfMemory };
+
+    fn from(_error: AllocError) -> RehearsalError {
+        RehearsalError::OutOfMemory
+    }
+}
+
+/// Says hello to the reply bytes of the settings, and reports what was sent, what was taken, and how it ended.
+pub fn rehearse(alloc: Global, settings: Settings) -> Result<Rehearsal, RehearsalError>
+    ensures rehearsed { IfOk result (IsRehearsal settings) }
+    ensures refused { IfErr result (RehearsalRefused settings) }
+{
+    let Ok(establisher) = ConnectionEstablisher::with_defaults(alloc) else {
+        return Err(RehearsalError::OutOfMemory);
+    };
+    let Settings { host, replies } = settings;
+    let total = replies.as_bytes().len();
+    let mut link = MemoryLink::new(alloc, replies);
+    let mut ids = RequestIds::new(0);
+    match establisher.establish_connection(alloc, pending(host), &mut link, &mut ids) {
+        Ok(pooled) => accepted(alloc, &link, total, &pooled),
+        Err(refusal) => refused(alloc, &link, total, &refusal),
+    }
+}
+
+// The connection that is asked for.
+fn pending(host: Text) -> PendingConnection
+    ensures { result ≡ pending_to host }
+{
+    PendingConnection {
+        id: 1,
+        address: ServerAddress::Tcp { host, port: None },
+        generation: PoolGeneration::Normal(0),
+    }
+}
+
+// The lines of what was written to the link and how much was read of its input, which had `total` bytes.
+fn transcript(alloc: Global, link: &MemoryLink, total: usize) -> Result<Vec<u8>, AllocError>
+    ensures { IfOk result (λ out. (frames : List (List ℕ)) → AllByRecursion CountsItself frames → bytes_written link.now ≡ concat frames
+        → out.items ≡ sent_lines frames ++ read_line (total - length (bytes_left link.now))) }
+{
+    let mut out = Vec::new(alloc);
+    push_sent(&mut out, link.written())?;
+    push_read(&mut out, total.saturating_sub(link.left().len()))?;
+    Ok(out)
+}
+
+// The report of a connection that was made.
+fn accepted(
+    alloc: Global,
+    link: &MemoryLink,
+    total: usize,
+    pooled: &PooledConnection,
+) -> Result<Rehearsal, RehearsalError>
+    ensures report { IfOk result (λ r. (frames : List (List ℕ)) (description : StreamDescription) → AllByRecursion CountsItself frames → bytes_written link.now ≡ concat frames
+        → pooled.now.connection.stream_description ≡ Some description
+        → IsAccepted r (sent_lines frames ++ (read_line (total - length (bytes_left link.now)) ++ accepted_lines description pooled.now.generation pooled.now.connection.server_id))) }
+    ensures refused { IfErr result (λ e. e ≡ RehearsalError.OutOfMemory) }
+{
+    let Some(description) = &pooled.connection.stream_description else {
+        return Err(RehearsalError::OutOfMemory);
+    };
+    let mut out = transcript(alloc, link, total)?;
+    push_accepted(
+        &mut out,
+        description,
+        pooled.generation,
+        pooled.connection.server_id,
+    )?;
+    Ok(Rehearsal::Accepted(out))
+}
+
+// The report of a refusal, where there is one.
+fn refused(
+    alloc: Global,
+    link: &MemoryLink,
+    total: usize,
+    refusal: &EstablishError,
+) -> Result<Rehearsal, RehearsalError>
+    ensures report { IfOk result (λ r. (frames : List (List ℕ)) → AllByRecursion CountsItself frames → bytes_written link.now ≡ concat frames
+        → IsRefused r (sent_lines frames ++ (read_line (total - length (bytes_left link.now)) ++ refused_lines refusal.now.handshake_phase refusal.now.cause.kind))) }
+    ensures reported { OnOk result (IsReported refusal.now.cause.kind) }
+    ensures not_built { IsErrOf result RehearsalError.NotBuilt → refusal.now.cause.kind ≡ FrameNotBuilt }
+{
+    match refusal.cause.kind {
+        ErrorKind::NotBuilt => return Err(RehearsalError::NotBuilt),
+        ErrorKind::OutOfMemory => return Err(RehearsalError::OutOfMemory),
+        _ => {}
+    }
+    let mut out = transcript(alloc, link, total)?;
+    push_refused(&mut out, &refusal.handshake_phase, &refusal.cause.kind)?;
+    Ok(Rehearsal::Refused(out))
+}

@@ -1,0 +1,115 @@
+use super::run_counted;
+use crate::status::Status;
+use mongo_bson::{BsonFault, Bytes};
+use mongo_wire::FailingLink;
+use std::alloc::{AllocError, Global};
+use std::marker::Brand;
+use std::sync::ledger::Blank;
+use std::test::Fail;
+
+// A standalone server answers: `ok` 1.0 and the two sizes.
+const STANDALONE: &str =
+    "{\"host\":\"localhost\",\"replies\":[\"560000000100000000000000dd070000000000000041000000016f6b00000000000000f03f106d617842736f6e4f626a65637453697a650000000001106d61784d65737361676553697a65427974657300006cdc0200\"]}";
+
+// The same reply without its last byte.
+const CUT: &str =
+    "{\"host\":\"localhost\",\"replies\":[\"560000000100000000000000dd070000000000000041000000016f6b00000000000000f03f106d617842736f6e4f626a65637453697a650000000001106d61784d65737361676553697a65427974657300006cdc02\"]}";
+
+fn link(alloc: Global, input: &[u8], failing: &[u8]) -> Result<FailingLink, BsonFault> {
+    let input = Bytes::from_slice(alloc, input)?;
+    let failing = Bytes::from_slice(alloc, failing)?;
+    Ok(FailingLink::new(alloc, input, failing, 4096))
+}
+
+fn words_of(alloc: Global, list: &[&str]) -> Result<Vec<String>, AllocError> {
+    let mut words = Vec::new(alloc);
+    for word in list {
+        words.push(String::from_str(alloc, word)?)?;
+    }
+    Ok(words)
+}
+
+fn status_of(
+    alloc: Global,
+    words: Vec<String>,
+    source: &mut FailingLink,
+    sink: &mut FailingLink,
+) -> Status {
+    run_counted::<_, _, Brand>(alloc, words, source, sink, Blank::new(1))
+}
+
+// How `rehearse` ends on this text, and whether it wrote anything.
+fn rehearsed(alloc: Global, text: &[u8]) -> Result<(Status, bool), Fail> {
+    let mut source = link(alloc, text, &[])?;
+    let mut sink = link(alloc, &[], &[])?;
+    let status = status_of(
+        alloc,
+        words_of(alloc, &["rehearse"])?,
+        &mut source,
+        &mut sink,
+    );
+    Ok((status, sink.written().is_empty()))
+}
+
+#[test]
+fn settings_decide_how_it_ends(rt: HostRuntime) -> Result<(), Fail> {
+    let alloc = rt.alloc();
+    for (text, want, silent) in [
+        (STANDALONE, Status::Done, false),
+        (CUT, Status::Refused, false),
+        ("", Status::BadSettings, true),
+        ("{}", Status::BadSettings, true),
+        ("{\"host\":\"a\",\"port\":1.5}", Status::BadSettings, true),
+        ("{\"host\":\"a\",\"port\":1}", Status::NotBuilt, true),
+        (
+            "{\"host\":\"a\",\"hosts\":1,\"port\":1}",
+            Status::BadSettings,
+            true,
+        ),
+        (
+            "{\"host\":\"a\",\"replies\":[\"0\"]}",
+            Status::BadSettings,
+            true,
+        ),
+    ] {
+        let (status, written_nothing) = rehearsed(alloc, text.as_bytes())?;
+        assert_eq!(rt; status, want, "at {text}");
+        assert_eq!(rt; written_nothing, silent, "at {text}");
+    }
+    Ok(())
+}
+
+#[test]
+fn blanks_to_the_limit_are_settings(rt: HostRuntime) -> Result<(), Fail> {
+    let alloc = rt.alloc();
+    let mut text = Vec::from_slice(alloc, STANDALONE.as_bytes())?;
+    while text.len() < 4_194_304 {
+        text.push(b' ')?;
+    }
+    assert_eq!(rt; rehearsed(alloc, text.as_slice())?.0, Status::Done);
+    text.push(b' ')?;
+    assert_eq!(rt; rehearsed(alloc, text.as_slice())?.0, Status::BadSettings);
+    Ok(())
+}
+
+#[test]
+fn faults_and_words_decide_too(rt: HostRuntime) -> Result<(), Fail> {
+    let alloc = rt.alloc();
+    let text = STANDALONE.as_bytes();
+    for (list, source_fails, sink_fails, want) in [
+        (&["rehearse", "x"][..], &[][..], &[][..], Status::Usage),
+        (&[][..], &[][..], &[][..], Status::Usage),
+        (&["rehearse"][..], &[1][..], &[][..], Status::SourceFault),
+        (&["rehearse"][..], &[0, 1][..], &[][..], Status::SourceFault),
+        (&["rehearse"][..], &[][..], &[1][..], Status::SinkFault),
+        (&["rehearse"][..], &[][..], &[0, 1][..], Status::SinkFault),
+    ] {
+        let mut source = link(alloc, text, source_fails)?;
+        let mut sink = link(alloc, &[], sink_fails)?;
+        assert_eq!(rt;
+            status_of(alloc, words_of(alloc, list)?, &mut source, &mut sink),
+            want
+        );
+    }
+    Ok(())
+}
