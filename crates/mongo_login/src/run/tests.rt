@@ -83,7 +83,7 @@ fn settings_decide_how_it_ends(rt: HostRuntime) -> Result<(), Fail> {
 fn blanks_to_the_limit_are_settings(rt: HostRuntime) -> Result<(), Fail> {
     let alloc = rt.alloc();
     let mut text = Vec::from_slice(alloc, STANDALONE.as_bytes())?;
-    while text.len() < 4_194_304 {
+    for _ in text.len()..4_194_304 {
         text.push(b' ')?;
     }
     assert_eq!(rt; rehearsed(alloc, text.as_slice())?.0, Status::Done);
