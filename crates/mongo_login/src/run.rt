@@ -101,7 +101,7 @@ pub fn run<S: Source, K: Sink, G: Ledger>(
     }
 }
 
-/// [`run`] with a counter of its own.
+/// [`run`] with a counter of its own, of the ledger that `blank` opens.
 pub fn run_counted<S: Source, K: Sink, G: Ledger>(
     alloc: Global,
     words: Vec<String>,
@@ -112,6 +112,13 @@ pub fn run_counted<S: Source, K: Sink, G: Ledger>(
     requires name { blank.name ≡ G.name }
     requires parts { blank.parts ≡ G.parts }
     requires has_a_part { 0 < G.parts }
+    ensures done { (input old : List ℕ) → S.left source.old ≡ Some input → K.written sink.old ≡ Some old →
+        result ≡ Status.Done → Printed Rehearsed input old (S.left source.new) (K.written sink.new) (K.flushed sink.new) }
+    ensures refused { (input old : List ℕ) → S.left source.old ≡ Some input → K.written sink.old ≡ Some old →
+        result ≡ Status.Refused → Printed RehearsedCut input old (S.left source.new) (K.written sink.new) (K.flushed sink.new) }
+    ensures usage { (result ≡ Status.Usage) ↔ (IsRehearse (map string_bytes words.items) → ⊥) }
+    ensures source_fault { result ≡ Status.SourceFault → Rose (S.faults_read source.old) (S.faults_read source.new) }
+    ensures sink_fault { result ≡ Status.SinkFault → Rose (K.faults_written sink.old) (K.faults_written sink.new) }
 {
     let mut steps = Steps::<G>::new(blank);
     run(alloc, words, source, sink, &mut steps)
