@@ -5,8 +5,8 @@ use Rattle.std.proofs.lemmas.List.{append_assoc}
 use Rattle.mongo_bson.specs.Framed.{body_of}
 use Rattle.mongo_bson.specs.Document.{Element, IsElement, IsDocument, spell}
 use Rattle.mongo_bson.specs.Keys.{Fill}
-use Rattle.mongo_bson.specs.Find.{PassesOver, IsFirstOf, HasNone, BreaksOff}
-use Rattle.mongo_bson.proofs.OneElement.{one_element, one_list}
+use Rattle.mongo_bson.specs.Find.{IsFirstOf, HasNone, BreaksOff}
+use Rattle.mongo_bson.proofs.OneElement.{one_list}
 use Rattle.mongo_bson.proofs.Filled.{fill_rest, no_fill}
 
 -- elements that stand at the front of bytes are the first of the list that fills them

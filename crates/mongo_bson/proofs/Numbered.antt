@@ -1,17 +1,20 @@
 -- Arrays that grow by one value at a time.
-use Rattle.std.proofs.Common.{◌≡◌, ◌≢◌, ℕ, ◌+◌, ◌-◌, ◌^◌, ◌%◌, ◌<◌, ◌≤◌, List, [], ◌∷◌, ◌++◌, length, Result, Err, take, drop, get_or, refl, sym, ap, ◌∙◌, subst, arith}
+use Rattle.std.proofs.Common.{◌≡◌, ◌≢◌, ℕ, ◌+◌, ◌-◌, ◌^◌, ◌%◌, ◌<◌, ◌≤◌, List, [], ◌∷◌, ◌++◌, length, Result, Ok, Err, IfOk, take, drop, get_or, refl, sym, ap, ◌∙◌, subst, arith}
+use Rattle.std.specs.Prelude.{IsErrOf}
 use Rattle.std.specs.Fmt.{decimal}
 use Rattle.std.specs.List.{Contains, flat_map}
+use Rattle.std.proofs.Math.Logic.{∥∥₁_map}
 use Rattle.std.proofs.lemmas.Fmt.{decimal_by_steps}
 use Rattle.std.proofs.lemmas.List.{append-nil, length-append, map-append, map_more, take-append-drop}
 use Rattle.std.proofs.lemmas.List.Concat.{flat_map-append}
 use Rattle.std.proofs.lemmas.List.Elements.{All-from_recursion}
+use Rattle.mongo_num.specs.declared.fault.NumFault.{NumFault}
 use Rattle.mongo_bson.specs.declared.fault.BsonFault.{BsonFault}
 use Rattle.mongo_bson.specs.declared.fault.BsonFault.TheVariants.{KeyHasZero, TooLong, OutOfMemory}
 use Rattle.mongo_bson.specs.Framed.{IsFramed, body_of, enclosed}
 use Rattle.mongo_bson.specs.Document.{spell}
-use Rattle.mongo_bson.specs.Array.{Entry, numbered, array_of, IsArrayOf, document_entries}
-use Rattle.mongo_bson.specs.Refusals.{AppendRefuses, PushRefuses}
+use Rattle.mongo_bson.specs.Array.{Entry, numbered, array_of, IsArrayOf, IsArray, GrowsBy, document_entries}
+use Rattle.mongo_bson.specs.Refusals.{AppendRefuses, PushRefuses, HadMemory}
 use Rattle.mongo_bson.proofs.Names.{HasNoZero}
 use Rattle.mongo_bson.proofs.OneElement.{made_of}
 use Rattle.mongo_bson.proofs.Passed.{all_push}
@@ -57,6 +60,12 @@ array_pushed document new value kind count values framed is grown =
       counted = omega (arith, is.counted, length-append values one);
     }
 
+-- the array of some values has one more
+pub array_goes_on : (document new key value : List ℕ) (kind count : ℕ) → IsFramed document → key ≡ decimal count → new ≡ enclosed (body_of document ++ spell (made_of kind key value)) → IsArray document count → IsArray new (count + 1)
+array_goes_on document new key value kind count framed number grown array =
+    let grown_at = grown ∙ ap (λ k. enclosed (body_of document ++ spell (made_of kind k value))) number in
+    ∥∥₁_map array (λ some. (some.0 ++ record { kind = kind; value = value } ∷ [], array_pushed document new value kind count some.0 framed some.1 grown_at))
+
 -- an array is no longer than one that begins with its values
 pub longer_array : (xs ys : List Entry) → length (array_of xs) ≤ length (array_of (xs ++ ys))
 longer_array xs ys =
@@ -90,9 +99,11 @@ too_long_at_number document value key number P same none said =
     let longs = λ (k : List ℕ). 2 ^ 31 - 1 < length document + length (0 ∷ (k ++ 0 ∷ value)) in
     ((λ p. subst longs same (said.0 p).1), (λ long. said.1 (subst (λ k. Contains k 0 → ⊥) (sym same) none, subst longs (sym same) long)))
 
--- the fault of a result, whatever its value's type
-pub same_fault : {T : Type 0} {e : BsonFault} (fault : BsonFault) → (let r : Result T BsonFault = Err fault in r) ≡ Err e → fault ≡ e
-same_fault fault same = cc
+-- a push that is refused for want of room is refused for nothing else
+pub refused_push : {T : Type 0} (fault : BsonFault) (P : Type 0) → PushRefuses fault → (fault ≡ TooLong → P) → (let r : Result T BsonFault = Err fault in (IsErrOf r TooLong → HadMemory r × P) × (HadMemory r × P → IsErrOf r TooLong))
+refused_push TooLong P refused cause = (λ _. (λ memory. cc, cause refl), λ _. refl)
+refused_push OutOfMemory P refused cause = (λ same. cc, λ said. absurd (said.0 refl))
+refused_push fault P refused cause = absurd refused
 
 -- an array grows by a document by the document's length, the digits of its number, a kind byte and a zero
 pub array_grows : (values : List Entry) (document : List ℕ) → length (array_of (values ++ record { kind = 0x03; value = document } ∷ [])) ≡ length (array_of values) + (2 + length (decimal (length values)) + length document)
@@ -102,3 +113,9 @@ array_grows values document =
     let key = decimal (length values) in
     let last : length (flat_map spell (numbered (length values) one)) ≡ length (spell (made_of 0x03 key document)) = ap length (append-nil (spell (made_of 0x03 key document))) in
     omega (arith, length-enclosed here, length-enclosed (flat_map spell (numbered 0 (values ++ one))), ap length (lies-append values one), length-append here (flat_map spell (numbered (length values) one)), last, length-append key (0 ∷ document))
+
+-- so the size of an entry is what it adds
+pub entry_grows : (index size : ℕ) (r : Result ℕ NumFault) → IfOk r (λ growth. growth ≡ 2 + length (decimal index) + size) → IfOk r (GrowsBy index size)
+entry_grows index size (Ok growth) is = λ values document counted sized.
+    omega (arith, array_grows values document, is, ap (λ n. length (decimal n)) counted, sized)
+entry_grows index size (Err fault) is = tt

@@ -1,5 +1,5 @@
 -- Arrays, BSON 1.1: documents whose keys are `0`, `1` and so on.
-use Rattle.std.specs.Prelude.{◌≡◌, ℕ, ◌+◌, List, [], ◌∷◌, length, map}
+use Rattle.std.specs.Prelude.{◌≡◌, ℕ, ◌+◌, List, [], ◌∷◌, ◌++◌, length, map}
 use Rattle.std.specs.Fmt.{decimal}
 use Rattle.std.specs.List.{flat_map}
 use Rattle.mongo_bson.specs.Document.{Element, spell}
@@ -24,6 +24,15 @@ pub record IsArrayOf (document : List ℕ) (count : ℕ) (values : List Entry) :
   pub spelled : document ≡ array_of values
   pub counted : count ≡ length values
 
+-- the document is the array of some values, so many
+abbrev pub IsArray : List ℕ → ℕ → Type 0
+IsArray document count = ∥ ((values : List Entry) × IsArrayOf document count values) ∥₁
+
 -- documents as values of an array
 abbrev pub document_entries : List (List ℕ) → List Entry
 document_entries documents = map (λ d. record { kind = 0x03; value = d }) documents
+
+-- how many bytes one document of this length adds to an array of so many values
+abbrev pub GrowsBy : ℕ → ℕ → ℕ → Type 0
+GrowsBy count size growth =
+    (values : List Entry) (document : List ℕ) → length values ≡ count → length document ≡ size → length (array_of (values ++ document_entries (document ∷ []))) ≡ length (array_of values) + growth

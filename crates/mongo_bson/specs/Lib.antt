@@ -11,3 +11,4 @@ pub mod Checks
 pub mod Array
 pub mod Merge
 pub mod Writable
+pub mod Number

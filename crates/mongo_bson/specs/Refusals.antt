@@ -1,6 +1,11 @@
 -- The faults that a call may answer; each call's other clauses say when each comes.
+use Rattle.std.specs.Prelude.{Result, IsErrOf}
 use Rattle.mongo_bson.specs.declared.fault.BsonFault.{BsonFault}
 use Rattle.mongo_bson.specs.declared.fault.BsonFault.TheVariants.{Malformed, KeyHasZero, TooLong, DuplicateKey, OutOfMemory}
+
+-- want of memory, which may stand in the place of any other answer, is not the answer
+abbrev pub HadMemory : {T : Type 0} → Result T BsonFault → Type 0
+HadMemory r = IsErrOf r OutOfMemory → ⊥
 
 -- a key, a length or want of memory
 abbrev pub AppendRefuses : BsonFault → Type 0

@@ -1,4 +1,4 @@
-ghost use Rattle.std.specs.Prelude.{◌≡◌, ◌↔◌, ◌∷◌, List, ℕ, IsTrue, IfOk, IfErr};
+ghost use Rattle.std.specs.Prelude.{◌≡◌, ◌↔◌, ◌∷◌, List, ℕ, IsTrue, IsErr, IfOk, IfErr};
 ghost use Rattle.mongo_bson.specs.Framed.{body_of};
 ghost use Rattle.mongo_bson.specs.Steps.{HasNoElement};
 ghost use Rattle.mongo_bson.specs.Find.{FirstKey};
@@ -14,6 +14,7 @@ use crate::{BsonFault, RawDocument};
 pub fn first_key<'a>(document: RawDocument<'a>) -> Result<Option<&'a str>, BsonFault>
     ensures first { IfOk result (FirstKey (body_of document.entry.bytes.now)) }
     ensures malformed { IfErr result (λ fault. (fault ≡ BsonFault.Malformed) × HasNoElement (body_of document.entry.bytes.now)) }
+    ensures no_element { IsErr result ↔ HasNoElement (body_of document.entry.bytes.now) }
 {
     let elements = body(document.bytes);
     if elements.is_empty() {

@@ -4,7 +4,7 @@ ghost use Rattle.std.specs.List.Sorted.{IsSorted};
 ghost use Rattle.std.specs.Cmp.Lexicographic.{slice_cmp};
 ghost use Rattle.mongo_bson.specs.Document.{Element, IsDocument, HasDistinctKeys};
 ghost use Rattle.mongo_bson.specs.Keys.{Fill, keys_of, bytes_of_texts, AreApart};
-ghost use Rattle.mongo_bson.specs.Refusals.{ReadRefuses};
+ghost use Rattle.mongo_bson.specs.Refusals.{ReadRefuses, HadMemory};
 
 use crate::element::take_element;
 use crate::raw_document::body;
@@ -17,10 +17,10 @@ impl<'a> RawDocument<'a> {
     /// The keys are sorted, so that a document made to be slow isn't: `n` keys take time in proportion to `n log n`,
     /// and memory for a slice of each.
     ///
-    /// `Malformed` where the bytes aren't filled by elements; else want of memory is the only refusal.
+    /// `Malformed` where the bytes aren't filled by elements. Want of memory may stand in the place of any answer.
     pub fn distinct_keys(&self, alloc: Global) -> Result<bool, BsonFault>
         ensures distinct { IfOk result (λ distinct. (elements : List Element) × IsDocument self.now.bytes.now elements × (IsTrue distinct ↔ HasDistinctKeys elements)) }
-        ensures malformed { IsErrOf result BsonFault.Malformed → (elements : List Element) → IsDocument self.now.bytes.now elements → ⊥ }
+        ensures malformed { IsErrOf result BsonFault.Malformed ↔ (HadMemory result × ((elements : List Element) → IsDocument self.now.bytes.now elements → ⊥)) }
         ensures refused { IfErr result ReadRefuses }
     {
         let mut keys = keys_in(alloc, body(self.bytes))?;
@@ -31,7 +31,7 @@ impl<'a> RawDocument<'a> {
 // The keys of the elements that fill the bytes.
 pub(crate) fn keys_in<'a>(alloc: Global, bytes: &'a [u8]) -> Result<Vec<&'a str>, BsonFault>
     ensures keys { IfOk result (λ keys. (elements : List Element) × Fill bytes.now elements × (bytes_of_texts keys.items ≡ keys_of elements)) }
-    ensures malformed { IsErrOf result BsonFault.Malformed → (elements : List Element) → Fill bytes.now elements → ⊥ }
+    ensures malformed { IsErrOf result BsonFault.Malformed ↔ (HadMemory result × ((elements : List Element) → Fill bytes.now elements → ⊥)) }
     ensures refused { IfErr result ReadRefuses }
 {
     let mut keys = Vec::new(alloc);

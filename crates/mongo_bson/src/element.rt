@@ -14,6 +14,7 @@ pub(crate) struct RawElement<'a> {
 }
 
 // The element at the front and the bytes after it. None where no element stands there.
+#[inline(always)]
 pub(crate) fn take_element<'a>(bytes: &'a [u8]) -> Option<(RawElement<'a>, &'a [u8])>
     ensures { MatchOption result (NoElementAtFront bytes.now) (λ p. BeginsWithElement bytes.now (element_read p.0) p.1.now) }
 {

@@ -5,7 +5,7 @@ ghost use Rattle.std.specs.Cmp.Lexicographic.{slice_cmp};
 ghost use Rattle.mongo_bson.specs.Framed.{IsFramed, body_of, enclosed};
 ghost use Rattle.mongo_bson.specs.Keys.{bytes_of_texts};
 ghost use Rattle.mongo_bson.specs.Merge.{HaveCommon, BothFilled, ShareKey, ShareNoKey, TellsShared};
-ghost use Rattle.mongo_bson.specs.Refusals.{ExtendRefuses, ReadRefuses};
+ghost use Rattle.mongo_bson.specs.Refusals.{ExtendRefuses, ReadRefuses, HadMemory};
 
 use crate::distinct::keys_in;
 use crate::raw_document::body;
@@ -15,8 +15,9 @@ use std::alloc::Global;
 /// Puts the elements of `other` at the end of `this`.
 ///
 /// `Malformed` where elements don't fill one of them, then `DuplicateKey` where a key stands in both, then `TooLong`
-/// where the document would pass 2147483647 bytes; else want of memory is the only refusal. A refusal leaves `this`
-/// as it was. The keys of one are sorted, so that `n` keys take time in proportion to `n log n`.
+/// where the document would pass 2147483647 bytes. Want of memory may stand in the place of any answer. A refusal
+/// leaves `this` as it was. The keys of one are sorted, so that `n` keys take time in proportion to `n log n`.
+#[tactic(auto, using(crate::proofs::OneAnswer::shared_or_not, crate::proofs::OneAnswer::no_duplicate))]
 pub fn extend_raw_document_buf(
     alloc: Global,
     this: &mut RawDocumentBuf,
@@ -24,9 +25,9 @@ pub fn extend_raw_document_buf(
 ) -> Result<(), BsonFault>
     ensures added { OnOk result (this.new ≡ enclosed (body_of this.old ++ body_of other.now)) }
     ensures apart { OnOk result (ShareNoKey this.old other.now) }
-    ensures malformed { IsErrOf result BsonFault.Malformed → BothFilled this.old other.now → ⊥ }
-    ensures duplicate_key { IsErrOf result BsonFault.DuplicateKey → ShareKey this.old other.now }
-    ensures too_long { IsErrOf result BsonFault.TooLong → ShareNoKey this.old other.now × (2 ^ 31 - 1 < length this.old + length (body_of other.now)) }
+    ensures malformed { IsErrOf result BsonFault.Malformed ↔ (HadMemory result × (BothFilled this.old other.now → ⊥)) }
+    ensures duplicate_key { IsErrOf result BsonFault.DuplicateKey ↔ (HadMemory result × ShareKey this.old other.now) }
+    ensures too_long { IsErrOf result BsonFault.TooLong ↔ (HadMemory result × ShareNoKey this.old other.now × (2 ^ 31 - 1 < length this.old + length (body_of other.now))) }
     ensures unchanged { OnErr result (this.new ≡ this.old) }
     ensures refused { IfErr result ExtendRefuses }
 {

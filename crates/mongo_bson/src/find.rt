@@ -1,4 +1,4 @@
-ghost use Rattle.std.specs.Prelude.{◌≡◌, Option, IfOk, MatchOption, MatchResult, IfErr};
+ghost use Rattle.std.specs.Prelude.{◌≡◌, ◌↔◌, Option, IsErr, IfOk, MatchOption, MatchResult, IfErr};
 ghost use Rattle.mongo_bson.specs.Framed.{body_of};
 ghost use Rattle.mongo_bson.specs.Elements.{element_read};
 ghost use Rattle.mongo_bson.specs.Find.{IsFirstOf, HasNone, BreaksOff, FindsValue, FindsBytes};
@@ -15,6 +15,7 @@ impl<'a> RawDocument<'a> {
     pub fn get(&self, key: &str) -> Result<Option<RawValue<'a>>, BsonFault>
         ensures found { IfOk result (FindsValue (body_of self.now.bytes.now) key.now) }
         ensures malformed { IfErr result (λ fault. (fault ≡ BsonFault.Malformed) × BreaksOff (body_of self.now.bytes.now) key.now) }
+        ensures breaks_off { IsErr result ↔ BreaksOff (body_of self.now.bytes.now) key.now }
     {
         match find(body(self.bytes), key) {
             Ok(Some(element)) => Ok(Some(value_of(element.kind, element.value))),
@@ -29,6 +30,7 @@ impl<'a> RawDocument<'a> {
     pub fn get_bytes(&self, key: &str) -> Result<Option<(u8, &'a [u8])>, BsonFault>
         ensures found { IfOk result (FindsBytes (body_of self.now.bytes.now) key.now) }
         ensures malformed { IfErr result (λ fault. (fault ≡ BsonFault.Malformed) × BreaksOff (body_of self.now.bytes.now) key.now) }
+        ensures breaks_off { IsErr result ↔ BreaksOff (body_of self.now.bytes.now) key.now }
     {
         match find(body(self.bytes), key) {
             Ok(Some(element)) => Ok(Some((element.kind, element.value))),
@@ -42,6 +44,7 @@ impl<'a> RawDocument<'a> {
 fn find<'a>(bytes: &'a [u8], key: &str) -> Result<Option<RawElement<'a>>, BsonFault>
     ensures found { IfOk result (λ found. MatchOption found (HasNone bytes.now key.now) (λ e. IsFirstOf bytes.now key.now (element_read e))) }
     ensures malformed { IfErr result (λ fault. (fault ≡ BsonFault.Malformed) × BreaksOff bytes.now key.now) }
+    ensures breaks_off { IsErr result ↔ BreaksOff bytes.now key.now }
 {
     let mut rest = bytes;
     'elements: while !rest.is_empty() {

@@ -1,9 +1,9 @@
-ghost use Rattle.std.specs.Prelude.{◌≡◌, ◌+◌, ◌-◌, ◌^◌, ◌<◌, ◌++◌, length, IfOk, IfErr, IsErrOf, OnOk, OnErr};
+ghost use Rattle.std.specs.Prelude.{◌≡◌, ◌↔◌, ◌+◌, ◌-◌, ◌^◌, ◌<◌, ◌++◌, length, IfOk, IfErr, IsErrOf, OnOk, OnErr};
 ghost use Rattle.mongo_bson.specs.Framed.{IsFramed, body_of, enclosed};
 ghost use Rattle.mongo_bson.specs.Document.{spell};
 ghost use Rattle.mongo_bson.specs.Find.{HasNone, BreaksOff};
 ghost use Rattle.mongo_bson.specs.Merge.{HasIdNow, id_key, id_element};
-ghost use Rattle.mongo_bson.specs.Refusals.{IdRefuses, PushRefuses};
+ghost use Rattle.mongo_bson.specs.Refusals.{IdRefuses, PushRefuses, HadMemory};
 
 use crate::raw_document::body;
 use crate::writing::{has_room_for, push_element, push_elements};
@@ -16,16 +16,16 @@ const ID_ELEMENT: usize = 17;
 /// The value of the first `_id` of the document. Where there is none, the object id is put first under that key, and
 /// is the answer.
 ///
-/// `Malformed` where the elements break off before an `_id`, `TooLong` where the document would pass 2147483647 bytes;
-/// else want of memory is the only refusal. A refusal leaves the document as it was.
+/// `Malformed` where the elements break off before an `_id`, `TooLong` where the document would pass 2147483647 bytes.
+/// Want of memory may stand in the place of `TooLong` and of an answer. A refusal leaves the document as it was.
 pub fn get_or_prepend_id_field(
     alloc: Global,
     document: &mut RawDocumentBuf,
     id: ObjectId,
 ) -> Result<OwnedValue, BsonFault>
     ensures id { IfOk result (λ value. HasIdNow document.old document.new id.0 value.kind value.bytes) }
-    ensures malformed { IsErrOf result BsonFault.Malformed → BreaksOff (body_of document.old) id_key }
-    ensures too_long { IsErrOf result BsonFault.TooLong → HasNone (body_of document.old) id_key × (2 ^ 31 - 1 < length document.old + length (spell (id_element id.0))) }
+    ensures malformed { IsErrOf result BsonFault.Malformed ↔ BreaksOff (body_of document.old) id_key }
+    ensures too_long { IsErrOf result BsonFault.TooLong ↔ (HadMemory result × HasNone (body_of document.old) id_key × (2 ^ 31 - 1 < length document.old + length (spell (id_element id.0)))) }
     ensures unchanged { OnErr result (document.new ≡ document.old) }
     ensures refused { IfErr result IdRefuses }
 {
@@ -47,7 +47,7 @@ fn prepend_id(
 ) -> Result<OwnedValue, BsonFault>
     ensures id { IfOk result (λ value. (value.kind ≡ 0x07) × (value.bytes ≡ id.0)) }
     ensures first { OnOk result (document.new ≡ enclosed (spell (id_element id.0) ++ body_of document.old)) }
-    ensures too_long { IsErrOf result BsonFault.TooLong → 2 ^ 31 - 1 < length document.old + length (spell (id_element id.0)) }
+    ensures too_long { IsErrOf result BsonFault.TooLong ↔ (HadMemory result × (2 ^ 31 - 1 < length document.old + length (spell (id_element id.0)))) }
     ensures unchanged { OnErr result (document.new ≡ document.old) }
     ensures refused { IfErr result PushRefuses }
 {
@@ -68,7 +68,7 @@ fn prepend_id(
 fn with_id_first(alloc: Global, document: &[u8], id: ObjectId) -> Result<RawDocumentBuf, BsonFault>
     requires { IsFramed document.now }
     ensures first { IfOk result (λ with_id. with_id ≡ enclosed (spell (id_element id.0) ++ body_of document.now)) }
-    ensures too_long { IsErrOf result BsonFault.TooLong → 2 ^ 31 - 1 < length document.now + length (spell (id_element id.0)) }
+    ensures too_long { IsErrOf result BsonFault.TooLong ↔ (2 ^ 31 - 1 < length document.now + length (spell (id_element id.0))) }
     ensures refused { IfErr result PushRefuses }
 {
     if !has_room_for(document.len(), ID_ELEMENT) {

@@ -8,9 +8,12 @@
 //! keys that [`RawDocument::distinct_keys`] sorts. Building grows a [`RawDocumentBuf`] or a [`RawArrayBuf`] in place,
 //! element by element.
 //!
-//! Proved: each byte string has at most one list of elements; each reader answers by that list, and answers
-//! [`BsonFault::Malformed`] exactly where there is none; what was appended is the last element, and is read back; a
-//! refused call leaves what it would have changed as it was.
+//! Proved: each byte string has at most one list of elements, and each reader answers by that list;
+//! [`BsonFault::Malformed`] comes exactly where the elements break off before the answer is found, so that [`Iter`]
+//! and [`RawDocument::distinct_keys`] judge all of them, and [`RawDocument::get`] and [`first_key`] those up to the one
+//! that they look for; what was appended is the last element, and is read back; each refusal comes exactly where its
+//! cause holds, but that want of memory may stand in its place; a refused call leaves what it would have changed as it
+//! was.
 #![tactic(auto)]
 
 mod arrays;
@@ -26,6 +29,7 @@ mod id_field;
 mod iter;
 mod meaning;
 mod name;
+mod number;
 mod object_id;
 mod owned_value;
 mod raw_array_buf;
@@ -40,7 +44,7 @@ mod text;
 mod texts;
 mod writing;
 
-pub use arrays::{to_raw_bson_array, vec_to_raw_array_buf};
+pub use arrays::{array_entry_size_bytes, to_raw_bson_array, vec_to_raw_array_buf};
 pub use bytes::Bytes;
 pub use checks::{
     first_key, replacement_document_check, replacement_raw_document_check, update_document_check,
@@ -50,6 +54,7 @@ pub use extend::extend_raw_document_buf;
 pub use fault::BsonFault;
 pub use id_field::get_or_prepend_id_field;
 pub use iter::Iter;
+pub use number::{get_int_raw, get_u64_raw};
 pub use object_id::ObjectId;
 pub use owned_value::OwnedValue;
 pub use raw_array_buf::RawArrayBuf;

@@ -3,6 +3,7 @@ ghost use Rattle.std.specs.Fmt.{decimal};
 ghost use Rattle.mongo_bson.specs.Framed.{IsFramed, body_of, enclosed};
 ghost use Rattle.mongo_bson.specs.Document.{spell};
 ghost use Rattle.mongo_bson.specs.Value.{element_of};
+ghost use Rattle.mongo_bson.specs.Array.{IsArray};
 ghost use Rattle.mongo_bson.specs.Refusals.{PushRefuses};
 
 use crate::{BsonFault, RawDocument, RawDocumentBuf, RawValue};
@@ -16,6 +17,7 @@ pub struct RawArrayBuf {
     pub(crate) count: usize,
     pub ghost within: { count ≤ length document },
     pub ghost framed: { IsFramed document },
+    pub ghost numbered: { IsArray document count },
 }
 
 impl RawArrayBuf {
@@ -70,6 +72,7 @@ impl RawArrayBuf {
     {
         self.document.borrow()
     }
+
     /// A copy of the array. Want of memory is the only refusal.
     pub fn try_clone(&self, alloc: Global) -> Result<RawArrayBuf, BsonFault>
         ensures copied { IfOk result (λ array. array ≡ self.now) }

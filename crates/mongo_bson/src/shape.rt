@@ -9,6 +9,7 @@ use crate::raw_document::is_framed;
 
 // How many bytes the value of a kind takes at the front. None where no value of that kind stands there, as for a kind
 // that BSON 1.1 doesn't have.
+#[inline(always)]
 pub(crate) fn value_len(kind: u8, bytes: &[u8]) -> Option<usize>
     ensures { MatchOption result (NoneAtFront (HoldsKind kind) bytes.now) (IsAtFront (HoldsKind kind) bytes.now) }
 {

@@ -1,3 +1,7 @@
 mod building;
+mod comparing;
 mod hostile;
+mod kinds;
+mod plain_reader;
 mod reading;
+mod whole_numbers;

@@ -1,8 +1,10 @@
 use crate::{
     BsonFault, Bytes, Documents, ObjectId, RawArrayBuf, RawDocumentBuf, RawValue,
-    extend_raw_document_buf, get_or_prepend_id_field, replacement_document_check,
-    replacement_raw_document_check, to_raw_bson_array, update_document_check, vec_to_raw_array_buf,
+    array_entry_size_bytes, extend_raw_document_buf, get_or_prepend_id_field,
+    replacement_document_check, replacement_raw_document_check, to_raw_bson_array,
+    update_document_check, vec_to_raw_array_buf,
 };
+use mongo_num::NumFault;
 use std::alloc::Global;
 use std::test::Fail;
 
@@ -43,6 +45,45 @@ fn an_array_counts_its_keys(rt: HostRuntime) -> Result<(), Fail> {
     assert_eq!(rt; array.len(), 11);
     assert!(rt; array.borrow().get("10")? == Some(RawValue::Null));
     assert!(rt; array.borrow().get("11")?.is_none());
+    Ok(())
+}
+
+#[test]
+fn an_entry_is_as_long_as_it_says(rt: HostRuntime) -> Result<(), Fail> {
+    assert_eq!(rt; array_entry_size_bytes(0, 5), Ok(8));
+    assert_eq!(rt; array_entry_size_bytes(9, 5), Ok(8));
+    assert_eq!(rt; array_entry_size_bytes(10, 5), Ok(9));
+    assert_eq!(rt; array_entry_size_bytes(0, usize::MAX - 3), Ok(usize::MAX));
+    assert_eq!(rt;
+        array_entry_size_bytes(0, usize::MAX - 2),
+        Err(NumFault::Failed)
+    );
+    assert_eq!(rt;
+        array_entry_size_bytes(10, usize::MAX - 3),
+        Err(NumFault::Failed)
+    );
+    let document = number_under(rt.alloc(), "a", 1)?;
+    let mut array = RawArrayBuf::new(rt.alloc())?;
+    for index in 0..12 {
+        let before = array.borrow().as_bytes().len();
+        array.push(RawValue::Document(document.borrow()))?;
+        let after = array.borrow().as_bytes().len();
+        let size = array_entry_size_bytes(index, 12)?;
+        assert_eq!(rt; after.checked_sub(before), Some(size), "entry {index}");
+    }
+    Ok(())
+}
+
+#[test]
+fn keys_with_a_zero_are_refused(rt: HostRuntime) -> Result<(), Fail> {
+    let mut document = number_under(rt.alloc(), "a", 1)?;
+    for key in ["\0", "a\0", "\0a", "a\0b"] {
+        assert!(rt;
+            document.append(key, RawValue::Null) == Err(BsonFault::KeyHasZero),
+            "{key:?}"
+        );
+    }
+    assert!(rt; document == number_under(rt.alloc(), "a", 1)?);
     Ok(())
 }
 

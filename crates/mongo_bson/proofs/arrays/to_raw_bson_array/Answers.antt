@@ -1,6 +1,7 @@
-use Rattle.std.proofs.Common.{◌-◌, ◌^◌, ◌<◌, length, Err, ap, subst}
+use Rattle.std.proofs.Common.{◌≡◌, ℕ, List, ◌-◌, ◌^◌, ◌<◌, length, Err, ap, subst}
+use Rattle.mongo_bson.specs.declared.fault.BsonFault.TheVariants.{TooLong}
 use Rattle.mongo_bson.specs.Array.{array_of, document_entries}
-use Rattle.mongo_bson.proofs.Numbered.{document_pushed, whole_too_long, same_fault}
+use Rattle.mongo_bson.proofs.Numbered.{document_pushed, whole_too_long, refused_push}
 use Rattle.mongo_bson.proofs.arrays.to_raw_bson_array.Goals as goal
 
 pub loop-document-preserved : goal.loop-document-preserved
@@ -10,7 +11,9 @@ loop-document-preserved c =
     document_pushed array.document pushed.document c.borrow.result.bytes.now c.document-item.result array.count pushed.count c.loop-document.document-index c.as_slice-document-items.result.now c.loop-document-test.true array.framed c.loop-document.invariant c.borrow.ensures c.document-item.is c.in-Ok.ensures.added c.in-Ok.ensures.counted
 
 pub returns-in-Err-clause-too_long : goal.returns-in-Err-clause-too_long
-returns-in-Err-clause-too_long c = λ too_long.
+returns-in-Err-clause-too_long c =
     let array = c.loop-document.array in
-    let long = whole_too_long array.document c.borrow.result.bytes.now c.document-item.result array.count c.loop-document.document-index c.as_slice-document-items.result.now c.loop-document-test.true array.framed c.loop-document.invariant c.borrow.ensures c.document-item.is (c.in-Err.ensures.too_long.0 (ap Err (same_fault c.in-Err.fault too_long))) in
-    subst (λ documents. 2 ^ 31 - 1 < length (array_of (document_entries documents))) c.as_slice-document-items.ensures long
+    let fault = c.in-Err.fault in
+    let longs = λ (documents : List (List ℕ)). 2 ^ 31 - 1 < length (array_of (document_entries documents)) in
+    let long = λ (is : fault ≡ TooLong). whole_too_long array.document c.borrow.result.bytes.now c.document-item.result array.count c.loop-document.document-index c.as_slice-document-items.result.now c.loop-document-test.true array.framed c.loop-document.invariant c.borrow.ensures c.document-item.is (c.in-Err.ensures.too_long.0 (ap Err is)) in
+    refused_push fault (longs c.args.documents.now) c.in-Err.ensures.refused (λ is. subst longs c.as_slice-document-items.ensures (long is))

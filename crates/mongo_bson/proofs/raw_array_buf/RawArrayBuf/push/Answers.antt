@@ -1,8 +1,10 @@
-use Rattle.std.proofs.Common.{Err, ap, subst, arith}
+use Rattle.std.proofs.Common.{◌≤◌, length, Err, sym, ap, subst, arith}
 use Rattle.std.specs.Fmt.{decimal}
 use Rattle.std.specs.List.{Contains}
-use Rattle.mongo_bson.specs.Value.{bytes_of}
-use Rattle.mongo_bson.proofs.Numbered.{decimal_no_zero, push_refuses, too_long_at_number}
+use Rattle.mongo_bson.specs.Framed.{IsFramed}
+use Rattle.mongo_bson.specs.Array.{IsArray}
+use Rattle.mongo_bson.specs.Value.{kind_of, bytes_of}
+use Rattle.mongo_bson.proofs.Numbered.{decimal_no_zero, push_refuses, too_long_at_number, array_goes_on}
 use Rattle.mongo_bson.proofs.raw_array_buf.RawArrayBuf.push.Goals as goal
 
 pub returns-in-Err-clause-too_long : goal.returns-in-Err-clause-too_long
@@ -13,3 +15,18 @@ returns-in-Err-clause-too_long c =
 pub returns-in-Err-clause-refused : goal.returns-in-Err-clause-refused
 returns-in-Err-clause-refused c =
     push_refuses c.in-Err.fault c.in-Err.ensures.refused (λ same. decimal_no_zero c.args.self.now.count (omega arith) (subst (λ k. Contains k 0) c.format.ensures.text (c.in-Err.ensures.key_has_zero.0 (ap Err same))))
+
+pub invariant_of-self-clause-numbered : goal.invariant_of-self-clause-numbered
+invariant_of-self-clause-numbered c =
+    let array = c.args.self.now in
+    array_goes_on array.document c.append.new.self c.format.result.now (bytes_of c.args.value) (kind_of c.args.value) array.count array.framed c.format.ensures.text c.in-Ok.ensures.added array.numbered
+
+pub invariant_of-self-in-Err-1 : goal.invariant_of-self-in-Err-1
+invariant_of-self-in-Err-1 c =
+    let array = c.args.self.now in
+    let same = sym c.in-Err.ensures.unchanged in
+    record {
+      within = subst (λ d. array.count ≤ length d) same array.within;
+      framed = subst IsFramed same array.framed;
+      numbered = subst (λ d. IsArray d array.count) same array.numbered;
+    }
