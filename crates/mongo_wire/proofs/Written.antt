@@ -1,14 +1,21 @@
 -- What a write that was cut short has appended.
-use Rattle.std.proofs.Common.{◌≡◌, ℕ, ℤ, bit_and, ◌∷◌, ◌+◌, ◌≤◌, Option, Result, Ok, Err, OnOk, List, [], append-nil, ◌++◌, length, take, drop, sym, ap, ◌∙◌, subst, arith, append_assoc, take-append-drop}
+use Rattle.std.proofs.Common.{◌≡◌, ℕ, ℤ, FitsSigned, to_z, of_z, bit_and, ◌∷◌, ◌+◌, ◌<◌, ◌≤◌, get_or, flat_map, map, Option, Result, Ok, Err, OnOk, IsErrAnd, List, [], append-nil, ◌++◌, length, take, drop, refl, sym, ap, ◌∙◌, subst, arith, append_assoc, take-append-drop}
 use Rattle.std.proofs.Math.Seq.{take-append_seam, take-append-add}
+use Rattle.std.proofs.lemmas.Result.{err_from_is_err_and}
+use Rattle.std.proofs.lemmas.Int.{to_z-of_z}
+use Rattle.std.specs.Int.{w32}
 use Rattle.std.proofs.KnownBytes.{Appends-trans}
 use Rattle.std.specs.Io.KnownBytes.{Appends}
+use Rattle.mongo_wire.proofs.Passed.{joined_more, joined_at}
 use Rattle.mongo_wire.specs.Outside.{Rose, WriteStops, AppendsFront}
-use Rattle.mongo_wire.specs.Frame.{int32, uint32, message_code, known_flags}
-use Rattle.mongo_wire.specs.Message.{Fits, WriteCut, WriteRefused, written_frame, id_of, id_after}
+use Rattle.mongo_wire.specs.Frame.{int32, uint32, message_code, known_flags, sequence, section_bytes, sequence_bytes}
+use Rattle.mongo_wire.specs.Measure.{documents_bytes, sequence_section, sequences_bytes}
+use Rattle.mongo_wire.specs.declared.document_sequence.DocumentSequence.{DocumentSequence}
+use Rattle.std.proofs.lemmas.List.Folds.{flat_map-map}
+use Rattle.mongo_wire.specs.Message.{Fits, WriteCut, WriteRefused, written_frame, frame_length, content_of, checksum_bytes, id_of, id_after}
 use Rattle.mongo_wire.specs.declared.message.Message.{Message}
 use Rattle.mongo_wire.specs.declared.error.ErrorKind.{ErrorKind}
-use Rattle.mongo_wire.specs.declared.error.ErrorKind.TheVariants.{InvalidArgument, InvalidResponse, Command, Authentication, IncompatibleServer, Write, InsertMany, ReadFault, WriteFault, EndOfInput, Callback, PasswordNotAscii, NotBuilt, OutOfMemory}
+use Rattle.mongo_wire.specs.declared.error.ErrorKind.TheVariants.{InvalidArgument, InvalidResponse, Command, Authentication, IncompatibleServer, Write, InsertMany, ReadFault, WriteFault, EndOfInput, Callback, PasswordNotAscii, OutOfMemory}
 
 -- a front of the first part is a front of all
 front_of_first : (old new : Option (List ℕ)) (first more : List ℕ) → AppendsFront old new first → AppendsFront old new (first ++ more)
@@ -41,7 +48,6 @@ write_cases P ReadFault _ _ _ _ _ s fault memory = absurd s
 write_cases P EndOfInput _ _ _ _ _ s fault memory = absurd s
 write_cases P (Callback _) _ _ _ _ _ s fault memory = absurd s
 write_cases P PasswordNotAscii _ _ _ _ _ s fault memory = absurd s
-write_cases P NotBuilt _ _ _ _ _ s fault memory = absurd s
 
 -- the first part was refused
 pub cut_before : (kind : ErrorKind) (old new : Option (List ℕ)) (faults_old faults_new : ℕ) (first more : List ℕ)
@@ -78,19 +84,42 @@ pub both : {T E : Type 0} (r : Result T E) (P Q R : Type 0) → (P → Q → R) 
 both (Ok _) P Q R f p q = f p q
 both (Err _) P Q R f p q = tt
 
--- the three parts are the message's frame
-pub parts_spelled : (id id_code to_code : ℤ) (size : ℕ) (m : Message) (head start document : List ℕ)
-    → head ≡ uint32 size ++ (int32 id_code ++ (int32 to_code ++ uint32 message_code)) → start ≡ uint32 (bit_and m.flags.0 known_flags) ++ (0 ∷ []) → document ≡ m.document_payload
-    → size ≡ 21 + length m.document_payload → id_code ≡ id → to_code ≡ m.response_to
-    → head ++ (start ++ document) ≡ written_frame id m
-parts_spelled id id_code to_code size m head start document p q r counted same_id same_to =
+-- the pieces that a sequence is written as are its section
+pub section_spelled : (s : DocumentSequence) (start name documents : List ℕ) → start ≡ 1 ∷ uint32 (4 + length (sequence_bytes s)) → name ≡ s.identifier → documents ≡ documents_bytes s.documents
+    → (start ++ (name ++ 0 ∷ [])) ++ documents ≡ sequence_section s
+section_spelled s start name documents p q r =
+    append_assoc start (name ++ 0 ∷ []) documents
+    ∙ ap (λ w. start ++ w) (append_assoc name (0 ∷ []) documents)
+    ∙ ap (λ w. w ++ (name ++ 0 ∷ documents)) p
+    ∙ ap (λ w. (1 ∷ uint32 (4 + length (sequence_bytes s))) ++ (w ++ 0 ∷ documents)) q
+    ∙ ap (λ w. (1 ∷ uint32 (4 + length (sequence_bytes s))) ++ (s.identifier ++ 0 ∷ w)) r
+
+-- what follows the flags, but for the first kind byte
+content_spelled : (m : Message) (document sequences sum : List ℕ) → document ≡ m.document_payload → sequences ≡ sequences_bytes m.document_sequences → sum ≡ checksum_bytes m.checksum
+    → 0 ∷ (document ++ (sequences ++ sum)) ≡ content_of m
+content_spelled m document sequences sum p q r =
+    ap (λ w. 0 ∷ w) (sym (append_assoc document sequences sum)
+    ∙ ap (λ w. (w ++ sequences) ++ sum) p
+    ∙ ap (λ w. (m.document_payload ++ w) ++ sum) (q ∙ sym (flat_map-map section_bytes sequence m.document_sequences))
+    ∙ ap (λ w. (m.document_payload ++ flat_map section_bytes (map sequence m.document_sequences)) ++ w) r)
+
+-- the pieces that a message is written as are its frame
+pub frame_spelled : (id : ℤ) (size : ℕ) (m : Message) (head start document sequences : List ℕ) → FitsSigned w32 id → FitsSigned w32 m.response_to
+    → head ≡ uint32 size ++ (int32 (to_z w32 (of_z w32 id)) ++ (int32 (to_z w32 (of_z w32 m.response_to)) ++ uint32 message_code))
+    → start ≡ uint32 (bit_and m.flags.0 known_flags) ++ (0 ∷ []) → document ≡ m.document_payload → sequences ≡ sequences_bytes m.document_sequences → size ≡ frame_length m
+    → (head ++ (start ++ document)) ++ (sequences ++ checksum_bytes m.checksum) ≡ written_frame id m
+frame_spelled id size m head start document sequences id_fits to_fits p q r s counted =
     let word = bit_and m.flags.0 known_flags in
-    ap (λ h. h ++ (start ++ document)) p
-    ∙ ap (λ s. (uint32 size ++ (int32 id_code ++ (int32 to_code ++ uint32 message_code))) ++ (s ++ document)) q
-    ∙ ap (λ d. (uint32 size ++ (int32 id_code ++ (int32 to_code ++ uint32 message_code))) ++ ((uint32 word ++ (0 ∷ [])) ++ d)) r
-    ∙ ap (λ n. (uint32 n ++ (int32 id_code ++ (int32 to_code ++ uint32 message_code))) ++ ((uint32 word ++ (0 ∷ [])) ++ m.document_payload)) counted
-    ∙ ap (λ z. (uint32 (21 + length m.document_payload) ++ (int32 z ++ (int32 to_code ++ uint32 message_code))) ++ ((uint32 word ++ (0 ∷ [])) ++ m.document_payload)) same_id
-    ∙ ap (λ z. (uint32 (21 + length m.document_payload) ++ (int32 id ++ (int32 z ++ uint32 message_code))) ++ ((uint32 word ++ (0 ∷ [])) ++ m.document_payload)) same_to
+    let sum = checksum_bytes m.checksum in
+    let fields = λ (n : ℕ) (i t : ℤ). uint32 n ++ (int32 i ++ (int32 t ++ uint32 message_code)) in
+    let id_code = to_z w32 (of_z w32 id) in
+    let to_code = to_z w32 (of_z w32 m.response_to) in
+    ap (λ h. (h ++ (start ++ document)) ++ (sequences ++ sum)) p
+    ∙ ap (λ w. (fields size id_code to_code ++ (w ++ document)) ++ (sequences ++ sum)) q
+    ∙ ap (λ w. fields size id_code to_code ++ (uint32 word ++ w)) (content_spelled m document sequences sum r s refl)
+    ∙ ap (λ n. fields n id_code to_code ++ (uint32 word ++ content_of m)) counted
+    ∙ ap (λ i. fields (frame_length m) i to_code ++ (uint32 word ++ content_of m)) (to_z-of_z w32 id id_fits)
+    ∙ ap (λ t. fields (frame_length m) id t ++ (uint32 word ++ content_of m)) (to_z-of_z w32 m.response_to to_fits)
 
 pub write_refused : (kind : ErrorKind) (most : ℤ) (m : Message) (old new : Option (List ℕ)) (faults_old faults_new : ℕ) (before after : ℤ)
     → Fits most m → after ≡ id_after m.request_id before → WriteStops kind old new faults_old faults_new (written_frame (id_of m before) m)
@@ -101,3 +130,22 @@ write_refused kind most m old new fo fn before after fits drawn s =
   where
     cut : AppendsFront old new (written_frame (id_of m before) m) → WriteCut most m old new before after
     cut front = record { fits = fits; front = front; drawn = drawn }
+
+-- items were written one after another, and then one of them was refused
+pub cut_among : {X : Type 0} (f : X → List ℕ) (xs : List X) (i : ℕ) (x : X) → i < length xs → x ≡ get_or xs i x
+    → (kind : ErrorKind) (old mid new : Option (List ℕ)) (faults_first faults_old faults_new : ℕ) → Appends old mid (flat_map f (take i xs)) → faults_first ≤ faults_old
+    → WriteStops kind mid new faults_old faults_new (f x) → WriteStops kind old new faults_first faults_new (flat_map f xs)
+cut_among f xs i x within at kind old mid new ff fo fn front stay s =
+    let before = flat_map f (take i xs) in
+    let after = flat_map f (drop (i + 1) xs) in
+    subst (WriteStops kind old new ff fn) (joined_at f xs i x within at) (cut_after kind old mid new ff fo fn before (f x ++ after) front stay (cut_before kind mid new fo fn (f x) after s))
+
+-- one more item was written
+pub written_more : {X : Type 0} (f : X → List ℕ) (xs : List X) (i : ℕ) (x : X) → i < length xs → x ≡ get_or xs i x
+    → (old mid new : Option (List ℕ)) → Appends old mid (flat_map f (take i xs)) → Appends mid new (f x) → Appends old new (flat_map f (take (i + 1) xs))
+written_more f xs i x within at old mid new front one =
+    subst (Appends old new) (sym (joined_more f xs i x within at)) (Appends-trans old mid new (flat_map f (take i xs)) (f x) front one)
+
+-- what the exit of a `?` returns where the error stays as it is
+pub passed_on : {T E : Type 0} (r : Result T E) (x : E) → IsErrAnd r (λ y. y ≡ x) → r ≡ Err x
+passed_on r x p = let (e, is, same) = err_from_is_err_and r p in is ∙ ap Err same

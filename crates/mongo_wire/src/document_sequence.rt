@@ -82,6 +82,13 @@ impl Sequences {
         self.items.as_slice().get(index)
     }
 
+    /// The sequences in their order.
+    pub fn as_slice(&self) -> &[DocumentSequence]
+        ensures { result.now ≡ self.now }
+    {
+        self.items.as_slice()
+    }
+
     /// A copy of the list. Want of memory is the only refusal.
     pub fn try_clone(&self, alloc: Global) -> Result<Sequences, BsonFault>
         ensures copied { IfOk result (λ sequences. sequences ≡ self.now) }

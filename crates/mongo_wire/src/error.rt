@@ -53,8 +53,6 @@ pub enum ErrorKind {
     Callback(Text),
     /// The password has a character past ASCII, which isn't prepared here.
     PasswordNotAscii,
-    /// What the server sent can't be read yet.
-    NotBuilt,
     /// Memory ran out.
     OutOfMemory,
 }
@@ -78,7 +76,6 @@ impl ErrorKind {
             ErrorKind::EndOfInput => ErrorKind::EndOfInput,
             ErrorKind::Callback(text) => ErrorKind::Callback(text.try_clone(alloc)?),
             ErrorKind::PasswordNotAscii => ErrorKind::PasswordNotAscii,
-            ErrorKind::NotBuilt => ErrorKind::NotBuilt,
             ErrorKind::OutOfMemory => ErrorKind::OutOfMemory,
         };
         Ok(copy)

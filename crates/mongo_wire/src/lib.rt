@@ -10,34 +10,59 @@
 #![tactic(auto)]
 
 mod auth_fault;
+mod command_document;
 mod command_error;
+mod content;
+mod count_reader;
 mod document_sequence;
 mod error;
 mod failing_link;
 mod fault;
+mod frame_buffer;
+mod frames;
+mod header;
+mod header_bytes;
+mod held_frame;
+mod measure;
 mod memory_link;
 mod message;
 mod message_flags;
+mod message_ref;
+mod op_code;
 mod outside;
-mod plain;
+mod owned;
+mod raw_sections;
+mod read_document;
 mod reading;
 mod request_ids;
+mod sections;
 mod standard;
+mod sync_read;
 mod write_error;
+mod write_message;
 mod writing;
 
 pub use auth_fault::AuthFault;
 pub use command_error::CommandError;
+pub use count_reader::SyncCountReader;
 pub use document_sequence::{DocumentSequence, Sequences};
 pub use error::{Error, ErrorKind};
 pub use failing_link::FailingLink;
 pub use fault::{ArgumentFault, ResponseFault};
+pub use frame_buffer::FrameBuffer;
+pub use frames::{next_frame, read_frame, take_frame, take_next_frame};
+pub use header::Header;
 pub use memory_link::MemoryLink;
 pub use message::Message;
 pub use message_flags::MessageFlags;
+pub use message_ref::MessageRef;
+pub use op_code::OpCode;
 pub use outside::{Failed, Link, Sink, SinkError, Source};
+pub use raw_sections::write_sections;
+pub use read_document::read_document_bytes;
 pub use request_ids::RequestIds;
-pub use standard::{StdSink, StdSource};
+pub use standard::{StdLink, StdSink, StdSource};
+pub use sync_read::SyncLittleEndianRead;
 pub use write_error::{
     IndexedWriteError, InsertManyError, WriteConcernError, WriteError, WriteErrors, WriteFailure,
     WriteFailureCause,

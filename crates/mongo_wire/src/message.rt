@@ -1,15 +1,17 @@
-ghost use Rattle.std.specs.Prelude.{◌≡◌, ℕ, pos, ◌≤ℤ◌, List, [], None, Some, length, IfOk, IfErr, OnOk};
-ghost use Rattle.mongo_wire.specs.Outside.{ReadsOn, WritesOn, ReadStops};
-ghost use Rattle.mongo_wire.specs.Plain.{frame_answer, maximum_of};
-ghost use Rattle.mongo_wire.specs.Message.{Answers, Begins, ReadRefused, LeavesRefused, Writes, WriteRefused, IsFrameOf, written_frame, id_of, id_after};
+ghost use Rattle.std.specs.Prelude.{◌≡◌, [], ℕ, pos, ◌≤ℤ◌, List, ◌++◌, None, Some, length, IfOk, IfErr, OnOk};
+ghost use Rattle.mongo_wire.specs.Outside.{ReadsOn, WritesOn};
+ghost use Rattle.mongo_wire.specs.Frame.{Frame, IsFrame};
+ghost use Rattle.mongo_wire.specs.Header.{maximum_of};
+ghost use Rattle.mongo_wire.specs.Message.{IsRead, ReadRefused, ReadsAgain, Writes, WriteRefused, IsFrameOf, TellsChecksum, written_frame, id_of, id_after};
 ghost use Rattle.mongo_wire.specs.declared.fault.ArgumentFault.{ArgumentFault};
 ghost use Rattle.mongo_wire.specs.declared.error.ErrorKind.TheVariants.{InvalidArgument};
 
-use crate::plain::{plain_header, plain_length, plain_message, section_start};
-use crate::reading::{fill, take_bytes};
-use crate::writing::write_parts;
-use crate::{ArgumentFault, Error, ErrorKind, MessageFlags, RequestIds, Sequences, Sink, Source};
-use bitflags::Flags;
+use crate::frames::read_frame;
+use crate::measure::measured;
+use crate::owned::owned_message;
+use crate::write_message::write_frame;
+use crate::writing::flush_out;
+use crate::{Error, ErrorKind, FrameBuffer, MessageFlags, RequestIds, Sequences, Sink, Source};
 use mongo_bson::{BsonFault, RawDocumentBuf};
 use std::alloc::Global;
 
@@ -49,42 +51,41 @@ impl Message {
         })
     }
 
-    /// Reads the next frame of the source, of at most `max` bytes, 50331648 where none is given.
+    /// Reads the next frame of the source, of at most `max` bytes, 50331648 where none is given. The message has no
+    /// request id.
     ///
-    /// Refusals, in this order: `EndOfInput` before 16 bytes came; `NotBuilt` where the header isn't an OP_MSG's whose
-    /// length is 26 to the maximum; `EndOfInput` before the whole frame came; `NotBuilt` where the frame isn't one
-    /// section of kind 0 without a checksum. `ReadFault` where the source failed.
+    /// Refusals, in this order, each with nothing taken past what shows it: `EndOfInput` within the 16 bytes of the header;
+    /// `OpCode` of an unknown op code; `OverMaximum` where the length passes the maximum; `Compressed` of an OP_COMPRESSED,
+    /// `NotMessage` of an OP_REPLY or OP_QUERY; `CheckedFailure` where the length is below 16; `EndOfInput` within the frame;
+    /// `Sections` where the frame isn't in the grammar of OP_MSG. `ReadFault` where the source failed.
     pub fn read_from<S: Source>(
         alloc: Global,
         source: &mut S,
         max: Option<i32>,
     ) -> Result<Message, Error>
-        // The answer is that of the bytes left, unless reading failed or memory ran out.
-        ensures exact { (bytes : List ℕ) → S.left source.old ≡ Some bytes → Answers result (frame_answer (maximum_of max) bytes) }
-        // What was read is a frame of the grammar, and nothing after it was taken.
-        ensures found { (bytes : List ℕ) → S.left source.old ≡ Some bytes → IfOk result (Begins (maximum_of max) bytes (S.left source.new)) }
-        ensures within { IfOk result (λ message. pos (length message.document_payload) ≤ℤ maximum_of max) }
-        ensures refused { IfErr result (λ e. ReadRefused e.kind (S.faults_read source.old) (S.faults_read source.new) (S.ends_met source.old) (S.ends_met source.new)) }
-        ensures left { (bytes : List ℕ) → S.left source.old ≡ Some bytes → IfErr result (λ e. LeavesRefused e.kind (maximum_of max) bytes (S.left source.new)) }
+        // What was read is a frame of the grammar within the maximum, and nothing after it was taken.
+        ensures read { IfOk result (IsRead (maximum_of max) (S.left source.old) (S.left source.new)) }
+        // Each refusal is the first row of the table that applies, and has taken what shows it.
+        ensures refused { IfErr result (λ e. ReadRefused e.kind (maximum_of max) (S.left source.old) (S.left source.new) (S.faults_read source.old) (S.faults_read source.new) (S.ends_met source.old) (S.ends_met source.new)) }
+        // A frame within the maximum is read, whatever follows it.
+        ensures again { (frame rest : List ℕ) (parts : Frame) → S.left source.old ≡ Some (frame ++ rest) → IsFrame frame parts → pos (length frame) ≤ℤ maximum_of max → ReadsAgain parts rest (S.left source.new) result }
+        // That is one frame and no other: none is a front of another.
+        ensures alone { (frame more : List ℕ) (parts other : Frame) → IsFrame frame parts → IsFrame (frame ++ more) other → more ≡ [] }
         ensures on { ReadsOn S.left S.faults_read S.ends_met S.beside_left source.old source.new }
     {
-        let mut head = [0u8; 16];
-        fill(source, &mut head)?;
-        let Some(length) = plain_length(&head, max) else {
-            return Err(Error {
-                kind: ErrorKind::NotBuilt,
-            });
-        };
-        let mut start = [0u8; 5];
-        fill(source, &mut start)?;
-        let document = take_bytes(alloc, source, length - 21)?;
-        plain_message(alloc, &head, &start, document)
+        let mut buffer = FrameBuffer::new(alloc);
+        match read_frame(alloc, source, max, &mut buffer) {
+            Ok(message) => owned_message(alloc, message),
+            Err(error) => Err(error),
+        }
     }
 
-    /// Writes the message as one frame and flushes the sink. Where it has no request id, the next one is drawn.
+    /// Writes the message as one frame and flushes the sink: header, flags, body, sequences and checksum one after another.
+    /// Where it has no request id, the next one is drawn. It takes no memory of its own.
     ///
-    /// Refusals, in this order: `MaximumNegative`, `TooLong` where the frame passes the maximum, 50331648 where none is
-    /// given, with nothing written and no id drawn; then `WriteFault` or the sink's want of memory, with a front of the
+    /// Refusals, in this order: `IdentifierHasZero` where an identifier holds a zero byte, `SequenceTooLong` where the size of
+    /// a sequence passes 2147483647, `MaximumNegative`, `TooLong` where the frame passes the maximum, 50331648 where none is
+    /// given, each with nothing written and no id drawn; then `WriteFault` or the sink's want of memory, with a front of the
     /// frame written.
     pub fn write_op_msg_to<K: Sink>(
         &self,
@@ -93,31 +94,21 @@ impl Message {
         max: Option<i32>,
         ids: &mut RequestIds,
     ) -> Result<(), Error>
-        requires sequences { self.now.document_sequences ≡ [] }
-        requires checksum { self.now.checksum ≡ None }
         ensures written { OnOk result (Writes (maximum_of max) self.now (K.written sink.old) (K.written sink.new) (K.flushed sink.new) ids.old ids.new) }
-        // It is a frame of the grammar.
-        ensures frame { OnOk result (IsFrameOf (id_of self.now ids.old) self.now (written_frame (id_of self.now ids.old) self.now)) }
+        // It is a frame of the grammar, where its flags tell of its checksum.
+        ensures frame { OnOk result (TellsChecksum self.now → IsFrameOf (id_of self.now ids.old) self.now (written_frame (id_of self.now ids.old) self.now)) }
         ensures refused { IfErr result (λ e. WriteRefused e.kind (maximum_of max) self.now (K.written sink.old) (K.written sink.new) (K.faults_written sink.old) (K.faults_written sink.new) ids.old ids.new) }
         // Nothing is done where the message is refused before its id is drawn.
         ensures untouched { (fault : ArgumentFault) → IfErr result (λ e. e.kind ≡ InvalidArgument fault → sink.new ≡ sink.old) }
         ensures on { WritesOn K.written K.flushed K.faults_written K.beside_written sink.old sink.new }
     {
-        let maximum = max.unwrap_or(FIRST_MAXIMUM);
-        if maximum < 0 {
-            return Err(Error {
-                kind: ErrorKind::InvalidArgument(ArgumentFault::MaximumNegative),
-            });
-        }
-        let document = self.document_payload.as_bytes();
-        if document.len() + 21 > maximum as usize {
-            return Err(Error {
-                kind: ErrorKind::InvalidArgument(ArgumentFault::TooLong),
-            });
-        }
+        let length = match measured(self, max) {
+            Ok(length) => length,
+            Err(fault) => return Err(ErrorKind::InvalidArgument(fault).into()),
+        };
         let id = self.drawn_id(ids);
-        let head = plain_header((document.len() + 21) as u32, id, self.response_to);
-        write_parts(sink, &head, &section_start(self.flags), document)
+        write_frame(sink, self, id, length)?;
+        flush_out(sink)
     }
 
     // The id to write the message with: its own, or the next one.

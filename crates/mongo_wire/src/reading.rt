@@ -1,9 +1,9 @@
-ghost use Rattle.std.specs.Prelude.{◌≡◌, ◌<◌, ◌≤◌, ◌+◌, length, IfOk, IfErr, OnOk};
+ghost use Rattle.std.specs.Prelude.{◌≡◌, ◌<◌, ◌≤◌, ◌+◌, ◌-◌, ◌*◌, ℕ, List, Some, true, false, max, take, drop, length, IfOk, IfErr, OnOk, OnErr};
 ghost use Rattle.std.specs.Io.KnownBytes.{Consumes};
-ghost use Rattle.mongo_wire.specs.Outside.{ReadsOn, ReadStops};
+ghost use Rattle.mongo_wire.specs.Outside.{ReadsOn, ReadStops, HasEnded, HasMore};
+ghost use Rattle.mongo_wire.specs.Small.{IsOfSource};
 
 use crate::{Error, ErrorKind, Source};
-use std::alloc::Global;
 
 // How many bytes are read ahead of the memory for them at most.
 const PIECE: usize = 4096;
@@ -14,6 +14,7 @@ const PIECE: usize = 4096;
 pub fn fill<S: Source>(source: &mut S, buf: &mut [u8]) -> Result<(), Error>
     ensures filled { OnOk result (Consumes (S.left source.old) (S.left source.new) buf.new) }
     ensures refused { IfErr result (λ e. ReadStops e.kind (S.left source.old) (S.left source.new) (S.faults_read source.old) (S.faults_read source.new) (S.ends_met source.old) (S.ends_met source.new) (length buf.old)) }
+    ensures of_source { IfErr result (λ e. IsOfSource e.kind) }
     ensures on { ReadsOn S.left S.faults_read S.ends_met S.beside_left source.old source.new }
 {
     let mut at = 0;
@@ -31,28 +32,102 @@ pub fn fill<S: Source>(source: &mut S, buf: &mut [u8]) -> Result<(), Error>
     Ok(())
 }
 
-/// The next bytes of the source, as many as are wanted. Memory grows as they come.
+/// Fills the buffer with the next bytes of the source, and says whether there was one: not where the source ended before
+/// the first.
 ///
-/// `ReadFault` where the source failed, `EndOfInput` where it ended before.
-pub fn take_bytes<S: Source>(alloc: Global, source: &mut S, wanted: usize) -> Result<Vec<u8>, Error>
-    ensures taken { IfOk result (λ bytes. Consumes (S.left source.old) (S.left source.new) bytes.items) }
-    ensures all { IfOk result (λ bytes. length bytes.items ≡ wanted) }
-    ensures refused { IfErr result (λ e. ReadStops e.kind (S.left source.old) (S.left source.new) (S.faults_read source.old) (S.faults_read source.new) (S.ends_met source.old) (S.ends_met source.new) wanted) }
+/// `ReadFault` where the source failed, `EndOfInput` where it ended after the first byte and before the buffer was full.
+pub fn fill_or_end<S: Source>(source: &mut S, buf: &mut [u8]) -> Result<bool, Error>
+    requires { 0 < length buf.old }
+    ensures filled { IfOk result (λ found. found ≡ true → Consumes (S.left source.old) (S.left source.new) buf.new) }
+    ensures ended { IfOk result (λ found. found ≡ false → HasEnded (S.left source.old) (S.left source.new) (S.ends_met source.old) (S.ends_met source.new)) }
+    ensures refused { IfErr result (λ e. ReadStops e.kind (S.left source.old) (S.left source.new) (S.faults_read source.old) (S.faults_read source.new) (S.ends_met source.old) (S.ends_met source.new) (length buf.old)) }
+    ensures more { IfErr result (λ e. HasMore e.kind (S.left source.old)) }
     ensures on { ReadsOn S.left S.faults_read S.ends_met S.beside_left source.old source.new }
 {
-    let mut taken = Vec::new(alloc);
-    'taking: while taken.len() < wanted {
-        let mut piece = [0u8; PIECE];
-        let room = (wanted - taken.len()).min(PIECE);
-        match source.read(&mut piece[..room]) {
-            Ok(0) => return Err(Error {
-                kind: ErrorKind::EndOfInput,
-            }),
-            Ok(count) => taken.extend_from_slice(&piece[..count])?,
-            Err(_) => return Err(Error {
-                kind: ErrorKind::ReadFault,
-            }),
-        }
+    match source.read(buf) {
+        Ok(0) => Ok(false),
+        Ok(count) => match fill(source, &mut buf[count..]) {
+            Ok(()) => Ok(true),
+            Err(error) => Err(error),
+        },
+        Err(_) => Err(Error {
+            kind: ErrorKind::ReadFault,
+        }),
     }
-    Ok(taken)
+}
+
+/// Takes the next bytes of the source into the front of the store, as many as are wanted, over what is there. The store
+/// grows only as they come.
+///
+/// `ReadFault` where the source failed, `EndOfInput` where it ended before, `OutOfMemory`.
+pub fn take_into<S: Source>(source: &mut S, store: &mut Vec<u8>, wanted: usize) -> Result<(), Error>
+    ensures taken { OnOk result (Consumes (S.left source.old) (S.left source.new) (take wanted store.new.items)) }
+    ensures all { OnOk result (wanted ≤ length store.new.items) }
+    ensures refused { IfErr result (λ e. ReadStops e.kind (S.left source.old) (S.left source.new) (S.faults_read source.old) (S.faults_read source.new) (S.ends_met source.old) (S.ends_met source.new) wanted) }
+    ensures some { OnErr result (0 < wanted) }
+    // The store is at most as long as it was, or as was wanted, or as twice what came and one piece.
+    ensures wanted { length store.new.items ≤ max (length store.old.items) wanted }
+    ensures came { (bytes : List ℕ) → S.left source.old ≡ Some bytes → length store.new.items ≤ max (length store.old.items) (4096 + 2 * length bytes) }
+    ensures on { ReadsOn S.left S.faults_read S.ends_met S.beside_left source.old source.new }
+{
+    let mut at = 0;
+    'taking: while at < wanted {
+        make_room(store, at, wanted)?;
+        let end = store.len().min(wanted);
+        fill_store(source, store, at, end)?;
+        at = end;
+    }
+    Ok(())
+}
+
+// Fills a part of the store, from one place to another, with the next bytes of the source.
+fn fill_store<S: Source>(
+    source: &mut S,
+    store: &mut Vec<u8>,
+    from: usize,
+    to: usize,
+) -> Result<(), Error>
+    requires { (from ≤ to) × (to ≤ length store.old.items) }
+    ensures front { take from store.new.items ≡ take from store.old.items }
+    ensures size { length store.new.items ≡ length store.old.items }
+    ensures filled { OnOk result (Consumes (S.left source.old) (S.left source.new) (take (to - from) (drop from store.new.items))) }
+    ensures refused { IfErr result (λ e. ReadStops e.kind (S.left source.old) (S.left source.new) (S.faults_read source.old) (S.faults_read source.new) (S.ends_met source.old) (S.ends_met source.new) (to - from)) }
+    ensures on { ReadsOn S.left S.faults_read S.ends_met S.beside_left source.old source.new }
+{
+    fill_part(source, store.as_mut_slice(), from, to)
+}
+
+fn fill_part<S: Source>(
+    source: &mut S,
+    bytes: &mut [u8],
+    from: usize,
+    to: usize,
+) -> Result<(), Error>
+    requires { (from ≤ to) × (to ≤ length bytes.old) }
+    ensures front { take from bytes.new ≡ take from bytes.old }
+    ensures filled { OnOk result (Consumes (S.left source.old) (S.left source.new) (take (to - from) (drop from bytes.new))) }
+    ensures refused { IfErr result (λ e. ReadStops e.kind (S.left source.old) (S.left source.new) (S.faults_read source.old) (S.faults_read source.new) (S.ends_met source.old) (S.ends_met source.new) (to - from)) }
+    ensures on { ReadsOn S.left S.faults_read S.ends_met S.beside_left source.old source.new }
+{
+    fill(source, &mut bytes[from..to])
+}
+
+// Makes the store longer where what came fills it: by as much as came so far, at least one piece, and to no more than is
+// wanted. The memory for it is reserved exactly.
+fn make_room(store: &mut Vec<u8>, came: usize, wanted: usize) -> Result<(), Error>
+    requires { (came ≤ length store.old.items) × (came < wanted) }
+    ensures kept { take came store.new.items ≡ take came store.old.items }
+    ensures same { OnErr result (store.new.items ≡ store.old.items) }
+    ensures longer { OnOk result (came < length store.new.items) }
+    ensures wanted { length store.new.items ≤ max (length store.old.items) wanted }
+    ensures came { length store.new.items ≤ max (length store.old.items) (4096 + 2 * came) }
+    ensures refused { IfErr result (λ e. e.kind ≡ ErrorKind.OutOfMemory) }
+{
+    if came < store.len() {
+        return Ok(());
+    }
+    let more = came.max(PIECE).min(wanted - came);
+    store.reserve_exact(more)?;
+    store.resize(came + more, 0)?;
+    Ok(())
 }

@@ -1,7 +1,7 @@
-ghost use Rattle.std.specs.Prelude.{◌≡◌, ◌≤◌, None};
-ghost use Rattle.mongo_wire.specs.Outside.{Rose, no_half};
+ghost use Rattle.std.specs.Prelude.{◌≡◌, ◌≤◌, None, refl};
+ghost use Rattle.mongo_wire.specs.Outside.{Rose, no_half, untold_half};
 
-use crate::{Failed, Sink, SinkError, Source};
+use crate::{Failed, Link, Sink, SinkError, Source};
 use std::io::{Read, Write};
 
 /// A [`Source`] over a reader of std. It tells nothing.
@@ -112,4 +112,75 @@ impl<W: Write> Sink for StdSink<W> {
     fn write_faults(&self) -> u64 {
         self.write_faults
     }
+}
+
+/// A [`Link`] over a reader and a writer of std, as [`StdSource`] and [`StdSink`]. It tells nothing.
+#[derive(Drop)]
+pub struct StdLink<R, W> {
+    source: StdSource<R>,
+    sink: StdSink<W>,
+}
+
+impl<R: Read, W: Write> StdLink<R, W> {
+    /// A link that reads from `reader` and writes to `writer`. Its counts are 0.
+    pub fn new(reader: R, writer: W) -> StdLink<R, W>
+        ensures read_faults { result.source.read_faults ≡ 0 }
+        ensures ends { result.source.ends ≡ 0 }
+        ensures write_faults { result.sink.write_faults ≡ 0 }
+    {
+        StdLink {
+            source: StdSource::new(reader),
+            sink: StdSink::new(writer),
+        }
+    }
+}
+
+impl<R: Read, W: Write> Source for StdLink<R, W> {
+    ghost left = { λ _. None };
+
+    ghost faults_read = { λ l. l.source.read_faults };
+
+    ghost ends_met = { λ l. l.source.ends };
+
+    ghost beside_left = { λ l. untold_half 0 l.sink.write_faults };
+
+    fn read(&mut self, buf: &mut [u8]) -> Result<usize, Failed> {
+        self.source.read(buf)
+    }
+
+    fn read_faults(&self) -> u64 {
+        self.source.read_faults()
+    }
+
+    fn ends(&self) -> u64 {
+        self.source.ends()
+    }
+}
+
+impl<R: Read, W: Write> Sink for StdLink<R, W> {
+    ghost written = { λ _. None };
+
+    ghost flushed = { λ _. 0 };
+
+    ghost faults_written = { λ l. l.sink.write_faults };
+
+    ghost beside_written = { λ l. untold_half l.source.ends l.source.read_faults };
+
+    fn write(&mut self, piece: &[u8]) -> Result<usize, SinkError> {
+        self.sink.write(piece)
+    }
+
+    fn flush(&mut self) -> Result<(), SinkError> {
+        self.sink.flush()
+    }
+
+    fn write_faults(&self) -> u64 {
+        self.sink.write_faults()
+    }
+}
+
+impl<R: Read, W: Write> Link for StdLink<R, W> {
+    ghost reads_keep_written = { λ _. refl };
+
+    ghost writes_keep_left = { λ _. refl };
 }

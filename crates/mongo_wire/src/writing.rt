@@ -2,7 +2,7 @@ ghost use Rattle.std.specs.Prelude.{◌≡◌, ◌<◌, ◌≤◌, ◌+◌, ◌+
 ghost use Rattle.std.specs.Io.KnownBytes.{Appends, Keeps};
 ghost use Rattle.mongo_wire.specs.Outside.{WritesOn, WriteStops, IsFlushed};
 
-use crate::{Error, ErrorKind, Sink, SinkError};
+use crate::{Error, Sink};
 
 /// Writes all bytes to the sink.
 ///
@@ -37,22 +37,20 @@ pub fn flush_out<K: Sink>(sink: &mut K) -> Result<(), Error>
     }
 }
 
-/// Writes a header, what follows it and a document, each as pieces of its own, and flushes the sink.
+/// Writes three pieces, one after another.
 ///
 /// `WriteFault` where the sink failed, `OutOfMemory` where it wanted memory; a front of the bytes is written then.
-pub fn write_parts<K: Sink>(
+pub fn write_pieces<K: Sink>(
     sink: &mut K,
-    head: &[u8],
-    start: &[u8],
-    document: &[u8],
+    first: &[u8],
+    second: &[u8],
+    third: &[u8],
 ) -> Result<(), Error>
-    ensures written { OnOk result (Appends (K.written sink.old) (K.written sink.new) (head.now ++ (start.now ++ document.now))) }
-    ensures flushed { OnOk result (IsFlushed (K.written sink.new) (K.flushed sink.new)) }
-    ensures refused { IfErr result (λ e. WriteStops e.kind (K.written sink.old) (K.written sink.new) (K.faults_written sink.old) (K.faults_written sink.new) (head.now ++ (start.now ++ document.now))) }
+    ensures written { OnOk result (Appends (K.written sink.old) (K.written sink.new) (first.now ++ (second.now ++ third.now))) }
+    ensures refused { IfErr result (λ e. WriteStops e.kind (K.written sink.old) (K.written sink.new) (K.faults_written sink.old) (K.faults_written sink.new) (first.now ++ (second.now ++ third.now))) }
     ensures on { WritesOn K.written K.flushed K.faults_written K.beside_written sink.old sink.new }
 {
-    write_out(sink, head)?;
-    write_out(sink, start)?;
-    write_out(sink, document)?;
-    flush_out(sink)
+    write_out(sink, first)?;
+    write_out(sink, second)?;
+    write_out(sink, third)
 }

@@ -1,4 +1,4 @@
-use Rattle.std.proofs.Common.{rules, arith, ◌≡◌, ℕ, ◌+◌, ◌≤◌, List, ◌++◌, length, take, subst, sym, ap, ◌∙◌}
+use Rattle.std.proofs.Common.{rules, arith, ◌≡◌, ℕ, ◌+◌, ◌≤◌, ◌<◌, List, ◌++◌, length, take, subst, sym, ap, ◌∙◌}
 use Rattle.std.proofs.lemmas.List.{length-take-le, take-append-le}
 use Rattle.std.proofs.Math.Seq.{take-append-add}
 use Rattle.std.proofs.KnownBytes.{Consumes-trans, Consumes-kept}
@@ -21,5 +21,5 @@ filling-preserved g c = record {
 pub returns-in-Err-clause-refused : goal.returns-in-Err-clause-refused
 returns-in-Err-clause-refused g c =
     let taken = take c.filling.at c.filling.buf in
-    let short : length taken ≤ length c.args.buf.now = omega (arith, length-take-le c.filling.at c.filling.buf c.filling.invariant.within) in
+    let short : length taken < length c.args.buf.now = omega (arith, length-take-le c.filling.at c.filling.buf c.filling.invariant.within, c.filling-test.true) in
     (search rules, (taken, short, Consumes-kept _ _ _ taken c.filling.invariant.front c.in-Err.ensures.bytes))

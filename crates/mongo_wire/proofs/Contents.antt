@@ -1,0 +1,213 @@
+-- What the readers of a frame's content find.
+use Rattle.std.proofs.Common.{◌≡◌, ℕ, ◌+◌, ◌-◌, ◌<◌, ◌≤◌, Option, None, Some, true, false, is_some, List, [], ◌∷◌, ◌++◌, length, take, drop, refl, sym, ap, ◌∙◌, subst, arith, append-nil}
+use Rattle.std.specs.List.{AllByRecursion, flat_map}
+use Rattle.std.proofs.lemmas.List.{take_at, drop_at, length-append, append_assoc, length-drop, drop-drop, take-append-drop}
+use Rattle.std.proofs.lemmas.Bool.{false≢true}
+use Rattle.std.proofs.lemmas.Nat.{from_le_bytes-to_le_bytes_4}
+use Rattle.mongo_bson.proofs.Sizes.{number_at_front}
+use Rattle.mongo_bson.specs.declared.raw_document.RawDocument.{RawDocument}
+use Rattle.mongo_wire.specs.Frame.{Section, body, sequence, IsSection, IsChecksum, section_bytes, bodies, uint32}
+use Rattle.mongo_wire.specs.Header.{number_at}
+use Rattle.mongo_wire.specs.Sections.{BeginsWithSection, HasNoSection, Shows}
+use Rattle.mongo_wire.specs.declared.sections.SectionRef.TheVariants.{Body, Sequence}
+use Rattle.mongo_wire.specs.declared.sections.SequenceRef.{SequenceRef}
+use Rattle.mongo_wire.specs.Content.{IsAt, Finds, LiesAt, HasNoSections, IsContentOf, HasNoContent}
+use Rattle.mongo_wire.specs.declared.content.Place.{Place}
+use Rattle.mongo_wire.specs.declared.content.BodyPlace.{BodyPlace}
+use Rattle.mongo_wire.specs.declared.content.Content.{Content}
+use Rattle.mongo_wire.proofs.Fields.{IsBytes, field, number_fits}
+use Rattle.mongo_wire.proofs.OneFrame.{one_section, least_section, one_sections, short_tail}
+
+-- sections that were taken, and the place of the body among them
+pub record Took (bytes rest : List ℕ) (place : Option Place) : Type 0 where
+  pub sections : List Section
+  pub each : AllByRecursion IsSection sections
+  pub spelled : bytes ≡ flat_map section_bytes sections ++ rest
+  pub found : Finds bytes (bodies sections) place
+
+pub took_none : (bytes : List ℕ) → Took bytes bytes None
+took_none bytes = record { sections = []; each = tt; spelled = refl; found = refl }
+
+-- lists of sections joined
+flat_joined : (ss ts : List Section) → flat_map section_bytes (ss ++ ts) ≡ flat_map section_bytes ss ++ flat_map section_bytes ts
+flat_joined [] ts = refl
+flat_joined (s ∷ ss) ts = ap (λ l. section_bytes s ++ l) (flat_joined ss ts) ∙ sym (append_assoc (section_bytes s) (flat_map section_bytes ss) (flat_map section_bytes ts))
+
+pub each_joined : (ss ts : List Section) → AllByRecursion IsSection ss → AllByRecursion IsSection ts → AllByRecursion IsSection (ss ++ ts)
+each_joined [] ts p q = q
+each_joined (s ∷ ss) ts p q = (p.0, each_joined ss ts p.1 q)
+
+bodies_joined : (ss ts : List Section) → bodies (ss ++ ts) ≡ bodies ss ++ bodies ts
+bodies_joined [] ts = refl
+bodies_joined (body d ∷ ss) ts = ap (λ l. d ∷ l) (bodies_joined ss ts)
+bodies_joined (sequence s ∷ ss) ts = bodies_joined ss ts
+
+-- one more section was taken
+pub one_more : (bytes rest after : List ℕ) (ss : List Section) (s : Section) → bytes ≡ flat_map section_bytes ss ++ rest → rest ≡ section_bytes s ++ after → bytes ≡ flat_map section_bytes (ss ++ s ∷ []) ++ after
+one_more bytes rest after ss s p q =
+    let alone : flat_map section_bytes (s ∷ []) ≡ section_bytes s = append-nil (section_bytes s) in
+    p ∙ ap (λ l. flat_map section_bytes ss ++ l) q ∙ sym (append_assoc (flat_map section_bytes ss) (section_bytes s) after)
+    ∙ ap (λ l. (flat_map section_bytes ss ++ l) ++ after) (sym alone) ∙ ap (λ l. l ++ after) (sym (flat_joined ss (s ∷ [])))
+
+-- every reading of the bytes begins with the sections that were taken
+pub goes_on : (ss ts : List Section) (rest tail : List ℕ) → AllByRecursion IsSection ss → AllByRecursion IsSection ts → length tail ≤ 4
+    → flat_map section_bytes ss ++ rest ≡ flat_map section_bytes ts ++ tail → (us : List Section) × (ts ≡ ss ++ us) × AllByRecursion IsSection us × (rest ≡ flat_map section_bytes us ++ tail)
+goes_on [] ts rest tail p q short e = (ts, refl, q, e)
+goes_on (s ∷ ss) [] rest tail p q short e =
+    absurd (omega (arith, ap length e, length-append (section_bytes s ++ flat_map section_bytes ss) rest, length-append (section_bytes s) (flat_map section_bytes ss), least_section s p.0))
+goes_on (s ∷ ss) (t ∷ ts) rest tail p q short e =
+    let one = one_section s t (flat_map section_bytes ss ++ rest) (flat_map section_bytes ts ++ tail) p.0 q.0
+    (sym (append_assoc (section_bytes s) (flat_map section_bytes ss) rest) ∙ e ∙ append_assoc (section_bytes t) (flat_map section_bytes ts) tail) in
+    let (us, is, each, left) = goes_on ss ts rest tail p.1 q.1 short one.1 in
+    (us, ap (λ z. z ∷ ts) (sym one.0) ∙ ap (λ z. s ∷ z) is, each, left)
+
+-- a part that stands between others
+pub part_at : (bytes front part after : List ℕ) (from to : ℕ) → bytes ≡ front ++ (part ++ after) → length front ≡ from → length front + length part ≡ to → IsAt bytes part from to
+part_at bytes front part after from to e p q = record {
+  ordered = omega arith;
+  within = omega (arith, ap length e, length-append front (part ++ after), length-append part after);
+  is = ap (λ b. take (to - from) (drop from b)) e ∙ ap (take (to - from)) (drop_at front (part ++ after) from p) ∙ take_at part after (to - from) (omega arith);
+}
+
+shown_sequence : (s : Section) (read : SequenceRef) → Shows s (Sequence read) → bodies (s ∷ []) ≡ []
+shown_sequence (body d) read p = absurd p
+shown_sequence (sequence s) read p = refl
+
+shown_body : (s : Section) (read : RawDocument) → Shows s (Body read) → s ≡ body read.bytes.now
+shown_body (body d) read p = ap body (sym p)
+shown_body (sequence s) read p = absurd p
+
+-- a section of kind 1 has no body
+pub took_sequence : (bytes rest after : List ℕ) (place : Option Place) (read : SequenceRef) → Took bytes rest place → BeginsWithSection rest (Sequence read) after → Took bytes after place
+took_sequence bytes rest after place read took begins =
+    let s = begins.section in
+    let none = shown_sequence s read begins.shown in
+    record {
+      sections = took.sections ++ s ∷ [];
+      each = each_joined took.sections (s ∷ []) took.each (begins.is_section, tt);
+      spelled = one_more bytes rest after took.sections s took.spelled begins.spelled;
+      found = subst (λ d. Finds bytes d place) (sym (bodies_joined took.sections (s ∷ []) ∙ ap (λ l. bodies took.sections ++ l) none ∙ append-nil (bodies took.sections))) took.found;
+    }
+
+pub took_body : (bytes rest after : List ℕ) (place : Option Place) (read : RawDocument) (now : Place) → Took bytes rest place → is_some place ≡ false → BeginsWithSection rest (Body read) after
+    → now.start ≡ length bytes - length rest + 1 → now.end ≡ length bytes - length after → Took bytes after (Some now)
+took_body bytes rest after (Some place) read now took none begins start end = absurd (false≢true (sym none))
+took_body bytes rest after None read now took none begins start end =
+    let d = read.bytes.now in
+    let s = begins.section in
+    let s_is = shown_body s read begins.shown in
+    let flat = flat_map section_bytes took.sections in
+    let here : rest ≡ (0 ∷ d) ++ after = begins.spelled ∙ ap (λ z. section_bytes z ++ after) s_is in
+    let whole : bytes ≡ (flat ++ 0 ∷ []) ++ (d ++ after) = took.spelled ∙ ap (λ l. flat ++ l) here ∙ sym (append_assoc flat (0 ∷ []) (d ++ after)) in
+    let lengths = length-append flat rest in
+    let more = length-append d after in
+    record {
+      sections = took.sections ++ s ∷ [];
+      each = each_joined took.sections (s ∷ []) took.each (begins.is_section, tt);
+      spelled = one_more bytes rest after took.sections s took.spelled begins.spelled;
+      found = (
+        d,
+        bodies_joined took.sections (s ∷ []) ∙ ap (λ l. l ++ bodies (s ∷ [])) took.found ∙ ap (λ z. bodies (z ∷ [])) s_is,
+        part_at bytes (flat ++ 0 ∷ []) d after now.start now.end whole
+            (omega (arith, length-append flat (0 ∷ []), ap length took.spelled, lengths, start))
+            (omega (arith, length-append flat (0 ∷ []), ap length took.spelled, lengths, ap length here, more, end)),
+      );
+    }
+
+-- ---- bytes that are no sections with one body
+
+too_long : (rest tail : List ℕ) (u : Section) (us : List Section) → IsSection u → rest ≡ flat_map section_bytes (u ∷ us) ++ tail → 6 ≤ length rest
+too_long rest tail u us p e =
+    omega (arith, ap length e, length-append (section_bytes u ++ flat_map section_bytes us) tail, length-append (section_bytes u) (flat_map section_bytes us), least_section u p)
+
+-- no section stands where one has to
+pub no_more_section : (bytes rest : List ℕ) (place : Option Place) → Took bytes rest place → 4 < length rest → HasNoSection rest → HasNoSections bytes
+no_more_section bytes rest place took long none sections document tail are =
+    let (us, is, each, left) = goes_on took.sections sections rest tail took.each are.each are.short (sym took.spelled ∙ are.spelled) in
+    stop us each left
+  where
+    stop : (us : List Section) → AllByRecursion IsSection us → rest ≡ flat_map section_bytes us ++ tail → ⊥
+    stop [] each left = omega (arith, ap length left, are.short, long)
+    stop (u ∷ us) each left = none u (flat_map section_bytes us ++ tail) each.0 (left ∙ append_assoc (section_bytes u) (flat_map section_bytes us) tail)
+
+-- a second body
+two : (bytes : List ℕ) (documents more : List (List ℕ)) (document : List ℕ) (place : Place) → Finds bytes documents (Some place) → length (documents ++ document ∷ more) ≡ 1 → ⊥
+two bytes documents more document place found one = omega (arith, length-append documents (document ∷ more), ap length found.1, one)
+
+pub second_body : (bytes rest after : List ℕ) (place : Option Place) (read : RawDocument) → Took bytes rest place → is_some place ≡ true → 4 < length rest → BeginsWithSection rest (Body read) after → HasNoSections bytes
+second_body bytes rest after None read took some long begins sections document tail are = absurd (false≢true some)
+second_body bytes rest after (Some place) read took some long begins sections document tail are =
+    let (us, is, each, left) = goes_on took.sections sections rest tail took.each are.each are.short (sym took.spelled ∙ are.spelled) in
+    stop us is each left
+  where
+    stop : (us : List Section) → sections ≡ took.sections ++ us → AllByRecursion IsSection us → rest ≡ flat_map section_bytes us ++ tail → ⊥
+    stop [] is each left = omega (arith, ap length left, are.short, long)
+    stop (u ∷ us) is each left =
+        let one = one_section begins.section u after (flat_map section_bytes us ++ tail) begins.is_section each.0 (sym begins.spelled ∙ left ∙ append_assoc (section_bytes u) (flat_map section_bytes us) tail) in
+        let u_is : u ≡ body read.bytes.now = sym one.0 ∙ shown_body begins.section read begins.shown in
+        let all : bodies sections ≡ bodies took.sections ++ read.bytes.now ∷ bodies us = ap bodies is ∙ bodies_joined took.sections (u ∷ us) ∙ ap (λ z. bodies took.sections ++ bodies (z ∷ us)) u_is in
+        two bytes (bodies took.sections) (bodies us) read.bytes.now place took.found (ap length (sym all ∙ are.one_body))
+
+-- no body
+pub no_body : (bytes rest : List ℕ) (place : Option Place) → Took bytes rest place → place ≡ None → length rest ≤ 4 → HasNoSections bytes
+no_body bytes rest (Some place) took none short sections document tail are = absurd (false≢true (sym (ap is_some none)))
+no_body bytes rest None took none short sections document tail are =
+    let (us, is, each, left) = goes_on took.sections sections rest tail took.each are.each are.short (sym took.spelled ∙ are.spelled) in
+    stop us is each left
+  where
+    stop : (us : List Section) → sections ≡ took.sections ++ us → AllByRecursion IsSection us → rest ≡ flat_map section_bytes us ++ tail → ⊥
+    stop (u ∷ us) is each left = omega (arith, too_long rest tail u us each.0 left, short)
+    stop [] is each left =
+        let all : bodies sections ≡ [] = ap bodies is ∙ bodies_joined took.sections [] ∙ ap (λ l. l ++ []) took.found in
+        omega (arith, ap length (sym all ∙ are.one_body))
+
+-- ---- the whole content
+
+pub no_content : (bytes rest : List ℕ) → rest ≡ drop 4 bytes → HasNoSections rest → HasNoContent bytes
+no_content bytes rest cut none word sections document tail sum is =
+    none sections document tail (record { each = is.each; one_body = is.one_body; spelled = cut ∙ ap (drop 4) is.spelled; short = short_tail word tail sum is.checksum_is })
+
+-- what lies in the rest lies four bytes further in all
+shifted : (bytes rest part : List ℕ) (from to : ℕ) → rest ≡ drop 4 bytes → 4 ≤ length bytes → IsAt rest part from to → IsAt bytes part (4 + from) (4 + to)
+shifted bytes rest part from to cut long at =
+    let count : (4 + to) - (4 + from) ≡ to - from = omega arith in
+    let place : drop (4 + from) bytes ≡ drop from rest = sym (drop-drop from 4 bytes) ∙ ap (drop from) (sym cut) in
+    record {
+      ordered = omega (arith, at.ordered);
+      within = omega (arith, at.within, ap length cut, length-drop 4 bytes);
+      is = ap (λ n. take n (drop (4 + from) bytes)) count ∙ ap (take (to - from)) place ∙ at.is;
+    }
+
+tail_is : (rest tail cut : List ℕ) (place : BodyPlace) (lies : LiesAt rest place) → cut ≡ drop place.sections_end rest → cut ≡ lies.tail
+tail_is rest tail cut place lies e = e ∙ ap (drop place.sections_end) lies.are.spelled ∙ drop_at (flat_map section_bytes lies.sections) lies.tail place.sections_end lies.ended
+
+pub content_found : (bytes rest tail : List ℕ) (place : BodyPlace) (content : Content) → IsBytes bytes → 4 ≤ length bytes → rest ≡ drop 4 bytes → LiesAt rest place → tail ≡ drop place.sections_end rest
+    → IsChecksum content.word tail content.checksum → content.word ≡ number_at 0 bytes → content.body.start ≡ 4 + place.body.start → content.body.end ≡ 4 + place.body.end → content.sections_end ≡ 4 + place.sections_end
+    → IsContentOf bytes content
+content_found bytes rest tail place content small long cut lies tail_cut sum word start end ended =
+    let front : uint32 content.word ≡ take 4 bytes = ap uint32 word ∙ field 0 bytes small long in
+    let all : bytes ≡ uint32 content.word ++ (flat_map section_bytes lies.sections ++ lies.tail) =
+    sym (take-append-drop 4 bytes) ∙ ap (λ l. take 4 bytes ++ l) (sym cut ∙ lies.are.spelled) ∙ ap (λ l. l ++ (flat_map section_bytes lies.sections ++ lies.tail)) (sym front) in
+    let body_at = shifted bytes rest lies.body place.body.start place.body.end cut long lies.body_at in
+    record {
+      sections = lies.sections;
+      body = lies.body;
+      tail = lies.tail;
+      is_content = record {
+        word_fits = rw word (number_fits 0 bytes small);
+        each = lies.are.each;
+        one_body = lies.are.one_body;
+        checksum_is = subst (λ t. IsChecksum content.word t content.checksum) (tail_is rest tail tail place lies tail_cut) sum;
+        spelled = all;
+      };
+      body_at = subst (λ n. IsAt bytes lies.body n content.body.end) (sym start) (subst (λ n. IsAt bytes lies.body (4 + place.body.start) n) (sym end) body_at);
+      sections_at = part_at bytes (uint32 content.word) (flat_map section_bytes lies.sections) lies.tail 4 content.sections_end all refl (omega (arith, lies.ended, ended));
+    }
+
+pub no_content_tail : (bytes rest tail : List ℕ) (place : BodyPlace) (word : ℕ) → rest ≡ drop 4 bytes → LiesAt rest place → tail ≡ drop place.sections_end rest → word ≡ number_at 0 bytes
+    → ((sum : Option ℕ) → IsChecksum word tail sum → ⊥) → HasNoContent bytes
+no_content_tail bytes rest tail place word cut lies tail_cut word_is none other sections document after sum is =
+    let same : word ≡ other = word_is ∙ ap (number_at 0) is.spelled ∙ number_at_front (uint32 other) (flat_map section_bytes sections ++ after) (omega arith) ∙ from_le_bytes-to_le_bytes_4 other is.word_fits in
+    let both = one_sections sections lies.sections after lies.tail is.each lies.are.each (short_tail other after sum is.checksum_is) lies.are.short (sym (cut ∙ ap (drop 4) is.spelled) ∙ lies.are.spelled) in
+    let here : IsChecksum other tail sum = subst (λ t. IsChecksum other t sum) (both.1 ∙ sym (tail_is rest tail tail place lies tail_cut)) is.checksum_is in
+    none sum (subst (λ w. IsChecksum w tail sum) (sym same) here)

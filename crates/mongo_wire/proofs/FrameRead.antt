@@ -1,0 +1,198 @@
+-- What the exits of reading a frame say.
+use Rattle.std.proofs.Common.{◌≡◌, ℕ, ℤ, pos, ◌≤ℤ◌, ◌+◌, ◌<◌, ◌≤◌, inl, inr, Bool, true, false, is_some, Option, None, Some, Result, Ok, Err, OnOk, IfErr, List, [], ◌++◌, length, refl, sym, ap, ◌∙◌, subst, arith, length-append, append-nil}
+use Rattle.std.specs.Prelude.{int_lt, if◌then◌else◌}
+use Rattle.std.proofs.lemmas.Int.{ints}
+use Rattle.std.proofs.lemmas.Bool.{false≢true}
+use Rattle.std.proofs.KnownBytes.{Consumes-trans}
+use Rattle.std.specs.Io.KnownBytes.{Consumes}
+use Rattle.mongo_wire.specs.Outside.{ReadStops, ConsumesAtMost, ConsumesFewer, RanOut}
+use Rattle.mongo_wire.specs.Frame.{Frame, IsFrame}
+use Rattle.mongo_wire.specs.Header.{signed_at}
+use Rattle.mongo_wire.specs.Rows.{Passes, IsRow, TakesRow, TakesStarted, TakesUnfinished, IsEmptied, header_row, length_row, code_row}
+use Rattle.mongo_wire.specs.Message.{ReadRefused, IsUnreadable}
+use Rattle.std.proofs.lemmas.List.{drop_at}
+use Rattle.mongo_wire.specs.Held.{NoFrame, IsHeld}
+use Rattle.mongo_wire.specs.declared.held_frame.HeldFrame.{HeldFrame}
+use Rattle.mongo_wire.specs.Buffer.{HoldsFrame, held_bytes, IsFrameTaken, TakesAgain}
+use Rattle.mongo_wire.specs.declared.op_code.OpCode.{OpCode}
+use Rattle.mongo_wire.specs.declared.op_code.OpCode.TheVariants as op_code
+use Rattle.mongo_wire.specs.declared.fault.ArgumentFault.{ArgumentFault}
+use Rattle.mongo_wire.specs.declared.fault.ArgumentFault.TheVariants.{CheckedFailure}
+use Rattle.mongo_wire.specs.declared.fault.ResponseFault.{ResponseFault}
+use Rattle.mongo_wire.specs.declared.fault.ResponseFault.TheVariants.{OpCode as OpCodeFault, OverMaximum, Compressed, NotMessage, Sections}
+use Rattle.mongo_wire.specs.declared.frame_buffer.FrameBuffer.{FrameBuffer}
+use Rattle.mongo_wire.specs.declared.error.Error.{Error}
+use Rattle.mongo_wire.specs.declared.error.ErrorKind.{ErrorKind}
+use Rattle.mongo_wire.specs.declared.error.ErrorKind.TheVariants.{InvalidArgument, InvalidResponse, Command, Authentication, IncompatibleServer, Write, InsertMany, ReadFault, WriteFault, EndOfInput, Callback, PasswordNotAscii, OutOfMemory}
+use Rattle.mongo_wire.proofs.OneFrame.{one_frame, row_no_frame, row_in, signed_in}
+use Rattle.mongo_wire.proofs.ReadStopped.{stop_cases, rose_after}
+
+-- where nothing is told, nothing is told after it
+emptied_untold : (new : Option (List ℕ)) → is_some new ≡ false → IsEmptied new
+emptied_untold None e = tt
+emptied_untold (Some rest) e = absurd (false≢true (sym e))
+
+-- ---- the header was refused
+
+short_header : (most : ℤ) (old new : Option (List ℕ)) → is_some new ≡ is_some old → RanOut old new 16 → TakesRow EndOfInput most old new × IsEmptied new
+short_header most None new tells r = (([], tt, inl (record { short = omega arith; kind_is = refl })), emptied_untold new tells)
+short_header most (Some bytes) new tells r =
+    let none : (Consumes (Some bytes) new bytes) × IsEmptied new = subst (λ n. Consumes (Some bytes) n bytes × IsEmptied n) (sym r.1) (sym (append-nil bytes), refl) in
+    ((bytes, none.0, inl (record { short = r.0; kind_is = refl })), none.1)
+
+pub header_stopped : (kind : ErrorKind) (most : ℤ) (old new : Option (List ℕ)) (faults_old faults_new ends_old ends_new : ℕ) → is_some new ≡ is_some old
+    → ReadStops kind old new faults_old faults_new ends_old ends_new 16 → ReadRefused kind most old new faults_old faults_new ends_old ends_new
+header_stopped kind most old new fo fn eo en tells s =
+    stop_cases (λ k. ReadRefused k most old new fo fn eo en) kind old new fo fn eo en 16 s
+    (λ _ f. (f.0, unfinished f.1)) (λ _ e. let (row, empty) = short_header most old new tells e.1 in (e.0, row, empty)) (λ _ m. started m)
+  where
+    started : ConsumesAtMost old new 16 → TakesStarted most old new
+    started c = (c.0, c.2, inl c.1)
+
+    unfinished : ConsumesFewer old new 16 → TakesUnfinished most old new
+    unfinished c = (c.0, c.2, inl c.1)
+
+-- ---- the header calls for a row
+
+same_kind : (a kind : ErrorKind) → Some a ≡ Some kind → a ≡ kind
+same_kind a kind p = cc
+
+code_cases : (P : ErrorKind → Type 0) (length : ℤ) (code : OpCode) (kind : ErrorKind) → code_row length code ≡ Some kind
+    → ((fault : ResponseFault) → P (InvalidResponse fault)) → ((fault : ArgumentFault) → P (InvalidArgument fault)) → P kind
+code_cases P length op_code.Compressed kind e response argument = subst P (same_kind _ kind e) (response Compressed)
+code_cases P length op_code.Reply kind e response argument = subst P (same_kind _ kind e) (response NotMessage)
+code_cases P length op_code.Query kind e response argument = subst P (same_kind _ kind e) (response NotMessage)
+code_cases P length op_code.Message kind e response argument = by (int_lt length (pos 16)) e
+  where
+    by : (short : Bool) → (if short then Some (InvalidArgument CheckedFailure) else None) ≡ Some kind → P kind
+    by true p = subst P (same_kind _ kind p) (argument CheckedFailure)
+    by false p = absurd (false≢true (ap is_some p))
+
+row_cases : (P : ErrorKind → Type 0) (most length : ℤ) (code : Option OpCode) (number : ℤ) (kind : ErrorKind) → length_row most length code number ≡ Some kind
+    → ((fault : ResponseFault) → P (InvalidResponse fault)) → ((fault : ArgumentFault) → P (InvalidArgument fault)) → P kind
+row_cases P most length None number kind e response argument = subst P (same_kind _ kind e) (response (OpCodeFault number))
+row_cases P most length (Some code) number kind e response argument = by (int_lt most length) e
+  where
+    by : (over : Bool) → (if over then Some (InvalidResponse OverMaximum) else code_row length code) ≡ Some kind → P kind
+    by true p = subst P (same_kind _ kind p) (response OverMaximum)
+    by false p = code_cases P length code kind p response argument
+
+pub header_refused : (kind : ErrorKind) (most : ℤ) (old new : Option (List ℕ)) (head : List ℕ) (faults_old faults_new ends_old ends_new : ℕ) → Consumes old new head → length head ≡ 16
+    → header_row most head ≡ Some kind → ReadRefused kind most old new faults_old faults_new ends_old ends_new
+header_refused kind most old new head fo fn eo en taken sixteen row =
+    row_cases (λ k. TakesRow k most old new → ReadRefused k most old new fo fn eo en) most (signed_at 0 head) _ (signed_at 12 head) kind row (λ fault t. t) (λ fault t. t)
+    (head, taken, inr (inl (record { header = sixteen; row = row })))
+
+-- ---- what follows the header was refused
+
+-- the header passes, and bytes after it came
+passes : (most : ℤ) (head more : List ℕ) → length head ≡ 16 → header_row most head ≡ None → Passes most (head ++ more)
+passes most head more sixteen row = record { whole = omega (arith, length-append head more); good = row_in most head more (omega arith) ∙ row }
+
+size_with : (head more : List ℕ) → length head ≡ 16 → signed_at 0 (head ++ more) ≡ signed_at 0 head
+size_with head more sixteen = signed_in 0 head more (omega arith)
+
+short_frame : (most : ℤ) (head more : List ℕ) (wanted : ℕ) → length head ≡ 16 → header_row most head ≡ None → pos (16 + wanted) ≡ signed_at 0 head → length more < wanted → IsRow most (head ++ more) EndOfInput
+short_frame most head more wanted sixteen row size few =
+    inr (inr (inl (record {
+      passes = passes most head more sixteen row;
+      short = omega (arith, ints, length-append head more, size_with head more sixteen, size, few);
+      kind_is = refl;
+    })))
+
+cut_frame : (most : ℤ) (old mid new : Option (List ℕ)) (head : List ℕ) (wanted : ℕ) → Consumes old mid head → length head ≡ 16 → header_row most head ≡ None → pos (16 + wanted) ≡ signed_at 0 head
+    → 0 < wanted → is_some new ≡ is_some old → RanOut mid new wanted → TakesRow EndOfInput most old new × IsEmptied new
+cut_frame most None mid new head wanted p sixteen row size some tells r = ((head ++ [], tt, short_frame most head [] wanted sixteen row size some), emptied_untold new tells)
+cut_frame most (Some xs) None new head wanted p sixteen row size some tells r = absurd p
+cut_frame most (Some xs) (Some bytes) new head wanted p sixteen row size some tells r =
+    let none : (Consumes (Some xs) new (head ++ bytes)) × IsEmptied new = subst (λ n. Consumes (Some xs) n (head ++ bytes) × IsEmptied n) (sym r.1) (p ∙ sym (append-nil (head ++ bytes)), refl) in
+    ((head ++ bytes, none.0, short_frame most head bytes wanted sixteen row size r.0), none.1)
+
+pub rest_stopped : (kind : ErrorKind) (most : ℤ) (old mid new : Option (List ℕ)) (head : List ℕ) (faults_first faults_old faults_new ends_first ends_old ends_new wanted : ℕ)
+    → Consumes old mid head → length head ≡ 16 → header_row most head ≡ None → pos (16 + wanted) ≡ signed_at 0 head → 0 < wanted → is_some new ≡ is_some old
+    → faults_first ≤ faults_old → ends_first ≤ ends_old → ReadStops kind mid new faults_old faults_new ends_old ends_new wanted → ReadRefused kind most old new faults_first faults_new ends_first ends_new
+rest_stopped kind most old mid new head ff fo fn ef eo en wanted p sixteen row size some tells more_faults more_ends s =
+    stop_cases (λ k. ReadRefused k most old new ff fn ef en) kind mid new fo fn eo en wanted s
+    (λ _ f. (rose_after ff fo fn more_faults f.0, unfinished f.1))
+    (λ _ e. let (row_of, empty) = cut_frame most old mid new head wanted p sixteen row size some tells e.1 in (rose_after ef eo en more_ends e.0, row_of, empty))
+    (λ _ m. started m)
+  where
+    started : ConsumesAtMost mid new wanted → TakesStarted most old new
+    started c =
+        (head ++ c.0, Consumes-trans old mid new head c.0 p c.2, inr (passes most head c.0 sixteen row, omega (arith, ints, length-append head c.0, size_with head c.0 sixteen, size, c.1)))
+
+    unfinished : ConsumesFewer mid new wanted → TakesUnfinished most old new
+    unfinished c =
+        (head ++ c.0, Consumes-trans old mid new head c.0 p c.2, inr (passes most head c.0 sixteen row, omega (arith, ints, length-append head c.0, size_with head c.0 sixteen, size, c.1)))
+
+-- the whole frame came, and is none
+pub sections_refused : (most : ℤ) (old mid new : Option (List ℕ)) (head bytes : List ℕ) (faults_old faults_new ends_old ends_new : ℕ) → Consumes old mid head → Consumes mid new bytes → length head ≡ 16
+    → header_row most head ≡ None → pos (16 + length bytes) ≡ signed_at 0 head → NoFrame (head ++ bytes) → ReadRefused (InvalidResponse Sections) most old new faults_old faults_new ends_old ends_new
+sections_refused most old mid new head bytes fo fn eo en p q sixteen row size none = (
+  head ++ bytes,
+  Consumes-trans old mid new head bytes p q,
+  inr (inr (inr (record {
+    passes = passes most head bytes sixteen row;
+    whole = omega (arith, ints, length-append head bytes, size_with head bytes sixteen, size);
+    none = none;
+    kind_is = refl;
+  }))),
+)
+
+-- ---- a frame stood there
+
+-- where one stands, no row is called for
+pub no_refusal : (kind : ErrorKind) (most : ℤ) (old new : Option (List ℕ)) (faults_old faults_new ends_old ends_new : ℕ) (frame rest : List ℕ) (parts : Frame) → old ≡ Some (frame ++ rest) → IsFrame frame parts
+    → pos (length frame) ≤ℤ most → ReadRefused kind most old new faults_old faults_new ends_old ends_new → IsUnreadable kind
+no_refusal kind most old new fo fn eo en frame rest parts is frame_is within r = by kind r
+  where
+    stop : (kind : ErrorKind) → TakesRow kind most old new → (kind ≡ EndOfInput → IsEmptied new) → ⊥
+    stop kind (taken, consumes, row) ends = at new (rw is at consumes) ends
+      where
+        at : (new : Option (List ℕ)) → Consumes (Some (frame ++ rest)) new taken → (kind ≡ EndOfInput → IsEmptied new) → ⊥
+        at None c e = c
+        at (Some left) c e = row_no_frame most taken left frame rest kind parts row e frame_is within (sym c)
+
+    by : (kind : ErrorKind) → ReadRefused kind most old new fo fn eo en → IsUnreadable kind
+    by ReadFault r = tt
+    by OutOfMemory r = tt
+    by EndOfInput r = stop EndOfInput r.1 (λ _. r.2)
+    by (InvalidResponse fault) r = stop (InvalidResponse fault) r (λ e. cc)
+    by (InvalidArgument fault) r = stop (InvalidArgument fault) r (λ e. cc)
+    by (Command _) r = absurd r
+    by (Authentication _) r = absurd r
+    by IncompatibleServer r = absurd r
+    by (Write _) r = absurd r
+    by (InsertMany _) r = absurd r
+    by WriteFault r = absurd r
+    by (Callback _) r = absurd r
+    by PasswordNotAscii r = absurd r
+
+-- where one stands, it is the one that was taken
+pub same_taken : (most : ℤ) (old new : Option (List ℕ)) (buffer : FrameBuffer) (frame rest : List ℕ) (parts : Frame) → old ≡ Some (frame ++ rest) → IsFrame frame parts → IsFrameTaken most old new buffer
+    → HoldsFrame frame parts buffer × (new ≡ Some rest)
+same_taken most old new buffer frame rest parts is frame_is taken = at new (rw is at taken.taken)
+  where
+    at : (new : Option (List ℕ)) → Consumes (Some (frame ++ rest)) new taken.frame → HoldsFrame frame parts buffer × (new ≡ Some rest)
+    at None c = absurd c
+    at (Some left) c =
+        let (frames, both, rests) = one_frame taken.frame frame left rest taken.parts parts taken.holds.is_held.is_frame frame_is (sym c) in
+        (subst (λ f. HoldsFrame f parts buffer) frames (subst (λ p. HoldsFrame taken.frame p buffer) both taken.holds), ap Some rests)
+
+pub takes_again : {T : Type 0} (result : Result T Error) (most : ℤ) (old new : Option (List ℕ)) (buffer : FrameBuffer) (faults_old faults_new ends_old ends_new : ℕ)
+    → OnOk result (IsFrameTaken most old new buffer) → IfErr result (λ e. ReadRefused e.kind most old new faults_old faults_new ends_old ends_new)
+    → (frame rest : List ℕ) (parts : Frame) → old ≡ Some (frame ++ rest) → IsFrame frame parts → pos (length frame) ≤ℤ most → TakesAgain frame parts rest new buffer result
+takes_again (Ok x) most old new buffer fo fn eo en p q frame rest parts is frame_is within = same_taken most old new buffer frame rest parts is frame_is p
+takes_again (Err e) most old new buffer fo fn eo en p q frame rest parts is frame_is within = no_refusal e.kind most old new fo fn eo en frame rest parts is frame_is within q
+
+-- ---- the whole frame came
+
+pub frame_taken : (most : ℤ) (before mid new : Option (List ℕ)) (head bytes : List ℕ) (rest : ℕ) (held : HeldFrame) (buffer : FrameBuffer) → Consumes before mid head → Consumes mid new bytes → length head ≡ 16
+    → length bytes ≡ rest → pos (16 + rest) ≤ℤ most → IsHeld (head ++ bytes) held → buffer.last ≡ Some held → held_bytes buffer ≡ bytes → IsFrameTaken most before new buffer
+frame_taken most before mid new head bytes rest held buffer p q sixteen size within (parts, is_held) last bytes_are = record {
+  frame = head ++ bytes;
+  parts = parts;
+  holds = record { held = held; last_is = last; is_held = is_held; bytes_are = bytes_are ∙ sym (drop_at head bytes 16 sixteen) };
+  within = omega (arith, ints, length-append head bytes, sixteen, size, within);
+  taken = Consumes-trans before mid new head bytes p q;
+}

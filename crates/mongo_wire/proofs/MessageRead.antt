@@ -1,0 +1,61 @@
+-- What reading a message of its own says.
+use Rattle.std.proofs.Common.{◌≡◌, ℕ, ℤ, pos, ◌≤ℤ◌, Option, None, Some, Result, Ok, Err, IfOk, IfErr, List, ◌++◌, length, bit_and, refl, sym, ap, ◌∙◌, subst, inr, arith}
+use Rattle.std.proofs.lemmas.Int.{ints}
+use Rattle.std.proofs.lemmas.Nat.{and_assoc}
+use Rattle.std.specs.Int.Bits.{and_self}
+use Rattle.std.specs.Io.KnownBytes.{Consumes}
+use Rattle.mongo_wire.specs.Frame.{Frame, IsFrame, known_flags}
+use Rattle.mongo_wire.specs.Message.{parts_of, IsRead, ReadRefused, ReadsAgain}
+use Rattle.mongo_wire.specs.Rows.{TakesStarted}
+use Rattle.mongo_wire.specs.Ref.{IsFrameRead, IsOwned}
+use Rattle.mongo_wire.specs.declared.message.Message.{Message}
+use Rattle.mongo_wire.specs.declared.message_ref.MessageRef.{MessageRef}
+use Rattle.mongo_wire.specs.declared.error.Error.{Error}
+use Rattle.mongo_wire.proofs.OneFrame.{one_frame, same_parts, frame_row, frame_size, least_frame}
+use Rattle.mongo_wire.proofs.FrameRead.{no_refusal}
+
+known_twice : (word : ℕ) → bit_and (bit_and word known_flags) known_flags ≡ bit_and word known_flags
+known_twice word = and_assoc known_flags word known_flags ∙ ap (bit_and word) (and_self known_flags)
+
+copied_flags : (frame : List ℕ) (parts : Frame) (m : Message) → IsFrame frame parts → IsOwned parts m → parts.flags ≡ bit_and m.flags.0 known_flags
+copied_flags frame parts m is owned = is.flags_are ∙ sym (known_twice is.word) ∙ ap (λ w. bit_and w known_flags) (sym is.flags_are ∙ sym owned.flags_are)
+
+-- the parts of a copy are the frame's
+copied_parts : (frame : List ℕ) (parts : Frame) (m : Message) → IsFrame frame parts → IsOwned parts m → parts ≡ parts_of parts.request_id m
+copied_parts frame parts m is owned =
+    let flags : parts.flags ≡ bit_and m.flags.0 known_flags = copied_flags frame parts m is owned in
+    same_parts parts.request_id parts.request_id parts.response_to m.response_to parts.flags (bit_and m.flags.0 known_flags) parts.body m.document_payload parts.sequences m.document_sequences parts.checksum m.checksum
+    refl (sym owned.response_is) flags (sym owned.body_is) (sym owned.sequences_are) (sym owned.checksum_is)
+
+pub read_whole : (most : ℤ) (old new : Option (List ℕ)) (r : MessageRef) (m : Message) (read : IsFrameRead most old new r) → IsOwned read.parts m → IsRead most old new m
+read_whole most old new r m read owned = record {
+  frame = read.frame;
+  id = read.parts.request_id;
+  is_frame = subst (IsFrame read.frame) (copied_parts read.frame read.parts m read.ref_of.is_frame owned) read.ref_of.is_frame;
+  within = read.within;
+  taken = read.taken;
+  flags_known = owned.flags_are ∙ copied_flags read.frame read.parts m read.ref_of.is_frame owned;
+  unnumbered = owned.unnumbered;
+}
+
+-- memory ran out after the whole frame came
+pub read_then_stopped : (most : ℤ) (old new : Option (List ℕ)) (r : MessageRef) → IsFrameRead most old new r → TakesStarted most old new
+read_then_stopped most old new r read =
+    let is = read.ref_of.is_frame in
+    (read.frame, read.taken, inr (record { whole = omega (arith, least_frame read.frame read.parts is); good = frame_row most read.frame read.parts is read.within }, omega (arith, ints, frame_size read.frame read.parts is)))
+
+same_id : (p q : Frame) → p ≡ q → p.request_id ≡ q.request_id
+same_id p q e = ap (λ z. z.request_id) e
+
+pub reads_again : (result : Result Message Error) (most : ℤ) (old new : Option (List ℕ)) (faults_old faults_new ends_old ends_new : ℕ)
+    → IfOk result (IsRead most old new) → IfErr result (λ e. ReadRefused e.kind most old new faults_old faults_new ends_old ends_new)
+    → (frame rest : List ℕ) (parts : Frame) → old ≡ Some (frame ++ rest) → IsFrame frame parts → pos (length frame) ≤ℤ most → ReadsAgain parts rest new result
+reads_again (Err e) most old new fo fn eo en p q frame rest parts is frame_is within = no_refusal e.kind most old new fo fn eo en frame rest parts is frame_is within q
+reads_again (Ok m) most old new fo fn eo en p q frame rest parts is frame_is within = at new (rw is at p.taken)
+  where
+    at : (new : Option (List ℕ)) → Consumes (Some (frame ++ rest)) new p.frame → (parts_of parts.request_id m ≡ parts) × (new ≡ Some rest)
+    at None c = absurd c
+    at (Some left) c =
+        let (frames, both, rests) = one_frame p.frame frame left rest (parts_of p.id m) parts p.is_frame frame_is (sym c) in
+        let id : p.id ≡ parts.request_id = same_id (parts_of p.id m) parts both in
+        (ap (λ i. parts_of i m) (sym id) ∙ both, ap Some rests)

@@ -1,0 +1,10 @@
+use Rattle.std.proofs.Common.{◌≡◌, ◌++◌, take}
+use Rattle.mongo_bson.specs.Framed.{body_of, enclosed, IsFramed}
+use Rattle.mongo_wire.specs.CommandDocument.{arrays_bytes}
+use Rattle.mongo_wire.proofs.command_document.with_arrays.Given as goal
+
+abbrev pub invariant-adding : goal.invariant-adding
+invariant-adding l = record {
+  spelled : l.document ≡ enclosed (body_of l.body ++ arrays_bytes (take l.sequence-index l.sequences));
+  framed : IsFramed l.document;
+}

@@ -1,0 +1,24 @@
+use Rattle.std.proofs.Common.{refl, sym, ◌∙◌}
+use Rattle.mongo_wire.proofs.Contents.{took_sequence, took_body, second_body, no_more_section, no_body}
+use Rattle.mongo_wire.proofs.content.find_body.Goals as goal
+
+pub sections-preserved-in-Some-Sequence-default : goal.sections-preserved-in-Some-Sequence-default
+sections-preserved-in-Some-Sequence-default c =
+    took_sequence c.args.bytes.now c.sections.rest.now c.in-Some-Sequence-default.after.now c.sections.body c.in-Some-Sequence-default._sequence c.sections.invariant
+    (rw c.in-Some-Sequence-default.field-0-0-is at c.in-Some-Sequence-default.ensures)
+
+pub returns-then-is_some : goal.returns-then-is_some
+returns-then-is_some c =
+    second_body c.args.bytes.now c.sections.rest.now c.in-Some-Body-default.after.now c.sections.body c.in-Some-Body-default._document c.sections.invariant
+    (sym c.is_some.ensures ∙ c.if-is_some.true) c.sections-test.true (rw c.in-Some-Body-default.field-0-0-is at c.in-Some-Body-default.ensures)
+
+pub sections-preserved : goal.sections-preserved
+sections-preserved c =
+    took_body c.args.bytes.now c.sections.rest.now c.in-Some-Body-default.after.now c.sections.body c.in-Some-Body-default._document _ c.sections.invariant
+    (sym c.is_some.ensures ∙ c.if-is_some.false) (rw c.in-Some-Body-default.field-0-0-is at c.in-Some-Body-default.ensures) refl refl
+
+pub returns-in-None : goal.returns-in-None
+returns-in-None c = no_more_section c.args.bytes.now c.sections.rest.now c.sections.body c.sections.invariant c.sections-test.true c.in-None.ensures
+
+pub returns-in-None-body : goal.returns-in-None-body
+returns-in-None-body c = no_body c.args.bytes.now c.sections.rest.now c.sections.body c.sections.invariant c.in-None-body.is c.sections-test.false

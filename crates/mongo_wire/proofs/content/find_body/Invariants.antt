@@ -1,0 +1,10 @@
+use Rattle.std.proofs.Common.{length}
+use Rattle.mongo_wire.proofs.Contents.{Took}
+use Rattle.mongo_wire.proofs.content.find_body.Given as goal
+
+-- sections were taken, and the body of one of them at most
+abbrev pub invariant-sections : goal.invariant-sections
+invariant-sections l = Took l.bytes l.rest l.body
+
+abbrev pub decreases-sections : goal.decreases-sections
+decreases-sections l = length l.rest

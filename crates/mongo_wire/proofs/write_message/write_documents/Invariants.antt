@@ -1,0 +1,13 @@
+use Rattle.std.proofs.Common.{take}
+use Rattle.std.specs.Io.KnownBytes.{Appends}
+use Rattle.mongo_wire.specs.Measure.{documents_bytes}
+use Rattle.mongo_wire.specs.Outside.{WritesOn}
+use Rattle.mongo_wire.proofs.write_message.write_documents.Given as goal
+
+abbrev pub invariant-sending : goal.invariant-sending
+invariant-sending g l =
+    let k = g.K.Sink in
+    record {
+      front : Appends (k.written l.fn.sink) (k.written l.sink) (documents_bytes (take l.document-index l.documents));
+      on : WritesOn k.written k.flushed k.faults_written k.beside_written l.fn.sink l.sink;
+    }

@@ -1,0 +1,29 @@
+-- A message as one document: its body, and each of its sequences as an array under its identifier.
+use Rattle.std.specs.Prelude.{ℕ, ◌-◌, ◌^◌, ◌<◌, List, ◌++◌, length, map, flat_map}
+use Rattle.mongo_bson.specs.Framed.{body_of, enclosed}
+use Rattle.mongo_bson.specs.Document.{Element, spell}
+use Rattle.mongo_bson.specs.Array.{array_of, document_entries}
+use Rattle.mongo_wire.specs.Message.{HasNames}
+use Rattle.mongo_wire.specs.declared.document_sequence.DocumentSequence.{DocumentSequence}
+use Rattle.mongo_wire.specs.declared.message.Message.{Message}
+use Rattle.mongo_wire.specs.declared.error.ErrorKind.{ErrorKind}
+use Rattle.mongo_wire.specs.declared.error.ErrorKind.TheVariants.{InvalidArgument, OutOfMemory}
+use Rattle.mongo_wire.specs.declared.fault.ArgumentFault.TheVariants.{IdentifierHasZero, Bson}
+use Rattle.mongo_bson.specs.declared.fault.BsonFault.TheVariants.{TooLong}
+
+-- the array of the documents, kind 0x04
+abbrev pub array_element : DocumentSequence → Element
+array_element s = record { kind = 0x04; key = s.identifier; value = array_of (document_entries s.documents) }
+
+abbrev pub arrays_bytes : List DocumentSequence → List ℕ
+arrays_bytes sequences = flat_map (λ s. spell (array_element s)) sequences
+
+abbrev pub command_document : Message → List ℕ
+command_document m = enclosed (body_of m.document_payload ++ arrays_bytes m.document_sequences)
+
+-- an identifier holds a zero, or else the document passes 2147483647 bytes, or memory ran out
+abbrev pub CommandRefused : ErrorKind → Message → Type 0
+CommandRefused (InvalidArgument IdentifierHasZero) m = HasNames m → ⊥
+CommandRefused (InvalidArgument (Bson TooLong)) m = HasNames m × (2 ^ 31 - 1 < length (command_document m))
+CommandRefused OutOfMemory m = HasNames m
+CommandRefused kind m = ⊥

@@ -1,0 +1,28 @@
+-- A frame by places in what follows its header.
+use Rattle.std.specs.Prelude.{◌≡◌, ℕ, pos, List, length, drop, flat_map, bit_and}
+use Rattle.mongo_wire.specs.Frame.{Frame, IsFrame, section_bytes, known_flags}
+use Rattle.mongo_wire.specs.Content.{IsAt}
+use Rattle.mongo_wire.specs.declared.header.Header.{Header}
+use Rattle.mongo_wire.specs.declared.op_code.OpCode.TheVariants.{Message}
+use Rattle.mongo_wire.specs.declared.held_frame.HeldFrame.{HeldFrame}
+
+-- the header of a frame of these parts
+abbrev pub header_of : List ℕ → Frame → Header
+header_of frame parts = record { length = pos (length frame); request_id = parts.request_id; response_to = parts.response_to; op_code = Message }
+
+-- the frame of these parts, of which this is known
+pub record IsHeldFrame (frame : List ℕ) (parts : Frame) (held : HeldFrame) : Type 0 where
+  pub is_frame : IsFrame frame parts
+  pub header_is : held.header ≡ header_of frame parts
+  pub flags_are : bit_and held.content.word known_flags ≡ parts.flags
+  pub checksum_is : held.content.checksum ≡ parts.checksum
+  pub body_at : IsAt (drop 16 frame) parts.body held.content.body.start held.content.body.end
+  pub sections_at : IsAt (drop 16 frame) (flat_map section_bytes is_frame.sections) 4 held.content.sections_end
+
+-- the bytes are no frame of the grammar
+abbrev pub NoFrame : List ℕ → Type 0
+NoFrame bytes = (parts : Frame) → IsFrame bytes parts → ⊥
+
+-- some frame's parts
+abbrev pub IsHeld : List ℕ → HeldFrame → Type 0
+IsHeld frame held = (parts : Frame) × IsHeldFrame frame parts held

@@ -1,0 +1,57 @@
+-- What stands at the front of bytes: the words of the readers of sections.
+use Rattle.std.specs.Prelude.{◌≡◌, ℕ, ◌+◌, List, ◌++◌, length, flat_map}
+use Rattle.std.specs.List.{AllByRecursion}
+use Rattle.mongo_bson.specs.Framed.{IsFramed}
+use Rattle.mongo_wire.specs.Frame.{Section, body, sequence, IsSection, IsSequence, section_bytes, sequence_bytes, uint32}
+use Rattle.mongo_wire.specs.declared.document_sequence.DocumentSequence.{DocumentSequence}
+use Rattle.mongo_wire.specs.declared.sections.SectionRef.{SectionRef}
+use Rattle.mongo_wire.specs.declared.sections.SectionRef.TheVariants.{Body, Sequence}
+use Rattle.mongo_wire.specs.declared.sections.SequenceRef.{SequenceRef}
+
+-- a document and the rest
+pub record BeginsWithDocument (bytes : List ℕ) (document rest : List ℕ) : Type 0 where
+  pub framed : IsFramed document
+  pub spelled : bytes ≡ document ++ rest
+
+abbrev pub HasNoDocument : List ℕ → Type 0
+HasNoDocument bytes = (document rest : List ℕ) → IsFramed document → bytes ≡ document ++ rest → ⊥
+
+-- documents, one after another, fill the bytes
+abbrev pub AreDocuments : List ℕ → Type 0
+AreDocuments bytes = (documents : List (List ℕ)) × AllByRecursion IsFramed documents × (bytes ≡ flat_map (λ d. d) documents)
+
+-- a document sequence after its kind byte: its size, and what the size counts beside itself
+abbrev pub sized : DocumentSequence → List ℕ
+sized s = uint32 (4 + length (sequence_bytes s)) ++ sequence_bytes s
+
+-- what was read is this sequence
+pub record ShowsSequence (s : DocumentSequence) (read : SequenceRef) : Type 0 where
+  pub identifier : read.identifier.now ≡ s.identifier
+  pub documents : read.documents.now ≡ flat_map (λ d. d) s.documents
+
+-- a sequence and the rest
+pub record BeginsWithSequence (bytes : List ℕ) (read : SequenceRef) (rest : List ℕ) : Type 0 where
+  pub sequence : DocumentSequence
+  pub is_sequence : IsSequence sequence
+  pub spelled : bytes ≡ sized sequence ++ rest
+  pub shown : ShowsSequence sequence read
+
+abbrev pub HasNoSequence : List ℕ → Type 0
+HasNoSequence bytes = (s : DocumentSequence) (rest : List ℕ) → IsSequence s → bytes ≡ sized s ++ rest → ⊥
+
+-- what was read is this section
+abbrev pub Shows : Section → SectionRef → Type 0
+Shows (body document) (Body read) = read.bytes.now ≡ document
+Shows (body document) (Sequence read) = ⊥
+Shows (sequence s) (Body read) = ⊥
+Shows (sequence s) (Sequence read) = ShowsSequence s read
+
+-- a section and the rest
+pub record BeginsWithSection (bytes : List ℕ) (read : SectionRef) (rest : List ℕ) : Type 0 where
+  pub section : Section
+  pub is_section : IsSection section
+  pub spelled : bytes ≡ section_bytes section ++ rest
+  pub shown : Shows section read
+
+abbrev pub HasNoSection : List ℕ → Type 0
+HasNoSection bytes = (s : Section) (rest : List ℕ) → IsSection s → bytes ≡ section_bytes s ++ rest → ⊥

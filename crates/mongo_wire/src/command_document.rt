@@ -1,0 +1,96 @@
+ghost use Rattle.std.specs.Prelude.{◌≡◌, ◌+◌, ◌-◌, ◌^◌, ◌<◌, ◌++◌, length, IfOk, IfErr, OnOk, IsErrOf};
+ghost use Rattle.std.specs.List.{AllByRecursion};
+ghost use Rattle.mongo_bson.specs.Framed.{body_of, enclosed, IsFramed};
+ghost use Rattle.mongo_bson.specs.Document.{spell};
+ghost use Rattle.mongo_bson.specs.Refusals.{PushRefuses};
+ghost use Rattle.mongo_wire.specs.CommandDocument.{command_document, CommandRefused, array_element, arrays_bytes};
+ghost use Rattle.mongo_wire.specs.Measure.{IsWithoutZero};
+ghost use Rattle.mongo_wire.specs.Message.{HasNames};
+
+use crate::measure::are_named;
+use crate::{ArgumentFault, DocumentSequence, Error, ErrorKind, Message};
+use mongo_bson::{BsonFault, Bytes, RawDocumentBuf, RawValue, to_raw_bson_array};
+use std::alloc::Global;
+
+impl Message {
+    /// The message as one document: its body, and after it each sequence, in their order, as an array under its
+    /// identifier.
+    ///
+    /// Refusals, in this order: `IdentifierHasZero` where an identifier holds a zero byte, `Bson(TooLong)` where the
+    /// document would pass 2147483647 bytes.
+    pub fn get_raw_command_document(&self, alloc: Global) -> Result<RawDocumentBuf, Error>
+        ensures document { IfOk result (λ document. document ≡ command_document self.now) }
+        ensures named { IfOk result (λ _. HasNames self.now) }
+        ensures fits { IfOk result (λ _. length (command_document self.now) < 2 ^ 31) }
+        ensures refused { IfErr result (λ e. CommandRefused e.kind self.now) }
+    {
+        let sequences = self.document_sequences.as_slice();
+        if !are_named(sequences) {
+            return Err(Error {
+                kind: ErrorKind::InvalidArgument(ArgumentFault::IdentifierHasZero),
+            });
+        }
+        match with_arrays(alloc, &self.document_payload, sequences) {
+            Ok(document) => Ok(document),
+            Err(fault) => Err(fault.into()),
+        }
+    }
+}
+
+// A copy of the document, and after its elements the sequences as arrays.
+//
+// `TooLong` where it would pass 2147483647 bytes; else want of memory is the only refusal.
+fn with_arrays(
+    alloc: Global,
+    body: &RawDocumentBuf,
+    sequences: &[DocumentSequence],
+) -> Result<RawDocumentBuf, BsonFault>
+    requires { AllByRecursion IsWithoutZero sequences.now }
+    ensures document { IfOk result (λ document. document ≡ enclosed (body_of body.now ++ arrays_bytes sequences.now)) }
+    ensures fits { IfOk result (λ document. length document < 2 ^ 31) }
+    ensures too_long { IsErrOf result BsonFault.TooLong → 2 ^ 31 - 1 < length (enclosed (body_of body.now ++ arrays_bytes sequences.now)) }
+    ensures refused { IfErr result PushRefuses }
+{
+    let mut document = copy_of(alloc, body.as_bytes())?;
+    'adding: for sequence in sequences {
+        match add_array(alloc, &mut document, sequence) {
+            Ok(()) => {}
+            Err(fault) => return Err(fault),
+        }
+    }
+    Ok(document)
+}
+
+// The document that the bytes are. Want of memory is the only refusal.
+fn copy_of(alloc: Global, bytes: &[u8]) -> Result<RawDocumentBuf, BsonFault>
+    requires { IsFramed bytes.now }
+    ensures copied { IfOk result (λ document. document ≡ enclosed (body_of bytes.now)) }
+    ensures framed { IfOk result (λ document. IsFramed document) }
+    ensures refused { IfErr result (λ fault. fault ≡ BsonFault.OutOfMemory) }
+{
+    match RawDocumentBuf::from_bytes(Bytes::from_slice(alloc, bytes)?) {
+        Ok(document) => Ok(document),
+        Err(_) => unreachable!(),
+    }
+}
+
+// Adds a sequence as an array.
+//
+// `TooLong` where the document would pass 2147483647 bytes; else want of memory is the only refusal.
+fn add_array(
+    alloc: Global,
+    document: &mut RawDocumentBuf,
+    sequence: &DocumentSequence,
+) -> Result<(), BsonFault>
+    requires { IsWithoutZero sequence.now }
+    ensures added { OnOk result (document.new ≡ enclosed (body_of document.old ++ spell (array_element sequence.now))) }
+    ensures framed { OnOk result (IsFramed document.new) }
+    ensures too_long { IsErrOf result BsonFault.TooLong → 2 ^ 31 - 1 < length document.old + length (spell (array_element sequence.now)) }
+    ensures refused { IfErr result PushRefuses }
+{
+    let array = to_raw_bson_array(alloc, &sequence.documents)?;
+    document.append(
+        sequence.identifier.as_str(),
+        RawValue::Array(array.borrow()),
+    )
+}

@@ -1,0 +1,87 @@
+ghost use Rattle.std.specs.Prelude.{◌≡◌, ◌≤◌, length};
+
+use crate::MessageRef;
+use crate::held_frame::HeldFrame;
+use std::alloc::Global;
+
+/// A buffer that holds one frame after its header at a time. Its memory is used again for each frame, and grows only as
+/// the bytes of a frame come.
+#[derive(Debug, Drop)]
+pub struct FrameBuffer {
+    pub(crate) store: Vec<u8>,
+    pub(crate) held: usize,
+    pub(crate) last: Option<HeldFrame>,
+    frames: u64,
+    pub ghost within: { held ≤ length store.items },
+}
+
+impl FrameBuffer {
+    ghost use Rattle.std.specs.Prelude.{◌≡◌, ◌≤◌, ℕ, List, [], None, Some, vec_len, take, IsSome, IsNone, IfSome};
+    ghost use Rattle.mongo_wire.specs.Outside.{risen};
+    ghost use Rattle.mongo_wire.specs.Frame.{Frame};
+    ghost use Rattle.mongo_wire.specs.Ref.{IsRefOf};
+    ghost use Rattle.mongo_wire.specs.Buffer.{held_bytes, frames_taken, memory_of, HoldsFrame, HoldsNothing};
+
+    /// A buffer that holds nothing and has taken no frame. It takes no memory.
+    pub fn new(alloc: Global) -> FrameBuffer
+        ensures empty { HoldsNothing result }
+        ensures frames { frames_taken result ≡ 0 }
+        ensures memory { memory_of result ≡ 0 }
+    {
+        FrameBuffer {
+            store: Vec::new(alloc),
+            held: 0,
+            last: None,
+            frames: 0,
+        }
+    }
+
+    /// The bytes of the last frame after its header; nothing where none was taken, or where the last read took none.
+    pub fn as_bytes(&self) -> &[u8]
+        ensures { result.now ≡ held_bytes self.now }
+    {
+        &self.store.as_slice()[..self.held]
+    }
+
+    /// How many frames were taken into the buffer. It stays at its last value.
+    pub fn frames(&self) -> u64
+        ensures { result ≡ frames_taken self.now }
+    {
+        self.frames
+    }
+
+    /// The last frame's message, or None where none was taken, or where the last read took none.
+    pub fn message(&self) -> Option<MessageRef<'_>>
+        ensures some { (frame : List ℕ) (parts : Frame) → HoldsFrame frame parts self.now → IsSome result }
+        ensures shown { (frame : List ℕ) (parts : Frame) → HoldsFrame frame parts self.now → IfSome result (IsRefOf frame parts) }
+        ensures none { HoldsNothing self.now → IsNone result }
+    {
+        match self.last {
+            Some(held) => MessageRef::of(held, self.as_bytes()),
+            None => None,
+        }
+    }
+
+    // Holds nothing from here on.
+    pub(crate) fn clear(&mut self)
+        ensures nothing { HoldsNothing self.new }
+        ensures frames { frames_taken self.new ≡ frames_taken self.old }
+        ensures store { self.new.store ≡ self.old.store }
+    {
+        self.held = 0;
+        self.last = None;
+    }
+
+    // Holds a frame that lies at the front of the store, and counts it.
+    pub(crate) fn keep(&mut self, frame: HeldFrame, length: usize)
+        requires { length ≤ vec_len self.old.store }
+        ensures last { self.new.last ≡ Some frame }
+        ensures held { held_bytes self.new ≡ take length self.old.store.items }
+        ensures frames { frames_taken self.new ≡ risen (frames_taken self.old) }
+        ensures memory { memory_of self.new ≡ memory_of self.old }
+    {
+        self.held = length;
+        self.last = Some(frame);
+        self.frames = self.frames.saturating_add(1);
+    }
+}

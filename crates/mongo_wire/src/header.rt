@@ -1,0 +1,110 @@
+ghost use Rattle.std.specs.Prelude.{◌≡◌, ◌+◌, ◌≤◌, ℤ, pos, ◌≤ℤ◌, length, None, Some, IfOk, IfErr};
+ghost use Rattle.mongo_wire.specs.Header.{signed_at, number_at, op_code_of, header_with, maximum_of};
+ghost use Rattle.mongo_wire.specs.Rows.{header_row, length_row};
+ghost use Rattle.mongo_wire.specs.declared.op_code.OpCode.TheVariants as op_code;
+
+use crate::message::FIRST_MAXIMUM;
+use crate::{ArgumentFault, ErrorKind, OpCode, ResponseFault};
+
+/// The header of a frame: 16 bytes, four `int32` with the low byte first.
+#[derive(Clone, Copy, Debug, PartialEq, Eq)]
+pub struct Header {
+    /// The length of the whole frame, the header included, in bytes.
+    pub length: i32,
+    /// The id of this frame.
+    pub request_id: i32,
+    /// The id of the frame that this one answers, or 0.
+    pub response_to: i32,
+    /// What the frame is.
+    pub op_code: OpCode,
+}
+
+impl Header {
+    /// How many bytes a header has.
+    pub const LENGTH: usize = 16;
+
+    /// The header that the bytes are. Its length isn't judged.
+    ///
+    /// `OpCode(number)` where the op code is none of 1, 2004, 2012 and 2013.
+    pub fn decode(bytes: &[u8; 16]) -> Result<Header, ResponseFault>
+        ensures header { IfOk result (λ header. (op_code_of (signed_at 12 bytes.now) ≡ Some header.op_code) × (header ≡ header_with bytes.now header.op_code)) }
+        ensures unknown { IfErr result (λ fault. (fault ≡ ResponseFault.OpCode (signed_at 12 bytes.now)) × (op_code_of (signed_at 12 bytes.now) ≡ None)) }
+    {
+        let op_code = OpCode::from_i32(signed(bytes, 12))?;
+        Ok(Header {
+            length: signed(bytes, 0),
+            request_id: signed(bytes, 4),
+            response_to: signed(bytes, 8),
+            op_code,
+        })
+    }
+
+    // The length of the frame, 16 to the maximum, where an OP_MSG follows. Else the row that the header calls for.
+    pub(crate) fn frame_length(&self, max: Option<i32>) -> Result<usize, ErrorKind>
+        ensures passes { IfOk result (λ n. length_row (maximum_of max) self.now.length (Some self.now.op_code) (pos 0) ≡ None) }
+        ensures length { IfOk result (λ n. (pos n ≡ self.now.length) × (16 ≤ n)) }
+        ensures message { IfOk result (λ n. self.now.op_code ≡ op_code.Message) }
+        ensures within { IfOk result (λ n. pos n ≤ℤ maximum_of max) }
+        ensures row { IfErr result (λ kind. length_row (maximum_of max) self.now.length (Some self.now.op_code) (pos 0) ≡ Some kind) }
+    {
+        if self.length > max.unwrap_or(FIRST_MAXIMUM) {
+            return Err(ErrorKind::InvalidResponse(ResponseFault::OverMaximum));
+        }
+        match self.op_code {
+            OpCode::Compressed => Err(ErrorKind::InvalidResponse(ResponseFault::Compressed)),
+            OpCode::Reply => Err(ErrorKind::InvalidResponse(ResponseFault::NotMessage)),
+            OpCode::Query => Err(ErrorKind::InvalidResponse(ResponseFault::NotMessage)),
+            OpCode::Message => {
+                if self.length < 16 {
+                    Err(ErrorKind::InvalidArgument(ArgumentFault::CheckedFailure))
+                } else {
+                    Ok(self.length as usize)
+                }
+            }
+        }
+    }
+}
+
+// A header that an OP_MSG follows, and how many bytes follow it.
+#[derive(Clone, Copy, Debug)]
+pub(crate) struct FrameStart {
+    pub(crate) header: Header,
+    pub(crate) rest: usize,
+}
+
+// The start of a frame within the maximum. Else the row that the header calls for.
+pub(crate) fn start_of(head: &[u8; 16], max: Option<i32>) -> Result<FrameStart, ErrorKind>
+    ensures passes { IfOk result (λ start. header_row (maximum_of max) head.now ≡ None) }
+    ensures header { IfOk result (λ start. start.header ≡ header_with head.now op_code.Message) }
+    ensures code { IfOk result (λ start. signed_at 12 head.now ≡ pos 2013) }
+    ensures size { IfOk result (λ start. pos (16 + start.rest) ≡ signed_at 0 head.now) }
+    ensures within { IfOk result (λ start. pos (16 + start.rest) ≤ℤ maximum_of max) }
+    ensures row { IfErr result (λ kind. header_row (maximum_of max) head.now ≡ Some kind) }
+{
+    match Header::decode(head) {
+        Ok(header) => match header.frame_length(max) {
+            Ok(length) => Ok(FrameStart {
+                header,
+                rest: length - 16,
+            }),
+            Err(kind) => Err(kind),
+        },
+        Err(fault) => Err(ErrorKind::InvalidResponse(fault)),
+    }
+}
+
+// The unsigned number that stands at a place, four bytes, low byte first.
+pub(crate) fn number(bytes: &[u8], at: usize) -> u32
+    requires { at + 4 ≤ length bytes.now }
+    ensures { result ≡ number_at at bytes.now }
+{
+    u32::from_le_bytes([bytes[at], bytes[at + 1], bytes[at + 2], bytes[at + 3]])
+}
+
+// The signed number that stands there.
+fn signed(bytes: &[u8], at: usize) -> i32
+    requires { at + 4 ≤ length bytes.now }
+    ensures { result ≡ signed_at at bytes.now }
+{
+    number(bytes, at).cast_signed()
+}

@@ -1,0 +1,46 @@
+ghost use Rattle.std.specs.Prelude.{◌≡◌, ℕ, List, drop, IsSome, IfSome};
+ghost use Rattle.mongo_wire.specs.Frame.{Frame};
+ghost use Rattle.mongo_wire.specs.Held.{IsHeldFrame};
+
+use crate::held_frame::HeldFrame;
+use crate::{Header, MessageFlags};
+use bitflags::Flags;
+use mongo_bson::RawDocument;
+
+/// An OP_MSG that borrows the buffer which its frame was read into.
+#[derive(Clone, Copy, Debug)]
+pub struct MessageRef<'b> {
+    /// The header of the frame.
+    pub header: Header,
+    /// The flags that have a meaning.
+    pub flags: MessageFlags,
+    /// The checksum, which is carried and not judged.
+    pub checksum: Option<u32>,
+    /// The body: the document of the section of kind 0.
+    pub document_payload: RawDocument<'b>,
+    /// All sections as they lie in the frame, one after another: each its kind byte and what it holds.
+    pub sections: &'b [u8],
+}
+
+impl<'b> MessageRef<'b> {
+    ghost use Rattle.mongo_wire.specs.Ref.{IsRefOf};
+
+    // The message of a frame, from the bytes after its header.
+    pub(crate) fn of(held: HeldFrame, bytes: &'b [u8]) -> Option<MessageRef<'b>>
+        ensures some { (frame : List ℕ) (parts : Frame) → IsHeldFrame frame parts held → bytes.now ≡ drop 16 frame → IsSome result }
+        ensures shown { (frame : List ℕ) (parts : Frame) → IsHeldFrame frame parts held → bytes.now ≡ drop 16 frame → IfSome result (IsRefOf frame parts) }
+    {
+        let document = bytes.get(held.content.body.start..held.content.body.end)?;
+        let sections = bytes.get(4..held.content.sections_end)?;
+        match RawDocument::from_bytes(document) {
+            Ok(document_payload) => Some(MessageRef {
+                header: held.header,
+                flags: MessageFlags::from_bits_truncate(held.content.word),
+                checksum: held.content.checksum,
+                document_payload,
+                sections,
+            }),
+            Err(_) => None,
+        }
+    }
+}

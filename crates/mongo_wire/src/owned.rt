@@ -1,0 +1,88 @@
+ghost use Rattle.std.specs.Prelude.{◌≡◌, ℕ, List, flat_map, IfOk, IfErr};
+ghost use Rattle.std.specs.List.{AllByRecursion};
+ghost use Rattle.mongo_bson.specs.Framed.{IsFramed};
+ghost use Rattle.mongo_wire.specs.Frame.{Frame, Section, IsSection, IsSequence, section_bytes, sequences_of};
+ghost use Rattle.mongo_wire.specs.Sections.{ShowsSequence};
+ghost use Rattle.mongo_wire.specs.Ref.{IsRefOf, IsOwned};
+ghost use Rattle.mongo_wire.specs.declared.error.ErrorKind.TheVariants.{OutOfMemory};
+ghost use Rattle.mongo_wire.specs.declared.document_sequence.DocumentSequence.{DocumentSequence as SequenceValue};
+
+use crate::sections::{SectionRef, SequenceRef, take_document, take_section};
+use crate::{DocumentSequence, Error, Message, MessageRef, Sequences};
+use mongo_bson::{BsonFault, Bytes, Documents, RawDocument, RawDocumentBuf, Text};
+use std::alloc::Global;
+
+// A message of its own from one that borrows its frame. Want of memory is the only refusal.
+pub(crate) fn owned_message(alloc: Global, message: MessageRef<'_>) -> Result<Message, Error>
+    ensures copied { (frame : List ℕ) (parts : Frame) → IsRefOf frame parts message.entry → IfOk result (IsOwned parts) }
+    ensures refused { IfErr result (λ e. e.kind ≡ OutOfMemory) }
+{
+    Ok(Message {
+        document_payload: owned_document(alloc, message.document_payload)?,
+        document_sequences: owned_sequences(alloc, message.sections)?,
+        response_to: message.header.response_to,
+        flags: message.flags,
+        checksum: message.checksum,
+        request_id: None,
+    })
+}
+
+// The sequences of sections that fill the bytes.
+fn owned_sequences(alloc: Global, bytes: &[u8]) -> Result<Sequences, BsonFault>
+    ensures copied { (sections : List Section) → AllByRecursion IsSection sections → bytes.now ≡ flat_map section_bytes sections → IfOk result (λ sequences. sequences ≡ sequences_of sections) }
+    ensures refused { IfErr result (λ fault. fault ≡ BsonFault.OutOfMemory) }
+{
+    let mut sequences = Sequences::new(alloc);
+    let mut rest = bytes;
+    'sections: while !rest.is_empty() {
+        match take_section(rest) {
+            Some((SectionRef::Sequence(sequence), after)) => {
+                sequences.push(owned_sequence(alloc, sequence)?)?;
+                rest = after;
+            }
+            Some((SectionRef::Body(_document), after)) => rest = after,
+            None => return Ok(sequences),
+        }
+    }
+    Ok(sequences)
+}
+
+fn owned_sequence(alloc: Global, sequence: SequenceRef<'_>) -> Result<DocumentSequence, BsonFault>
+    ensures copied { (s : SequenceValue) → IsSequence s → ShowsSequence s sequence.entry → IfOk result (λ owned. owned ≡ s) }
+    ensures refused { IfErr result (λ fault. fault ≡ BsonFault.OutOfMemory) }
+{
+    Ok(DocumentSequence {
+        identifier: Text::from_slice(alloc, sequence.identifier)?,
+        documents: owned_documents(alloc, sequence.documents)?,
+    })
+}
+
+// The documents that fill the bytes.
+fn owned_documents(alloc: Global, bytes: &[u8]) -> Result<Documents, BsonFault>
+    ensures copied { (documents : List (List ℕ)) → AllByRecursion IsFramed documents → bytes.now ≡ flat_map (λ d. d) documents → IfOk result (λ owned. owned ≡ documents) }
+    ensures refused { IfErr result (λ fault. fault ≡ BsonFault.OutOfMemory) }
+{
+    let mut documents = Documents::new(alloc);
+    let mut rest = bytes;
+    'documents: while !rest.is_empty() {
+        match take_document(rest) {
+            Some((document, after)) => {
+                documents.push(owned_document(alloc, document)?)?;
+                rest = after;
+            }
+            None => return Ok(documents),
+        }
+    }
+    Ok(documents)
+}
+
+fn owned_document(alloc: Global, document: RawDocument<'_>) -> Result<RawDocumentBuf, BsonFault>
+    ensures copied { IfOk result (λ owned. owned ≡ document.entry.bytes.now) }
+    ensures refused { IfErr result (λ fault. fault ≡ BsonFault.OutOfMemory) }
+{
+    let bytes = Bytes::from_slice(alloc, document.as_bytes())?;
+    match RawDocumentBuf::from_bytes(bytes) {
+        Ok(owned) => Ok(owned),
+        Err(_) => unreachable!(),
+    }
+}

@@ -1,0 +1,72 @@
+ghost use Rattle.std.specs.Prelude.{◌≡◌, ◌+◌, ◌^◌, ◌<◌, [], ◌++◌, bit_and, length, pos, ◌≤ℤ◌, IfOk, IfErr, OnOk};
+ghost use Rattle.std.specs.Io.KnownBytes.{Appends};
+ghost use Rattle.mongo_wire.specs.Frame.{uint32};
+ghost use Rattle.mongo_wire.specs.Header.{maximum_of};
+ghost use Rattle.mongo_wire.specs.Outside.{WritesOn, IsFlushed};
+ghost use Rattle.mongo_wire.specs.Sending.{unsummed_flags, sections_frame, SectionsFit, SectionsRow, SectionsRefused, IsFrameOfSections};
+ghost use Rattle.mongo_wire.specs.declared.fault.ArgumentFault.{ArgumentFault};
+ghost use Rattle.mongo_wire.specs.declared.error.ErrorKind.TheVariants.{InvalidArgument};
+
+use crate::message::FIRST_MAXIMUM;
+use crate::write_message::message_header;
+use crate::writing::{flush_out, write_pieces};
+use crate::{ArgumentFault, Error, ErrorKind, MessageFlags, Sink};
+use bitflags::Flags;
+
+/// Writes an OP_MSG whose sections are given as bytes, and flushes the sink: header, flags and sections one after
+/// another. Flags are written without `CHECKSUM_PRESENT`, as no checksum follows.
+///
+/// Refusals, in this order: `MaximumNegative`, `TooLong` where the frame passes the maximum, 50331648 where none is given,
+/// each with nothing written; then `WriteFault` or the sink's want of memory, with a front of the frame written.
+pub fn write_sections<K: Sink>(
+    sink: &mut K,
+    request_id: i32,
+    response_to: i32,
+    flags: MessageFlags,
+    sections: &[u8],
+    max: Option<i32>,
+) -> Result<(), Error>
+    ensures fits { OnOk result (SectionsFit (maximum_of max) sections.now) }
+    ensures written { OnOk result (Appends (K.written sink.old) (K.written sink.new) (sections_frame request_id response_to flags.0 sections.now)) }
+    ensures flushed { OnOk result (IsFlushed (K.written sink.new) (K.flushed sink.new)) }
+    // It is a frame of the grammar, where the bytes are sections with one body.
+    ensures frame { OnOk result (IsFrameOfSections request_id response_to flags.0 sections.now) }
+    ensures refused { IfErr result (λ e. SectionsRefused e.kind (maximum_of max) sections.now (sections_frame request_id response_to flags.0 sections.now) (K.written sink.old) (K.written sink.new) (K.faults_written sink.old) (K.faults_written sink.new)) }
+    // Nothing is done where the sections are refused.
+    ensures untouched { (fault : ArgumentFault) → IfErr result (λ e. e.kind ≡ InvalidArgument fault → sink.new ≡ sink.old) }
+    ensures on { WritesOn K.written K.flushed K.faults_written K.beside_written sink.old sink.new }
+{
+    let length = match sections_length(sections, max) {
+        Ok(length) => length,
+        Err(fault) => return Err(ErrorKind::InvalidArgument(fault).into()),
+    };
+    let header = message_header(length, request_id, response_to);
+    write_pieces(sink, &header, &unsummed_word(flags), sections)?;
+    flush_out(sink)
+}
+
+// The length of the frame of these sections, where it can be written within the maximum.
+//
+// Refusals, in this order: `MaximumNegative`, `TooLong`.
+fn sections_length(sections: &[u8], max: Option<i32>) -> Result<u32, ArgumentFault>
+    ensures fits { IfOk result (λ _. SectionsFit (maximum_of max) sections.now) }
+    ensures counted { IfOk result (λ size. (size ≡ 20 + length sections.now) × (size < 2 ^ 31)) }
+    ensures refused { IfErr result (λ fault. SectionsRow fault (maximum_of max) sections.now) }
+{
+    let maximum = max.unwrap_or(FIRST_MAXIMUM);
+    if maximum < 0 {
+        return Err(ArgumentFault::MaximumNegative);
+    }
+    let room = maximum as usize;
+    if room < 20 || sections.len() > room - 20 {
+        return Err(ArgumentFault::TooLong);
+    }
+    Ok(sections.len() as u32 + 20)
+}
+
+// The flag word of a frame without a checksum.
+fn unsummed_word(flags: MessageFlags) -> [u8; 4]
+    ensures { result ≡ uint32 (bit_and flags.0 unsummed_flags) }
+{
+    (flags.bits() & 65_538).to_le_bytes()
+}

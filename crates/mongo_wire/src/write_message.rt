@@ -1,0 +1,124 @@
+ghost use Rattle.std.specs.Prelude.{◌≡◌, ◌+◌, ◌^◌, ◌<◌, [], ◌∷◌, ◌++◌, bit_and, length, FitsSigned, IfSome, IfErr, OnOk};
+ghost use Rattle.std.specs.Int.{w32};
+ghost use Rattle.std.specs.Io.KnownBytes.{Appends};
+ghost use Rattle.std.specs.List.{AllByRecursion};
+ghost use Rattle.mongo_wire.specs.Outside.{WritesOn, WriteStops};
+ghost use Rattle.mongo_wire.specs.Frame.{sequence_bytes, int32, uint32, message_code, known_flags};
+ghost use Rattle.mongo_wire.specs.Message.{frame_length, written_frame, checksum_bytes};
+ghost use Rattle.mongo_wire.specs.Measure.{IsCounted, documents_bytes, sequence_section, sequences_bytes};
+
+use crate::header_bytes::numbers_bytes;
+use crate::measure::sequence_size;
+use crate::writing::{write_out, write_pieces};
+use crate::{DocumentSequence, Error, Message, MessageFlags, OpCode, Sink};
+use mongo_bson::RawDocumentBuf;
+
+// Writes the frame of a message whose sequences are counted: its header, its flags with the first section's kind, its
+// body, its sequences and its checksum, each as it lies.
+//
+// `WriteFault` where the sink failed, `OutOfMemory` where it wanted memory; a front of the frame is written then.
+pub(crate) fn write_frame<K: Sink>(
+    sink: &mut K,
+    message: &Message,
+    request_id: i32,
+    length: u32,
+) -> Result<(), Error>
+    requires counted { length ≡ frame_length message.now }
+    requires short { length < 2 ^ 31 }
+    requires sizes { AllByRecursion IsCounted message.now.document_sequences }
+    ensures written { OnOk result (Appends (K.written sink.old) (K.written sink.new) (written_frame request_id message.now)) }
+    ensures refused { IfErr result (λ e. WriteStops e.kind (K.written sink.old) (K.written sink.new) (K.faults_written sink.old) (K.faults_written sink.new) (written_frame request_id message.now)) }
+    ensures numbers { OnOk result (FitsSigned w32 message.now.response_to × IfSome message.now.checksum (λ sum. sum < 2 ^ 32)) }
+    ensures on { WritesOn K.written K.flushed K.faults_written K.beside_written sink.old sink.new }
+{
+    let header = message_header(length, request_id, message.response_to);
+    let start = section_start(message.flags);
+    write_pieces(sink, &header, &start, message.document_payload.as_bytes())?;
+    write_sequences(sink, message.document_sequences.as_slice())?;
+    write_checksum(sink, message.checksum)
+}
+
+// The header of an OP_MSG of this length.
+pub(crate) fn message_header(length: u32, request_id: i32, response_to: i32) -> [u8; 16]
+    requires { length < 2 ^ 31 }
+    ensures { result ≡ uint32 length ++ (int32 request_id ++ (int32 response_to ++ uint32 message_code)) }
+{
+    numbers_bytes(
+        length as i32,
+        request_id,
+        response_to,
+        OpCode::Message.number(),
+    )
+}
+
+// The flags and the kind byte of the section that holds the body.
+fn section_start(flags: MessageFlags) -> [u8; 5]
+    ensures { result ≡ uint32 (bit_and flags.0 known_flags) ++ (0 ∷ []) }
+{
+    let [f0, f1, f2, f3] = flags.word().to_le_bytes();
+    [f0, f1, f2, f3, 0]
+}
+
+// Writes the sections of the sequences, one after another.
+fn write_sequences<K: Sink>(sink: &mut K, sequences: &[DocumentSequence]) -> Result<(), Error>
+    requires { AllByRecursion IsCounted sequences.now }
+    ensures written { OnOk result (Appends (K.written sink.old) (K.written sink.new) (sequences_bytes sequences.now)) }
+    ensures refused { IfErr result (λ e. WriteStops e.kind (K.written sink.old) (K.written sink.new) (K.faults_written sink.old) (K.faults_written sink.new) (sequences_bytes sequences.now)) }
+    ensures on { WritesOn K.written K.flushed K.faults_written K.beside_written sink.old sink.new }
+{
+    'sending: for sequence in sequences {
+        write_sequence(sink, sequence)?;
+    }
+    Ok(())
+}
+
+// Writes the section of a sequence: its kind and size, its identifier and a zero, its documents.
+fn write_sequence<K: Sink>(sink: &mut K, sequence: &DocumentSequence) -> Result<(), Error>
+    requires { IsCounted sequence.now }
+    ensures written { OnOk result (Appends (K.written sink.old) (K.written sink.new) (sequence_section sequence.now)) }
+    ensures refused { IfErr result (λ e. WriteStops e.kind (K.written sink.old) (K.written sink.new) (K.faults_written sink.old) (K.faults_written sink.new) (sequence_section sequence.now)) }
+    ensures on { WritesOn K.written K.flushed K.faults_written K.beside_written sink.old sink.new }
+{
+    let start = sequence_start(sequence);
+    write_pieces(sink, &start, sequence.identifier.as_bytes(), &[0])?;
+    write_documents(sink, sequence.documents.as_slice())
+}
+
+// The kind byte of a sequence's section, and its size.
+fn sequence_start(sequence: &DocumentSequence) -> [u8; 5]
+    requires { IsCounted sequence.now }
+    ensures { result ≡ 1 ∷ uint32 (4 + length (sequence_bytes sequence.now)) }
+{
+    match sequence_size(sequence) {
+        Some(size) => {
+            let [s0, s1, s2, s3] = size.to_le_bytes();
+            [1, s0, s1, s2, s3]
+        }
+        None => unreachable!(),
+    }
+}
+
+// Writes the documents, one after another.
+fn write_documents<K: Sink>(sink: &mut K, documents: &[RawDocumentBuf]) -> Result<(), Error>
+    ensures written { OnOk result (Appends (K.written sink.old) (K.written sink.new) (documents_bytes documents.now)) }
+    ensures refused { IfErr result (λ e. WriteStops e.kind (K.written sink.old) (K.written sink.new) (K.faults_written sink.old) (K.faults_written sink.new) (documents_bytes documents.now)) }
+    ensures on { WritesOn K.written K.flushed K.faults_written K.beside_written sink.old sink.new }
+{
+    'sending: for document in documents {
+        write_out(sink, document.as_bytes())?;
+    }
+    Ok(())
+}
+
+// Writes the checksum, where there is one.
+fn write_checksum<K: Sink>(sink: &mut K, checksum: Option<u32>) -> Result<(), Error>
+    ensures written { OnOk result (Appends (K.written sink.old) (K.written sink.new) (checksum_bytes checksum)) }
+    ensures refused { IfErr result (λ e. WriteStops e.kind (K.written sink.old) (K.written sink.new) (K.faults_written sink.old) (K.faults_written sink.new) (checksum_bytes checksum)) }
+    ensures fits { IfSome checksum (λ sum. sum < 2 ^ 32) }
+    ensures on { WritesOn K.written K.flushed K.faults_written K.beside_written sink.old sink.new }
+{
+    match checksum {
+        Some(sum) => write_out(sink, &sum.to_le_bytes()),
+        None => Ok(()),
+    }
+}
