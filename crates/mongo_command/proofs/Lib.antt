@@ -1,4 +1,10 @@
 pub mod Phases
 pub mod Elements
-pub mod HelloElements
-pub mod HelloResponse
+pub mod Fields
+pub mod FirstValues
+pub mod Texts
+pub mod InnerDocuments
+pub mod WellFormed
+pub mod HelloRead
+pub mod OneField
+pub mod OneReply

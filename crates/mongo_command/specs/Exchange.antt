@@ -1,20 +1,18 @@
 -- One exchange: a command's frame is written and flushed, and one frame is taken.
-use Rattle.std.specs.Prelude.{◌≡◌, ℕ, ℤ, pos, ◌+◌, ◌-◌, ◌^◌, ◌<◌, ◌≤◌, ◌<ℤ◌, ◌≤ℤ◌, ◌⊎◌, Bool, true, false, Option, None, Some, Result, Ok, Err, List, [], length, take, drop, if◌then◌else◌, option_map, unwrap_or, ⊤}
+use Rattle.std.specs.Prelude.{◌≡◌, ℕ, ℤ, pos, ◌+◌, ◌-◌, ◌^◌, ◌<◌, ◌≤◌, ◌<ℤ◌, ◌≤ℤ◌, ◌⊎◌, Bool, true, false, Option, None, Some, Result, Ok, Err, List, [], length, take, drop, if◌then◌else◌, option_map, unwrap_or, is_some, ⊤}
 use Rattle.std.specs.Io.KnownBytes.{Appends, Consumes, Keeps}
 use Rattle.mongo_wire.specs.declared.error.ErrorKind.{ErrorKind}
-use Rattle.mongo_wire.specs.declared.error.ErrorKind.TheVariants.{InvalidArgument, InvalidResponse, ReadFault, WriteFault, EndOfInput, NotBuilt, OutOfMemory}
+use Rattle.mongo_wire.specs.declared.error.ErrorKind.TheVariants.{InvalidArgument, WriteFault, OutOfMemory}
 use Rattle.mongo_wire.specs.declared.fault.ArgumentFault.TheVariants.{Bson, MaximumNegative, TooLong as FrameTooLong}
 use Rattle.mongo_wire.specs.declared.message.Message.{Message}
-use Rattle.mongo_wire.specs.Outside.{Rose, AppendsFront, ConsumesAtMost, IsFlushed}
+use Rattle.mongo_wire.specs.Outside.{Rose, AppendsFront, IsFlushed}
 use Rattle.mongo_wire.specs.Bytes.{next_id, first_maximum}
-use Rattle.mongo_wire.specs.Message.{Begins, Fits, LeavesRefused, IsFrameOf, written_frame}
-use Rattle.mongo_wire.specs.Plain.{frame_answer, bytes_judged, maximum_of}
+use Rattle.mongo_wire.specs.Header.{maximum_of}
+use Rattle.mongo_wire.specs.Message.{IsRead, ReadRefused, Fits, IsFrameOf, frame_length, written_frame}
 use Rattle.mongo_bson.specs.declared.fault.BsonFault.TheVariants.{TooLong}
 use Rattle.mongo_command.specs.Command.{command_document}
 use Rattle.mongo_command.specs.declared.command.Command.{Command}
-use Rattle.mongo_command.specs.declared.hello.HelloCommandResponse.{HelloCommandResponse}
 use Rattle.mongo_command.specs.declared.stream_description.StreamDescription.{StreamDescription}
-use Rattle.mongo_command.specs.Hello.{IsHelloResponse}
 
 -- what a link means at a moment
 pub record LinkState : Type 0 where
@@ -46,12 +44,6 @@ DocumentRefused (InvalidArgument (Bson TooLong)) document = 2 ^ 31 - 1 < length 
 DocumentRefused OutOfMemory document = ⊤
 DocumentRefused kind document = ⊥
 
--- why a reply's document isn't read as a hello's: it isn't one that is read today, or memory ran out
-abbrev pub HelloRefused : ErrorKind → List ℕ → Type 0
-HelloRefused NotBuilt document = (response : HelloCommandResponse) → IsHelloResponse document response → ⊥
-HelloRefused OutOfMemory document = ⊤
-HelloRefused kind document = ⊥
-
 -- the frame of the message stands at the end of what was written, all of it is flushed, its id is drawn, and nothing
 -- was read
 pub record Sends (maximum : ℤ) (message : Message) (old new : LinkState) (before after : ℤ) : Type 0 where
@@ -64,23 +56,18 @@ pub record Sends (maximum : ℤ) (message : Message) (old new : LinkState) (befo
   pub ends : new.ends ≡ old.ends
   pub drawn : after ≡ next_id before
 
--- the next frame of the bytes left is a message of this document, and nothing after it was taken
-pub record Takes (maximum : ℤ) (bytes : List ℕ) (left : Option (List ℕ)) (document : List ℕ) : Type 0 where
-  pub message : Message
-  pub judged : frame_answer maximum bytes ≡ Ok message
-  pub begins : Begins maximum bytes left message
-  pub document_is : document ≡ message.document_payload
-
 -- a read leaves what was written as it is
 pub record Unwritten (old new : LinkState) : Type 0 where
   pub written : new.written ≡ old.written
   pub flushed : new.flushed ≡ old.flushed
   pub writes : new.write_faults ≡ old.write_faults
 
--- one frame was taken, of this document
+-- one frame was taken, of this document, and nothing after it
 pub record Receives (maximum : ℤ) (old new : LinkState) (document : List ℕ) : Type 0 where
   pub unwritten : Unwritten old new
-  pub takes : (bytes : List ℕ) → old.left ≡ Some bytes → Takes maximum bytes new.left document
+  pub message : Message
+  pub read : IsRead maximum old.left new.left message
+  pub document_is : document ≡ message.document_payload
 
 -- an exchange: the message is sent, and then one of this document is received
 pub record Exchanges (maximum : ℤ) (message : Message) (old new : LinkState) (before after : ℤ) (document : List ℕ) : Type 0 where
@@ -107,32 +94,19 @@ abbrev pub sent_fault : ErrorKind → Option ErrorKind
 sent_fault (InvalidArgument fault) = None
 sent_fault kind = Some kind
 
--- why a message wasn't sent, and what that left
+-- why a message wasn't sent, and what that left; a document that is too long is found before the maximum is tested
 abbrev pub SendRefused : ErrorKind → ℤ → Message → LinkState → LinkState → ℤ → ℤ → Option ErrorKind → Type 0
 SendRefused (InvalidArgument (Bson TooLong)) maximum message old new before after kept = (2 ^ 31 - 1 < length message.document_payload) × Unsent old new before after kept
-SendRefused (InvalidArgument MaximumNegative) maximum message old new before after kept = (maximum <ℤ pos 0) × Unsent old new before after kept
-SendRefused (InvalidArgument FrameTooLong) maximum message old new before after kept = (pos 0 ≤ℤ maximum) × (maximum <ℤ pos (21 + length message.document_payload)) × Unsent old new before after kept
+SendRefused (InvalidArgument MaximumNegative) maximum message old new before after kept = (length message.document_payload < 2 ^ 31) × (maximum <ℤ pos 0) × Unsent old new before after kept
+SendRefused (InvalidArgument FrameTooLong) maximum message old new before after kept = (length message.document_payload < 2 ^ 31) × (pos 0 ≤ℤ maximum) × (maximum <ℤ pos (frame_length message)) × Unsent old new before after kept
 SendRefused WriteFault maximum message old new before after kept = Rose old.write_faults new.write_faults × Cut WriteFault maximum message old new before after kept
 SendRefused OutOfMemory maximum message old new before after kept = Unsent old new before after kept ⊎ Cut OutOfMemory maximum message old new before after kept
 SendRefused kind maximum message old new before after kept = ⊥
 
--- the bytes left, where they are told, call for this refusal of the frame
-abbrev pub FrameRefused : ErrorKind → ℤ → Option (List ℕ) → Type 0
-FrameRefused kind maximum left = (bytes : List ℕ) → left ≡ Some bytes → frame_answer maximum bytes ≡ Err kind
-
--- why no frame was received
-abbrev pub ReceiveCause : ErrorKind → ℤ → LinkState → LinkState → Type 0
-ReceiveCause ReadFault maximum old new = Rose old.read_faults new.read_faults
-ReceiveCause EndOfInput maximum old new = Rose old.ends new.ends × FrameRefused EndOfInput maximum old.left
-ReceiveCause NotBuilt maximum old new = FrameRefused NotBuilt maximum old.left
-ReceiveCause OutOfMemory maximum old new = ⊤
-ReceiveCause kind maximum old new = ⊥
-
 -- no frame was received: why, and what of the bytes left was taken
 pub record ReceiveRefused (kind : ErrorKind) (maximum : ℤ) (old new : LinkState) : Type 0 where
-  pub cause : ReceiveCause kind maximum old new
+  pub refused : ReadRefused kind maximum old.left new.left old.read_faults new.read_faults old.ends new.ends
   pub unwritten : Unwritten old new
-  pub left_by : (bytes : List ℕ) → old.left ≡ Some bytes → LeavesRefused kind maximum bytes new.left
 
 -- the message was sent and no frame was received; the fault is kept
 pub record Unanswered (kind : ErrorKind) (maximum : ℤ) (message : Message) (old new : LinkState) (before after : ℤ) (kept : Option ErrorKind) : Type 0 where
@@ -145,8 +119,11 @@ pub record Unanswered (kind : ErrorKind) (maximum : ℤ) (message : Message) (ol
 abbrev pub ExchangeRefused : ErrorKind → ℤ → Message → LinkState → LinkState → ℤ → ℤ → Option ErrorKind → Type 0
 ExchangeRefused kind maximum message old new before after kept = SendRefused kind maximum message old new before after kept ⊎ Unanswered kind maximum message old new before after kept
 
--- what every exchange keeps: whether the bytes are told, and the counts from falling
+-- what every exchange keeps: whether the bytes are told, the counts from falling, and what was flushed
 pub record CountsStay (old new : LinkState) : Type 0 where
   pub reads : old.read_faults ≤ new.read_faults
   pub ends : old.ends ≤ new.ends
   pub writes : old.write_faults ≤ new.write_faults
+  pub told : is_some new.left ≡ is_some old.left
+  pub told_written : is_some new.written ≡ is_some old.written
+  pub flushed : old.flushed ≤ new.flushed
