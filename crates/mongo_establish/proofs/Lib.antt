@@ -1,2 +1,3 @@
 pub mod Hello
+pub mod OneAnswer
 pub mod Whole

@@ -1,24 +1,26 @@
 -- What an establishment answers: a described connection after a whole script, or a refusal with its cause.
-use Rattle.std.specs.Prelude.{◌≡◌, ℕ, ℤ, pos, ◌⊎◌, Option, None, Some, Result, Ok, Err, List, [], ◌∷◌, ◌++◌, length, drop, ⊤}
-use Rattle.std.specs.Io.KnownBytes.{Appends}
+use Rattle.std.specs.Prelude.{◌≡◌, ℕ, ℤ, pos, ◌≤ℤ◌, ◌⊎◌, Option, None, Some, List, [], ◌∷◌, ◌++◌, length}
+use Rattle.std.specs.Io.KnownBytes.{Appends, Consumes}
 use Rattle.mongo_wire.specs.declared.error.ErrorKind.{ErrorKind}
-use Rattle.mongo_wire.specs.declared.error.ErrorKind.TheVariants.{ReadFault, WriteFault, EndOfInput, NotBuilt, OutOfMemory}
+use Rattle.mongo_wire.specs.declared.error.ErrorKind.TheVariants.{InvalidArgument, InvalidResponse, Command, ReadFault, WriteFault, EndOfInput, OutOfMemory}
 use Rattle.mongo_wire.specs.declared.message.Message.{Message}
-use Rattle.mongo_wire.specs.Outside.{Rose, AppendsFront, ConsumesAtMost, IsFlushed}
+use Rattle.mongo_wire.specs.Outside.{Rose, AppendsFront, IsFlushed}
+use Rattle.mongo_wire.specs.Frame.{Frame, IsFrame}
+use Rattle.mongo_wire.specs.Rows.{TakesStarted, TakesUnfinished, IsEmptied}
 use Rattle.mongo_wire.specs.Bytes.{IsSent, IsWhole, first_maximum, next_id}
-use Rattle.mongo_wire.specs.Message.{Begins, written_frame}
-use Rattle.mongo_wire.specs.Plain.{frame_answer, bytes_judged}
+use Rattle.mongo_wire.specs.Message.{written_frame}
 use Rattle.mongo_command.specs.declared.connection.Connection.{Connection}
 use Rattle.mongo_command.specs.declared.hello.HelloCommandResponse.{HelloCommandResponse}
 use Rattle.mongo_command.specs.declared.server_address.ServerAddress.{ServerAddress}
 use Rattle.mongo_command.specs.declared.stream_description.StreamDescription.{StreamDescription}
 use Rattle.mongo_command.specs.Connection.{kept_fault}
 use Rattle.mongo_command.specs.Exchange.{LinkState, Exchanges}
-use Rattle.mongo_command.specs.Hello.{IsHelloResponse, description_of}
+use Rattle.mongo_command.specs.Hello.{IsHelloResponse, TimeoutFits, description_of}
 use Rattle.mongo_establish.specs.declared.establisher.PendingConnection.{PendingConnection}
 use Rattle.mongo_establish.specs.declared.establisher.PooledConnection.{PooledConnection}
 use Rattle.mongo_establish.specs.Client.{hello_document}
 use Rattle.mongo_establish.specs.Generation.{generation_of}
+use Rattle.mongo_establish.specs.Refusal.{HelloRow}
 use Rattle.mongo_establish.specs.Script.{IsScript}
 
 -- the next id after as many commands as there are
@@ -64,18 +66,6 @@ pub record Established (pending : PendingConnection) (old new : LinkState) (befo
 abbrev pub hello_message : Message
 hello_message = record { document_payload = hello_document; document_sequences = []; response_to = pos 0; flags = record { 0 = 0 }; checksum = None; request_id = None }
 
--- the reply bytes call for this refusal, and this is left of them
-pub record NoHello (bytes : List ℕ) (left : Option (List ℕ)) : Type 0 where
-  pub message : Message
-  pub judged : frame_answer first_maximum bytes ≡ Ok message
-  pub begins : Begins first_maximum bytes left message
-  pub none : (response : HelloCommandResponse) → IsHelloResponse message.document_payload response → ⊥
-
-abbrev pub RefusedReply : ErrorKind → List ℕ → Option (List ℕ) → Type 0
-RefusedReply EndOfInput bytes left = (frame_answer first_maximum bytes ≡ Err EndOfInput) × (left ≡ Some [])
-RefusedReply NotBuilt bytes left = ((frame_answer first_maximum bytes ≡ Err NotBuilt) × (left ≡ Some (drop (bytes_judged first_maximum bytes) bytes))) ⊎ NoHello bytes left
-RefusedReply kind bytes left = ConsumesAtMost (Some bytes) left (bytes_judged first_maximum bytes)
-
 -- the hello's frame stands at the end of what was written, all of it flushed, and its id is drawn
 pub record HelloSent (old new : LinkState) (before after : ℤ) : Type 0 where
   pub written : Appends old.written new.written (written_frame before hello_message)
@@ -88,39 +78,53 @@ pub record HelloCut (old new : LinkState) (before after : ℤ) : Type 0 where
   pub unread : new.left ≡ old.left
   pub drawn : after ≡ next_id before
 
--- the hello was sent, and of the reply bytes this was taken
+-- the hello was sent, and the bytes that were taken of those left call for this refusal
 pub record ReplyRefused (kind : ErrorKind) (old new : LinkState) (before after : ℤ) : Type 0 where
   pub sent : HelloSent old new before after
-  pub reply : (bytes : List ℕ) → old.left ≡ Some bytes → RefusedReply kind bytes new.left
+  pub taken : List ℕ
+  pub consumed : Consumes old.left new.left taken
+  pub row : HelloRow taken kind
 
 -- nothing was done, a front of the hello was written, or it was sent and its reply was taken in part or whole
 abbrev pub MemoryRefused : LinkState → LinkState → ℤ → ℤ → Type 0
-MemoryRefused old new before after = ((new ≡ old) × (after ≡ before)) ⊎ (HelloCut old new before after ⊎ HelloSent old new before after)
+MemoryRefused old new before after = ((new ≡ old) × (after ≡ before)) ⊎ (HelloCut old new before after ⊎ (HelloSent old new before after × TakesStarted first_maximum old.left new.left))
 
 -- Why an establishment was refused, and what it left in the link and the ids.
 abbrev pub EstablishRefused : ErrorKind → LinkState → LinkState → ℤ → ℤ → Type 0
 EstablishRefused WriteFault old new before after = Rose old.write_faults new.write_faults × HelloCut old new before after
-EstablishRefused ReadFault old new before after = Rose old.read_faults new.read_faults × ReplyRefused ReadFault old new before after
-EstablishRefused EndOfInput old new before after = Rose old.ends new.ends × ReplyRefused EndOfInput old new before after
-EstablishRefused NotBuilt old new before after = ReplyRefused NotBuilt old new before after
+EstablishRefused ReadFault old new before after = Rose old.read_faults new.read_faults × HelloSent old new before after × TakesUnfinished first_maximum old.left new.left
+EstablishRefused EndOfInput old new before after = Rose old.ends new.ends × ReplyRefused EndOfInput old new before after × IsEmptied new.left
+EstablishRefused (InvalidArgument fault) old new before after = ReplyRefused (InvalidArgument fault) old new before after
+EstablishRefused (InvalidResponse fault) old new before after = ReplyRefused (InvalidResponse fault) old new before after
+EstablishRefused (Command error) old new before after = ReplyRefused (Command error) old new before after
 EstablishRefused OutOfMemory old new before after = MemoryRefused old new before after
 EstablishRefused kind old new before after = ⊥
 
--- the document is a hello reply that gives this description of the server at this address
-pub record Describes (address : ServerAddress) (document : List ℕ) (description : StreamDescription) : Type 0 where
+-- the document is a hello reply that gives this description of the server at this address, and this number for the
+-- connection
+pub record Describes (address : ServerAddress) (document : List ℕ) (description : StreamDescription) (connection_id : Option ℤ) : Type 0 where
   pub response : HelloCommandResponse
-  pub reads : IsHelloResponse document response
+  pub time : Option (List ℕ)
+  pub reads : IsHelloResponse document response time
+  pub timeout_fits : TimeoutFits response
   pub description_is : description ≡ description_of address response
+  pub connection_id_is : connection_id ≡ response.connection_id
 
 -- the hello was sent and a hello reply was taken, which gives this description
-pub record HelloAnswered (address : ServerAddress) (old new : LinkState) (before after : ℤ) (description : StreamDescription) : Type 0 where
+pub record HelloAnswered (address : ServerAddress) (old new : LinkState) (before after : ℤ) (description : StreamDescription) (connection_id : Option ℤ) : Type 0 where
   pub document : List ℕ
   pub exchanges : Exchanges first_maximum hello_message old new before after document
-  pub describes : Describes address document description
+  pub describes : Describes address document description connection_id
 
--- the reply bytes begin with the frame of a hello reply
+-- the reply bytes begin with the frame of a hello reply whose session timeout fits
 pub record GivesHello (bytes : List ℕ) : Type 0 where
-  pub message : Message
-  pub judged : frame_answer first_maximum bytes ≡ Ok message
+  pub frame : List ℕ
+  pub rest : List ℕ
+  pub joined : bytes ≡ frame ++ rest
+  pub parts : Frame
+  pub is_frame : IsFrame frame parts
+  pub within : pos (length frame) ≤ℤ first_maximum
   pub response : HelloCommandResponse
-  pub reads : IsHelloResponse message.document_payload response
+  pub time : Option (List ℕ)
+  pub reads : IsHelloResponse parts.body response time
+  pub timeout_fits : TimeoutFits response

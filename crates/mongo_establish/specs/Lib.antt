@@ -1,5 +1,6 @@
 pub mod Client
 pub mod Generation
 pub mod Script
+pub mod Refusal
 pub mod Established
 pub mod Phase

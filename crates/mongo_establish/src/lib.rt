@@ -21,3 +21,6 @@ pub use mongo_wire::{
     ArgumentFault, AuthFault, CommandError, Error, ErrorKind, Failed, Link, MemoryLink, RequestIds,
     ResponseFault, Sink, SinkError, Source, StdSink, StdSource,
 };
+
+#[cfg(test)]
+mod tests;
