@@ -26,7 +26,6 @@ kind_name kind.WriteFault = codes "WriteFault"
 kind_name kind.EndOfInput = codes "EndOfInput"
 kind_name (kind.Callback text) = codes "Callback"
 kind_name kind.PasswordNotAscii = codes "PasswordNotAscii"
-kind_name kind.NotBuilt = codes "NotBuilt"
 kind_name kind.OutOfMemory = codes "OutOfMemory"
 
 -- the name of what is wrong with an argument

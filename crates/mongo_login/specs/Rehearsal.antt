@@ -1,14 +1,12 @@
 -- What a rehearsal answers.
 use Rattle.std.specs.Prelude.{◌≡◌, ℕ, List, ⊤}
 use Rattle.mongo_wire.specs.declared.error.ErrorKind.{ErrorKind}
-use Rattle.mongo_wire.specs.declared.error.ErrorKind.TheVariants.{NotBuilt as FrameNotBuilt, OutOfMemory as NoMemory}
+use Rattle.mongo_wire.specs.declared.error.ErrorKind.TheVariants.{OutOfMemory as NoMemory}
 use Rattle.mongo_establish.specs.Established.{GivesHello}
 use Rattle.mongo_login.specs.declared.settings.Settings.{Settings}
 use Rattle.mongo_login.specs.declared.rehearsal.Rehearsal.{Rehearsal}
 use Rattle.mongo_login.specs.declared.rehearsal.Rehearsal.TheVariants.{Accepted, Refused}
-use Rattle.mongo_login.specs.declared.rehearsal.RehearsalError.{RehearsalError}
-use Rattle.mongo_login.specs.declared.rehearsal.RehearsalError.TheVariants.{NotBuilt, OutOfMemory}
-use Rattle.mongo_login.specs.Headline.{Rehearsed, RehearsedCut, IsNotBuilt}
+use Rattle.mongo_login.specs.Headline.{Rehearsed, RehearsedRefused}
 
 -- a report of this text of a connection that was made
 abbrev pub IsAccepted : Rehearsal → List ℕ → Type 0
@@ -22,16 +20,10 @@ IsRefused (Refused report) text = report.items ≡ text
 
 -- a cause that a report tells
 abbrev pub IsReported : ErrorKind → Type 0
-IsReported FrameNotBuilt = ⊥
 IsReported NoMemory = ⊥
 IsReported kind = ⊤
 
 -- the report of a rehearsal
 abbrev pub IsRehearsal : Settings → Rehearsal → Type 0
 IsRehearsal settings (Accepted report) = Rehearsed settings report.items × GivesHello settings.replies
-IsRehearsal settings (Refused report) = RehearsedCut settings report.items
-
--- why there is none
-abbrev pub RehearsalRefused : Settings → RehearsalError → Type 0
-RehearsalRefused settings NotBuilt = IsNotBuilt settings.replies
-RehearsalRefused settings OutOfMemory = ⊤
+IsRehearsal settings (Refused report) = RehearsedRefused settings report.items

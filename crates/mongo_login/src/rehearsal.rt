@@ -1,13 +1,11 @@
 //! One establishment over reply bytes in memory, and the report of it.
-ghost use Rattle.std.specs.Prelude.{◌≡◌, ◌++◌, ◌-◌, ℕ, List, Some, length, IfOk, IfErr, IsErrOf, OnOk};
+ghost use Rattle.std.specs.Prelude.{◌≡◌, ◌++◌, ◌-◌, ℕ, List, Some, length, IfOk, OnOk};
 ghost use Rattle.std.specs.List.{AllByRecursion, concat};
-ghost use Rattle.mongo_wire.specs.declared.error.ErrorKind.TheVariants.{NotBuilt as FrameNotBuilt};
 ghost use Rattle.mongo_wire.specs.Memory.{bytes_left, bytes_written};
 ghost use Rattle.mongo_command.specs.declared.stream_description.StreamDescription.{StreamDescription};
 ghost use Rattle.mongo_login.specs.Report.{CountsItself, sent_lines, read_line, accepted_lines, refused_lines};
-ghost use Rattle.mongo_login.specs.Rehearsal.{IsRehearsal, RehearsalRefused, IsAccepted, IsRefused, IsReported};
+ghost use Rattle.mongo_login.specs.Rehearsal.{IsRehearsal, IsAccepted, IsRefused, IsReported};
 ghost use Rattle.mongo_login.specs.Headline.{pending_to};
-ghost use Rattle.mongo_login.specs.declared.rehearsal.RehearsalError.TheVariants.{OutOfMemory};
 
 use crate::report::outcome::{push_accepted, push_refused};
 use crate::report::sent::{push_read, push_sent};
@@ -28,30 +26,12 @@ pub enum Rehearsal {
     Refused(Vec<u8>),
 }
 
-/// Why there is no report.
-#[derive(Clone, Copy, Debug, PartialEq, Eq)]
-pub enum RehearsalError {
-    /// The server's reply can't be read yet.
-    NotBuilt,
-    /// Memory ran out.
-    OutOfMemory,
-}
-
-impl From<AllocError> for RehearsalError {
-    ghost from_gives = { λ _ e. e ≡ OutOfMemory };
-
-    fn from(_error: AllocError) -> RehearsalError {
-        RehearsalError::OutOfMemory
-    }
-}
-
 /// Says hello to the reply bytes of the settings, and reports what was sent, what was taken, and how it ended.
-pub fn rehearse(alloc: Global, settings: Settings) -> Result<Rehearsal, RehearsalError>
+pub fn rehearse(alloc: Global, settings: Settings) -> Result<Rehearsal, AllocError>
     ensures rehearsed { IfOk result (IsRehearsal settings) }
-    ensures refused { IfErr result (RehearsalRefused settings) }
 {
     let Ok(establisher) = ConnectionEstablisher::with_defaults(alloc) else {
-        return Err(RehearsalError::OutOfMemory);
+        return Err(AllocError);
     };
     let Settings { host, replies } = settings;
     let total = replies.as_bytes().len();
@@ -91,14 +71,13 @@ fn accepted(
     link: &MemoryLink,
     total: usize,
     pooled: &PooledConnection,
-) -> Result<Rehearsal, RehearsalError>
+) -> Result<Rehearsal, AllocError>
     ensures report { IfOk result (λ r. (frames : List (List ℕ)) (description : StreamDescription) → AllByRecursion CountsItself frames → bytes_written link.now ≡ concat frames
         → pooled.now.connection.stream_description ≡ Some description
         → IsAccepted r (sent_lines frames ++ (read_line (total - length (bytes_left link.now)) ++ accepted_lines description pooled.now.generation pooled.now.connection.server_id))) }
-    ensures refused { IfErr result (λ e. e ≡ RehearsalError.OutOfMemory) }
 {
     let Some(description) = &pooled.connection.stream_description else {
-        return Err(RehearsalError::OutOfMemory);
+        return Err(AllocError);
     };
     let mut out = transcript(alloc, link, total)?;
     push_accepted(
@@ -116,16 +95,13 @@ fn refused(
     link: &MemoryLink,
     total: usize,
     refusal: &EstablishError,
-) -> Result<Rehearsal, RehearsalError>
+) -> Result<Rehearsal, AllocError>
     ensures report { IfOk result (λ r. (frames : List (List ℕ)) → AllByRecursion CountsItself frames → bytes_written link.now ≡ concat frames
         → IsRefused r (sent_lines frames ++ (read_line (total - length (bytes_left link.now)) ++ refused_lines refusal.now.handshake_phase refusal.now.cause.kind))) }
     ensures reported { OnOk result (IsReported refusal.now.cause.kind) }
-    ensures not_built { IsErrOf result RehearsalError.NotBuilt → refusal.now.cause.kind ≡ FrameNotBuilt }
 {
-    match refusal.cause.kind {
-        ErrorKind::NotBuilt => return Err(RehearsalError::NotBuilt),
-        ErrorKind::OutOfMemory => return Err(RehearsalError::OutOfMemory),
-        _ => {}
+    if matches!(refusal.cause.kind, ErrorKind::OutOfMemory) {
+        return Err(AllocError);
     }
     let mut out = transcript(alloc, link, total)?;
     push_refused(&mut out, &refusal.handshake_phase, &refusal.cause.kind)?;

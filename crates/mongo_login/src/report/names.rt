@@ -21,7 +21,6 @@ pub fn kind_name(kind: &ErrorKind) -> &'static str
         ErrorKind::EndOfInput => "EndOfInput",
         ErrorKind::Callback(_) => "Callback",
         ErrorKind::PasswordNotAscii => "PasswordNotAscii",
-        ErrorKind::NotBuilt => "NotBuilt",
         ErrorKind::OutOfMemory => "OutOfMemory",
     }
 }

@@ -88,6 +88,15 @@ fn absent_parts_of_a_description_are_dashes(rt: HostRuntime) -> Result<(), Fail>
 }
 
 #[test]
+fn no_mechanisms_are_told_from_absent_ones(rt: HostRuntime) -> Result<(), Fail> {
+    let mut out = Vec::new(rt.alloc());
+    push_mechanisms(&mut out, Some(&Texts::new(rt.alloc())))?;
+    push_mechanisms(&mut out, None)?;
+    assert_eq!(rt; out.as_slice(), b"mechs 0\nmechs -\n".as_slice());
+    Ok(())
+}
+
+#[test]
 fn given_parts_of_a_description_are_printed(rt: HostRuntime) -> Result<(), Fail> {
     let mut names = Texts::new(rt.alloc());
     for name in ["SCRAM-SHA-1", "SCRAM-SHA-256"] {

@@ -1,3 +1,5 @@
+mod vectors;
+
 use super::run_counted;
 use crate::status::Status;
 use mongo_bson::{BsonFault, Bytes};
@@ -38,8 +40,8 @@ fn status_of(
     run_counted::<_, _, Brand>(alloc, words, source, sink, Blank::new(1))
 }
 
-// How `rehearse` ends on this text, and whether it wrote anything.
-fn rehearsed(alloc: Global, text: &[u8]) -> Result<(Status, bool), Fail> {
+// How `rehearse` ends on this text, and what it wrote.
+fn run_on(alloc: Global, text: &[u8]) -> Result<(Status, Vec<u8>), Fail> {
     let mut source = link(alloc, text, &[])?;
     let mut sink = link(alloc, &[], &[])?;
     let status = status_of(
@@ -48,7 +50,7 @@ fn rehearsed(alloc: Global, text: &[u8]) -> Result<(Status, bool), Fail> {
         &mut source,
         &mut sink,
     );
-    Ok((status, sink.written().is_empty()))
+    Ok((status, Vec::from_slice(alloc, sink.written())?))
 }
 
 #[test]
@@ -72,9 +74,9 @@ fn settings_decide_how_it_ends(rt: HostRuntime) -> Result<(), Fail> {
             true,
         ),
     ] {
-        let (status, written_nothing) = rehearsed(alloc, text.as_bytes())?;
+        let (status, written) = run_on(alloc, text.as_bytes())?;
         assert_eq!(rt; status, want, "at {text}");
-        assert_eq!(rt; written_nothing, silent, "at {text}");
+        assert_eq!(rt; written.is_empty(), silent, "at {text}");
     }
     Ok(())
 }
@@ -86,9 +88,9 @@ fn blanks_to_the_limit_are_settings(rt: HostRuntime) -> Result<(), Fail> {
     for _ in text.len()..4_194_304 {
         text.push(b' ')?;
     }
-    assert_eq!(rt; rehearsed(alloc, text.as_slice())?.0, Status::Done);
+    assert_eq!(rt; run_on(alloc, text.as_slice())?.0, Status::Done);
     text.push(b' ')?;
-    assert_eq!(rt; rehearsed(alloc, text.as_slice())?.0, Status::BadSettings);
+    assert_eq!(rt; run_on(alloc, text.as_slice())?.0, Status::BadSettings);
     Ok(())
 }
 

@@ -1,25 +1,26 @@
-use Rattle.std.proofs.Common.{◌≡◌, ◌∙◌, ℕ, List, ap, refl, length, Option, Some, drop}
-use Rattle.mongo_login.proofs.Rehearsing.{accepted_rehearsal, refused_rehearsal, memory_alone, never_rose}
+use Rattle.std.proofs.Common.{◌≡◌, ◌∙◌, ap, refl, length, Some, drop}
+use Rattle.mongo_login.proofs.Rehearsing.{accepted_rehearsal, refused_rehearsal, never_rose}
 use Rattle.mongo_login.proofs.rehearsal.rehearse.Goals as goal
 
-pub returns-in-Ok-establish_connection-clause-rehearsed : goal.returns-in-Ok-establish_connection-clause-rehearsed
-returns-in-Ok-establish_connection-clause-rehearsed c =
+pub returns-in-Ok-establish_connection : goal.returns-in-Ok-establish_connection
+returns-in-Ok-establish_connection c =
     let link = c.new-link.ensures in
     let given : Some (drop c.new-link.result.at c.new-link.result.input.items) ≡ Some c.args.settings.replies = ap (λ n. Some (drop n c.new-link.result.input.items)) link.at ∙ ap Some link.input in
     let total : length c.as_bytes-total.result.now ≡ length c.args.settings.replies = ap length c.as_bytes-total.ensures in
-    accepted_rehearsal c.args.settings _ _ _ _ _ _ _ c.accepted.result
-    (rw (c.pending.ensures, c.new-ids.ensures) at c.in-Ok-establish_connection.ensures.established)
-    (c.in-Ok-establish_connection.ensures.hello c.args.settings.replies given)
-    (ap Some link.output) given refl refl total c.accepted.ensures.report
+    record {
+      rehearsed = accepted_rehearsal c.args.settings _ _ _ _ _ _ _ c.accepted.result
+          (rw (c.pending.ensures, c.new-ids.ensures) at c.in-Ok-establish_connection.ensures.established)
+          (c.in-Ok-establish_connection.ensures.hello c.args.settings.replies given)
+          (ap Some link.output) given refl refl total c.accepted.ensures.report;
+    }
 
-pub returns-in-Ok-establish_connection-clause-refused : goal.returns-in-Ok-establish_connection-clause-refused
-returns-in-Ok-establish_connection-clause-refused c = memory_alone c.args.settings c.accepted.result c.accepted.ensures.refused
-
-pub returns-clause-rehearsed : goal.returns-clause-rehearsed
-returns-clause-rehearsed c =
+pub returns : goal.returns
+returns c =
     let link = c.new-link.ensures in
     let given : Some (drop c.new-link.result.at c.new-link.result.input.items) ≡ Some c.args.settings.replies = ap (λ n. Some (drop n c.new-link.result.input.items)) link.at ∙ ap Some link.input in
     let total : length c.as_bytes-total.result.now ≡ length c.args.settings.replies = ap length c.as_bytes-total.ensures in
-    refused_rehearsal c.in-Err.refusal.cause.kind c.args.settings _ _ _ c.in-Err.refusal.handshake_phase _ _ _ c.refused.result
-    (rw c.new-ids.ensures at c.in-Err.ensures.refused) c.refused.ensures.reported (rw c.pending.ensures at c.in-Err.ensures.phase)
-    (ap Some link.output) given refl refl total never_rose never_rose c.refused.ensures.report
+    record {
+      rehearsed = refused_rehearsal c.in-Err.refusal.cause.kind c.args.settings _ _ _ c.in-Err.refusal.handshake_phase _ _ _ c.refused.result
+          (rw c.new-ids.ensures at c.in-Err.ensures.refused) c.refused.ensures.reported (rw c.pending.ensures at c.in-Err.ensures.phase)
+          (ap Some link.output) given refl refl total never_rose never_rose c.refused.ensures.report;
+    }
