@@ -1,29 +1,106 @@
 -- The words ask for one task at most.
-use Rattle.std.proofs.Common.{◌≡◌, ◌<◌, ◌^◌, ℕ, List, [], ◌∷◌, ap, sym, ◌∙◌, arith}
+use Rattle.std.proofs.Common.{◌≡◌, ◌<◌, ◌^◌, ℕ, List, [], ◌∷◌, refl, ap, sym, ◌∙◌, arith}
 use Rattle.std.specs.Prelude.{codes}
 use Rattle.std.specs.Fmt.{decimal}
 use Rattle.std.proofs.lemmas.Fmt.{decimal_injective}
+use Rattle.mongo_bench.specs.declared.task.Hash.{Hash}
+use Rattle.mongo_bench.specs.declared.task.Hash.TheVariants.{Sha1, Sha256}
+use Rattle.mongo_bench.specs.declared.task.Pass.{Pass}
+use Rattle.mongo_bench.specs.declared.task.Pass.TheVariants.{Iterate, Readable}
+use Rattle.mongo_bench.specs.declared.task.Shape.{Shape}
+use Rattle.mongo_bench.specs.declared.task.Shape.TheVariants.{Nested, Flat}
+use Rattle.mongo_bench.specs.declared.task.Direction.{Direction}
+use Rattle.mongo_bench.specs.declared.task.Direction.TheVariants.{Write, Read}
+use Rattle.mongo_bench.specs.declared.task.FrameSize.{FrameSize}
+use Rattle.mongo_bench.specs.declared.task.FrameSize.TheVariants.{Small, Middle, Large}
 use Rattle.mongo_bench.specs.declared.task.Task.{Task}
-use Rattle.mongo_bench.specs.declared.task.Task.TheVariants.{HiSha1, HiSha256}
-use Rattle.mongo_bench.specs.Task.{Asks}
+use Rattle.mongo_bench.specs.declared.task.Task.TheVariants.{Derive, Walk, Document, Frames}
+use Rattle.mongo_bench.specs.Task.{Asks, name_of_hash, name_of_pass, name_of_shape, name_of_direction, name_of_size}
 
-same_texts : (words : List (List ℕ)) (m n s t : List ℕ) →
-    words ≡ m ∷ s ∷ [] → words ≡ n ∷ t ∷ [] → (m ≡ n) × (s ≡ t)
-same_texts words m n s t left right =
-    let same : m ∷ s ∷ [] ≡ n ∷ t ∷ [] = sym left ∙ right in ((cc), (cc))
+one_hash : (h k : Hash) → name_of_hash h ≡ name_of_hash k → h ≡ k
+one_hash Sha1 Sha1 same = refl
+one_hash Sha1 Sha256 same = cc
+one_hash Sha256 Sha1 same = cc
+one_hash Sha256 Sha256 same = refl
 
-same_count : (words : List (List ℕ)) (name : List ℕ) (m n : ℕ) → m < 2 ^ 32 → n < 2 ^ 32 →
-    words ≡ name ∷ decimal m ∷ [] → words ≡ name ∷ decimal n ∷ [] → m ≡ n
-same_count words name m n m_fits n_fits left right =
-    decimal_injective m n (omega arith) (omega arith)
-    (same_texts words name name (decimal m) (decimal n) left right).1
+one_pass : (p q : Pass) → name_of_pass p ≡ name_of_pass q → p ≡ q
+one_pass Iterate Iterate same = refl
+one_pass Iterate Readable same = cc
+one_pass Readable Iterate same = cc
+one_pass Readable Readable same = refl
+
+one_shape : (s t : Shape) → name_of_shape s ≡ name_of_shape t → s ≡ t
+one_shape Nested Nested same = refl
+one_shape Nested Flat same = cc
+one_shape Flat Nested same = cc
+one_shape Flat Flat same = refl
+
+one_direction : (d e : Direction) → name_of_direction d ≡ name_of_direction e → d ≡ e
+one_direction Write Write same = refl
+one_direction Write Read same = cc
+one_direction Read Write same = cc
+one_direction Read Read same = refl
+
+one_size : (s t : FrameSize) → name_of_size s ≡ name_of_size t → s ≡ t
+one_size Small Small same = refl
+one_size Small Middle same = cc
+one_size Small Large same = cc
+one_size Middle Small same = cc
+one_size Middle Middle same = refl
+one_size Middle Large same = cc
+one_size Large Small same = cc
+one_size Large Middle same = cc
+one_size Large Large same = refl
+
+-- no hash is called as the task that prints a document
+pub no_hash : (h : Hash) → name_of_hash h ≡ codes "document" → ⊥
+no_hash Sha1 same = cc
+no_hash Sha256 same = cc
+
+pub two_same : (a b c d : List ℕ) → a ∷ b ∷ [] ≡ c ∷ d ∷ [] → (a ≡ c) × (b ≡ d)
+two_same a b c d same = ((cc), (cc))
+
+pub three_same : (a b c d e f : List ℕ) → a ∷ b ∷ c ∷ [] ≡ d ∷ e ∷ f ∷ [] → (a ≡ d) × (b ≡ e) × (c ≡ f)
+three_same a b c d e f same = ((cc), (cc), (cc))
+
+pub not_two : {P : Type 0} (a b c d e : List ℕ) → a ∷ b ∷ [] ≡ c ∷ d ∷ e ∷ [] → P
+not_two a b c d e same = cc
+
+four_same : (a b c d e f g h : List ℕ) → a ∷ b ∷ c ∷ d ∷ [] ≡ e ∷ f ∷ g ∷ h ∷ [] → (b ≡ f) × (c ≡ g) × (d ≡ h)
+four_same a b c d e f g h same = ((cc), (cc), (cc))
+
+pub two_not_four : {P : Type 0} (a b c d e f : List ℕ) → a ∷ b ∷ [] ≡ c ∷ d ∷ e ∷ f ∷ [] → P
+two_not_four a b c d e f same = cc
+
+pub three_not_four : {P : Type 0} (a b c d e f g : List ℕ) → a ∷ b ∷ c ∷ [] ≡ d ∷ e ∷ f ∷ g ∷ [] → P
+three_not_four a b c d e f g same = cc
+
+same_count : (m n : ℕ) → m < 2 ^ 32 → n < 2 ^ 32 → decimal m ≡ decimal n → m ≡ n
+same_count m n m_fits n_fits same = decimal_injective m n (omega arith) (omega arith) same
 
 pub one_task : (words : List (List ℕ)) (t u : Task) → Asks words t → Asks words u → t ≡ u
-one_task words (HiSha1 m) (HiSha1 n) t u =
-    ap HiSha1 (same_count words (codes "hi-sha1") m n t.2 u.2 t.0 u.0)
-one_task words (HiSha1 m) (HiSha256 n) t u =
-    let names = (same_texts words (codes "hi-sha1") (codes "hi-sha256") _ _ t.0 u.0).0 in cc
-one_task words (HiSha256 m) (HiSha1 n) t u =
-    let names = (same_texts words (codes "hi-sha256") (codes "hi-sha1") _ _ t.0 u.0).0 in cc
-one_task words (HiSha256 m) (HiSha256 n) t u =
-    ap HiSha256 (same_count words (codes "hi-sha256") m n t.2 u.2 t.0 u.0)
+one_task words (Derive h m) (Derive k n) t u =
+    let both = two_same (name_of_hash h) (decimal m) (name_of_hash k) (decimal n) (sym t.0 ∙ u.0) in
+    ap (λ x. Derive x m) (one_hash h k both.0) ∙ ap (Derive k) (same_count m n t.2 u.2 both.1)
+one_task words (Derive h m) (Walk p s n) t u = not_two (name_of_hash h) (decimal m) (name_of_pass p) (name_of_shape s) (decimal n) (sym t.0 ∙ u.0)
+one_task words (Derive h m) (Document s) t u =
+    absurd (no_hash h (two_same (name_of_hash h) (decimal m) (codes "document") (name_of_shape s) (sym t.0 ∙ u.0)).0)
+one_task words (Walk p s n) (Derive h m) t u = not_two (name_of_hash h) (decimal m) (name_of_pass p) (name_of_shape s) (decimal n) (sym u.0 ∙ t.0)
+one_task words (Walk p s m) (Walk q r n) t u =
+    let all = three_same (name_of_pass p) (name_of_shape s) (decimal m) (name_of_pass q) (name_of_shape r) (decimal n) (sym t.0 ∙ u.0) in
+    ap (λ x. Walk x s m) (one_pass p q all.0) ∙ ap (λ x. Walk q x m) (one_shape s r all.1) ∙ ap (Walk q r) (same_count m n t.2 u.2 all.2)
+one_task words (Walk p s n) (Document r) t u = not_two (codes "document") (name_of_shape r) (name_of_pass p) (name_of_shape s) (decimal n) (sym u.0 ∙ t.0)
+one_task words (Document s) (Derive h m) t u =
+    absurd (no_hash h (two_same (name_of_hash h) (decimal m) (codes "document") (name_of_shape s) (sym u.0 ∙ t.0)).0)
+one_task words (Document r) (Walk p s n) t u = not_two (codes "document") (name_of_shape r) (name_of_pass p) (name_of_shape s) (decimal n) (sym t.0 ∙ u.0)
+one_task words (Document s) (Document r) t u =
+    ap Document (one_shape s r (two_same (codes "document") (name_of_shape s) (codes "document") (name_of_shape r) (sym t.0 ∙ u.0)).1)
+one_task words (Frames d s n) (Frames e r m) t u =
+    let all = four_same (codes "frames") (name_of_direction d) (name_of_size s) (decimal n) (codes "frames") (name_of_direction e) (name_of_size r) (decimal m) (sym t.0 ∙ u.0) in
+    ap (λ x. Frames x s n) (one_direction d e all.0) ∙ ap (λ x. Frames e x n) (one_size s r all.1) ∙ ap (Frames e r) (same_count n m t.2 u.2 all.2)
+one_task words (Frames d s n) (Derive h m) t u = two_not_four (name_of_hash h) (decimal m) (codes "frames") (name_of_direction d) (name_of_size s) (decimal n) (sym u.0 ∙ t.0)
+one_task words (Frames d s n) (Document r) t u = two_not_four (codes "document") (name_of_shape r) (codes "frames") (name_of_direction d) (name_of_size s) (decimal n) (sym u.0 ∙ t.0)
+one_task words (Frames d s n) (Walk p r m) t u = three_not_four (name_of_pass p) (name_of_shape r) (decimal m) (codes "frames") (name_of_direction d) (name_of_size s) (decimal n) (sym u.0 ∙ t.0)
+one_task words (Derive h m) (Frames d s n) t u = two_not_four (name_of_hash h) (decimal m) (codes "frames") (name_of_direction d) (name_of_size s) (decimal n) (sym t.0 ∙ u.0)
+one_task words (Document r) (Frames d s n) t u = two_not_four (codes "document") (name_of_shape r) (codes "frames") (name_of_direction d) (name_of_size s) (decimal n) (sym t.0 ∙ u.0)
+one_task words (Walk p r m) (Frames d s n) t u = three_not_four (name_of_pass p) (name_of_shape r) (decimal m) (codes "frames") (name_of_direction d) (name_of_size s) (decimal n) (sym t.0 ∙ u.0)

@@ -1,11 +1,23 @@
--- The tasks of the benchmark: the words that ask for each, and the line that it prints.
-use Rattle.std.specs.Prelude.{◌≡◌, ◌≤◌, ◌<◌, ◌^◌, ℕ, List, [], ◌∷◌, ◌++◌, codes}
+-- The tasks of the benchmark: the words that ask for each, and what it prints.
+use Rattle.std.specs.Prelude.{◌≡◌, ◌≤◌, ◌<◌, ◌^◌, ◌⊎◌, ℕ, List, [], ◌∷◌, ◌++◌, codes, Option}
 use Rattle.std.specs.Fmt.{decimal}
+use Rattle.std.specs.Io.KnownBytes.{Appends}
 use Rattle.hex.specs.Hex.{encode_lower}
+use Rattle.mongo_bson.specs.Framed.{IsFramed}
 use Rattle.mongo_mac.specs.Digests.{sha1, sha256}
 use Rattle.mongo_mac.specs.Hi.{hi_of}
+use Rattle.mongo_bench.specs.declared.task.Hash.{Hash}
+use Rattle.mongo_bench.specs.declared.task.Hash.TheVariants.{Sha1, Sha256}
+use Rattle.mongo_bench.specs.declared.task.Pass.{Pass}
+use Rattle.mongo_bench.specs.declared.task.Pass.TheVariants.{Iterate, Readable}
+use Rattle.mongo_bench.specs.declared.task.Shape.{Shape}
+use Rattle.mongo_bench.specs.declared.task.Shape.TheVariants.{Nested, Flat}
+use Rattle.mongo_bench.specs.declared.task.Direction.{Direction}
+use Rattle.mongo_bench.specs.declared.task.Direction.TheVariants.{Write, Read}
+use Rattle.mongo_bench.specs.declared.task.FrameSize.{FrameSize}
+use Rattle.mongo_bench.specs.declared.task.FrameSize.TheVariants.{Small, Middle, Large}
 use Rattle.mongo_bench.specs.declared.task.Task.{Task}
-use Rattle.mongo_bench.specs.declared.task.Task.TheVariants.{HiSha1, HiSha256}
+use Rattle.mongo_bench.specs.declared.task.Task.TheVariants.{Derive, Walk, Document, Frames}
 
 -- the password and the salt of each derivation, those of RFC 5802, section 5
 abbrev pub password : List ℕ
@@ -19,31 +31,77 @@ salt = 0x41 ∷ 0x25 ∷ 0xC2 ∷ 0x47 ∷ 0xE4 ∷ 0x3A ∷ 0xB1 ∷ 0xE9 ∷ 0
 abbrev pub IsCount : List ℕ → ℕ → Type 0
 IsCount text count = (1 ≤ count) × (count < 2 ^ 32) × (text ≡ decimal count)
 
--- the steps that a task takes
+-- the words for a hash, a pass and a shape
+abbrev pub name_of_hash : Hash → List ℕ
+name_of_hash Sha1 = codes "hi-sha1"
+name_of_hash Sha256 = codes "hi-sha256"
+
+abbrev pub name_of_pass : Pass → List ℕ
+name_of_pass Iterate = codes "iterate"
+name_of_pass Readable = codes "readable"
+
+abbrev pub name_of_shape : Shape → List ℕ
+name_of_shape Nested = codes "nested"
+name_of_shape Flat = codes "flat"
+
+-- the bytes of a frame, and the words for frames
+abbrev pub bytes_of : FrameSize → ℕ
+bytes_of Small = 100
+bytes_of Middle = 10000
+bytes_of Large = 16777216
+
+abbrev pub name_of_direction : Direction → List ℕ
+name_of_direction Write = codes "write"
+name_of_direction Read = codes "read"
+
+abbrev pub name_of_size : FrameSize → List ℕ
+name_of_size Small = codes "100"
+name_of_size Middle = codes "10000"
+name_of_size Large = codes "16777216"
+
+-- how often a task does what it does
 abbrev pub count_of : Task → ℕ
-count_of (HiSha1 count) = count
-count_of (HiSha256 count) = count
+count_of (Derive hash count) = count
+count_of (Walk pass shape count) = count
+count_of (Document shape) = 1
+count_of (Frames direction size count) = count
 
--- the name of a task
-abbrev pub name_of : Task → List ℕ
-name_of (HiSha1 count) = codes "hi-sha1"
-name_of (HiSha256 count) = codes "hi-sha256"
+-- the words that ask for a task
+abbrev pub words_of : Task → List (List ℕ)
+words_of (Derive hash count) = name_of_hash hash ∷ decimal count ∷ []
+words_of (Walk pass shape count) = name_of_pass pass ∷ name_of_shape shape ∷ decimal count ∷ []
+words_of (Document shape) = codes "document" ∷ name_of_shape shape ∷ []
+words_of (Frames direction size count) = codes "frames" ∷ name_of_direction direction ∷ name_of_size size ∷ decimal count ∷ []
 
--- the words ask for this task: its name, and its count in such a text
 abbrev pub Asks : List (List ℕ) → Task → Type 0
-Asks words task =
-    (words ≡ name_of task ∷ decimal (count_of task) ∷ [])
-    × (1 ≤ count_of task) × (count_of task < 2 ^ 32)
+Asks words task = (words ≡ words_of task) × (1 ≤ count_of task) × (count_of task < 2 ^ 32)
 
 -- the words ask for no task
 abbrev pub AsksNothing : List (List ℕ) → Type 0
 AsksNothing words = (task : Task) → ¬ (Asks words task)
 
--- the bytes that a task derives
-abbrev pub derived_by : Task → List ℕ
-derived_by (HiSha1 count) = hi_of sha1 password salt count
-derived_by (HiSha256 count) = hi_of sha256 password salt count
+-- the steps that a task counts: those of a derivation
+abbrev pub steps_of : Task → ℕ
+steps_of (Derive hash count) = count
+steps_of other = 0
 
--- the line that a task prints: the hex of those bytes
-abbrev pub line_of : Task → List ℕ
-line_of task = encode_lower (derived_by task) ++ codes "\n"
+-- the bytes that a derivation gives
+abbrev pub derived_by : Hash → ℕ → List ℕ
+derived_by Sha1 count = hi_of sha1 password salt count
+derived_by Sha256 count = hi_of sha256 password salt count
+
+-- the line that a derivation prints: the hex of those bytes
+abbrev pub line_of : Hash → ℕ → List ℕ
+line_of hash count = encode_lower (derived_by hash count) ++ codes "\n"
+
+-- what a task prints: a derivation its line, a walk a number or a word, a document its bytes, and frames a number
+abbrev pub Prints : Task → List ℕ → Type 0
+Prints (Derive hash count) text = text ≡ line_of hash count
+Prints (Walk Iterate shape count) text = (elements : ℕ) × (text ≡ decimal elements ++ codes "\n")
+Prints (Walk Readable shape count) text = (text ≡ codes "readable\n") ⊎ (text ≡ codes "not readable\n")
+Prints (Document shape) text = IsFramed text
+Prints (Frames direction size count) text = (length : ℕ) × (text ≡ decimal length ++ codes "\n")
+
+-- what was written grew by what the task prints
+abbrev pub Printed : Task → Option (List ℕ) → Option (List ℕ) → Type 0
+Printed task old new = (text : List ℕ) × Prints task text × Appends old new text

@@ -2,10 +2,13 @@ ghost use Rattle.std.specs.Prelude.{◌≡◌, ◌≢◌, ◌<◌, ◌≤◌, �
 ghost use Rattle.hex.specs.Hex.{encode_lower};
 ghost use Rattle.std.specs.Io.KnownBytes.{Appends};
 ghost use Rattle.mongo_bench.specs.Status.{code_of};
-ghost use Rattle.mongo_bench.specs.Task.{Asks, AsksNothing, count_of, derived_by, line_of};
+ghost use Rattle.mongo_bench.specs.Task.{Asks, AsksNothing, Printed, steps_of, derived_by};
 
-use crate::task::{PASSWORD, SALT, Task, task_of};
+use crate::frames::run_frames;
+use crate::task::{Hash, PASSWORD, SALT, Task, task_of};
+use crate::walking::{run_document, run_walk};
 use mongo_mac::{Sha1Fn, Sha256Fn, Steps, Tag, hi};
+use std::alloc::Global;
 use std::io;
 use std::io::Write;
 use std::sync::ledger::{Blank, Ledger};
@@ -21,6 +24,8 @@ pub enum Status {
     SinkFault,
     /// The words could not be had from the system.
     NoWords,
+    /// Memory ran out.
+    NoMemory,
 }
 
 impl Status {
@@ -33,17 +38,23 @@ impl Status {
             Status::Usage => 3,
             Status::SinkFault => 5,
             Status::NoWords => 6,
+            Status::NoMemory => 6,
         }
     }
 }
 
-/// Runs the task that `words` ask for, and writes its line to `out`. Where the writer fails, it may
-/// have taken a part of the line.
-pub fn run<W: Write, G: Ledger>(words: &[String], out: &mut W, steps: &mut Steps<G>) -> Status
+/// Runs the task that `words` ask for, and writes what it prints to `out`. Where the writer fails, it may
+/// have taken a part of it.
+pub fn run<W: Write, G: Ledger>(
+    alloc: Global,
+    words: &[String],
+    out: &mut W,
+    steps: &mut Steps<G>,
+) -> Status
     ensures done { (task : Task) → Asks (map string_bytes words.now) task → result ≡ Status.Done →
-        Appends (W.contents out.old) (W.contents out.new) (line_of task) }
+        Printed task (W.contents out.old) (W.contents out.new) }
     ensures cost { (task : Task) → Asks (map string_bytes words.now) task →
-        steps.new ≡ steps.old + count_of task }
+        steps.new ≡ steps.old + steps_of task }
     ensures usage { (result ≡ Status.Usage) ↔ AsksNothing (map string_bytes words.now) }
     ensures usage_does_nothing { result ≡ Status.Usage →
         (out.new ≡ out.old) × (steps.new ≡ steps.old) }
@@ -52,37 +63,62 @@ pub fn run<W: Write, G: Ledger>(words: &[String], out: &mut W, steps: &mut Steps
     let Some(task) = task_of(words) else {
         return Status::Usage;
     };
-    let tag = derive(task, steps);
+    match task {
+        Task::Derive(hash, count) => run_derivation(hash, count, out, steps),
+        Task::Walk(pass, shape, count) => run_walk(alloc, pass, shape, count, out),
+        Task::Document(shape) => run_document(alloc, shape, out),
+        Task::Frames(direction, size, count) => run_frames(alloc, direction, size, count, out),
+    }
+}
+
+/// `run` with a counter of its own, of the ledger that `blank` opens.
+pub fn run_counted<W: Write, G: Ledger>(
+    alloc: Global,
+    words: &[String],
+    out: &mut W,
+    blank: Blank,
+) -> Status
+    requires name { blank.name ≡ G.name }
+    requires parts { blank.parts ≡ G.parts }
+    requires has_a_part { 0 < G.parts }
+    ensures done { (task : Task) → Asks (map string_bytes words.now) task → result ≡ Status.Done →
+        Printed task (W.contents out.old) (W.contents out.new) }
+    ensures usage { (result ≡ Status.Usage) ↔ AsksNothing (map string_bytes words.now) }
+    ensures usage_writes_nothing { result ≡ Status.Usage → out.new ≡ out.old }
+    ensures had_words { result ≢ Status.NoWords }
+{
+    let mut steps = Steps::<G>::new(blank);
+    run(alloc, words, out, &mut steps)
+}
+
+/// Derives, and writes the line.
+fn run_derivation<W: Write, G: Ledger>(
+    hash: Hash,
+    count: u32,
+    out: &mut W,
+    steps: &mut Steps<G>,
+) -> Status
+    requires { 1 ≤ count }
+    ensures done { result ≡ Status.Done → Printed (Task.Derive hash count) (W.contents out.old) (W.contents out.new) }
+    ensures cost { steps.new ≡ steps.old + count }
+    ensures ran { (result ≢ Status.Usage) × (result ≢ Status.NoWords) }
+{
+    let tag = derive(hash, count, steps);
     match write_line(&tag, out) {
         Ok(()) => Status::Done,
         Err(_) => Status::SinkFault,
     }
 }
 
-/// `run` with a counter of its own, of the ledger that `blank` opens.
-pub fn run_counted<W: Write, G: Ledger>(words: &[String], out: &mut W, blank: Blank) -> Status
-    requires name { blank.name ≡ G.name }
-    requires parts { blank.parts ≡ G.parts }
-    requires has_a_part { 0 < G.parts }
-    ensures done { (task : Task) → Asks (map string_bytes words.now) task → result ≡ Status.Done →
-        Appends (W.contents out.old) (W.contents out.new) (line_of task) }
-    ensures usage { (result ≡ Status.Usage) ↔ AsksNothing (map string_bytes words.now) }
-    ensures usage_writes_nothing { result ≡ Status.Usage → out.new ≡ out.old }
-    ensures had_words { result ≢ Status.NoWords }
+/// The bytes that a derivation gives.
+fn derive<G: Ledger>(hash: Hash, count: u32, steps: &mut Steps<G>) -> Tag
+    requires { 1 ≤ count }
+    ensures value { result ≡ derived_by hash count }
+    ensures cost { steps.new ≡ steps.old + count }
 {
-    let mut steps = Steps::<G>::new(blank);
-    run(words, out, &mut steps)
-}
-
-/// The bytes that the task derives.
-fn derive<G: Ledger>(task: Task, steps: &mut Steps<G>) -> Tag
-    requires { 1 ≤ count_of task }
-    ensures value { result ≡ derived_by task }
-    ensures cost { steps.new ≡ steps.old + count_of task }
-{
-    match task {
-        Task::HiSha1(count) => hi::<Sha1Fn, G>(PASSWORD, &SALT, count, steps),
-        Task::HiSha256(count) => hi::<Sha256Fn, G>(PASSWORD, &SALT, count, steps),
+    match hash {
+        Hash::Sha1 => hi::<Sha1Fn, G>(PASSWORD, &SALT, count, steps),
+        Hash::Sha256 => hi::<Sha256Fn, G>(PASSWORD, &SALT, count, steps),
     }
 }
 

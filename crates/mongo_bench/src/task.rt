@@ -1,5 +1,5 @@
-ghost use Rattle.std.specs.Prelude.{◌≡◌, ℕ, MatchOption, map, slice_index, string_bytes};
-ghost use Rattle.mongo_bench.specs.Task.{Asks, AsksNothing, IsCount};
+ghost use Rattle.std.specs.Prelude.{◌≡◌, ◌≢◌, ◌∷◌, [], ℕ, MatchOption, map, slice_index, string_bytes};
+ghost use Rattle.mongo_bench.specs.Task.{Asks, AsksNothing, IsCount, bytes_of, name_of_direction, name_of_hash, name_of_pass, name_of_shape, name_of_size};
 
 /// The password of each derivation (RFC 5802, section 5).
 pub const PASSWORD: &[u8] = b"pencil";
@@ -9,28 +9,183 @@ pub const SALT: [u8; 12] = [
     0x41, 0x25, 0xC2, 0x47, 0xE4, 0x3A, 0xB1, 0xE9, 0x3C, 0x6D, 0xFF, 0x76,
 ];
 
+/// The hash of a derivation.
+#[derive(Clone, Copy, PartialEq, Eq, Debug)]
+pub enum Hash {
+    /// SHA-1.
+    Sha1,
+    /// SHA-256.
+    Sha256,
+}
+
+/// What is done with a document.
+#[derive(Clone, Copy, PartialEq, Eq, Debug)]
+pub enum Pass {
+    /// The elements of all levels are iterated over and counted.
+    Iterate,
+    /// It is judged readable or not.
+    Readable,
+}
+
+/// A document that is made for a walk.
+#[derive(Clone, Copy, PartialEq, Eq, Debug)]
+pub enum Shape {
+    /// Documents and arrays in one another, with values of many kinds.
+    Nested,
+    /// Small elements, all of one level.
+    Flat,
+}
+
+/// What is done with frames.
+#[derive(Clone, Copy, PartialEq, Eq, Debug)]
+pub enum Direction {
+    /// They are written.
+    Write,
+    /// They are read.
+    Read,
+}
+
+/// How long the frames are.
+#[derive(Clone, Copy, PartialEq, Eq, Debug)]
+pub enum FrameSize {
+    /// 100 bytes.
+    Small,
+    /// 10000 bytes.
+    Middle,
+    /// 16777216 bytes.
+    Large,
+}
+
+impl FrameSize {
+    /// The bytes of a frame.
+    pub fn bytes(self) -> usize
+        ensures { result ≡ bytes_of self }
+    {
+        match self {
+            FrameSize::Small => 100,
+            FrameSize::Middle => 10_000,
+            FrameSize::Large => 16_777_216,
+        }
+    }
+}
+
 /// What the program is asked to do.
 #[derive(Clone, Copy, PartialEq, Eq, Debug)]
 pub enum Task {
-    /// Hi over SHA-1, with this many steps.
-    HiSha1(u32),
-    /// Hi over SHA-256, with this many steps.
-    HiSha256(u32),
+    /// Hi with this many steps.
+    Derive(Hash, u32),
+    /// So many passes over a document.
+    Walk(Pass, Shape, u32),
+    /// The bytes of a document.
+    Document(Shape),
+    /// So many frames of a size, written or read.
+    Frames(Direction, FrameSize, u32),
 }
 
-/// The task that `words` ask for: its name, and a count from 1 to 2^32 - 1 in decimal digits with
-/// no sign and no leading zero.
+/// The task that `words` ask for: its name, the shape of its document or the direction and size of its frames where it
+/// has them, and a count from 1 to
+/// 2^32 - 1 in decimal digits with no sign and no leading zero where it has one.
 pub fn task_of(words: &[String]) -> Option<Task>
     ensures { let texts = map string_bytes words.now in
         MatchOption result (AsksNothing texts) (Asks texts) }
 {
-    let [name, count] = words else {
+    match words {
+        [name, word] => task_of_two(name.as_str(), word.as_str()),
+        [name, shape, count] => walk_of(name.as_str(), shape.as_str(), count.as_str()),
+        [name, direction, size, count] => frames_of(
+            name.as_str(),
+            direction.as_str(),
+            size.as_str(),
+            count.as_str(),
+        ),
+        _ => None,
+    }
+}
+
+// The task of two words: a derivation, or a document's bytes.
+fn task_of_two(name: &str, word: &str) -> Option<Task>
+    ensures { MatchOption result (AsksNothing (name.now ∷ word.now ∷ [])) (Asks (name.now ∷ word.now ∷ [])) }
+{
+    if name == "document" {
+        return Some(Task::Document(shape_of(word)?));
+    }
+    let hash = hash_of(name)?;
+    Some(Task::Derive(hash, count_of(word)?))
+}
+
+// The task of three words: passes over a document.
+fn walk_of(name: &str, shape: &str, count: &str) -> Option<Task>
+    ensures { MatchOption result (AsksNothing (name.now ∷ shape.now ∷ count.now ∷ [])) (Asks (name.now ∷ shape.now ∷ count.now ∷ [])) }
+{
+    let pass = pass_of(name)?;
+    let shape = shape_of(shape)?;
+    Some(Task::Walk(pass, shape, count_of(count)?))
+}
+
+// The task of four words: frames.
+fn frames_of(name: &str, direction: &str, size: &str, count: &str) -> Option<Task>
+    ensures { MatchOption result (AsksNothing (name.now ∷ direction.now ∷ size.now ∷ count.now ∷ [])) (Asks (name.now ∷ direction.now ∷ size.now ∷ count.now ∷ [])) }
+{
+    if name != "frames" {
         return None;
-    };
-    let count = count_of(count.as_str())?;
-    match name.as_str() {
-        "hi-sha1" => Some(Task::HiSha1(count)),
-        "hi-sha256" => Some(Task::HiSha256(count)),
+    }
+    let direction = direction_of(direction)?;
+    let size = size_of(size)?;
+    Some(Task::Frames(direction, size, count_of(count)?))
+}
+
+// The hash of that name.
+fn hash_of(name: &str) -> Option<Hash>
+    ensures { MatchOption result ((hash : Hash) → name.now ≢ name_of_hash hash) (λ hash. name.now ≡ name_of_hash hash) }
+{
+    match name {
+        "hi-sha1" => Some(Hash::Sha1),
+        "hi-sha256" => Some(Hash::Sha256),
+        _ => None,
+    }
+}
+
+// The pass of that name.
+fn pass_of(name: &str) -> Option<Pass>
+    ensures { MatchOption result ((pass : Pass) → name.now ≢ name_of_pass pass) (λ pass. name.now ≡ name_of_pass pass) }
+{
+    match name {
+        "iterate" => Some(Pass::Iterate),
+        "readable" => Some(Pass::Readable),
+        _ => None,
+    }
+}
+
+// The shape of that name.
+fn shape_of(name: &str) -> Option<Shape>
+    ensures { MatchOption result ((shape : Shape) → name.now ≢ name_of_shape shape) (λ shape. name.now ≡ name_of_shape shape) }
+{
+    match name {
+        "nested" => Some(Shape::Nested),
+        "flat" => Some(Shape::Flat),
+        _ => None,
+    }
+}
+
+// The direction of that name.
+fn direction_of(name: &str) -> Option<Direction>
+    ensures { MatchOption result ((direction : Direction) → name.now ≢ name_of_direction direction) (λ direction. name.now ≡ name_of_direction direction) }
+{
+    match name {
+        "write" => Some(Direction::Write),
+        "read" => Some(Direction::Read),
+        _ => None,
+    }
+}
+
+// The size of that name.
+fn size_of(name: &str) -> Option<FrameSize>
+    ensures { MatchOption result ((size : FrameSize) → name.now ≢ name_of_size size) (λ size. name.now ≡ name_of_size size) }
+{
+    match name {
+        "100" => Some(FrameSize::Small),
+        "10000" => Some(FrameSize::Middle),
+        "16777216" => Some(FrameSize::Large),
         _ => None,
     }
 }

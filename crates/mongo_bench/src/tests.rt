@@ -4,50 +4,102 @@ use std::marker::Brand;
 use std::sync::ledger::Blank;
 use std::test::Fail;
 
-// SHA-1: the salted password of the exchange in RFC 5802, section 5. SHA-256: Python's `hashlib`.
-const LINES: [(&str, &str); 2] = [
-    ("hi-sha1", "1d96ee3a529b5a5f9e47c01f229a2cb8a6e15f7d\n"),
+// SHA-1: the salted password of the exchange in RFC 5802, section 5. SHA-256: Python's `hashlib`. The numbers of
+// elements are sums over the rules by which the documents are made: a leaf has 11; what stands around a document of n
+// has 4 + n + 4 + 4 * n; 644 such of four levels have 644 * (1 + 1623).
+const LINES: [(&[&str], &str); 11] = [
     (
-        "hi-sha256",
+        &["hi-sha1", "4096"],
+        "1d96ee3a529b5a5f9e47c01f229a2cb8a6e15f7d\n",
+    ),
+    (
+        &["hi-sha256", "4096"],
         "a97517ae572f9dac71586d340dd460562a11da09d4a6e5f9afedc4675add8556\n",
     ),
+    (&["iterate", "nested", "1"], "1045856\n"),
+    (&["iterate", "flat", "1"], "1233677\n"),
+    (&["iterate", "flat", "2"], "1233677\n"),
+    (&["readable", "nested", "1"], "readable\n"),
+    (&["readable", "flat", "1"], "readable\n"),
+    (&["frames", "write", "100", "2"], "100\n"),
+    (&["frames", "read", "100", "2"], "100\n"),
+    (&["frames", "write", "10000", "2"], "10000\n"),
+    (&["frames", "read", "10000", "3"], "10000\n"),
 ];
 
 #[test]
-fn lines_of_both_hashes(rt: HostRuntime) -> Result<(), Fail> {
-    for (name, line) in LINES {
-        let words = words_of(rt.alloc(), name, "4096")?;
+fn each_task_prints_its_line(rt: HostRuntime) -> Result<(), Fail> {
+    for (words, line) in LINES {
+        let words = words_of(rt.alloc(), words)?;
         let mut out = Vec::new(rt.alloc());
-        let status = run_counted::<_, Brand>(&words, &mut out, Blank::new(1));
+        let status = run_counted::<_, Brand>(rt.alloc(), &words, &mut out, Blank::new(1));
         assert_eq!(rt; status, Status::Done);
         assert_eq!(rt; out.as_slice(), line.as_bytes());
     }
     Ok(())
 }
 
+// Where the documents begin, and how long they are, by the rules by which they are made.
+const DOCUMENTS: [(&str, usize, &[u8]); 2] = [
+    (
+        "nested",
+        16_754_843,
+        b"\x9B\xA8\xFF\x00\x030\x00\x9C\x65\x00\x00\x10number\x00\x04\x00\x00\x00\x03first\x00",
+    ),
+    (
+        "flat",
+        16_777_210,
+        b"\xFA\xFF\xFF\x00\x100\x00\x07\x00\x00\x00\x081\x00\x00\x022\x00\x05\x00\x00\x00text\x00",
+    ),
+];
+
+#[test]
+fn documents_are_printed_whole(rt: HostRuntime) -> Result<(), Fail> {
+    for (shape, length, front) in DOCUMENTS {
+        let words = words_of(rt.alloc(), &["document", shape])?;
+        let mut out = Vec::new(rt.alloc());
+        let status = run_counted::<_, Brand>(rt.alloc(), &words, &mut out, Blank::new(1));
+        assert_eq!(rt; status, Status::Done);
+        assert_eq!(rt; out.len(), length);
+        assert!(rt; out.starts_with(front), "{shape}");
+    }
+    Ok(())
+}
+
 #[test]
 fn usage_for_other_words(rt: HostRuntime) -> Result<(), Fail> {
-    for (name, count) in [
-        ("hi-sha1", "0"),
-        ("hi-sha1", "01"),
-        ("hi-sha1", "+1"),
-        ("hi-sha256", "1 "),
-        ("hi-sha256", ""),
-        ("hi-sha256", "4294967296"),
-        ("hi-md5", "1"),
-    ] {
-        let words = words_of(rt.alloc(), name, count)?;
+    let others: [&[&str]; 16] = [
+        &["hi-sha1", "0"],
+        &["hi-sha1", "01"],
+        &["hi-sha1", "+1"],
+        &["hi-sha256", "1 "],
+        &["hi-sha256", ""],
+        &["hi-sha256", "4294967296"],
+        &["hi-md5", "1"],
+        &["document"],
+        &["document", "deep"],
+        &["iterate", "nested"],
+        &["iterate", "deep", "1"],
+        &["readable", "flat", "0"],
+        &["hi-sha1", "flat", "1"],
+        &["frames", "write", "100"],
+        &["frames", "write", "101", "1"],
+        &["frames", "sent", "100", "1"],
+    ];
+    for words in others {
+        let words = words_of(rt.alloc(), words)?;
         let mut out = Vec::new(rt.alloc());
-        let status = run_counted::<_, Brand>(&words, &mut out, Blank::new(1));
+        let status = run_counted::<_, Brand>(rt.alloc(), &words, &mut out, Blank::new(1));
         assert_eq!(rt; status, Status::Usage);
         assert!(rt; out.is_empty());
     }
     Ok(())
 }
 
-fn words_of(alloc: Global, name: &str, count: &str) -> Result<Vec<String>, AllocError> {
-    let mut words = Vec::new(alloc);
-    words.push(String::from_str(alloc, name)?)?;
-    words.push(String::from_str(alloc, count)?)?;
-    Ok(words)
+fn words_of(alloc: Global, words: &[&str]) -> Result<Vec<String>, AllocError> {
+    let mut texts = Vec::new(alloc);
+    for word in words {
+        texts.push(String::from_str(alloc, word)?)?;
+    }
+    Ok(texts)
 }

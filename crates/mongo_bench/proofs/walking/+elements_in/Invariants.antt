@@ -1,0 +1,10 @@
+use Rattle.std.proofs.Common.{◌<◌}
+use Rattle.mongo_bench.proofs.walking.+elements_in.Given as goal
+
+abbrev pub decreases-elements_in : goal.decreases-elements_in
+decreases-elements_in l = l.levels
+
+abbrev pub invariant-loop-item : goal.invariant-loop-item
+invariant-loop-item l =
+    (goal.iterator-loop-item).can_next l.item-iterator ×
+    (goal.iterator-loop-item).is_finite l.item-iterator × (0 < l.levels)
