@@ -1,7 +1,14 @@
+pub mod Plans
+pub mod Talked
+pub mod Steps
+pub mod FollowedBy
+pub mod OneSaid
+pub mod Leads
+pub mod Ends
 pub mod Phases
 pub mod Elements
-pub mod Fields
-pub mod FirstValues
+pub mod FieldAnswers
+pub mod Entries
 pub mod Texts
 pub mod InnerDocuments
 pub mod WellFormed

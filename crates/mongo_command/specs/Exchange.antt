@@ -1,30 +1,18 @@
 -- One exchange: a command's frame is written and flushed, and one frame is taken.
-use Rattle.std.specs.Prelude.{◌≡◌, ℕ, ℤ, pos, ◌+◌, ◌-◌, ◌^◌, ◌<◌, ◌≤◌, ◌<ℤ◌, ◌≤ℤ◌, ◌⊎◌, Bool, true, false, Option, None, Some, Result, Ok, Err, List, [], length, take, drop, if◌then◌else◌, option_map, unwrap_or, is_some, ⊤}
-use Rattle.std.specs.Io.KnownBytes.{Appends, Consumes, Keeps}
+use Rattle.std.specs.Prelude.{◌≡◌, ℕ, ℤ, pos, ◌-◌, ◌^◌, ◌<◌, ◌≤◌, ◌<ℤ◌, ◌≤ℤ◌, ◌⊎◌, Bool, Option, None, Some, List, [], length, if◌then◌else◌, option_map, is_some, ⊤}
+use Rattle.std.specs.Io.KnownBytes.{Appends}
 use Rattle.mongo_wire.specs.declared.error.ErrorKind.{ErrorKind}
 use Rattle.mongo_wire.specs.declared.error.ErrorKind.TheVariants.{InvalidArgument, WriteFault, OutOfMemory}
 use Rattle.mongo_wire.specs.declared.fault.ArgumentFault.TheVariants.{Bson, MaximumNegative, TooLong as FrameTooLong}
 use Rattle.mongo_wire.specs.declared.message.Message.{Message}
-use Rattle.mongo_wire.specs.Outside.{Rose, AppendsFront, IsFlushed}
-use Rattle.mongo_wire.specs.Bytes.{next_id, first_maximum}
+use Rattle.mongo_wire.specs.Outside.{State, Unwritten, Rose, AppendsFront, IsFlushed}
+use Rattle.mongo_wire.specs.Bytes.{next_id}
 use Rattle.mongo_wire.specs.Header.{maximum_of}
 use Rattle.mongo_wire.specs.Message.{IsRead, ReadRefused, Fits, IsFrameOf, frame_length, written_frame}
 use Rattle.mongo_bson.specs.declared.fault.BsonFault.TheVariants.{TooLong}
 use Rattle.mongo_command.specs.Command.{command_document}
 use Rattle.mongo_command.specs.declared.command.Command.{Command}
 use Rattle.mongo_command.specs.declared.stream_description.StreamDescription.{StreamDescription}
-
--- what a link means at a moment
-pub record LinkState : Type 0 where
-  pub left : Option (List ℕ)
-  pub written : Option (List ℕ)
-  pub flushed : ℕ
-  pub read_faults : ℕ
-  pub ends : ℕ
-  pub write_faults : ℕ
-
-abbrev pub link_state : {L : Type 0} → (L → Option (List ℕ)) → (L → Option (List ℕ)) → (L → ℕ) → (L → ℕ) → (L → ℕ) → (L → ℕ) → L → LinkState
-link_state left written flushed read_faults ends write_faults l = record { left = left l; written = written l; flushed = flushed l; read_faults = read_faults l; ends = ends l; write_faults = write_faults l }
 
 -- EXHAUST_ALLOWED, bit 16, or no flag
 abbrev pub exhaust_flag : Bool → ℕ
@@ -46,7 +34,7 @@ DocumentRefused kind document = ⊥
 
 -- the frame of the message stands at the end of what was written, all of it is flushed, its id is drawn, and nothing
 -- was read
-pub record Sends (maximum : ℤ) (message : Message) (old new : LinkState) (before after : ℤ) : Type 0 where
+pub record Sends (maximum : ℤ) (message : Message) (old new : State) (before after : ℤ) : Type 0 where
   pub fits : Fits maximum message
   pub written : Appends old.written new.written (written_frame before message)
   pub frame : IsFrameOf before message (written_frame before message)
@@ -56,33 +44,27 @@ pub record Sends (maximum : ℤ) (message : Message) (old new : LinkState) (befo
   pub ends : new.ends ≡ old.ends
   pub drawn : after ≡ next_id before
 
--- a read leaves what was written as it is
-pub record Unwritten (old new : LinkState) : Type 0 where
-  pub written : new.written ≡ old.written
-  pub flushed : new.flushed ≡ old.flushed
-  pub writes : new.write_faults ≡ old.write_faults
-
 -- one frame was taken, of this document, and nothing after it
-pub record Receives (maximum : ℤ) (old new : LinkState) (document : List ℕ) : Type 0 where
+pub record Receives (maximum : ℤ) (old new : State) (document : List ℕ) : Type 0 where
   pub unwritten : Unwritten old new
   pub message : Message
   pub read : IsRead maximum old.left new.left message
   pub document_is : document ≡ message.document_payload
 
 -- an exchange: the message is sent, and then one of this document is received
-pub record Exchanges (maximum : ℤ) (message : Message) (old new : LinkState) (before after : ℤ) (document : List ℕ) : Type 0 where
-  pub middle : LinkState
+pub record Exchanges (maximum : ℤ) (message : Message) (old new : State) (before after : ℤ) (document : List ℕ) : Type 0 where
+  pub middle : State
   pub sends : Sends maximum message old middle before after
   pub receives : Receives maximum middle new document
 
 -- nothing was done
-pub record Unsent (old new : LinkState) (before after : ℤ) (kept : Option ErrorKind) : Type 0 where
+pub record Unsent (old new : State) (before after : ℤ) (kept : Option ErrorKind) : Type 0 where
   pub link : new ≡ old
   pub ids : after ≡ before
   pub kept_is : kept ≡ None
 
 -- the frame was cut by the sink: its id is drawn, a front of it is written, nothing was read, and the fault is kept
-pub record Cut (kind : ErrorKind) (maximum : ℤ) (message : Message) (old new : LinkState) (before after : ℤ) (kept : Option ErrorKind) : Type 0 where
+pub record Cut (kind : ErrorKind) (maximum : ℤ) (message : Message) (old new : State) (before after : ℤ) (kept : Option ErrorKind) : Type 0 where
   pub fits : Fits maximum message
   pub front : AppendsFront old.written new.written (written_frame before message)
   pub unread : new.left ≡ old.left
@@ -95,7 +77,7 @@ sent_fault (InvalidArgument fault) = None
 sent_fault kind = Some kind
 
 -- why a message wasn't sent, and what that left; a document that is too long is found before the maximum is tested
-abbrev pub SendRefused : ErrorKind → ℤ → Message → LinkState → LinkState → ℤ → ℤ → Option ErrorKind → Type 0
+abbrev pub SendRefused : ErrorKind → ℤ → Message → State → State → ℤ → ℤ → Option ErrorKind → Type 0
 SendRefused (InvalidArgument (Bson TooLong)) maximum message old new before after kept = (2 ^ 31 - 1 < length message.document_payload) × Unsent old new before after kept
 SendRefused (InvalidArgument MaximumNegative) maximum message old new before after kept = (length message.document_payload < 2 ^ 31) × (maximum <ℤ pos 0) × Unsent old new before after kept
 SendRefused (InvalidArgument FrameTooLong) maximum message old new before after kept = (length message.document_payload < 2 ^ 31) × (pos 0 ≤ℤ maximum) × (maximum <ℤ pos (frame_length message)) × Unsent old new before after kept
@@ -104,23 +86,23 @@ SendRefused OutOfMemory maximum message old new before after kept = Unsent old n
 SendRefused kind maximum message old new before after kept = ⊥
 
 -- no frame was received: why, and what of the bytes left was taken
-pub record ReceiveRefused (kind : ErrorKind) (maximum : ℤ) (old new : LinkState) : Type 0 where
+pub record ReceiveRefused (kind : ErrorKind) (maximum : ℤ) (old new : State) : Type 0 where
   pub refused : ReadRefused kind maximum old.left new.left old.read_faults new.read_faults old.ends new.ends
   pub unwritten : Unwritten old new
 
 -- the message was sent and no frame was received; the fault is kept
-pub record Unanswered (kind : ErrorKind) (maximum : ℤ) (message : Message) (old new : LinkState) (before after : ℤ) (kept : Option ErrorKind) : Type 0 where
-  pub middle : LinkState
+pub record Unanswered (kind : ErrorKind) (maximum : ℤ) (message : Message) (old new : State) (before after : ℤ) (kept : Option ErrorKind) : Type 0 where
+  pub middle : State
   pub sends : Sends maximum message old middle before after
   pub refused : ReceiveRefused kind maximum middle new
   pub kept_is : kept ≡ Some kind
 
 -- Why an exchange was refused, and what it left in the link, the ids and the connection.
-abbrev pub ExchangeRefused : ErrorKind → ℤ → Message → LinkState → LinkState → ℤ → ℤ → Option ErrorKind → Type 0
+abbrev pub ExchangeRefused : ErrorKind → ℤ → Message → State → State → ℤ → ℤ → Option ErrorKind → Type 0
 ExchangeRefused kind maximum message old new before after kept = SendRefused kind maximum message old new before after kept ⊎ Unanswered kind maximum message old new before after kept
 
 -- what every exchange keeps: whether the bytes are told, the counts from falling, and what was flushed
-pub record CountsStay (old new : LinkState) : Type 0 where
+pub record CountsStay (old new : State) : Type 0 where
   pub reads : old.read_faults ≤ new.read_faults
   pub ends : old.ends ≤ new.ends
   pub writes : old.write_faults ≤ new.write_faults

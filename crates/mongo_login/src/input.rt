@@ -38,13 +38,13 @@ impl From<AllocError> for InputError {
 ///
 /// `Fault` where the source failed. A refusal has consumed a front of the same size at most.
 pub fn read_input<S: Source>(alloc: Global, source: &mut S) -> Result<Vec<u8>, InputError>
-    ensures read { (input : List ℕ) → S.left source.old ≡ Some input → IfOk result (λ held. ReadsInput input held.items (S.left source.new)) }
-    ensures judged_alike { (input : List ℕ) → S.left source.old ≡ Some input → IfOk result (λ held. judged held.items ≡ judged input) }
-    ensures consumed { IfOk result (λ held. Consumes (S.left source.old) (S.left source.new) held.items) }
-    ensures ended { IfOk result (λ held. length held.items ≤ limit → Rose (S.ends_met source.old) (S.ends_met source.new)) }
-    ensures failed { IsErrOf result InputError.Fault → Rose (S.faults_read source.old) (S.faults_read source.new) }
-    ensures refused { OnErr result (ConsumesAtMost (S.left source.old) (S.left source.new) (limit + 1)) }
-    ensures on { ReadsOn S.left S.faults_read S.ends_met S.beside_left source.old source.new }
+    ensures read { (input : List ℕ) → (S.state source.old).left ≡ Some input → IfOk result (λ held. ReadsInput input held.items (S.state source.new).left) }
+    ensures judged_alike { (input : List ℕ) → (S.state source.old).left ≡ Some input → IfOk result (λ held. judged held.items ≡ judged input) }
+    ensures consumed { IfOk result (λ held. Consumes (S.state source.old).left (S.state source.new).left held.items) }
+    ensures ended { IfOk result (λ held. length held.items ≤ limit → Rose (S.state source.old).ends (S.state source.new).ends) }
+    ensures failed { IsErrOf result InputError.Fault → Rose (S.state source.old).read_faults (S.state source.new).read_faults }
+    ensures refused { OnErr result (ConsumesAtMost (S.state source.old).left (S.state source.new).left (limit + 1)) }
+    ensures on { ReadsOn (S.state source.old) (S.state source.new) }
 {
     let mut held = Vec::new(alloc);
     'reading: while held.len() <= LIMIT {

@@ -1,5 +1,5 @@
 -- What a document's read that was cut short has taken.
-use Rattle.std.proofs.Common.{◌≡◌, ℕ, ℤ, pos, ◌+◌, ◌-◌, ◌<◌, ◌≤◌, ◌≤ℤ◌, ◌<ℤ◌, Option, None, Some, List, [], ◌++◌, length, is_some, refl, sym, ap, ◌∙◌, subst, append-nil, length-append, inl, inr, arith}
+use Rattle.std.proofs.Common.{◌≡◌, ℕ, pos, ◌+◌, ◌≤◌, Option, None, Some, List, [], ◌++◌, length, is_some, refl, sym, ap, subst, append-nil, length-append, inl, inr, arith}
 use Rattle.std.proofs.lemmas.Int.{ints}
 use Rattle.std.proofs.KnownBytes.{Consumes-trans}
 use Rattle.std.specs.Int.{cast_signed, w32}

@@ -1,9 +1,9 @@
 -- What sections that are handed in are written as.
-use Rattle.std.proofs.Common.{◌≡◌, ℕ, ℤ, ◌+◌, ◌^◌, ◌<◌, ◌≤◌, Option, None, List, [], ◌∷◌, ◌++◌, length, flat_map, to_z, of_z, refl, sym, ap, ◌∙◌, bit_and, FitsSigned, append-nil, arith}
+use Rattle.std.proofs.Common.{◌≡◌, ℕ, ℤ, ◌+◌, ◌^◌, ◌<◌, Option, None, List, [], ◌++◌, length, flat_map, to_z, of_z, refl, sym, ap, ◌∙◌, bit_and, FitsSigned, append-nil, arith}
 use Rattle.std.proofs.lemmas.Int.{to_z-of_z}
 use Rattle.std.proofs.lemmas.Nat.{and_assoc, and_le_r}
 use Rattle.std.specs.Int.{w32}
-use Rattle.mongo_wire.specs.Outside.{WriteStops, AppendsFront}
+use Rattle.mongo_wire.specs.Outside.{WriteStops}
 use Rattle.mongo_wire.specs.Frame.{Frame, section_bytes, sequences_of, int32, uint32, message_code, known_flags, IsFrame}
 use Rattle.mongo_wire.specs.Sending.{unsummed_flags, sections_frame, SectionsFit, SectionsRefused, IsFrameOfSections}
 use Rattle.mongo_wire.specs.declared.error.ErrorKind.{ErrorKind}

@@ -1,6 +1,6 @@
 -- Links over lists in memory, and what a link that fails at chosen calls makes of a call.
 use Rattle.std.specs.Prelude.{ℕ, ◌==◌, not, Bool, Option, Some, List, drop, slice_index, if◌then◌else◌}
-use Rattle.mongo_wire.specs.Outside.{Half, risen}
+use Rattle.mongo_wire.specs.Outside.{State, risen}
 use Rattle.mongo_wire.specs.declared.memory_link.MemoryLink.{MemoryLink}
 
 -- whether the call of this number fails: its byte stands there and isn't 0
@@ -19,9 +19,6 @@ unread link = Some (drop link.at link.input.items)
 abbrev pub output_of : MemoryLink → Option (List ℕ)
 output_of link = Some link.output.items
 
--- what no read changes, and what no write changes
-abbrev pub written_half : MemoryLink → ℕ → Half
-written_half link faults = record { bytes = output_of link; mark = link.flushed; faults = faults }
-
-abbrev pub unread_half : MemoryLink → ℕ → Half
-unread_half link faults = record { bytes = unread link; mark = link.ends; faults = faults }
+-- what it means, by the link in memory and its counts of faults
+abbrev pub state_of : MemoryLink → ℕ → ℕ → State
+state_of link read_faults write_faults = record { left = unread link; read_faults = read_faults; ends = link.ends; written = output_of link; flushed = link.flushed; write_faults = write_faults }

@@ -13,33 +13,41 @@ Rose before now = min (before + 1) (2 ^ 64 - 1) ≤ now
 abbrev pub risen : ℕ → ℕ
 risen count = min (count + 1) (2 ^ 64 - 1)
 
--- what a link's other half holds: its bytes, where they are told, a mark among them, and its count of faults
-pub record Half : Type 0 where
-  pub bytes : Option (List ℕ)
-  pub mark : ℕ
-  pub faults : ℕ
+-- What an object outside means at a moment: the bytes that it has left and those written to it, where it tells them, how
+-- many of these are flushed, and its counts. A source has written nothing, and a sink has nothing left.
+pub record State : Type 0 where
+  pub left : Option (List ℕ)
+  pub read_faults : ℕ
+  pub ends : ℕ
+  pub written : Option (List ℕ)
+  pub flushed : ℕ
+  pub write_faults : ℕ
 
--- the half of an object that has none
-abbrev pub no_half : Half
-no_half = record { bytes = None; mark = 0; faults = 0 }
+-- a write leaves what is left to be read as it is
+pub record Unread (old new : State) : Type 0 where
+  pub left : new.left ≡ old.left
+  pub reads : new.read_faults ≡ old.read_faults
+  pub ends : new.ends ≡ old.ends
 
--- the half of an object that tells no bytes, by its mark and its faults
-abbrev pub untold_half : ℕ → ℕ → Half
-untold_half mark faults = record { bytes = None; mark = mark; faults = faults }
+-- a read leaves what was written as it is
+pub record Unwritten (old new : State) : Type 0 where
+  pub written : new.written ≡ old.written
+  pub flushed : new.flushed ≡ old.flushed
+  pub writes : new.write_faults ≡ old.write_faults
 
--- What reading keeps: whether the bytes are told, the counts from falling, the other half.
-pub record ReadsOn {S : Type 0} (left : S → Option (List ℕ)) (faults ends : S → ℕ) (beside : S → Half) (old new : S) : Type 0 where
-  pub tells : is_some (left new) ≡ is_some (left old)
-  pub faults_stay : faults old ≤ faults new
-  pub ends_stay : ends old ≤ ends new
-  pub beside_stays : beside new ≡ beside old
+-- What reading keeps: whether the bytes are told, the counts from falling, what was written.
+pub record ReadsOn (old new : State) : Type 0 where
+  pub tells : is_some new.left ≡ is_some old.left
+  pub faults_stay : old.read_faults ≤ new.read_faults
+  pub ends_stay : old.ends ≤ new.ends
+  pub unwritten : Unwritten old new
 
--- What writing keeps: whether the bytes are told, the counts from falling, the other half. What was flushed stays so.
-pub record WritesOn {K : Type 0} (written : K → Option (List ℕ)) (flushed faults : K → ℕ) (beside : K → Half) (old new : K) : Type 0 where
-  pub tells : is_some (written new) ≡ is_some (written old)
-  pub faults_stay : faults old ≤ faults new
-  pub flushed_stays : flushed old ≤ flushed new
-  pub beside_stays : beside new ≡ beside old
+-- What writing keeps: whether the bytes are told, the counts from falling, what is left. What was flushed stays so.
+pub record WritesOn (old new : State) : Type 0 where
+  pub tells : is_some new.written ≡ is_some old.written
+  pub faults_stay : old.write_faults ≤ new.write_faults
+  pub flushed_stays : old.flushed ≤ new.flushed
+  pub unread : Unread old new
 
 -- all that was written, where it is told, is flushed
 abbrev pub IsFlushed : Option (List ℕ) → ℕ → Type 0

@@ -3,7 +3,7 @@ use Rattle.std.specs.Prelude.{◌≡◌, ℕ, ℤ, pos, ◌+◌, ◌≤ℤ◌, �
 use Rattle.std.specs.Io.KnownBytes.{Keeps}
 use Rattle.std.specs.List.{AllByRecursion}
 use Rattle.mongo_wire.specs.Outside.{Rose, AppendsFront}
-use Rattle.mongo_wire.specs.Frame.{Section, IsSection, IsFrameWith, section_bytes, bodies, sequences_of, int32, uint32, message_code, known_flags}
+use Rattle.mongo_wire.specs.Frame.{Section, IsSection, IsFrameWith, section_bytes, bodies, sequences_of, int32, uint32, message_code}
 use Rattle.mongo_wire.specs.declared.error.ErrorKind.{ErrorKind}
 use Rattle.mongo_wire.specs.declared.error.ErrorKind.TheVariants.{WriteFault, OutOfMemory, InvalidArgument}
 use Rattle.mongo_wire.specs.declared.fault.ArgumentFault.{ArgumentFault}

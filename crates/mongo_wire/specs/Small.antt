@@ -1,5 +1,5 @@
 -- What the small reads of a source answer.
-use Rattle.std.specs.Prelude.{◌≡◌, ℕ, ℤ, pos, ◌<◌, ◌≤◌, ◌<ℤ◌, ◌≤ℤ◌, ◌⊎◌, Option, None, Some, List, [], ◌++◌, length, ⊤}
+use Rattle.std.specs.Prelude.{◌≡◌, ℕ, ℤ, pos, ◌<◌, ◌≤◌, ◌<ℤ◌, ◌≤ℤ◌, ◌⊎◌, Option, None, Some, List, ◌++◌, length, ⊤}
 use Rattle.std.specs.Io.KnownBytes.{Consumes}
 use Rattle.mongo_wire.specs.Outside.{Rose, ConsumesAtMost, RanOut}
 use Rattle.mongo_wire.specs.Header.{number_at, signed_at, op_code_of, header_with}

@@ -1,8 +1,8 @@
-ghost use Rattle.std.specs.Prelude.{◌≡◌, ◌+◌, ◌-◌, ◌^◌, ◌<◌, ◌≤◌, min, length, is_some, IfOk, OnErr, MatchResult};
+ghost use Rattle.std.specs.Prelude.{◌≡◌, ◌+◌, ◌-◌, ◌^◌, ◌<◌, ◌≤◌, min, length, IfOk, OnErr, MatchResult};
 ghost use Rattle.std.specs.Io.KnownBytes.{ReadConsumes};
-ghost use Rattle.mongo_wire.specs.Outside.{Rose};
+ghost use Rattle.mongo_wire.specs.Outside.{Rose, ReadsOn};
 
-use crate::{Failed, Source};
+use crate::{Failed, Outside, Source};
 
 /// A [`Source`] that counts the bytes that it gave.
 #[derive(Drop)]
@@ -31,25 +31,18 @@ impl<S: Source> SyncCountReader<S> {
     }
 }
 
+impl<S: Source> Outside for SyncCountReader<S> {
+    ghost state = { λ s. S.state s.reader };
+}
+
 impl<S: Source> Source for SyncCountReader<S> {
-    ghost left = { λ s. S.left s.reader };
-
-    ghost faults_read = { λ s. S.faults_read s.reader };
-
-    ghost ends_met = { λ s. S.ends_met s.reader };
-
-    ghost beside_left = { λ s. S.beside_left s.reader };
-
     // The clauses of every source, and what is counted.
     fn read(&mut self, buf: &mut [u8]) -> Result<usize, Failed>
         ensures most { IfOk result (λ count. count ≤ length buf.new) }
-        ensures bytes { ReadConsumes (S.left self.old.reader) (S.left self.new.reader) result buf.new }
-        ensures tells { is_some (S.left self.new.reader) ≡ is_some (S.left self.old.reader) }
-        ensures failed { OnErr result (Rose (S.faults_read self.old.reader) (S.faults_read self.new.reader)) }
-        ensures ended { IfOk result (λ count. count ≡ 0 → 0 < length buf.new → Rose (S.ends_met self.old.reader) (S.ends_met self.new.reader)) }
-        ensures faults_stay { S.faults_read self.old.reader ≤ S.faults_read self.new.reader }
-        ensures ends_stay { S.ends_met self.old.reader ≤ S.ends_met self.new.reader }
-        ensures beside { S.beside_left self.new.reader ≡ S.beside_left self.old.reader }
+        ensures bytes { ReadConsumes (S.state self.old.reader).left (S.state self.new.reader).left result buf.new }
+        ensures failed { OnErr result (Rose (S.state self.old.reader).read_faults (S.state self.new.reader).read_faults) }
+        ensures ended { IfOk result (λ count. count ≡ 0 → 0 < length buf.new → Rose (S.state self.old.reader).ends (S.state self.new.reader).ends) }
+        ensures on { ReadsOn (S.state self.old.reader) (S.state self.new.reader) }
         ensures counted { MatchResult result (λ count. self.new.bytes_read ≡ min (self.old.bytes_read + count) (2 ^ 64 - 1)) (λ _. self.new.bytes_read ≡ self.old.bytes_read) }
     {
         match self.reader.read(buf) {

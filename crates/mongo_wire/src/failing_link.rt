@@ -1,9 +1,9 @@
-ghost use Rattle.std.specs.Prelude.{◌≡◌, ◌<◌, ◌≤◌, ◌↔◌, [], length, drop, true, is_some, IfOk, OnOk, OnErr, IsErr, IsErrOf};
+ghost use Rattle.std.specs.Prelude.{◌≡◌, ◌<◌, ◌≤◌, ◌↔◌, [], length, drop, true, IfOk, OnOk, OnErr, IsErr, IsErrOf};
 ghost use Rattle.std.specs.Io.KnownBytes.{Keeps, ReadConsumes, WriteAppends};
-ghost use Rattle.mongo_wire.specs.Outside.{Rose, IsFlushed, risen};
-ghost use Rattle.mongo_wire.specs.Failing.{fails_at, counted_fault, unread, output_of, written_half, unread_half};
+ghost use Rattle.mongo_wire.specs.Outside.{Rose, IsFlushed, ReadsOn, WritesOn, risen};
+ghost use Rattle.mongo_wire.specs.Failing.{fails_at, counted_fault, unread, output_of, state_of};
 
-use crate::{Failed, Link, MemoryLink, Sink, SinkError, Source};
+use crate::{Failed, MemoryLink, Outside, Sink, SinkError, Source};
 use mongo_bson::Bytes;
 use std::alloc::Global;
 
@@ -76,24 +76,17 @@ impl FailingLink {
     }
 }
 
+impl Outside for FailingLink {
+    ghost state = { λ s. state_of s.link s.read_faults s.write_faults };
+}
+
 impl Source for FailingLink {
-    ghost left = { λ s. unread s.link };
-
-    ghost faults_read = { λ s. s.read_faults };
-
-    ghost ends_met = { λ s. s.link.ends };
-
-    ghost beside_left = { λ s. written_half s.link s.write_faults };
-
     fn read(&mut self, buf: &mut [u8]) -> Result<usize, Failed>
         ensures most { IfOk result (λ count. count ≤ length buf.new) }
         ensures bytes { ReadConsumes (unread self.old.link) (unread self.new.link) result buf.new }
-        ensures tells { is_some (unread self.new.link) ≡ is_some (unread self.old.link) }
         ensures failed { OnErr result (Rose self.old.read_faults self.new.read_faults) }
         ensures ended { IfOk result (λ count. count ≡ 0 → 0 < length buf.new → Rose self.old.link.ends self.new.link.ends) }
-        ensures faults_stay { self.old.read_faults ≤ self.new.read_faults }
-        ensures ends_stay { self.old.link.ends ≤ self.new.link.ends }
-        ensures beside { written_half self.new.link self.new.write_faults ≡ written_half self.old.link self.old.write_faults }
+        ensures on { ReadsOn (state_of self.old.link self.old.read_faults self.old.write_faults) (state_of self.new.link self.new.read_faults self.new.write_faults) }
         // It fails just where its byte isn't 0, moves at most so many bytes, and each call counts.
         ensures fails { IsErr result ↔ (fails_at self.old.failing self.old.calls ≡ true) }
         ensures few { IfOk result (λ count. count ≤ self.old.most) }
@@ -119,23 +112,12 @@ impl Source for FailingLink {
 }
 
 impl Sink for FailingLink {
-    ghost written = { λ s. output_of s.link };
-
-    ghost flushed = { λ s. s.link.flushed };
-
-    ghost faults_written = { λ s. s.write_faults };
-
-    ghost beside_written = { λ s. unread_half s.link s.read_faults };
-
     fn write(&mut self, piece: &[u8]) -> Result<usize, SinkError>
         ensures most { IfOk result (λ count. count ≤ length piece.now) }
         ensures some { IfOk result (λ count. 0 < length piece.now → 0 < count) }
         ensures bytes { WriteAppends (output_of self.old.link) (output_of self.new.link) result piece.now }
-        ensures tells { is_some (output_of self.new.link) ≡ is_some (output_of self.old.link) }
         ensures failed { IsErrOf result SinkError.Failed → Rose self.old.write_faults self.new.write_faults }
-        ensures faults_stay { self.old.write_faults ≤ self.new.write_faults }
-        ensures flushed_stays { self.old.link.flushed ≤ self.new.link.flushed }
-        ensures beside { unread_half self.new.link self.new.read_faults ≡ unread_half self.old.link self.old.read_faults }
+        ensures on { WritesOn (state_of self.old.link self.old.read_faults self.old.write_faults) (state_of self.new.link self.new.read_faults self.new.write_faults) }
         // It fails just where its byte isn't 0, moves at most so many bytes, and each call counts.
         ensures fails { IsErrOf result SinkError.Failed ↔ (fails_at self.old.failing self.old.calls ≡ true) }
         ensures few { IfOk result (λ count. count ≤ self.old.most) }
@@ -153,12 +135,9 @@ impl Sink for FailingLink {
 
     fn flush(&mut self) -> Result<(), SinkError>
         ensures bytes { Keeps (output_of self.old.link) (output_of self.new.link) }
-        ensures tells { is_some (output_of self.new.link) ≡ is_some (output_of self.old.link) }
         ensures all { OnOk result (IsFlushed (output_of self.new.link) self.new.link.flushed) }
         ensures failed { IsErrOf result SinkError.Failed → Rose self.old.write_faults self.new.write_faults }
-        ensures faults_stay { self.old.write_faults ≤ self.new.write_faults }
-        ensures flushed_stays { self.old.link.flushed ≤ self.new.link.flushed }
-        ensures beside { unread_half self.new.link self.new.read_faults ≡ unread_half self.old.link self.old.read_faults }
+        ensures on { WritesOn (state_of self.old.link self.old.read_faults self.old.write_faults) (state_of self.new.link self.new.read_faults self.new.write_faults) }
         // It fails just where its byte isn't 0, and each call counts.
         ensures fails { IsErrOf result SinkError.Failed ↔ (fails_at self.old.failing self.old.calls ≡ true) }
         ensures calls { self.new.calls ≡ risen self.old.calls }
@@ -175,12 +154,4 @@ impl Sink for FailingLink {
     fn write_faults(&self) -> u64 {
         self.write_faults
     }
-}
-
-impl Link for FailingLink {
-    ghost use Rattle.std.specs.Prelude.{refl};
-
-    ghost reads_keep_written = { λ _. refl };
-
-    ghost writes_keep_left = { λ _. refl };
 }

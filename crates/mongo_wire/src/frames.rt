@@ -28,17 +28,17 @@ pub fn take_frame<S: Source>(
     buffer: &mut FrameBuffer,
 ) -> Result<(), Error>
     // What was taken is a frame of the grammar within the maximum, and nothing after it.
-    ensures taken { OnOk result (IsFrameTaken (maximum_of max) (S.left source.old) (S.left source.new) buffer.new) }
+    ensures taken { OnOk result (IsFrameTaken (maximum_of max) (S.state source.old).left (S.state source.new).left buffer.new) }
     // Each refusal is the first row of the table that applies, and has taken what shows it.
-    ensures refused { IfErr result (λ e. ReadRefused e.kind (maximum_of max) (S.left source.old) (S.left source.new) (S.faults_read source.old) (S.faults_read source.new) (S.ends_met source.old) (S.ends_met source.new)) }
+    ensures refused { IfErr result (λ e. ReadRefused e.kind (maximum_of max) (S.state source.old).left (S.state source.new).left (S.state source.old).read_faults (S.state source.new).read_faults (S.state source.old).ends (S.state source.new).ends) }
     // A frame within the maximum is taken, whatever follows it.
-    ensures again { (frame rest : List ℕ) (parts : Frame) → S.left source.old ≡ Some (frame ++ rest) → IsFrame frame parts → pos (length frame) ≤ℤ maximum_of max → TakesAgain frame parts rest (S.left source.new) buffer.new result }
+    ensures again { (frame rest : List ℕ) (parts : Frame) → (S.state source.old).left ≡ Some (frame ++ rest) → IsFrame frame parts → pos (length frame) ≤ℤ maximum_of max → TakesAgain frame parts rest (S.state source.new).left buffer.new result }
     ensures counted { OnOk result (frames_taken buffer.new ≡ risen (frames_taken buffer.old)) }
     ensures emptied { OnErr result (IsCleared buffer.old buffer.new) }
     // Memory is for bytes that came, for twice as many at most and one piece of 4096, and never for more than the maximum.
-    ensures came { (bytes : List ℕ) → S.left source.old ≡ Some bytes → GrowsFor bytes buffer.old buffer.new }
+    ensures came { (bytes : List ℕ) → (S.state source.old).left ≡ Some bytes → GrowsFor bytes buffer.old buffer.new }
     ensures within { StaysWithin (maximum_of max) buffer.old buffer.new }
-    ensures on { ReadsOn S.left S.faults_read S.ends_met S.beside_left source.old source.new }
+    ensures on { ReadsOn (S.state source.old) (S.state source.new) }
 {
     buffer.clear();
     let mut head = [0u8; 16];
@@ -56,19 +56,19 @@ pub fn take_next_frame<S: Source>(
     max: Option<i32>,
     buffer: &mut FrameBuffer,
 ) -> Result<bool, Error>
-    ensures taken { IfOk result (λ found. found ≡ true → IsFrameTaken (maximum_of max) (S.left source.old) (S.left source.new) buffer.new) }
+    ensures taken { IfOk result (λ found. found ≡ true → IsFrameTaken (maximum_of max) (S.state source.old).left (S.state source.new).left buffer.new) }
     // There was none where the end came before the first byte.
-    ensures ended { IfOk result (λ found. found ≡ false → HasEnded (S.left source.old) (S.left source.new) (S.ends_met source.old) (S.ends_met source.new)) }
-    ensures refused { IfErr result (λ e. ReadRefused e.kind (maximum_of max) (S.left source.old) (S.left source.new) (S.faults_read source.old) (S.faults_read source.new) (S.ends_met source.old) (S.ends_met source.new)) }
+    ensures ended { IfOk result (λ found. found ≡ false → HasEnded (S.state source.old).left (S.state source.new).left (S.state source.old).ends (S.state source.new).ends) }
+    ensures refused { IfErr result (λ e. ReadRefused e.kind (maximum_of max) (S.state source.old).left (S.state source.new).left (S.state source.old).read_faults (S.state source.new).read_faults (S.state source.old).ends (S.state source.new).ends) }
     // An end that is a refusal came after the first byte.
-    ensures more { IfErr result (λ e. HasMore e.kind (S.left source.old)) }
-    ensures again { (frame rest : List ℕ) (parts : Frame) → S.left source.old ≡ Some (frame ++ rest) → IsFrame frame parts → pos (length frame) ≤ℤ maximum_of max → FindsAgain frame parts rest (S.left source.new) buffer.new result }
+    ensures more { IfErr result (λ e. HasMore e.kind (S.state source.old).left) }
+    ensures again { (frame rest : List ℕ) (parts : Frame) → (S.state source.old).left ≡ Some (frame ++ rest) → IsFrame frame parts → pos (length frame) ≤ℤ maximum_of max → FindsAgain frame parts rest (S.state source.new).left buffer.new result }
     ensures counted { IfOk result (λ found. found ≡ true → frames_taken buffer.new ≡ risen (frames_taken buffer.old)) }
     ensures none { IfOk result (λ found. found ≡ false → IsCleared buffer.old buffer.new) }
     ensures emptied { OnErr result (IsCleared buffer.old buffer.new) }
-    ensures came { (bytes : List ℕ) → S.left source.old ≡ Some bytes → GrowsFor bytes buffer.old buffer.new }
+    ensures came { (bytes : List ℕ) → (S.state source.old).left ≡ Some bytes → GrowsFor bytes buffer.old buffer.new }
     ensures within { StaysWithin (maximum_of max) buffer.old buffer.new }
-    ensures on { ReadsOn S.left S.faults_read S.ends_met S.beside_left source.old source.new }
+    ensures on { ReadsOn (S.state source.old) (S.state source.new) }
 {
     buffer.clear();
     let mut head = [0u8; 16];
@@ -90,13 +90,13 @@ fn take_rest<S: Source>(
     buffer: &mut FrameBuffer,
 ) -> Result<(), Error>
     requires nothing { HoldsNothing buffer.old }
-    ensures taken { (before : Option (List ℕ)) → Consumes before (S.left source.old) head.now → OnOk result (IsFrameTaken (maximum_of max) before (S.left source.new) buffer.new) }
-    ensures refused { (before : Option (List ℕ)) (faults ends : ℕ) → Consumes before (S.left source.old) head.now → is_some (S.left source.old) ≡ is_some before → faults ≤ S.faults_read source.old → ends ≤ S.ends_met source.old → IfErr result (λ e. ReadRefused e.kind (maximum_of max) before (S.left source.new) faults (S.faults_read source.new) ends (S.ends_met source.new)) }
+    ensures taken { (before : Option (List ℕ)) → Consumes before (S.state source.old).left head.now → OnOk result (IsFrameTaken (maximum_of max) before (S.state source.new).left buffer.new) }
+    ensures refused { (before : Option (List ℕ)) (faults ends : ℕ) → Consumes before (S.state source.old).left head.now → is_some (S.state source.old).left ≡ is_some before → faults ≤ (S.state source.old).read_faults → ends ≤ (S.state source.old).ends → IfErr result (λ e. ReadRefused e.kind (maximum_of max) before (S.state source.new).left faults (S.state source.new).read_faults ends (S.state source.new).ends) }
     ensures counted { OnOk result (frames_taken buffer.new ≡ risen (frames_taken buffer.old)) }
     ensures emptied { OnErr result (IsCleared buffer.old buffer.new) }
-    ensures came { (bytes : List ℕ) → S.left source.old ≡ Some bytes → GrowsFor bytes buffer.old buffer.new }
+    ensures came { (bytes : List ℕ) → (S.state source.old).left ≡ Some bytes → GrowsFor bytes buffer.old buffer.new }
     ensures within { StaysWithin (maximum_of max) buffer.old buffer.new }
-    ensures on { ReadsOn S.left S.faults_read S.ends_met S.beside_left source.old source.new }
+    ensures on { ReadsOn (S.state source.old) (S.state source.new) }
 {
     let start = match start_of(head, max) {
         Ok(start) => start,
@@ -126,10 +126,10 @@ pub fn read_frame<'b, S: Source>(
     max: Option<i32>,
     buffer: &'b mut FrameBuffer,
 ) -> Result<MessageRef<'b>, Error>
-    ensures read { IfOk result (IsFrameRead (maximum_of max) (S.left source.old) (S.left source.new)) }
-    ensures refused { IfErr result (λ e. ReadRefused e.kind (maximum_of max) (S.left source.old) (S.left source.new) (S.faults_read source.old) (S.faults_read source.new) (S.ends_met source.old) (S.ends_met source.new)) }
-    ensures again { (frame rest : List ℕ) (parts : Frame) → S.left source.old ≡ Some (frame ++ rest) → IsFrame frame parts → pos (length frame) ≤ℤ maximum_of max → RefAgain frame parts rest (S.left source.new) result }
-    ensures on { ReadsOn S.left S.faults_read S.ends_met S.beside_left source.old source.new }
+    ensures read { IfOk result (IsFrameRead (maximum_of max) (S.state source.old).left (S.state source.new).left) }
+    ensures refused { IfErr result (λ e. ReadRefused e.kind (maximum_of max) (S.state source.old).left (S.state source.new).left (S.state source.old).read_faults (S.state source.new).read_faults (S.state source.old).ends (S.state source.new).ends) }
+    ensures again { (frame rest : List ℕ) (parts : Frame) → (S.state source.old).left ≡ Some (frame ++ rest) → IsFrame frame parts → pos (length frame) ≤ℤ maximum_of max → RefAgain frame parts rest (S.state source.new).left result }
+    ensures on { ReadsOn (S.state source.old) (S.state source.new) }
 {
     match take_frame(alloc, source, max, buffer) {
         Ok(()) => match buffer.message() {
@@ -148,12 +148,12 @@ pub fn next_frame<'b, S: Source>(
     max: Option<i32>,
     buffer: &'b mut FrameBuffer,
 ) -> Result<Option<MessageRef<'b>>, Error>
-    ensures read { IfOk result (λ found. IfSome found (IsFrameRead (maximum_of max) (S.left source.old) (S.left source.new))) }
-    ensures ended { IfOk result (λ found. IsNone found → HasEnded (S.left source.old) (S.left source.new) (S.ends_met source.old) (S.ends_met source.new)) }
-    ensures refused { IfErr result (λ e. ReadRefused e.kind (maximum_of max) (S.left source.old) (S.left source.new) (S.faults_read source.old) (S.faults_read source.new) (S.ends_met source.old) (S.ends_met source.new)) }
-    ensures more { IfErr result (λ e. HasMore e.kind (S.left source.old)) }
-    ensures again { (frame rest : List ℕ) (parts : Frame) → S.left source.old ≡ Some (frame ++ rest) → IsFrame frame parts → pos (length frame) ≤ℤ maximum_of max → NextAgain frame parts rest (S.left source.new) result }
-    ensures on { ReadsOn S.left S.faults_read S.ends_met S.beside_left source.old source.new }
+    ensures read { IfOk result (λ found. IfSome found (IsFrameRead (maximum_of max) (S.state source.old).left (S.state source.new).left)) }
+    ensures ended { IfOk result (λ found. IsNone found → HasEnded (S.state source.old).left (S.state source.new).left (S.state source.old).ends (S.state source.new).ends) }
+    ensures refused { IfErr result (λ e. ReadRefused e.kind (maximum_of max) (S.state source.old).left (S.state source.new).left (S.state source.old).read_faults (S.state source.new).read_faults (S.state source.old).ends (S.state source.new).ends) }
+    ensures more { IfErr result (λ e. HasMore e.kind (S.state source.old).left) }
+    ensures again { (frame rest : List ℕ) (parts : Frame) → (S.state source.old).left ≡ Some (frame ++ rest) → IsFrame frame parts → pos (length frame) ≤ℤ maximum_of max → NextAgain frame parts rest (S.state source.new).left result }
+    ensures on { ReadsOn (S.state source.old) (S.state source.new) }
 {
     match take_next_frame(alloc, source, max, buffer) {
         Ok(true) => match buffer.message() {

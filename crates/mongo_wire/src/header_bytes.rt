@@ -28,9 +28,9 @@ impl Header {
     /// `ReadFault` where the source failed, `EndOfInput` where it ended before, `OpCode` of an unknown op code, with the 16
     /// bytes taken.
     pub fn read_from<S: Source>(source: &mut S) -> Result<Header, Error>
-        ensures read { IfOk result (TakesHeader (S.left source.old) (S.left source.new)) }
-        ensures refused { IfErr result (λ e. HeaderRefused e.kind (S.left source.old) (S.left source.new) (S.faults_read source.old) (S.faults_read source.new) (S.ends_met source.old) (S.ends_met source.new)) }
-        ensures on { ReadsOn S.left S.faults_read S.ends_met S.beside_left source.old source.new }
+        ensures read { IfOk result (TakesHeader (S.state source.old).left (S.state source.new).left) }
+        ensures refused { IfErr result (λ e. HeaderRefused e.kind (S.state source.old).left (S.state source.new).left (S.state source.old).read_faults (S.state source.new).read_faults (S.state source.old).ends (S.state source.new).ends) }
+        ensures on { ReadsOn (S.state source.old) (S.state source.new) }
     {
         let mut bytes = [0u8; 16];
         fill(source, &mut bytes)?;
@@ -44,9 +44,9 @@ impl Header {
     ///
     /// `WriteFault` where the sink failed, `OutOfMemory` where it wanted memory; a front of the bytes is written then.
     pub fn write_to<K: Sink>(&self, sink: &mut K) -> Result<(), Error>
-        ensures written { OnOk result (Appends (K.written sink.old) (K.written sink.new) (header_bytes self.now)) }
-        ensures refused { IfErr result (λ e. WriteStops e.kind (K.written sink.old) (K.written sink.new) (K.faults_written sink.old) (K.faults_written sink.new) (header_bytes self.now)) }
-        ensures on { WritesOn K.written K.flushed K.faults_written K.beside_written sink.old sink.new }
+        ensures written { OnOk result (Appends (K.state sink.old).written (K.state sink.new).written (header_bytes self.now)) }
+        ensures refused { IfErr result (λ e. WriteStops e.kind (K.state sink.old).written (K.state sink.new).written (K.state sink.old).write_faults (K.state sink.new).write_faults (header_bytes self.now)) }
+        ensures on { WritesOn (K.state sink.old) (K.state sink.new) }
     {
         write_out(sink, &self.encode())
     }

@@ -57,7 +57,7 @@ pub use message::Message;
 pub use message_flags::MessageFlags;
 pub use message_ref::MessageRef;
 pub use op_code::OpCode;
-pub use outside::{Failed, Link, Sink, SinkError, Source};
+pub use outside::{Failed, Link, Outside, Sink, SinkError, Source};
 pub use raw_sections::write_sections;
 pub use read_document::read_document_bytes;
 pub use request_ids::RequestIds;

@@ -1,7 +1,6 @@
 ghost use Rattle.std.specs.Prelude.{◌≡◌, ◌≤◌, [], List, ℕ, length, drop, Some};
-ghost use Rattle.mongo_wire.specs.Outside.{Half};
 
-use crate::{Failed, Link, Sink, SinkError, Source};
+use crate::{Failed, Outside, Sink, SinkError, Source};
 use mongo_bson::Bytes;
 use std::alloc::Global;
 use std::io::Read;
@@ -55,15 +54,11 @@ impl MemoryLink {
     }
 }
 
+impl Outside for MemoryLink {
+    ghost state = { λ s. record { left = Some (drop s.at s.input.items); read_faults = 0; ends = s.ends; written = Some s.output.items; flushed = s.flushed; write_faults = 0 } };
+}
+
 impl Source for MemoryLink {
-    ghost left = { λ s. Some (drop s.at s.input.items) };
-
-    ghost faults_read = { λ _. 0 };
-
-    ghost ends_met = { λ s. s.ends };
-
-    ghost beside_left = { λ s. record { bytes = Some s.output.items; mark = s.flushed; faults = 0 } };
-
     fn read(&mut self, buf: &mut [u8]) -> Result<usize, Failed> {
         let mut rest = &self.input.as_slice()[self.at..];
         match rest.read(buf) {
@@ -89,14 +84,6 @@ impl Source for MemoryLink {
 }
 
 impl Sink for MemoryLink {
-    ghost written = { λ s. Some s.output.items };
-
-    ghost flushed = { λ s. s.flushed };
-
-    ghost faults_written = { λ _. 0 };
-
-    ghost beside_written = { λ s. record { bytes = Some (drop s.at s.input.items); mark = s.ends; faults = 0 } };
-
     fn write(&mut self, piece: &[u8]) -> Result<usize, SinkError> {
         match self.output.extend_from_slice(piece) {
             Ok(()) => Ok(piece.len()),
@@ -112,12 +99,4 @@ impl Sink for MemoryLink {
     fn write_faults(&self) -> u64 {
         0
     }
-}
-
-impl Link for MemoryLink {
-    ghost use Rattle.std.specs.Prelude.{refl};
-
-    ghost reads_keep_written = { λ _. refl };
-
-    ghost writes_keep_left = { λ _. refl };
 }

@@ -27,14 +27,14 @@ pub fn write_sections<K: Sink>(
     max: Option<i32>,
 ) -> Result<(), Error>
     ensures fits { OnOk result (SectionsFit (maximum_of max) sections.now) }
-    ensures written { OnOk result (Appends (K.written sink.old) (K.written sink.new) (sections_frame request_id response_to flags.0 sections.now)) }
-    ensures flushed { OnOk result (IsFlushed (K.written sink.new) (K.flushed sink.new)) }
+    ensures written { OnOk result (Appends (K.state sink.old).written (K.state sink.new).written (sections_frame request_id response_to flags.0 sections.now)) }
+    ensures flushed { OnOk result (IsFlushed (K.state sink.new).written (K.state sink.new).flushed) }
     // It is a frame of the grammar, where the bytes are sections with one body.
     ensures frame { OnOk result (IsFrameOfSections request_id response_to flags.0 sections.now) }
-    ensures refused { IfErr result (λ e. SectionsRefused e.kind (maximum_of max) sections.now (sections_frame request_id response_to flags.0 sections.now) (K.written sink.old) (K.written sink.new) (K.faults_written sink.old) (K.faults_written sink.new)) }
+    ensures refused { IfErr result (λ e. SectionsRefused e.kind (maximum_of max) sections.now (sections_frame request_id response_to flags.0 sections.now) (K.state sink.old).written (K.state sink.new).written (K.state sink.old).write_faults (K.state sink.new).write_faults) }
     // Nothing is done where the sections are refused.
     ensures untouched { (fault : ArgumentFault) → IfErr result (λ e. e.kind ≡ InvalidArgument fault → sink.new ≡ sink.old) }
-    ensures on { WritesOn K.written K.flushed K.faults_written K.beside_written sink.old sink.new }
+    ensures on { WritesOn (K.state sink.old) (K.state sink.new) }
 {
     let length = match sections_length(sections, max) {
         Ok(length) => length,

@@ -17,9 +17,9 @@ const PIECE: usize = 4096;
 /// Refusals: `EndOfInput` where the source ended before, `CheckedFailure` where the length is below 4, with four bytes
 /// taken; `ReadFault` where the source failed.
 pub fn read_document_bytes<S: Source>(alloc: Global, source: &mut S) -> Result<Bytes, Error>
-    ensures read { IfOk result (TakesDocument (S.left source.old) (S.left source.new)) }
-    ensures refused { IfErr result (λ e. DocumentRefused e.kind (S.left source.old) (S.left source.new) (S.faults_read source.old) (S.faults_read source.new) (S.ends_met source.old) (S.ends_met source.new)) }
-    ensures on { ReadsOn S.left S.faults_read S.ends_met S.beside_left source.old source.new }
+    ensures read { IfOk result (TakesDocument (S.state source.old).left (S.state source.new).left) }
+    ensures refused { IfErr result (λ e. DocumentRefused e.kind (S.state source.old).left (S.state source.new).left (S.state source.old).read_faults (S.state source.new).read_faults (S.state source.old).ends (S.state source.new).ends) }
+    ensures on { ReadsOn (S.state source.old) (S.state source.new) }
 {
     let mut field = [0u8; 4];
     fill(source, &mut field)?;
@@ -54,10 +54,10 @@ fn take_after<S: Source>(
     wanted: usize,
 ) -> Result<Vec<u8>, Error>
     requires { length front.now ≤ wanted }
-    ensures taken { IfOk result (λ bytes. Continues front.now (S.left source.old) (S.left source.new) bytes.items) }
+    ensures taken { IfOk result (λ bytes. Continues front.now (S.state source.old).left (S.state source.new).left bytes.items) }
     ensures all { IfOk result (λ bytes. length bytes.items ≡ wanted) }
-    ensures refused { IfErr result (λ e. ReadStops e.kind (S.left source.old) (S.left source.new) (S.faults_read source.old) (S.faults_read source.new) (S.ends_met source.old) (S.ends_met source.new) (wanted - length front.now)) }
-    ensures on { ReadsOn S.left S.faults_read S.ends_met S.beside_left source.old source.new }
+    ensures refused { IfErr result (λ e. ReadStops e.kind (S.state source.old).left (S.state source.new).left (S.state source.old).read_faults (S.state source.new).read_faults (S.state source.old).ends (S.state source.new).ends (wanted - length front.now)) }
+    ensures on { ReadsOn (S.state source.old) (S.state source.new) }
 {
     let mut taken = Vec::from_slice(alloc, front)?;
     'taking: while taken.len() < wanted {

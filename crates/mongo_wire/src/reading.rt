@@ -12,10 +12,10 @@ const PIECE: usize = 4096;
 ///
 /// `ReadFault` where the source failed, `EndOfInput` where it ended before the buffer was full.
 pub fn fill<S: Source>(source: &mut S, buf: &mut [u8]) -> Result<(), Error>
-    ensures filled { OnOk result (Consumes (S.left source.old) (S.left source.new) buf.new) }
-    ensures refused { IfErr result (λ e. ReadStops e.kind (S.left source.old) (S.left source.new) (S.faults_read source.old) (S.faults_read source.new) (S.ends_met source.old) (S.ends_met source.new) (length buf.old)) }
+    ensures filled { OnOk result (Consumes (S.state source.old).left (S.state source.new).left buf.new) }
+    ensures refused { IfErr result (λ e. ReadStops e.kind (S.state source.old).left (S.state source.new).left (S.state source.old).read_faults (S.state source.new).read_faults (S.state source.old).ends (S.state source.new).ends (length buf.old)) }
     ensures of_source { IfErr result (λ e. IsOfSource e.kind) }
-    ensures on { ReadsOn S.left S.faults_read S.ends_met S.beside_left source.old source.new }
+    ensures on { ReadsOn (S.state source.old) (S.state source.new) }
 {
     let mut at = 0;
     'filling: while at < buf.len() {
@@ -38,11 +38,11 @@ pub fn fill<S: Source>(source: &mut S, buf: &mut [u8]) -> Result<(), Error>
 /// `ReadFault` where the source failed, `EndOfInput` where it ended after the first byte and before the buffer was full.
 pub fn fill_or_end<S: Source>(source: &mut S, buf: &mut [u8]) -> Result<bool, Error>
     requires { 0 < length buf.old }
-    ensures filled { IfOk result (λ found. found ≡ true → Consumes (S.left source.old) (S.left source.new) buf.new) }
-    ensures ended { IfOk result (λ found. found ≡ false → HasEnded (S.left source.old) (S.left source.new) (S.ends_met source.old) (S.ends_met source.new)) }
-    ensures refused { IfErr result (λ e. ReadStops e.kind (S.left source.old) (S.left source.new) (S.faults_read source.old) (S.faults_read source.new) (S.ends_met source.old) (S.ends_met source.new) (length buf.old)) }
-    ensures more { IfErr result (λ e. HasMore e.kind (S.left source.old)) }
-    ensures on { ReadsOn S.left S.faults_read S.ends_met S.beside_left source.old source.new }
+    ensures filled { IfOk result (λ found. found ≡ true → Consumes (S.state source.old).left (S.state source.new).left buf.new) }
+    ensures ended { IfOk result (λ found. found ≡ false → HasEnded (S.state source.old).left (S.state source.new).left (S.state source.old).ends (S.state source.new).ends) }
+    ensures refused { IfErr result (λ e. ReadStops e.kind (S.state source.old).left (S.state source.new).left (S.state source.old).read_faults (S.state source.new).read_faults (S.state source.old).ends (S.state source.new).ends (length buf.old)) }
+    ensures more { IfErr result (λ e. HasMore e.kind (S.state source.old).left) }
+    ensures on { ReadsOn (S.state source.old) (S.state source.new) }
 {
     match source.read(buf) {
         Ok(0) => Ok(false),
@@ -61,14 +61,14 @@ pub fn fill_or_end<S: Source>(source: &mut S, buf: &mut [u8]) -> Result<bool, Er
 ///
 /// `ReadFault` where the source failed, `EndOfInput` where it ended before, `OutOfMemory`.
 pub fn take_into<S: Source>(source: &mut S, store: &mut Vec<u8>, wanted: usize) -> Result<(), Error>
-    ensures taken { OnOk result (Consumes (S.left source.old) (S.left source.new) (take wanted store.new.items)) }
+    ensures taken { OnOk result (Consumes (S.state source.old).left (S.state source.new).left (take wanted store.new.items)) }
     ensures all { OnOk result (wanted ≤ length store.new.items) }
-    ensures refused { IfErr result (λ e. ReadStops e.kind (S.left source.old) (S.left source.new) (S.faults_read source.old) (S.faults_read source.new) (S.ends_met source.old) (S.ends_met source.new) wanted) }
+    ensures refused { IfErr result (λ e. ReadStops e.kind (S.state source.old).left (S.state source.new).left (S.state source.old).read_faults (S.state source.new).read_faults (S.state source.old).ends (S.state source.new).ends wanted) }
     ensures some { OnErr result (0 < wanted) }
     // The store is at most as long as it was, or as was wanted, or as twice what came and one piece.
     ensures wanted { length store.new.items ≤ max (length store.old.items) wanted }
-    ensures came { (bytes : List ℕ) → S.left source.old ≡ Some bytes → length store.new.items ≤ max (length store.old.items) (4096 + 2 * length bytes) }
-    ensures on { ReadsOn S.left S.faults_read S.ends_met S.beside_left source.old source.new }
+    ensures came { (bytes : List ℕ) → (S.state source.old).left ≡ Some bytes → length store.new.items ≤ max (length store.old.items) (4096 + 2 * length bytes) }
+    ensures on { ReadsOn (S.state source.old) (S.state source.new) }
 {
     let mut at = 0;
     'taking: while at < wanted {
@@ -90,9 +90,9 @@ fn fill_store<S: Source>(
     requires { (from ≤ to) × (to ≤ length store.old.items) }
     ensures front { take from store.new.items ≡ take from store.old.items }
     ensures size { length store.new.items ≡ length store.old.items }
-    ensures filled { OnOk result (Consumes (S.left source.old) (S.left source.new) (take (to - from) (drop from store.new.items))) }
-    ensures refused { IfErr result (λ e. ReadStops e.kind (S.left source.old) (S.left source.new) (S.faults_read source.old) (S.faults_read source.new) (S.ends_met source.old) (S.ends_met source.new) (to - from)) }
-    ensures on { ReadsOn S.left S.faults_read S.ends_met S.beside_left source.old source.new }
+    ensures filled { OnOk result (Consumes (S.state source.old).left (S.state source.new).left (take (to - from) (drop from store.new.items))) }
+    ensures refused { IfErr result (λ e. ReadStops e.kind (S.state source.old).left (S.state source.new).left (S.state source.old).read_faults (S.state source.new).read_faults (S.state source.old).ends (S.state source.new).ends (to - from)) }
+    ensures on { ReadsOn (S.state source.old) (S.state source.new) }
 {
     fill_part(source, store.as_mut_slice(), from, to)
 }
@@ -105,9 +105,9 @@ fn fill_part<S: Source>(
 ) -> Result<(), Error>
     requires { (from ≤ to) × (to ≤ length bytes.old) }
     ensures front { take from bytes.new ≡ take from bytes.old }
-    ensures filled { OnOk result (Consumes (S.left source.old) (S.left source.new) (take (to - from) (drop from bytes.new))) }
-    ensures refused { IfErr result (λ e. ReadStops e.kind (S.left source.old) (S.left source.new) (S.faults_read source.old) (S.faults_read source.new) (S.ends_met source.old) (S.ends_met source.new) (to - from)) }
-    ensures on { ReadsOn S.left S.faults_read S.ends_met S.beside_left source.old source.new }
+    ensures filled { OnOk result (Consumes (S.state source.old).left (S.state source.new).left (take (to - from) (drop from bytes.new))) }
+    ensures refused { IfErr result (λ e. ReadStops e.kind (S.state source.old).left (S.state source.new).left (S.state source.old).read_faults (S.state source.new).read_faults (S.state source.old).ends (S.state source.new).ends (to - from)) }
+    ensures on { ReadsOn (S.state source.old) (S.state source.new) }
 {
     fill(source, &mut bytes[from..to])
 }

@@ -1,7 +1,7 @@
-ghost use Rattle.std.specs.Prelude.{◌≡◌, ◌≤◌, None, refl};
-ghost use Rattle.mongo_wire.specs.Outside.{Rose, no_half, untold_half};
+ghost use Rattle.std.specs.Prelude.{◌≡◌, ◌≤◌, None};
+ghost use Rattle.mongo_wire.specs.Outside.{Rose};
 
-use crate::{Failed, Link, Sink, SinkError, Source};
+use crate::{Failed, Outside, Sink, SinkError, Source};
 use std::io::{Read, Write};
 
 /// A [`Source`] over a reader of std. It tells nothing.
@@ -26,15 +26,11 @@ impl<R: Read> StdSource<R> {
     }
 }
 
+impl<R: Read> Outside for StdSource<R> {
+    ghost state = { λ s. record { left = None; read_faults = s.read_faults; ends = s.ends; written = None; flushed = 0; write_faults = 0 } };
+}
+
 impl<R: Read> Source for StdSource<R> {
-    ghost left = { λ _. None };
-
-    ghost faults_read = { λ s. s.read_faults };
-
-    ghost ends_met = { λ s. s.ends };
-
-    ghost beside_left = { λ _. no_half };
-
     fn read(&mut self, buf: &mut [u8]) -> Result<usize, Failed> {
         match self.reader.read(buf) {
             Ok(0) => {
@@ -86,15 +82,11 @@ impl<W: Write> StdSink<W> {
     }
 }
 
+impl<W: Write> Outside for StdSink<W> {
+    ghost state = { λ s. record { left = None; read_faults = 0; ends = 0; written = None; flushed = 0; write_faults = s.write_faults } };
+}
+
 impl<W: Write> Sink for StdSink<W> {
-    ghost written = { λ _. None };
-
-    ghost flushed = { λ _. 0 };
-
-    ghost faults_written = { λ s. s.write_faults };
-
-    ghost beside_written = { λ _. no_half };
-
     fn write(&mut self, piece: &[u8]) -> Result<usize, SinkError> {
         match self.writer.write(piece) {
             Ok(count) if count > 0 || piece.is_empty() => Ok(count),
@@ -135,15 +127,11 @@ impl<R: Read, W: Write> StdLink<R, W> {
     }
 }
 
+impl<R: Read, W: Write> Outside for StdLink<R, W> {
+    ghost state = { λ s. record { left = None; read_faults = s.source.read_faults; ends = s.source.ends; written = None; flushed = 0; write_faults = s.sink.write_faults } };
+}
+
 impl<R: Read, W: Write> Source for StdLink<R, W> {
-    ghost left = { λ _. None };
-
-    ghost faults_read = { λ l. l.source.read_faults };
-
-    ghost ends_met = { λ l. l.source.ends };
-
-    ghost beside_left = { λ l. untold_half 0 l.sink.write_faults };
-
     fn read(&mut self, buf: &mut [u8]) -> Result<usize, Failed> {
         self.source.read(buf)
     }
@@ -158,14 +146,6 @@ impl<R: Read, W: Write> Source for StdLink<R, W> {
 }
 
 impl<R: Read, W: Write> Sink for StdLink<R, W> {
-    ghost written = { λ _. None };
-
-    ghost flushed = { λ _. 0 };
-
-    ghost faults_written = { λ l. l.sink.write_faults };
-
-    ghost beside_written = { λ l. untold_half l.source.ends l.source.read_faults };
-
     fn write(&mut self, piece: &[u8]) -> Result<usize, SinkError> {
         self.sink.write(piece)
     }
@@ -177,10 +157,4 @@ impl<R: Read, W: Write> Sink for StdLink<R, W> {
     fn write_faults(&self) -> u64 {
         self.sink.write_faults()
     }
-}
-
-impl<R: Read, W: Write> Link for StdLink<R, W> {
-    ghost reads_keep_written = { λ _. refl };
-
-    ghost writes_keep_left = { λ _. refl };
 }

@@ -8,9 +8,9 @@ use crate::{Error, Sink};
 ///
 /// `WriteFault` where the sink failed, `OutOfMemory` where it wanted memory; a front of the bytes is written then.
 pub fn write_out<K: Sink>(sink: &mut K, bytes: &[u8]) -> Result<(), Error>
-    ensures written { OnOk result (Appends (K.written sink.old) (K.written sink.new) bytes.now) }
-    ensures refused { IfErr result (λ e. WriteStops e.kind (K.written sink.old) (K.written sink.new) (K.faults_written sink.old) (K.faults_written sink.new) bytes.now) }
-    ensures on { WritesOn K.written K.flushed K.faults_written K.beside_written sink.old sink.new }
+    ensures written { OnOk result (Appends (K.state sink.old).written (K.state sink.new).written bytes.now) }
+    ensures refused { IfErr result (λ e. WriteStops e.kind (K.state sink.old).written (K.state sink.new).written (K.state sink.old).write_faults (K.state sink.new).write_faults bytes.now) }
+    ensures on { WritesOn (K.state sink.old) (K.state sink.new) }
 {
     let mut at = 0;
     'writing: while at < bytes.len() {
@@ -26,10 +26,10 @@ pub fn write_out<K: Sink>(sink: &mut K, bytes: &[u8]) -> Result<(), Error>
 ///
 /// `WriteFault` where the sink failed, `OutOfMemory` where it wanted memory.
 pub fn flush_out<K: Sink>(sink: &mut K) -> Result<(), Error>
-    ensures flushed { OnOk result (IsFlushed (K.written sink.new) (K.flushed sink.new)) }
-    ensures kept { Keeps (K.written sink.old) (K.written sink.new) }
-    ensures refused { IfErr result (λ e. WriteStops e.kind (K.written sink.old) (K.written sink.new) (K.faults_written sink.old) (K.faults_written sink.new) []) }
-    ensures on { WritesOn K.written K.flushed K.faults_written K.beside_written sink.old sink.new }
+    ensures flushed { OnOk result (IsFlushed (K.state sink.new).written (K.state sink.new).flushed) }
+    ensures kept { Keeps (K.state sink.old).written (K.state sink.new).written }
+    ensures refused { IfErr result (λ e. WriteStops e.kind (K.state sink.old).written (K.state sink.new).written (K.state sink.old).write_faults (K.state sink.new).write_faults []) }
+    ensures on { WritesOn (K.state sink.old) (K.state sink.new) }
 {
     match sink.flush() {
         Ok(()) => Ok(()),
@@ -46,9 +46,9 @@ pub fn write_pieces<K: Sink>(
     second: &[u8],
     third: &[u8],
 ) -> Result<(), Error>
-    ensures written { OnOk result (Appends (K.written sink.old) (K.written sink.new) (first.now ++ (second.now ++ third.now))) }
-    ensures refused { IfErr result (λ e. WriteStops e.kind (K.written sink.old) (K.written sink.new) (K.faults_written sink.old) (K.faults_written sink.new) (first.now ++ (second.now ++ third.now))) }
-    ensures on { WritesOn K.written K.flushed K.faults_written K.beside_written sink.old sink.new }
+    ensures written { OnOk result (Appends (K.state sink.old).written (K.state sink.new).written (first.now ++ (second.now ++ third.now))) }
+    ensures refused { IfErr result (λ e. WriteStops e.kind (K.state sink.old).written (K.state sink.new).written (K.state sink.old).write_faults (K.state sink.new).write_faults (first.now ++ (second.now ++ third.now))) }
+    ensures on { WritesOn (K.state sink.old) (K.state sink.new) }
 {
     write_out(sink, first)?;
     write_out(sink, second)?;

@@ -12,7 +12,7 @@ returns-in-Ok-eq0-clause-read g c =
     let held = c.reading.held.items in
     let short : length held ≤ limit = omega arith in
     let room : 0 < length c.read.new.buf = grind (arith, common_steps, c.read.auto.buf) in
-    let all : Consumes (g.S.Source.left c.args.source.now) (g.S.Source.left c.read.new.self) held = search rules in
+    let all : Consumes (g.S.Outside.state c.args.source.now).left (g.S.Outside.state c.read.new.self).left held = search rules in
     let end = c.in-Ok-eq0.ensures.bytes.1 c.in-Ok-eq0.field-0-test room in
     λ input told. reads_whole _ _ held input told all end short
 

@@ -7,11 +7,11 @@ use Rattle.mongo_login.proofs.input.read_input.Given as goal
 -- what is held is what the source gave so far
 abbrev pub invariant-reading : goal.invariant-reading
 invariant-reading g l =
-    let s = g.S.Source in
+    let state = g.S.Outside.state in
     record {
       within : length l.held.items ≤ limit + 1;
-      front : Consumes (s.left l.fn.source) (s.left l.source) l.held.items;
-      on : ReadsOn s.left s.faults_read s.ends_met s.beside_left l.fn.source l.source;
+      front : Consumes (state l.fn.source).left (state l.source).left l.held.items;
+      on : ReadsOn (state l.fn.source) (state l.source);
     }
 
 abbrev pub decreases-reading : goal.decreases-reading

@@ -6,11 +6,11 @@ use Rattle.mongo_login.proofs.output.write_report.Given as goal
 -- a front of the text is written so far
 abbrev pub invariant-writing : goal.invariant-writing
 invariant-writing g l =
-    let k = g.K.Sink in
+    let state = g.K.Outside.state in
     record {
       within : l.at ≤ length l.text;
-      front : Appends (k.written l.fn.sink) (k.written l.sink) (take l.at l.text);
-      on : WritesOn k.written k.flushed k.faults_written k.beside_written l.fn.sink l.sink;
+      front : Appends (state l.fn.sink).written (state l.sink).written (take l.at l.text);
+      on : WritesOn (state l.fn.sink) (state l.sink);
     }
 
 abbrev pub decreases-writing : goal.decreases-writing

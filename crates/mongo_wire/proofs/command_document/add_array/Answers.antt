@@ -1,4 +1,3 @@
-use Rattle.std.proofs.Common.{rules}
 use Rattle.mongo_wire.proofs.Arrays.{push_alone, without_zero}
 use Rattle.mongo_wire.proofs.command_document.add_array.Goals as goal
 

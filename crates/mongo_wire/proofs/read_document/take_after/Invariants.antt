@@ -6,11 +6,11 @@ use Rattle.mongo_wire.proofs.read_document.take_after.Given as goal
 -- what was taken is the front and what the source gave so far
 abbrev pub invariant-taking : goal.invariant-taking
 invariant-taking g l =
-    let s = g.S.Source in
+    let state = g.S.Outside.state in
     record {
       within : length l.taken.items ≤ l.wanted;
-      front : Continues l.front (s.left l.fn.source) (s.left l.source) l.taken.items;
-      on : ReadsOn s.left s.faults_read s.ends_met s.beside_left l.fn.source l.source;
+      front : Continues l.front (state l.fn.source).left (state l.source).left l.taken.items;
+      on : ReadsOn (state l.fn.source) (state l.source);
     }
 
 abbrev pub decreases-taking : goal.decreases-taking

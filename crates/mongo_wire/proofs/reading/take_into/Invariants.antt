@@ -6,14 +6,14 @@ use Rattle.mongo_wire.proofs.reading.take_into.Given as goal
 -- the front of the store is what the source gave so far
 abbrev pub invariant-taking : goal.invariant-taking
 invariant-taking g l =
-    let s = g.S.Source in
+    let state = g.S.Outside.state in
     record {
       within : l.at ≤ length l.store.items;
       short : l.at ≤ l.wanted;
-      front : Consumes (s.left l.fn.source) (s.left l.source) (take l.at l.store.items);
+      front : Consumes (state l.fn.source).left (state l.source).left (take l.at l.store.items);
       wanted : length l.store.items ≤ max (length l.fn.store.items) l.wanted;
       came : length l.store.items ≤ max (length l.fn.store.items) (4096 + 2 * l.at);
-      on : ReadsOn s.left s.faults_read s.ends_met s.beside_left l.fn.source l.source;
+      on : ReadsOn (state l.fn.source) (state l.source);
     }
 
 abbrev pub decreases-taking : goal.decreases-taking

@@ -6,8 +6,8 @@ use Rattle.mongo_wire.proofs.write_message.write_sequences.Given as goal
 
 abbrev pub invariant-sending : goal.invariant-sending
 invariant-sending g l =
-    let k = g.K.Sink in
+    let state = g.K.Outside.state in
     record {
-      front : Appends (k.written l.fn.sink) (k.written l.sink) (sequences_bytes (take l.sequence-index l.sequences));
-      on : WritesOn k.written k.flushed k.faults_written k.beside_written l.fn.sink l.sink;
+      front : Appends (state l.fn.sink).written (state l.sink).written (sequences_bytes (take l.sequence-index l.sequences));
+      on : WritesOn (state l.fn.sink) (state l.sink);
     }

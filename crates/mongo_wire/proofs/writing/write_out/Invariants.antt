@@ -6,11 +6,11 @@ use Rattle.mongo_wire.proofs.writing.write_out.Given as goal
 -- a front of the bytes is written so far
 abbrev pub invariant-writing : goal.invariant-writing
 invariant-writing g l =
-    let k = g.K.Sink in
+    let state = g.K.Outside.state in
     record {
       within : l.at ≤ length l.bytes;
-      front : Appends (k.written l.fn.sink) (k.written l.sink) (take l.at l.bytes);
-      on : WritesOn k.written k.flushed k.faults_written k.beside_written l.fn.sink l.sink;
+      front : Appends (state l.fn.sink).written (state l.sink).written (take l.at l.bytes);
+      on : WritesOn (state l.fn.sink) (state l.sink);
     }
 
 abbrev pub decreases-writing : goal.decreases-writing
