@@ -20,6 +20,7 @@
 #![tactic(auto)]
 
 mod block;
+mod compare;
 mod hash_fn;
 mod key;
 mod sha;
@@ -28,6 +29,7 @@ mod tag;
 #[cfg(test)]
 mod tests;
 
+pub use compare::are_same_bytes;
 pub use hash_fn::{HashFn, digest};
 pub use key::{HmacKey, hi, hmac};
 pub use sha::{Sha1Fn, Sha256Fn};

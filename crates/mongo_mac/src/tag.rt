@@ -1,12 +1,16 @@
-ghost use Rattle.std.specs.Prelude.{◌≡◌, ℕ, ◌≤◌, length};
+ghost use Rattle.std.specs.Prelude.{◌≡◌, ◌==◌, ℕ, ◌≤◌, length, Some, codes};
+ghost use Rattle.std.specs.Cmp.Lexicographic.{pointwise};
+ghost use Rattle.std.specs.Cmp.Rules.{comparing};
+ghost use Rattle.std.proofs.Common.{rules};
 ghost use Rattle.mongo_mac.specs.Bytes.{xor_bytes};
 
+use crate::compare::are_same_bytes;
 use std::fmt;
 use std::marker::Model;
 
 /// A digest, an HMAC or a derived key: at most 32 bytes in a store of its own, so that it takes no
 /// memory. A clause sees the list of those bytes.
-#[derive(Clone, Copy, PartialEq, Eq)]
+#[derive(Clone, Copy)]
 pub struct Tag {
     // The bytes, and zeros behind them, so that two tags with the same bytes are one value.
     store: [u8; 32],
@@ -52,8 +56,25 @@ impl Tag {
     }
 }
 
+// A tag may be a secret, so its comparison looks at each byte.
+impl PartialEq for Tag {
+    ghost eq = { pointwise ◌==◌ };
+
+    ghost laws = { Prim.search (comparing, rules) };
+
+    fn eq(&self, other: &Tag) -> bool {
+        are_same_bytes(self.as_bytes(), other.as_bytes())
+    }
+}
+
+impl Eq for Tag {
+    ghost laws = { Prim.search (comparing, rules) };
+}
+
 // A tag may be a key, so its bytes are not shown.
 impl fmt::Debug for Tag {
+    ghost debug_output = { λ _. Some (codes "Tag { .. }") };
+
     fn fmt<W: fmt::Write>(&self, f: &mut fmt::Formatter<W>) -> fmt::Result {
         f.write_str("Tag { .. }")
     }

@@ -1,6 +1,6 @@
 ghost use Rattle.std.specs.Prelude.{◌≡◌, ◌<◌, ◌≤◌};
 
-use crate::{HashFn, HmacKey, Sha1Fn, Sha256Fn, Steps, Tag, digest, hi, hmac, xor};
+use crate::{HashFn, HmacKey, Sha1Fn, Sha256Fn, Steps, Tag, are_same_bytes, digest, hi, hmac, xor};
 use std::alloc::{AllocError, Global};
 use std::marker::Brand;
 use std::sync::ledger::{Blank, Ledger};
@@ -175,7 +175,24 @@ fn digests_and_their_xor(rt: HostRuntime) -> Result<(), Fail> {
         &Tag::from_slice(&[0b1010, 0xFF, 7]),
     );
     assert_eq!(rt; mixed, Tag::from_slice(&[0b0110, 0, 7]));
+    // The text of a tag that may be a key shows none of its bytes.
+    assert_eq!(rt; format!(in rt.alloc(); "{mixed:?}")?.as_str(), "Tag { .. }");
     Ok(())
+}
+
+#[test]
+fn bytes_that_differ_anywhere_are_not_the_same(rt: HostRuntime) {
+    let rows: [(&[u8], &[u8], bool); 6] = [
+        (b"", b"", true),
+        (b"verifier", b"verifier", true),
+        (b"verifier", b"Verifier", false),
+        (b"verifier", b"verifies", false),
+        (b"verifier", b"verify", false),
+        (b"verify", b"verifier", false),
+    ];
+    for (left, right, same) in &rows {
+        assert_eq!(rt; are_same_bytes(left, right), *same);
+    }
 }
 
 /// Hi with a counter of its own, of the ledger that `blank` opens.
