@@ -4,7 +4,7 @@ ghost use Rattle.std.specs.Cmp.Rules.{comparing};
 ghost use Rattle.std.specs.Prelude.{◌==◌};
 ghost use Rattle.std.proofs.Common.{rules};
 
-use crate::BsonFault;
+use crate::{BsonFault, TryClone};
 use std::alloc::Global;
 use std::marker::Model;
 
@@ -87,5 +87,11 @@ impl PartialEq for Bytes {
 
     fn eq(&self, other: &Bytes) -> bool {
         self.as_bytes() == other.as_bytes()
+    }
+}
+
+impl TryClone for Bytes {
+    fn try_clone(&self, alloc: Global) -> Result<Bytes, BsonFault> {
+        Bytes::try_clone(self, alloc)
     }
 }

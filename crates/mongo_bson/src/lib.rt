@@ -20,12 +20,12 @@ mod arrays;
 mod bytes;
 mod checks;
 mod distinct;
-mod documents;
 mod element;
 mod extend;
 mod fault;
 mod find;
 mod id_field;
+mod items;
 mod iter;
 mod meaning;
 mod name;
@@ -41,7 +41,7 @@ mod shape;
 #[cfg(test)]
 mod tests;
 mod text;
-mod texts;
+mod try_clone;
 mod writing;
 
 pub use arrays::{array_entry_size_bytes, to_raw_bson_array, vec_to_raw_array_buf};
@@ -49,17 +49,17 @@ pub use bytes::Bytes;
 pub use checks::{
     first_key, replacement_document_check, replacement_raw_document_check, update_document_check,
 };
-pub use documents::Documents;
 pub use extend::extend_raw_document_buf;
 pub use fault::BsonFault;
 pub use id_field::get_or_prepend_id_field;
+pub use items::Items;
 pub use iter::Iter;
 pub use number::{get_int_raw, get_u64_raw};
 pub use object_id::ObjectId;
 pub use owned_value::OwnedValue;
 pub use raw_array_buf::RawArrayBuf;
 pub use raw_document::RawDocument;
-pub use raw_document_buf::RawDocumentBuf;
+pub use raw_document_buf::{Documents, RawDocumentBuf};
 pub use raw_value::RawValue;
-pub use text::Text;
-pub use texts::Texts;
+pub use text::{Text, Texts};
+pub use try_clone::TryClone;

@@ -1,6 +1,6 @@
 ghost use Rattle.std.specs.Prelude.{◌≡◌, IfOk, IfErr};
 
-use crate::{BsonFault, Bytes};
+use crate::{BsonFault, Bytes, TryClone};
 use std::alloc::Global;
 
 /// A value that owns its memory: its kind byte and its bytes as they lie in a document.
@@ -22,5 +22,11 @@ impl OwnedValue {
             kind: self.kind,
             bytes: self.bytes.try_clone(alloc)?,
         })
+    }
+}
+
+impl TryClone for OwnedValue {
+    fn try_clone(&self, alloc: Global) -> Result<OwnedValue, BsonFault> {
+        OwnedValue::try_clone(self, alloc)
     }
 }

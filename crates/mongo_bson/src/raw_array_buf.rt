@@ -6,7 +6,7 @@ ghost use Rattle.mongo_bson.specs.Value.{element_of};
 ghost use Rattle.mongo_bson.specs.Array.{IsArray};
 ghost use Rattle.mongo_bson.specs.Refusals.{PushRefuses};
 
-use crate::{BsonFault, RawDocument, RawDocumentBuf, RawValue};
+use crate::{BsonFault, RawDocument, RawDocumentBuf, RawValue, TryClone};
 use itoa::Buffer;
 use std::alloc::Global;
 
@@ -82,5 +82,11 @@ impl RawArrayBuf {
             document: self.document.try_clone(alloc)?,
             count: self.count,
         })
+    }
+}
+
+impl TryClone for RawArrayBuf {
+    fn try_clone(&self, alloc: Global) -> Result<RawArrayBuf, BsonFault> {
+        RawArrayBuf::try_clone(self, alloc)
     }
 }

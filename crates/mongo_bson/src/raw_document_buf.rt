@@ -10,7 +10,7 @@ ghost use Rattle.mongo_bson.specs.Refusals.{AppendRefuses, PushRefuses};
 
 use crate::raw_document::is_framed;
 use crate::writing::{has_room, has_room_for, has_zero, push_element, push_elements};
-use crate::{BsonFault, Bytes, RawDocument, RawValue};
+use crate::{BsonFault, Bytes, Items, RawDocument, RawValue, TryClone};
 use std::alloc::Global;
 use std::marker::Model;
 
@@ -128,3 +128,12 @@ impl PartialEq for RawDocumentBuf {
         self.as_bytes() == other.as_bytes()
     }
 }
+
+impl TryClone for RawDocumentBuf {
+    fn try_clone(&self, alloc: Global) -> Result<RawDocumentBuf, BsonFault> {
+        RawDocumentBuf::try_clone(self, alloc)
+    }
+}
+
+/// A list of documents. Contracts see the list of their bytes.
+pub type Documents = Items<RawDocumentBuf>;

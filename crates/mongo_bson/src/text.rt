@@ -4,7 +4,7 @@ ghost use Rattle.std.specs.Cmp.Rules.{comparing};
 ghost use Rattle.std.specs.Prelude.{◌==◌};
 ghost use Rattle.std.proofs.Common.{rules};
 
-use crate::BsonFault;
+use crate::{BsonFault, Items, TryClone};
 use std::alloc::Global;
 use std::marker::Model;
 
@@ -63,3 +63,12 @@ impl PartialEq for Text {
         self.as_bytes() == other.as_bytes()
     }
 }
+
+impl TryClone for Text {
+    fn try_clone(&self, alloc: Global) -> Result<Text, BsonFault> {
+        Text::try_clone(self, alloc)
+    }
+}
+
+/// A list of texts. Contracts see the list of their byte lists.
+pub type Texts = Items<Text>;

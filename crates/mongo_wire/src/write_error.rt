@@ -1,8 +1,7 @@
-ghost use Rattle.std.specs.Prelude.{◌≡◌, ◌++◌, ◌==◌, List, ℕ, [], ◌∷◌, length, slice_get, option_copied, IfOk, IfErr, OnOk, OnErr};
+ghost use Rattle.std.specs.Prelude.{◌≡◌, IfOk, IfErr};
 
-use mongo_bson::{BsonFault, RawDocumentBuf, Text, Texts};
+use mongo_bson::{BsonFault, Items, RawDocumentBuf, Text, Texts, TryClone};
 use std::alloc::Global;
-use std::marker::Model;
 
 /// A write that a server refused.
 #[derive(Debug, Drop)]
@@ -54,74 +53,14 @@ impl IndexedWriteError {
     }
 }
 
+impl TryClone for IndexedWriteError {
+    fn try_clone(&self, alloc: Global) -> Result<IndexedWriteError, BsonFault> {
+        IndexedWriteError::try_clone(self, alloc)
+    }
+}
+
 /// A list of refused writes.
-#[derive(Debug, Drop)]
-pub struct WriteErrors {
-    items: Vec<IndexedWriteError>,
-}
-
-impl Model for WriteErrors {
-    ghost use Rattle.std.specs.Prelude.{List};
-    ghost use Rattle.mongo_wire.specs.declared.write_error.IndexedWriteError.{IndexedWriteError};
-
-    ghost Value = { List IndexedWriteError };
-
-    ghost view = { λ w. w.items.items };
-}
-
-impl WriteErrors {
-    /// No refused writes. It takes no memory.
-    pub fn new(alloc: Global) -> WriteErrors
-        ensures { result ≡ [] }
-    {
-        WriteErrors {
-            items: Vec::new(alloc),
-        }
-    }
-
-    /// Adds a refused write at the end. Want of memory is the only refusal, and leaves the list as it was.
-    pub fn push(&mut self, error: IndexedWriteError) -> Result<(), BsonFault>
-        ensures added { OnOk result (self.new ≡ self.old ++ error ∷ []) }
-        ensures unchanged { OnErr result (self.new ≡ self.old) }
-        ensures refused { IfErr result (λ fault. fault ≡ BsonFault.OutOfMemory) }
-    {
-        self.items.push(error)?;
-        Ok(())
-    }
-
-    /// How many there are.
-    pub fn len(&self) -> usize
-        ensures { result ≡ length self.now }
-    {
-        self.items.len()
-    }
-
-    /// Whether there is none.
-    pub fn is_empty(&self) -> bool
-        ensures { result ≡ (length self.now == 0) }
-    {
-        self.items.is_empty()
-    }
-
-    /// The one at a place, counted from 0, or None from the list's end on.
-    pub fn get(&self, index: usize) -> Option<&IndexedWriteError>
-        ensures { option_copied result ≡ slice_get self.now index }
-    {
-        self.items.as_slice().get(index)
-    }
-
-    /// A copy of the list. Want of memory is the only refusal.
-    pub fn try_clone(&self, alloc: Global) -> Result<WriteErrors, BsonFault>
-        ensures copied { IfOk result (λ errors. errors ≡ self.now) }
-        ensures refused { IfErr result (λ fault. fault ≡ BsonFault.OutOfMemory) }
-    {
-        let mut copies = Vec::new(alloc);
-        for error in self.items.as_slice() {
-            copies.push(error.try_clone(alloc)?)?;
-        }
-        Ok(WriteErrors { items: copies })
-    }
-}
+pub type WriteErrors = Items<IndexedWriteError>;
 
 /// A write concern that a server couldn't meet.
 #[derive(Debug, Drop)]
