@@ -1,4 +1,4 @@
-pub mod Names
+pub mod Cstrings
 pub mod Sizes
 pub mod ByKind
 pub mod OneElement

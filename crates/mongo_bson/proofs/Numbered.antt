@@ -15,7 +15,7 @@ use Rattle.mongo_bson.specs.Framed.{IsFramed, body_of, enclosed}
 use Rattle.mongo_bson.specs.Document.{spell}
 use Rattle.mongo_bson.specs.Array.{Entry, numbered, array_of, IsArrayOf, IsArray, GrowsBy, document_entries}
 use Rattle.mongo_bson.specs.Refusals.{AppendRefuses, PushRefuses, HadMemory}
-use Rattle.mongo_bson.proofs.Names.{HasNoZero}
+use Rattle.mongo_bson.proofs.Cstrings.{HasNoZero}
 use Rattle.mongo_bson.proofs.OneElement.{made_of}
 use Rattle.mongo_bson.proofs.Passed.{all_push}
 use Rattle.mongo_bson.proofs.Enclosed.{length-enclosed, body_of-enclosed, length-body_of}

@@ -1,5 +1,5 @@
 -- What was appended is read back.
-use Rattle.std.proofs.Common.{◌≡◌, ℕ, ◌+◌, ◌-◌, ◌^◌, ◌<◌, inl, inr, Bool, true, false, ℤ, Fits, FitsSigned, List, [], ◌∷◌, ◌++◌, length, get_or, refl, sym, ap, ◌∙◌, subst, arith}
+use Rattle.std.proofs.Common.{◌≡◌, ℕ, ◌+◌, ◌-◌, ◌^◌, ◌<◌, inl, inr, Bool, true, false, ℤ, Fits, FitsSigned, Result, Ok, Err, OnOk, List, [], ◌∷◌, ◌++◌, length, get_or, refl, sym, ap, ◌∙◌, subst, arith}
 use Rattle.std.specs.Int.{to_le_bytes, from_le_bytes, from_bool, cast_signed, cast_unsigned, w32, w64}
 use Rattle.std.specs.List.{flat_map}
 use Rattle.std.specs.Str.{IsUtf8}
@@ -9,12 +9,13 @@ use Rattle.std.proofs.lemmas.List.{append_assoc, append-nil, length-append, get_
 use Rattle.std.proofs.lemmas.List.Concat.{flat_map-append}
 use Rattle.std.proofs.lemmas.Nat.{from_le_bytes-to_le_bytes_4, from_le_bytes-to_le_bytes_8}
 use Rattle.mongo_bson.specs.Framed.{IsFramed, body_of, enclosed}
-use Rattle.mongo_bson.specs.Document.{Element, fixed, truth, string, document, binary, Holds, IsName, IsString, IsBinary, IsElement, IsDocument, spell, text_of}
+use Rattle.mongo_bson.specs.Document.{Element, fixed, boolean, string, document, binary, Holds, IsCstring, IsString, IsBinary, IsElement, IsDocument, AddsElement, spell, text_of}
 use Rattle.mongo_bson.specs.Reading.{HoldsKind}
 use Rattle.mongo_bson.specs.Value.{IsValue, kind_of, bytes_of, element_of}
 use Rattle.mongo_bson.specs.Writable.{IsWritable}
+use Rattle.mongo_bson.specs.declared.fault.BsonFault.{BsonFault}
 use Rattle.mongo_bson.specs.declared.raw_value.RawValue.{RawValue}
-use Rattle.mongo_bson.specs.declared.raw_value.RawValue.TheVariants.{Double, Str, Document, Array, Binary, ObjectId, Bool as Truth, DateTime, Null, Int32, Int64, Other}
+use Rattle.mongo_bson.specs.declared.raw_value.RawValue.TheVariants.{Double, Str, Document, Array, Binary, ObjectId, Bool as Boolean, DateTime, Null, Int32, Int64, Other}
 use Rattle.mongo_bson.proofs.Passed.{all_push}
 use Rattle.mongo_bson.proofs.Enclosed.{body_of-enclosed}
 
@@ -38,9 +39,9 @@ content_is_binary subtype content short =
     let number : from_le_bytes w32 (to_le_bytes w32 (length content) ++ (subtype ∷ content)) ≡ length content = from_le_bytes-to_le_bytes_4 (length content) (omega arith) in
     record { least = omega arith; most = omega (arith, number); counted = omega (arith, number) }
 
-byte_is_truth : (b : Bool) → Holds truth (from_bool b ∷ [])
-byte_is_truth true = inr refl
-byte_is_truth false = inl refl
+byte_is_boolean : (b : Bool) → Holds boolean (from_bool b ∷ [])
+byte_is_boolean true = inr refl
+byte_is_boolean false = inl refl
 
 -- the bytes of a value are a value of its kind
 pub written_holds : (value : RawValue) → IsWritable value → HoldsKind (kind_of value) (bytes_of value)
@@ -50,7 +51,7 @@ written_holds (Document d) is = (document, refl, is)
 written_holds (Array a) is = (document, refl, is)
 written_holds (Binary subtype content) is = (binary, refl, content_is_binary subtype content.now is)
 written_holds (ObjectId id) is = (fixed 12, refl, is)
-written_holds (Truth b) is = (truth, refl, byte_is_truth b)
+written_holds (Boolean b) is = (boolean, refl, byte_is_boolean b)
 written_holds (DateTime milliseconds) is = (fixed 8, refl, refl)
 written_holds Null is = (fixed 0, refl, refl)
 written_holds (Int32 number) is = (fixed 4, refl, refl)
@@ -76,7 +77,7 @@ written_means (Document d) is = (refl, refl)
 written_means (Array a) is = (refl, refl)
 written_means (Binary subtype content) is = (refl, refl, refl)
 written_means (ObjectId id) is = (refl, refl)
-written_means (Truth b) is = (refl, refl)
+written_means (Boolean b) is = (refl, refl)
 written_means (DateTime milliseconds) is = (refl, sym (signed_64 milliseconds is))
 written_means Null is = refl
 written_means (Int32 number) is = (refl, sym (signed_32 number is))
@@ -84,18 +85,25 @@ written_means (Int64 number) is = (refl, sym (signed_64 number is))
 written_means (Other kind content) is = (refl, refl, is.1)
 
 -- so a key and a value are written as an element
-pub written_element : (key : List ℕ) (value : RawValue) → IsName key → IsWritable value → IsElement (element_of key value)
+pub written_element : (key : List ℕ) (value : RawValue) → IsCstring key → IsWritable value → IsElement (element_of key value)
 written_element key value name is = let held = written_holds value is in record { shape = held.0; known = held.1; key = name; value = held.2 }
 
--- and a document that it was appended to has it as its last element
-pub appended_document : (old new key : List ℕ) (value : RawValue) (elements : List Element) → IsDocument old elements → IsName key → IsWritable value → IsFramed new → new ≡ enclosed (body_of old ++ spell (element_of key value)) → IsDocument new (elements ++ element_of key value ∷ [])
-appended_document old new key value elements is name writable framed grown =
-    let element = element_of key value in
+-- a document that an element was appended to has it as its last
+pub one_more : (old new : List ℕ) (element : Element) → IsFramed new → new ≡ enclosed (body_of old ++ spell element) → AddsElement old new element
+one_more old new element framed grown elements is e =
     let body = body_of old ++ spell element in
     let short : length body + 5 < 2 ^ 32 = omega (arith, ap length grown, length-append body (0 ∷ []), framed.most) in
     let one : flat_map spell (element ∷ []) ≡ spell element = append-nil (spell element) in
     record {
       framed = framed;
       filled = ap body_of grown ∙ body_of-enclosed body short ∙ ap (λ w. w ++ spell element) is.filled ∙ ap (λ w. flat_map spell elements ++ w) (sym one) ∙ sym (flat_map-append spell elements (element ∷ []));
-      each = all_push IsElement elements element is.each (written_element key value name writable);
+      each = all_push IsElement elements element is.each e;
     }
+
+pub one_more_on_ok : (r : Result (Unit {0}) BsonFault) (old new : List ℕ) (element : Element) → IsFramed new → OnOk r (new ≡ enclosed (body_of old ++ spell element)) → OnOk r (AddsElement old new element)
+one_more_on_ok (Ok done) old new element framed grown = one_more old new element framed grown
+one_more_on_ok (Err fault) old new element framed grown = tt
+
+-- so one that a key and a value were appended to has them
+pub appended_document : (old new key : List ℕ) (value : RawValue) (elements : List Element) → IsDocument old elements → IsCstring key → IsWritable value → IsFramed new → new ≡ enclosed (body_of old ++ spell (element_of key value)) → IsDocument new (elements ++ element_of key value ∷ [])
+appended_document old new key value elements is name writable framed grown = one_more old new (element_of key value) framed grown elements is (written_element key value name writable)

@@ -3,26 +3,26 @@ use Rattle.std.proofs.Common.{◌≡◌, ℕ, ◌+◌, ◌-◌, ◌<◌, ◌≤�
 use Rattle.std.proofs.lemmas.List.{take_at, length-append, append_cancel_left, take-append-drop, length-take-le, length-drop}
 use Rattle.std.proofs.Math.Seq.{take-add}
 use Rattle.mongo_bson.specs.Framed.{IsFramed}
-use Rattle.mongo_bson.specs.Document.{Holds, string, two_texts, string_and_id, IsString}
-use Rattle.mongo_bson.specs.Reading.{IsAtFront, NoneAtFront, BeginsWithName, HasNoName, IsCodeAndScope}
-use Rattle.mongo_bson.proofs.Names.{one_text}
+use Rattle.mongo_bson.specs.Document.{Holds, string, regular_expression, db_pointer, IsString}
+use Rattle.mongo_bson.specs.Reading.{IsAtFront, NoneAtFront, BeginsWithCstring, HasNoCstring, IsCodeAndScope}
+use Rattle.mongo_bson.proofs.Cstrings.{one_cstring}
 use Rattle.mongo_bson.proofs.OneElement.{one_value, pair_at_front, id_at_front}
 
-pub no_pattern : (bytes : List ℕ) → HasNoName bytes → NoneAtFront (Holds two_texts) bytes
-no_pattern bytes none front rest (a, b, is) e = none a (b ++ 0 ∷ rest) is.first_name (e ∙ pair_at_front front a b rest is.spelled)
+pub no_pattern : (bytes : List ℕ) → HasNoCstring bytes → NoneAtFront (Holds regular_expression) bytes
+no_pattern bytes none front rest (a, b, is) e = none a (b ++ 0 ∷ rest) is.pattern_cstring (e ∙ pair_at_front front a b rest is.spelled)
 
-pub no_options : (bytes pattern rest : List ℕ) → BeginsWithName bytes pattern rest → HasNoName rest → NoneAtFront (Holds two_texts) bytes
+pub no_options : (bytes pattern rest : List ℕ) → BeginsWithCstring bytes pattern rest → HasNoCstring rest → NoneAtFront (Holds regular_expression) bytes
 no_options bytes pattern rest first none front more (a, b, is) e =
-    let one = one_text pattern a rest (b ++ 0 ∷ more) first.is_name.without_zero is.first_name.without_zero (sym first.spelled ∙ e ∙ pair_at_front front a b more is.spelled) in
-    none b more is.second_name one.1
+    let one = one_cstring pattern a rest (b ++ 0 ∷ more) first.is_cstring.without_zero is.pattern_cstring.without_zero (sym first.spelled ∙ e ∙ pair_at_front front a b more is.spelled) in
+    none b more is.options_cstring one.1
 
-pub pattern_and_options : (bytes pattern middle options rest : List ℕ) → BeginsWithName bytes pattern middle → BeginsWithName middle options rest → IsAtFront (Holds two_texts) bytes (length bytes - length rest)
+pub pattern_and_options : (bytes pattern middle options rest : List ℕ) → BeginsWithCstring bytes pattern middle → BeginsWithCstring middle options rest → IsAtFront (Holds regular_expression) bytes (length bytes - length rest)
 pattern_and_options bytes pattern middle options rest first second =
     let both = pattern ++ (0 ∷ (options ++ 0 ∷ [])) in
     let whole : bytes ≡ both ++ rest = first.spelled ∙ ap (λ w. pattern ++ 0 ∷ w) second.spelled ∙ sym (pair_at_front both pattern options rest refl) in
     let size = ap length whole ∙ length-append both rest in
     let cut : take (length bytes - length rest) bytes ≡ both = ap (take (length bytes - length rest)) whole ∙ take_at both rest (length bytes - length rest) (omega (arith, size)) in
-    record { within = omega arith; holds = (pattern, options, record { spelled = cut; first_name = first.is_name; second_name = second.is_name }) }
+    record { within = omega arith; holds = (pattern, options, record { spelled = cut; pattern_cstring = first.is_cstring; options_cstring = second.is_cstring }) }
 
 -- the string at the front is the one that was measured
 measured_string : (bytes code rest : List ℕ) (size : ℕ) → IsAtFront IsString bytes size → IsString code → bytes ≡ code ++ rest → (code ≡ take size bytes) × (rest ≡ drop size bytes)
@@ -31,15 +31,15 @@ measured_string bytes code rest size at is e =
     let same = one_value string code (take size bytes) rest (drop size bytes) is at.holds (sym e ∙ sym cut) in
     (same, append_cancel_left (take size bytes) rest (drop size bytes) (sym (ap (λ w. w ++ rest) same) ∙ sym e ∙ sym cut))
 
-pub no_string_no_id : (bytes : List ℕ) → NoneAtFront IsString bytes → NoneAtFront (Holds string_and_id) bytes
+pub no_string_no_id : (bytes : List ℕ) → NoneAtFront IsString bytes → NoneAtFront (Holds db_pointer) bytes
 no_string_no_id bytes none front rest (name, id, is) e = none name (id ++ rest) is.string (e ∙ id_at_front front name id rest is.spelled)
 
-pub no_id : (bytes : List ℕ) (size : ℕ) → IsAtFront IsString bytes size → length bytes - size < 12 → NoneAtFront (Holds string_and_id) bytes
+pub no_id : (bytes : List ℕ) (size : ℕ) → IsAtFront IsString bytes size → length bytes - size < 12 → NoneAtFront (Holds db_pointer) bytes
 no_id bytes size at short front rest (name, id, is) e =
     let both = measured_string bytes name (id ++ rest) size at is.string (e ∙ id_at_front front name id rest is.spelled) in
     omega (arith, ap length both.1, length-append id rest, length-drop size bytes, is.twelve, short)
 
-pub string_then_id : (bytes : List ℕ) (size : ℕ) → IsAtFront IsString bytes size → 12 ≤ length bytes - size → IsAtFront (Holds string_and_id) bytes (size + 12)
+pub string_then_id : (bytes : List ℕ) (size : ℕ) → IsAtFront IsString bytes size → 12 ≤ length bytes - size → IsAtFront (Holds db_pointer) bytes (size + 12)
 string_then_id bytes size at long =
     let id = take 12 (drop size bytes) in
     let twelve = length-take-le 12 (drop size bytes) (omega (arith, length-drop size bytes, long)) in

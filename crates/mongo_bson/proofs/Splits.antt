@@ -3,7 +3,7 @@ use Rattle.std.proofs.Common.{◌≡◌, ℕ, ◌+◌, ◌<◌, inl, inr, List, 
 use Rattle.std.specs.List.{flat_map}
 use Rattle.std.proofs.lemmas.Bool.{cases_lt}
 use Rattle.std.proofs.lemmas.List.{length-append, take_at, take-append-drop, append_cancel_left}
-use Rattle.mongo_bson.specs.Document.{Element, IsElement, IsName, IsString, Holds, two_texts, spell}
+use Rattle.mongo_bson.specs.Document.{Element, IsElement, IsCstring, IsString, Holds, regular_expression, spell}
 use Rattle.mongo_bson.specs.Framed.{IsFramed}
 use Rattle.mongo_bson.specs.Reading.{HoldsKind, IsCodeAndScope}
 use Rattle.mongo_bson.specs.Keys.{Fill}
@@ -69,13 +69,13 @@ abbrev pub IsZeroAndValue : ℕ → List ℕ → Type 0
 IsZeroAndValue kind bytes = (value : List ℕ) × (bytes ≡ 0 ∷ value) × HoldsKind kind value
 
 abbrev pub IsKeyAndValue : ℕ → List ℕ → Type 0
-IsKeyAndValue kind bytes = (key value : List ℕ) × (bytes ≡ key ++ 0 ∷ value) × IsName key × HoldsKind kind value
+IsKeyAndValue kind bytes = (key value : List ℕ) × (bytes ≡ key ++ 0 ∷ value) × IsCstring key × HoldsKind kind value
 
-pub key_and_value_from : (kind : ℕ) (bytes : List ℕ) → Splits IsName (IsZeroAndValue kind) bytes → IsKeyAndValue kind bytes
+pub key_and_value_from : (kind : ℕ) (bytes : List ℕ) → Splits IsCstring (IsZeroAndValue kind) bytes → IsKeyAndValue kind bytes
 key_and_value_from kind bytes splits =
     (splits.front, splits.second.0, splits.spelled ∙ ap (λ w. splits.front ++ w) splits.second.1, splits.first, splits.second.2)
 
-pub key_and_value_splits : (kind : ℕ) (bytes : List ℕ) → IsKeyAndValue kind bytes → Splits IsName (IsZeroAndValue kind) bytes
+pub key_and_value_splits : (kind : ℕ) (bytes : List ℕ) → IsKeyAndValue kind bytes → Splits IsCstring (IsZeroAndValue kind) bytes
 key_and_value_splits kind bytes (key, value, spelled, name, holds) =
     record { front = key; back = 0 ∷ value; spelled = spelled; first = name; second = (value, refl, holds) }
 
@@ -92,15 +92,15 @@ element_splits bytes rest kind same (e, is, spelled) =
 
 -- a zero, a text and a zero
 abbrev pub IsTextBetweenZeros : List ℕ → Type 0
-IsTextBetweenZeros bytes = (name : List ℕ) × (bytes ≡ 0 ∷ (name ++ 0 ∷ [])) × IsName name
+IsTextBetweenZeros bytes = (name : List ℕ) × (bytes ≡ 0 ∷ (name ++ 0 ∷ [])) × IsCstring name
 
-pub two_texts_from : (bytes : List ℕ) → Splits IsName IsTextBetweenZeros bytes → Holds two_texts bytes
-two_texts_from bytes splits =
-    (splits.front, splits.second.0, record { spelled = splits.spelled ∙ ap (λ w. splits.front ++ w) splits.second.1; first_name = splits.first; second_name = splits.second.2 })
+pub regular_expression_from : (bytes : List ℕ) → Splits IsCstring IsTextBetweenZeros bytes → Holds regular_expression bytes
+regular_expression_from bytes splits =
+    (splits.front, splits.second.0, record { spelled = splits.spelled ∙ ap (λ w. splits.front ++ w) splits.second.1; pattern_cstring = splits.first; options_cstring = splits.second.2 })
 
-pub two_texts_split : (bytes : List ℕ) → Holds two_texts bytes → Splits IsName IsTextBetweenZeros bytes
-two_texts_split bytes (first, second, is) =
-    record { front = first; back = 0 ∷ (second ++ 0 ∷ []); spelled = is.spelled; first = is.first_name; second = (second, refl, is.second_name) }
+pub regular_expression_splits : (bytes : List ℕ) → Holds regular_expression bytes → Splits IsCstring IsTextBetweenZeros bytes
+regular_expression_splits bytes (first, second, is) =
+    record { front = first; back = 0 ∷ (second ++ 0 ∷ []); spelled = is.spelled; first = is.pattern_cstring; second = (second, refl, is.options_cstring) }
 
 pub code_and_scope_from : (bytes : List ℕ) → Splits IsString IsFramed bytes → IsCodeAndScope bytes
 code_and_scope_from bytes splits = (splits.front, splits.back, splits.spelled, splits.first, splits.second)

@@ -17,12 +17,12 @@ spell e = e.kind ∷ (e.key ++ 0 ∷ e.value)
 -- How the bytes of a value lie.
 pub data Shape : Type 0 where
   fixed : ℕ → Shape
-  truth : Shape
+  boolean : Shape
   string : Shape
   document : Shape
   binary : Shape
-  two_texts : Shape
-  string_and_id : Shape
+  regular_expression : Shape
+  db_pointer : Shape
   code_with_scope : Shape
 
 -- the table of kinds
@@ -35,11 +35,11 @@ shape_of kind =
     else if kind == 0x05 then Some binary
     else if kind == 0x06 then Some (fixed 0)
     else if kind == 0x07 then Some (fixed 12)
-    else if kind == 0x08 then Some truth
+    else if kind == 0x08 then Some boolean
     else if kind == 0x09 then Some (fixed 8)
     else if kind == 0x0A then Some (fixed 0)
-    else if kind == 0x0B then Some two_texts
-    else if kind == 0x0C then Some string_and_id
+    else if kind == 0x0B then Some regular_expression
+    else if kind == 0x0C then Some db_pointer
     else if kind == 0x0D then Some string
     else if kind == 0x0E then Some string
     else if kind == 0x0F then Some code_with_scope
@@ -51,8 +51,8 @@ shape_of kind =
     else if kind == 0xFF then Some (fixed 0)
     else None
 
--- a text that a zero ends: UTF-8 without a zero
-pub record IsName (text : List ℕ) : Type 0 where
+-- a cstring without the zero that ends it: UTF-8 without a zero
+pub record IsCstring (text : List ℕ) : Type 0 where
   pub utf8 : IsUtf8 text
   pub without_zero : AllByRecursion (λ b. b ≢ 0) text
 
@@ -74,14 +74,14 @@ pub record IsBinary (v : List ℕ) : Type 0 where
   pub most : from_le_bytes w32 v < 2 ^ 31
   pub counted : from_le_bytes w32 v + 5 ≡ length v
 
--- a pattern and its options, each ended by a zero
-pub record IsTwoTexts (v first second : List ℕ) : Type 0 where
-  pub spelled : v ≡ first ++ (0 ∷ (second ++ 0 ∷ []))
-  pub first_name : IsName first
-  pub second_name : IsName second
+-- a regular expression: two cstrings, its pattern and its options
+pub record IsRegularExpression (v pattern options : List ℕ) : Type 0 where
+  pub spelled : v ≡ pattern ++ (0 ∷ (options ++ 0 ∷ []))
+  pub pattern_cstring : IsCstring pattern
+  pub options_cstring : IsCstring options
 
--- a string and an object id
-pub record IsStringAndId (v name id : List ℕ) : Type 0 where
+-- a DBPointer: a string and an object id
+pub record IsDbPointer (v name id : List ℕ) : Type 0 where
   pub spelled : v ≡ name ++ id
   pub string : IsString name
   pub twelve : length id ≡ 12
@@ -97,18 +97,18 @@ pub record IsCodeWithScope (v code scope : List ℕ) : Type 0 where
 -- the bytes of a value have this shape
 abbrev pub Holds : Shape → List ℕ → Type 0
 Holds (fixed n) v = length v ≡ n
-Holds truth v = (v ≡ 0 ∷ []) ⊎ (v ≡ 1 ∷ [])
+Holds boolean v = (v ≡ 0 ∷ []) ⊎ (v ≡ 1 ∷ [])
 Holds string v = IsString v
 Holds document v = IsFramed v
 Holds binary v = IsBinary v
-Holds two_texts v = (first second : List ℕ) × IsTwoTexts v first second
-Holds string_and_id v = (name id : List ℕ) × IsStringAndId v name id
+Holds regular_expression v = (pattern options : List ℕ) × IsRegularExpression v pattern options
+Holds db_pointer v = (name id : List ℕ) × IsDbPointer v name id
 Holds code_with_scope v = (code scope : List ℕ) × IsCodeWithScope v code scope
 
 pub record IsElement (e : Element) : Type 0 where
   pub shape : Shape
   pub known : shape_of e.kind ≡ Some shape
-  pub key : IsName e.key
+  pub key : IsCstring e.key
   pub value : Holds shape e.value
 
 -- b is the document of these elements, which fill it exactly
@@ -116,6 +116,10 @@ pub record IsDocument (b : List ℕ) (elements : List Element) : Type 0 where
   pub framed : IsFramed b
   pub filled : body_of b ≡ flat_map spell elements
   pub each : AllByRecursion IsElement elements
+
+-- the document has one element more, at its end
+abbrev pub AddsElement : List ℕ → List ℕ → Element → Type 0
+AddsElement old new e = (elements : List Element) → IsDocument old elements → IsElement e → IsDocument new (elements ++ e ∷ [])
 
 -- d is the document or array that a value is, or the scope that it holds
 abbrev pub IsInside : Element → List ℕ → Type 0
@@ -126,9 +130,9 @@ unfoldable pub IsReadable : ℕ → List ℕ → Type 0
 IsReadable zero b = ⊥
 IsReadable (suc levels) b = (elements : List Element) × IsDocument b elements × AllByRecursion (λ e. (d : List ℕ) → IsInside e d → IsReadable levels d) elements
 
--- how deep a readable document may be
-abbrev pub greatest_depth : ℕ
-greatest_depth = 100
+-- the maximum depth of a readable document
+abbrev pub maximum_depth : ℕ
+maximum_depth = 100
 
 -- no key stands twice
 abbrev pub HasDistinctKeys : List Element → Type 0
@@ -138,5 +142,5 @@ HasDistinctKeys (e ∷ es) = AllByRecursion (λ later. later.key ≢ e.key) es �
 -- readable, and no top-level key stands twice
 pub record IsWellFormed (b : List ℕ) (elements : List Element) : Type 0 where
   pub document : IsDocument b elements
-  pub readable : IsReadable greatest_depth b
+  pub readable : IsReadable maximum_depth b
   pub distinct : HasDistinctKeys elements

@@ -2,7 +2,6 @@ pub mod Framed
 pub mod Document
 pub mod Value
 pub mod Reading
-pub mod Elements
 pub mod Steps
 pub mod Refusals
 pub mod Keys

@@ -3,7 +3,8 @@ use Rattle.std.specs.Prelude.{◌≡◌, ◌≢◌, ℕ, ◌+◌, ◌<◌, ◌�
 use Rattle.std.specs.List.{All}
 use Rattle.std.specs.Int.{from_le_bytes, w32}
 use Rattle.mongo_bson.specs.Framed.{IsFramed}
-use Rattle.mongo_bson.specs.Document.{Element, IsElement, IsName, IsString, IsCodeWithScope, IsInside, Shape, shape_of, Holds, spell}
+use Rattle.mongo_bson.specs.declared.element.RawElement.{RawElement}
+use Rattle.mongo_bson.specs.Document.{Element, IsElement, IsCstring, IsString, IsCodeWithScope, IsInside, Shape, shape_of, Holds, spell}
 
 -- the first n bytes meet P
 pub record IsAtFront (P : List ℕ → Type 0) (bytes : List ℕ) (n : ℕ) : Type 0 where
@@ -20,17 +21,21 @@ pub record IsFirstZero (bytes : List ℕ) (n : ℕ) : Type 0 where
   pub zero : slice_index bytes n ≡ 0
   pub before : All (λ b. b ≢ 0) (take n bytes)
 
--- a name, the zero that ends it, and the rest
-pub record BeginsWithName (bytes name rest : List ℕ) : Type 0 where
-  pub is_name : IsName name
-  pub spelled : bytes ≡ name ++ 0 ∷ rest
+-- a cstring, the zero that ends it, and the rest
+pub record BeginsWithCstring (bytes text rest : List ℕ) : Type 0 where
+  pub is_cstring : IsCstring text
+  pub spelled : bytes ≡ text ++ 0 ∷ rest
 
-abbrev pub HasNoName : List ℕ → Type 0
-HasNoName bytes = (name rest : List ℕ) → IsName name → bytes ≡ name ++ 0 ∷ rest → ⊥
+abbrev pub HasNoCstring : List ℕ → Type 0
+HasNoCstring bytes = (text rest : List ℕ) → IsCstring text → bytes ≡ text ++ 0 ∷ rest → ⊥
 
 -- the bytes are a value of this kind
 abbrev pub HoldsKind : ℕ → List ℕ → Type 0
 HoldsKind kind v = (shape : Shape) × (shape_of kind ≡ Some shape) × Holds shape v
+
+-- the element that a reader read
+abbrev pub element_read : RawElement → Element
+element_read e = record { kind = e.kind; key = e.key.now; value = e.value.now }
 
 -- an element and the rest
 pub record BeginsWithElement (bytes : List ℕ) (e : Element) (rest : List ℕ) : Type 0 where

@@ -3,7 +3,7 @@ use Rattle.std.specs.Prelude.{◌≡◌, ℕ, ◌+◌, ◌==◌, ◌||◌, Bool,
 use Rattle.std.specs.Int.{to_le_bytes, from_le_bytes, from_bool, cast_signed, cast_unsigned, w32, w64}
 use Rattle.mongo_bson.specs.Document.{Element, text_of}
 use Rattle.mongo_bson.specs.declared.raw_value.RawValue.{RawValue}
-use Rattle.mongo_bson.specs.declared.raw_value.RawValue.TheVariants.{Double, Str, Document, Array, Binary, ObjectId, Bool as Truth, DateTime, Null, Int32, Int64, Other}
+use Rattle.mongo_bson.specs.declared.raw_value.RawValue.TheVariants.{Double, Str, Document, Array, Binary, ObjectId, Bool as Boolean, DateTime, Null, Int32, Int64, Other}
 
 -- the kinds that have a variant of their own
 abbrev pub has_variant : ℕ → Bool
@@ -17,7 +17,7 @@ IsValue kind bytes (Document document) = (kind ≡ 0x03) × (document.bytes.now 
 IsValue kind bytes (Array array) = (kind ≡ 0x04) × (array.bytes.now ≡ bytes)
 IsValue kind bytes (Binary subtype content) = (kind ≡ 0x05) × (subtype ≡ slice_index bytes 4) × (content.now ≡ drop 5 bytes)
 IsValue kind bytes (ObjectId id) = (kind ≡ 0x07) × (id.0 ≡ bytes)
-IsValue kind bytes (Truth truth) = (kind ≡ 0x08) × (bytes ≡ from_bool truth ∷ [])
+IsValue kind bytes (Boolean boolean) = (kind ≡ 0x08) × (bytes ≡ from_bool boolean ∷ [])
 IsValue kind bytes (DateTime milliseconds) = (kind ≡ 0x09) × (milliseconds ≡ cast_signed w64 (from_le_bytes w64 bytes))
 IsValue kind bytes Null = kind ≡ 0x0A
 IsValue kind bytes (Int32 number) = (kind ≡ 0x10) × (number ≡ cast_signed w32 (from_le_bytes w32 bytes))
@@ -32,7 +32,7 @@ kind_of (Document document) = 0x03
 kind_of (Array array) = 0x04
 kind_of (Binary subtype content) = 0x05
 kind_of (ObjectId id) = 0x07
-kind_of (Truth truth) = 0x08
+kind_of (Boolean boolean) = 0x08
 kind_of (DateTime milliseconds) = 0x09
 kind_of Null = 0x0A
 kind_of (Int32 number) = 0x10
@@ -47,7 +47,7 @@ bytes_of (Document document) = document.bytes.now
 bytes_of (Array array) = array.bytes.now
 bytes_of (Binary subtype content) = to_le_bytes w32 (length content.now) ++ (subtype ∷ content.now)
 bytes_of (ObjectId id) = id.0
-bytes_of (Truth truth) = from_bool truth ∷ []
+bytes_of (Boolean boolean) = from_bool boolean ∷ []
 bytes_of (DateTime milliseconds) = to_le_bytes w64 (cast_unsigned w64 milliseconds)
 bytes_of Null = []
 bytes_of (Int32 number) = to_le_bytes w32 (cast_unsigned w32 number)

@@ -6,7 +6,7 @@ use Rattle.mongo_bson.specs.Framed.{IsFramed}
 use Rattle.mongo_bson.specs.Reading.{HoldsKind}
 use Rattle.mongo_bson.specs.Value.{has_variant}
 use Rattle.mongo_bson.specs.declared.raw_value.RawValue.{RawValue}
-use Rattle.mongo_bson.specs.declared.raw_value.RawValue.TheVariants.{Double, Str, Document, Array, Binary, ObjectId, Bool as Truth, DateTime, Null, Int32, Int64, Other}
+use Rattle.mongo_bson.specs.declared.raw_value.RawValue.TheVariants.{Double, Str, Document, Array, Binary, ObjectId, Bool as Boolean, DateTime, Null, Int32, Int64, Other}
 
 -- Its numbers are within their types, its text is UTF-8, and its length is one that an int32 counts. A program's values
 -- are so but for lengths, and for `Other`, whose bytes may be any.
@@ -17,7 +17,7 @@ IsWritable (Document document) = IsFramed document.bytes.now
 IsWritable (Array array) = IsFramed array.bytes.now
 IsWritable (Binary subtype content) = length content.now < 2 ^ 31
 IsWritable (ObjectId id) = length id.0 ≡ 12
-IsWritable (Truth truth) = ⊤
+IsWritable (Boolean boolean) = ⊤
 IsWritable (DateTime milliseconds) = FitsSigned w64 milliseconds
 IsWritable Null = ⊤
 IsWritable (Int32 number) = FitsSigned w32 number

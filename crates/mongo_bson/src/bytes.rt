@@ -30,7 +30,7 @@ impl Bytes {
         }
     }
 
-    /// A copy of the bytes. Want of memory is the only refusal.
+    /// A copy of the bytes.
     pub fn from_slice(alloc: Global, bytes: &[u8]) -> Result<Bytes, BsonFault>
         ensures copied { IfOk result (λ b. b ≡ bytes.now) }
         ensures refused { IfErr result (λ fault. fault ≡ BsonFault.OutOfMemory) }
@@ -61,7 +61,7 @@ impl Bytes {
         self.held.as_slice()
     }
 
-    /// Adds bytes at the end. Want of memory is the only refusal, and leaves the value as it was.
+    /// Adds bytes at the end. A refusal leaves the value as it was.
     pub fn extend_from_slice(&mut self, bytes: &[u8]) -> Result<(), BsonFault>
         ensures added { OnOk result (self.new ≡ self.old ++ bytes.now) }
         ensures unchanged { OnErr result (self.new ≡ self.old) }
@@ -71,7 +71,7 @@ impl Bytes {
         Ok(())
     }
 
-    /// A copy of the bytes. Want of memory is the only refusal.
+    /// A copy of the bytes.
     pub fn try_clone(&self, alloc: Global) -> Result<Bytes, BsonFault>
         ensures copied { IfOk result (λ b. b ≡ self.now) }
         ensures refused { IfErr result (λ fault. fault ≡ BsonFault.OutOfMemory) }

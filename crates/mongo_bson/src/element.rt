@@ -1,8 +1,7 @@
 ghost use Rattle.std.specs.Prelude.{◌≡◌, MatchOption};
-ghost use Rattle.mongo_bson.specs.Reading.{BeginsWithElement, NoElementAtFront};
-ghost use Rattle.mongo_bson.specs.Elements.{element_read};
+ghost use Rattle.mongo_bson.specs.Reading.{BeginsWithElement, NoElementAtFront, element_read};
 
-use crate::name::take_name;
+use crate::cstring::take_cstring;
 use crate::shape::value_len;
 
 // An element as it lies in a document: the kind byte, the key and the bytes of the value.
@@ -19,7 +18,7 @@ pub(crate) fn take_element<'a>(bytes: &'a [u8]) -> Option<(RawElement<'a>, &'a [
     ensures { MatchOption result (NoElementAtFront bytes.now) (λ p. BeginsWithElement bytes.now (element_read p.0) p.1.now) }
 {
     let (kind, rest) = bytes.split_first()?;
-    let (key, rest) = take_name(rest)?;
+    let (key, rest) = take_cstring(rest)?;
     let size = value_len(*kind, rest)?;
     let (value, rest) = rest.split_at(size);
     let element = RawElement {

@@ -16,7 +16,8 @@ use std::alloc::Global;
 ///
 /// `Malformed` where elements don't fill one of them, then `DuplicateKey` where a key stands in both, then `TooLong`
 /// where the document would pass 2147483647 bytes. Want of memory may stand in the place of any answer. A refusal
-/// leaves `this` as it was. The keys of one are sorted, so that `n` keys take time in proportion to `n log n`.
+/// leaves `this` as it was. The keys of the one that has fewer are sorted, so that `n` keys beside `m` take time in
+/// proportion to `(n + m) log m` where `m` is fewer.
 #[tactic(auto, using(crate::proofs::OneAnswer::shared_or_not, crate::proofs::OneAnswer::no_duplicate))]
 pub fn extend_raw_document_buf(
     alloc: Global,
@@ -47,12 +48,23 @@ fn share_key(alloc: Global, this: &[u8], other: &[u8]) -> Result<bool, BsonFault
     ensures refused { IfErr result ReadRefuses }
 {
     let mut mine = keys_in(alloc, body(this))?;
-    let others = keys_in(alloc, body(other))?;
-    Ok(share_text(mine.as_mut_slice(), others.as_slice()))
+    let mut others = keys_in(alloc, body(other))?;
+    Ok(share_text(mine.as_mut_slice(), others.as_mut_slice()))
+}
+
+// Whether a text stands in both lists. It sorts the shorter one.
+fn share_text(texts: &mut [&str], others: &mut [&str]) -> bool
+    ensures { IsTrue result ↔ HaveCommon (bytes_of_texts texts.old) (bytes_of_texts others.old) }
+{
+    if others.len() < texts.len() {
+        share_text_sorting(others, texts)
+    } else {
+        share_text_sorting(texts, others)
+    }
 }
 
 // Whether a text stands in both lists. It sorts the first.
-fn share_text(texts: &mut [&str], others: &[&str]) -> bool
+fn share_text_sorting(texts: &mut [&str], others: &[&str]) -> bool
     ensures { IsTrue result ↔ HaveCommon (bytes_of_texts texts.old) (bytes_of_texts others.now) }
 {
     texts.sort_unstable();

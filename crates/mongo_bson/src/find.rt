@@ -1,6 +1,6 @@
 ghost use Rattle.std.specs.Prelude.{◌≡◌, ◌↔◌, Option, IsErr, IfOk, MatchOption, MatchResult, IfErr};
 ghost use Rattle.mongo_bson.specs.Framed.{body_of};
-ghost use Rattle.mongo_bson.specs.Elements.{element_read};
+ghost use Rattle.mongo_bson.specs.Reading.{element_read};
 ghost use Rattle.mongo_bson.specs.Find.{IsFirstOf, HasNone, BreaksOff, FindsValue, FindsBytes};
 
 use crate::element::{RawElement, take_element};

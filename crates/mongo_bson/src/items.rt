@@ -58,7 +58,7 @@ impl<T> Items<T> {
 }
 
 impl<T: Drop> Items<T> {
-    /// Adds an item at the end. Want of memory is the only refusal, and leaves the list as it was.
+    /// Adds an item at the end. A refusal leaves the list as it was.
     pub fn push(&mut self, item: T) -> Result<(), BsonFault>
         ensures added { OnOk result (self.new ≡ self.old ++ item ∷ []) }
         ensures unchanged { OnErr result (self.new ≡ self.old) }
@@ -70,7 +70,7 @@ impl<T: Drop> Items<T> {
 }
 
 impl<T: TryClone + Drop> Items<T> {
-    /// A copy of the list. Want of memory is the only refusal.
+    /// A copy of the list.
     pub fn try_clone(&self, alloc: Global) -> Result<Items<T>, BsonFault>
         ensures copied { IfOk result (λ copy. copy ≡ self.now) }
         ensures refused { IfErr result (λ fault. fault ≡ BsonFault.OutOfMemory) }

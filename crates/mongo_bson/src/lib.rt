@@ -6,19 +6,22 @@
 //!
 //! Reading borrows: a [`RawDocument`] is a slice of the bytes that it was read from, and takes no memory but for the
 //! keys that [`RawDocument::distinct_keys`] sorts. Building grows a [`RawDocumentBuf`] or a [`RawArrayBuf`] in place,
-//! element by element.
+//! element by element. Each call that takes memory may answer [`BsonFault::OutOfMemory`]; where no other fault is named,
+//! that is its only one.
 //!
-//! Proved: each byte string has at most one list of elements, and each reader answers by that list;
-//! [`BsonFault::Malformed`] comes exactly where the elements break off before the answer is found, so that [`Iter`]
-//! and [`RawDocument::distinct_keys`] judge all of them, and [`RawDocument::get`] and [`first_key`] those up to the one
-//! that they look for; what was appended is the last element, and is read back; each refusal comes exactly where its
-//! cause holds, but that want of memory may stand in its place; a refused call leaves what it would have changed as it
-//! was.
+//! Proved: each byte string has at most one list of elements, and each reader answers by that list.
+//! [`BsonFault::Malformed`] says that elements break off where a call looks: [`Iter`] gives it where none stands at the
+//! front of what is left, [`first_key`] where none stands first in a document that isn't empty, [`RawDocument::get`]
+//! where they break off before the key that it looks for, [`RawDocument::distinct_keys`] where they don't fill the
+//! document. [`RawDocumentBuf::append`] and [`RawArrayBuf::push`] give a document one element more, at its end. Each
+//! refusal comes exactly where its cause holds, but that want of memory may stand in its place, and a refused call leaves
+//! what it would have changed as it was.
 #![tactic(auto)]
 
 mod arrays;
 mod bytes;
 mod checks;
+mod cstring;
 mod distinct;
 mod element;
 mod extend;
@@ -28,7 +31,6 @@ mod id_field;
 mod items;
 mod iter;
 mod meaning;
-mod name;
 mod number;
 mod object_id;
 mod owned_value;
@@ -49,6 +51,7 @@ pub use bytes::Bytes;
 pub use checks::{
     first_key, replacement_document_check, replacement_raw_document_check, update_document_check,
 };
+pub use cstring::take_cstring;
 pub use extend::extend_raw_document_buf;
 pub use fault::BsonFault;
 pub use id_field::get_or_prepend_id_field;

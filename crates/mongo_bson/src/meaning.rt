@@ -1,6 +1,6 @@
 ghost use Rattle.std.specs.Prelude.{◌≡◌, ◌∷◌, [], length};
 ghost use Rattle.std.specs.Int.{from_le_bytes, from_bool, w32, w64};
-ghost use Rattle.mongo_bson.specs.Document.{IsString, IsBinary, Holds, truth, text_of};
+ghost use Rattle.mongo_bson.specs.Document.{IsString, IsBinary, Holds, boolean, text_of};
 ghost use Rattle.mongo_bson.specs.Value.{IsValue};
 ghost use Rattle.mongo_bson.specs.Reading.{HoldsKind};
 
@@ -18,7 +18,7 @@ pub(crate) fn value_of<'a>(kind: u8, bytes: &'a [u8]) -> RawValue<'a>
         0x04 => RawValue::Array(RawDocument { bytes }),
         0x05 => binary_of(bytes),
         0x07 => RawValue::ObjectId(id_of(bytes)),
-        0x08 => RawValue::Bool(truth_of(bytes)),
+        0x08 => RawValue::Bool(boolean_of(bytes)),
         0x09 => RawValue::DateTime(word_of(bytes).cast_signed()),
         0x0A => RawValue::Null,
         0x10 => RawValue::Int32(half_word_of(bytes).cast_signed()),
@@ -82,9 +82,9 @@ fn id_of(bytes: &[u8]) -> ObjectId
     }
 }
 
-// Whether a truth value's byte is 1.
-fn truth_of(bytes: &[u8]) -> bool
-    requires { Holds truth bytes.now }
+// Whether a boolean value's byte is 1.
+fn boolean_of(bytes: &[u8]) -> bool
+    requires { Holds boolean bytes.now }
     ensures { bytes.now ≡ from_bool result ∷ [] }
 {
     match bytes {

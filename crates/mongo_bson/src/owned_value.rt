@@ -13,7 +13,7 @@ pub struct OwnedValue {
 }
 
 impl OwnedValue {
-    /// A copy of the value. Want of memory is the only refusal.
+    /// A copy of the value.
     pub fn try_clone(&self, alloc: Global) -> Result<OwnedValue, BsonFault>
         ensures copied { IfOk result (λ value. value ≡ self.now) }
         ensures refused { IfErr result (λ fault. fault ≡ BsonFault.OutOfMemory) }

@@ -1,7 +1,7 @@
 ghost use Rattle.std.specs.Prelude.{◌≡◌, ◌++◌, ◌+◌, ◌-◌, ◌^◌, ◌<◌, ◌≤◌, ◌↔◌, ◌==◌, [], length, IfOk, IfErr, IsErrOf, OnOk, OnErr};
 ghost use Rattle.std.specs.Fmt.{decimal};
 ghost use Rattle.mongo_bson.specs.Framed.{IsFramed, body_of, enclosed};
-ghost use Rattle.mongo_bson.specs.Document.{spell};
+ghost use Rattle.mongo_bson.specs.Document.{AddsElement, spell};
 ghost use Rattle.mongo_bson.specs.Value.{element_of};
 ghost use Rattle.mongo_bson.specs.Array.{IsArray};
 ghost use Rattle.mongo_bson.specs.Refusals.{PushRefuses};
@@ -21,7 +21,7 @@ pub struct RawArrayBuf {
 }
 
 impl RawArrayBuf {
-    /// The array without values. Want of memory is the only refusal.
+    /// The array without values.
     pub fn new(alloc: Global) -> Result<RawArrayBuf, BsonFault>
         ensures empty { IfOk result (λ array. (array.document ≡ enclosed []) × (array.count ≡ 0)) }
         ensures refused { IfErr result (λ fault. fault ≡ BsonFault.OutOfMemory) }
@@ -37,6 +37,7 @@ impl RawArrayBuf {
     /// `TooLong` where the array would pass 2147483647 bytes. A refusal leaves the array as it was.
     pub fn push(&mut self, value: RawValue<'_>) -> Result<(), BsonFault>
         ensures added { OnOk result (self.new.document ≡ enclosed (body_of self.old.document ++ spell (element_of (decimal self.old.count) value.entry))) }
+        ensures one_more { OnOk result (AddsElement self.old.document self.new.document (element_of (decimal self.old.count) value.entry)) }
         ensures counted { OnOk result (self.new.count ≡ self.old.count + 1) }
         ensures too_long { IsErrOf result BsonFault.TooLong ↔ (2 ^ 31 - 1 < length self.old.document + length (spell (element_of (decimal self.old.count) value.entry))) }
         ensures unchanged { OnErr result (self.new ≡ self.old) }
@@ -73,7 +74,7 @@ impl RawArrayBuf {
         self.document.borrow()
     }
 
-    /// A copy of the array. Want of memory is the only refusal.
+    /// A copy of the array.
     pub fn try_clone(&self, alloc: Global) -> Result<RawArrayBuf, BsonFault>
         ensures copied { IfOk result (λ array. array ≡ self.now) }
         ensures refused { IfErr result (λ fault. fault ≡ BsonFault.OutOfMemory) }

@@ -1,7 +1,8 @@
 ghost use Rattle.std.specs.Prelude.{◌≡◌, ◌↔◌, IsTrue, IsOk, IfOk, IfErr};
 ghost use Rattle.mongo_bson.specs.Framed.{IsFramed, body_of};
 
-use crate::BsonFault;
+use crate::{BsonFault, RawDocumentBuf};
+use std::alloc::Global;
 
 /// A document borrowed from bytes: its length field is its length, and its last byte is zero. Its elements are judged
 /// as they are read.
@@ -33,6 +34,16 @@ impl<'a> RawDocument<'a> {
         ensures framed { IsFramed result.now }
     {
         self.bytes
+    }
+
+    /// A copy of the document that owns its memory.
+    pub fn to_raw_document_buf(&self, alloc: Global) -> Result<RawDocumentBuf, BsonFault>
+        ensures copied { IfOk result (λ document. document ≡ self.now.bytes.now) }
+        ensures refused { IfErr result (λ fault. fault ≡ BsonFault.OutOfMemory) }
+    {
+        Ok(RawDocumentBuf {
+            held: Vec::from_slice(alloc, self.as_bytes())?,
+        })
     }
 }
 

@@ -4,7 +4,7 @@ ghost use Rattle.std.specs.Cmp.Rules.{comparing};
 ghost use Rattle.std.specs.Prelude.{◌==◌};
 ghost use Rattle.std.proofs.Common.{rules};
 ghost use Rattle.mongo_bson.specs.Framed.{IsFramed, body_of, enclosed};
-ghost use Rattle.mongo_bson.specs.Document.{spell};
+ghost use Rattle.mongo_bson.specs.Document.{AddsElement, spell};
 ghost use Rattle.mongo_bson.specs.Value.{element_of};
 ghost use Rattle.mongo_bson.specs.Refusals.{AppendRefuses, PushRefuses};
 
@@ -29,7 +29,7 @@ impl Model for RawDocumentBuf {
 }
 
 impl RawDocumentBuf {
-    /// The document without elements. Want of memory is the only refusal.
+    /// The document without elements.
     pub fn new(alloc: Global) -> Result<RawDocumentBuf, BsonFault>
         ensures empty { IfOk result (λ document. document ≡ enclosed []) }
         ensures refused { IfErr result (λ fault. fault ≡ BsonFault.OutOfMemory) }
@@ -57,12 +57,14 @@ impl RawDocumentBuf {
     }
 
     /// Puts an element at the end: a key and a value. The element is written in place, so a document is built in time
-    /// linear in its length.
+    /// linear in its length. Where the document was one of BSON 1.1's elements, it is one of these and the new one, unless
+    /// the bytes of [`RawValue::Other`] are no value of their kind.
     ///
     /// `KeyHasZero` where the key holds a zero byte, then `TooLong` where the document would pass 2147483647 bytes.
     /// A refusal leaves the document as it was.
     pub fn append(&mut self, key: &str, value: RawValue<'_>) -> Result<(), BsonFault>
         ensures added { OnOk result (self.new ≡ enclosed (body_of self.old ++ spell (element_of key.now value.entry))) }
+        ensures one_more { OnOk result (AddsElement self.old self.new (element_of key.now value.entry)) }
         ensures key_has_zero { IsErrOf result BsonFault.KeyHasZero ↔ Contains key.now 0 }
         ensures too_long { IsErrOf result BsonFault.TooLong ↔ ((¬ Contains key.now 0) × (2 ^ 31 - 1 < length self.old + length (spell (element_of key.now value.entry)))) }
         ensures unchanged { OnErr result (self.new ≡ self.old) }
@@ -108,14 +110,12 @@ impl RawDocumentBuf {
         self.held.as_slice()
     }
 
-    /// A copy of the document. Want of memory is the only refusal.
+    /// A copy of the document.
     pub fn try_clone(&self, alloc: Global) -> Result<RawDocumentBuf, BsonFault>
         ensures copied { IfOk result (λ document. document ≡ self.now) }
         ensures refused { IfErr result (λ fault. fault ≡ BsonFault.OutOfMemory) }
     {
-        Ok(RawDocumentBuf {
-            held: Vec::from_slice(alloc, self.as_bytes())?,
-        })
+        self.borrow().to_raw_document_buf(alloc)
     }
 }
 

@@ -15,7 +15,7 @@ pub enum RawValue<'a> {
     Binary(u8, &'a [u8]),
     /// An object id.
     ObjectId(ObjectId),
-    /// A truth value.
+    /// A boolean value.
     Bool(bool),
     /// Milliseconds since 1970, UTC.
     DateTime(i64),

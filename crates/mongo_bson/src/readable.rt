@@ -1,8 +1,7 @@
 ghost use Rattle.std.specs.Prelude.{◌≡◌, ◌↔◌, IsTrue, MatchOption};
 ghost use Rattle.mongo_bson.specs.Framed.{IsFramed};
-ghost use Rattle.mongo_bson.specs.Document.{IsReadable, greatest_depth, Holds, code_with_scope};
-ghost use Rattle.mongo_bson.specs.Elements.{element_read};
-ghost use Rattle.mongo_bson.specs.Reading.{HoldsKind, IsOnlyInside, HoldsNoDocument, IsScopeOf};
+ghost use Rattle.mongo_bson.specs.Document.{IsReadable, maximum_depth, Holds, code_with_scope};
+ghost use Rattle.mongo_bson.specs.Reading.{HoldsKind, IsOnlyInside, HoldsNoDocument, IsScopeOf, element_read};
 
 use crate::RawDocument;
 use crate::element::{RawElement, take_element};
@@ -10,17 +9,17 @@ use crate::raw_document::body;
 use crate::shape::counted_len;
 
 // How many levels of documents may stand in one another.
-const GREATEST_DEPTH: u32 = 100;
+const MAXIMUM_DEPTH: u32 = 100;
 
 impl<'a> RawDocument<'a> {
     /// Whether the document and each document inside, down to 100 levels of which this is the first, is made of
-    /// elements of BSON 1.1 alone: known kinds, texts in UTF-8, truth values 0 or 1, lengths that fit.
+    /// elements of BSON 1.1 alone: known kinds, texts in UTF-8, boolean values 0 or 1, lengths that fit.
     ///
     /// It takes no memory, and time linear in the document's length.
     pub fn readable(&self) -> bool
-        ensures { IsTrue result ↔ IsReadable greatest_depth self.now.bytes.now }
+        ensures { IsTrue result ↔ IsReadable maximum_depth self.now.bytes.now }
     {
-        is_readable(self.bytes, GREATEST_DEPTH)
+        is_readable(self.bytes, MAXIMUM_DEPTH)
     }
 }
 

@@ -1,10 +1,10 @@
 ghost use Rattle.std.specs.Prelude.{◌≡◌, ◌≢◌, ◌↔◌, ◌+◌, ◌^◌, ◌<◌, ◌≤◌, ◌⊎◌, List, ℕ, length, drop, IsTrue, MatchOption};
 ghost use Rattle.std.specs.Int.{from_le_bytes, w32};
 ghost use Rattle.mongo_bson.specs.Framed.{IsFramed};
-ghost use Rattle.mongo_bson.specs.Document.{Holds, fixed, truth, two_texts, string_and_id, code_with_scope, IsString, IsBinary, IsCodeWithScope};
+ghost use Rattle.mongo_bson.specs.Document.{Holds, fixed, boolean, regular_expression, db_pointer, code_with_scope, IsString, IsBinary, IsCodeWithScope};
 ghost use Rattle.mongo_bson.specs.Reading.{IsAtFront, NoneAtFront, HoldsKind, IsCounted, IsNotCounted, IsCodeAndScope};
 
-use crate::name::take_name;
+use crate::cstring::take_cstring;
 use crate::raw_document::is_framed;
 
 // How many bytes the value of a kind takes at the front. None where no value of that kind stands there, as for a kind
@@ -29,15 +29,15 @@ pub(crate) fn value_len(kind: u8, bytes: &[u8]) -> Option<usize>
         // object id
         0x07 => fixed_len(12, bytes),
         // boolean
-        0x08 => truth_len(bytes),
+        0x08 => boolean_len(bytes),
         // UTC date and time
         0x09 => fixed_len(8, bytes),
         // null
         0x0A => fixed_len(0, bytes),
         // regular expression
-        0x0B => two_texts_len(bytes),
+        0x0B => regular_expression_len(bytes),
         // DBPointer
-        0x0C => string_and_id_len(bytes),
+        0x0C => db_pointer_len(bytes),
         // JavaScript code
         0x0D => string_len(bytes),
         // symbol
@@ -71,9 +71,9 @@ fn fixed_len(size: usize, bytes: &[u8]) -> Option<usize>
     }
 }
 
-// The length of a truth value, a byte that is 0 or 1.
-fn truth_len(bytes: &[u8]) -> Option<usize>
-    ensures { MatchOption result (NoneAtFront (Holds truth) bytes.now) (IsAtFront (Holds truth) bytes.now) }
+// The length of a boolean value, a byte that is 0 or 1.
+fn boolean_len(bytes: &[u8]) -> Option<usize>
+    ensures { MatchOption result (NoneAtFront (Holds boolean) bytes.now) (IsAtFront (Holds boolean) bytes.now) }
 {
     match bytes {
         [0 | 1, ..] => Some(1),
@@ -113,17 +113,17 @@ fn binary_len(bytes: &[u8]) -> Option<usize>
 }
 
 // The length of a regular expression: a pattern and its options, each ended by a zero.
-fn two_texts_len(bytes: &[u8]) -> Option<usize>
-    ensures { MatchOption result (NoneAtFront (Holds two_texts) bytes.now) (IsAtFront (Holds two_texts) bytes.now) }
+fn regular_expression_len(bytes: &[u8]) -> Option<usize>
+    ensures { MatchOption result (NoneAtFront (Holds regular_expression) bytes.now) (IsAtFront (Holds regular_expression) bytes.now) }
 {
-    let (_pattern, rest) = take_name(bytes)?;
-    let (_options, rest) = take_name(rest)?;
+    let (_pattern, rest) = take_cstring(bytes)?;
+    let (_options, rest) = take_cstring(rest)?;
     Some(bytes.len() - rest.len())
 }
 
 // The length of a string and an object id.
-fn string_and_id_len(bytes: &[u8]) -> Option<usize>
-    ensures { MatchOption result (NoneAtFront (Holds string_and_id) bytes.now) (IsAtFront (Holds string_and_id) bytes.now) }
+fn db_pointer_len(bytes: &[u8]) -> Option<usize>
+    ensures { MatchOption result (NoneAtFront (Holds db_pointer) bytes.now) (IsAtFront (Holds db_pointer) bytes.now) }
 {
     let size = string_len(bytes)?;
     if bytes.len() - size < 12 {

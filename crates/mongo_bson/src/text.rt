@@ -1,4 +1,4 @@
-ghost use Rattle.std.specs.Prelude.{◌≡◌, List, ℕ, string_bytes, IfOk, IfErr};
+ghost use Rattle.std.specs.Prelude.{◌≡◌, ◌++◌, List, ℕ, string_bytes, IfOk, IfErr, OnOk, OnErr};
 ghost use Rattle.std.specs.Cmp.Lexicographic.{pointwise};
 ghost use Rattle.std.specs.Cmp.Rules.{comparing};
 ghost use Rattle.std.specs.Prelude.{◌==◌};
@@ -21,7 +21,7 @@ impl Model for Text {
 }
 
 impl Text {
-    /// A copy of the text. Want of memory is the only refusal.
+    /// A copy of the text.
     pub fn from_slice(alloc: Global, text: &str) -> Result<Text, BsonFault>
         ensures copied { IfOk result (λ t. t ≡ text.now) }
         ensures refused { IfErr result (λ fault. fault ≡ BsonFault.OutOfMemory) }
@@ -45,7 +45,22 @@ impl Text {
         self.text.as_bytes()
     }
 
-    /// A copy of the text. Want of memory is the only refusal.
+    /// Adds a text at the end. A refusal leaves the text as it was.
+    pub fn push_str(&mut self, text: &str) -> Result<(), BsonFault>
+        ensures added { OnOk result (self.new ≡ self.old ++ text.now) }
+        ensures unchanged { OnErr result (self.new ≡ self.old) }
+        ensures refused { IfErr result (λ fault. fault ≡ BsonFault.OutOfMemory) }
+    {
+        self.text.push_str(text)?;
+        Ok(())
+    }
+
+    /// The allocator of the text's memory.
+    pub fn allocator(&self) -> Global {
+        *self.text.allocator()
+    }
+
+    /// A copy of the text.
     pub fn try_clone(&self, alloc: Global) -> Result<Text, BsonFault>
         ensures copied { IfOk result (λ t. t ≡ self.now) }
         ensures refused { IfErr result (λ fault. fault ≡ BsonFault.OutOfMemory) }

@@ -4,13 +4,13 @@ ghost use Rattle.mongo_bson.specs.Framed.{IsFramed, body_of, enclosed};
 ghost use Rattle.mongo_bson.specs.Document.{spell};
 ghost use Rattle.mongo_bson.specs.Value.{kind_of, bytes_of, element_of};
 
-use crate::name::name_end;
+use crate::cstring::cstring_end;
 use crate::{BsonFault, RawValue};
 
 // The greatest length of a document, the greatest `int32`.
-const LONGEST: usize = 0x7FFF_FFFF;
+const MAXIMUM_LENGTH: usize = 0x7FFF_FFFF;
 
-// Puts an element at the end of a document. Want of memory is the only refusal, and leaves the document as it was.
+// Puts an element at the end of a document. A refusal leaves the document as it was.
 pub(crate) fn push_element(
     document: &mut Vec<u8>,
     key: &str,
@@ -36,7 +36,7 @@ pub(crate) fn push_element(
     }
 }
 
-// Puts elements at the end of a document. Want of memory is the only refusal, and leaves the document as it was.
+// Puts elements at the end of a document. A refusal leaves the document as it was.
 pub(crate) fn push_elements(document: &mut Vec<u8>, elements: &[u8]) -> Result<(), BsonFault>
     requires framed { IsFramed document.old.items }
     requires room { length document.old.items + length elements.now < 2 ^ 31 }
@@ -108,7 +108,7 @@ fn write_value(out: &mut Vec<u8>, value: RawValue<'_>) -> Result<(), BsonFault>
             out.extend_from_slice(content)?;
         }
         RawValue::ObjectId(id) => out.extend_from_slice(&id.0)?,
-        RawValue::Bool(truth) => out.push(u8::from(truth))?,
+        RawValue::Bool(boolean) => out.push(u8::from(boolean))?,
         RawValue::DateTime(milliseconds) => out.extend_from_slice(&milliseconds.to_le_bytes())?,
         RawValue::Null => {}
         RawValue::Int32(number) => out.extend_from_slice(&number.to_le_bytes())?,
@@ -164,7 +164,9 @@ pub(crate) fn has_room(held: usize, key: &str, value: RawValue<'_>) -> bool
     ensures { IsTrue result ↔ (held + length (spell (element_of key.now value.entry)) ≤ 2 ^ 31 - 1) }
 {
     let size = value_size(value);
-    key.len() <= LONGEST && size <= LONGEST && held + key.len() + size + 2 <= LONGEST
+    key.len() <= MAXIMUM_LENGTH
+        && size <= MAXIMUM_LENGTH
+        && held + key.len() + size + 2 <= MAXIMUM_LENGTH
 }
 
 // Whether a document of this length has room for so many bytes more.
@@ -172,7 +174,7 @@ pub(crate) fn has_room_for(held: usize, more: usize) -> bool
     requires { held < 2 ^ 31 }
     ensures { IsTrue result ↔ (held + more ≤ 2 ^ 31 - 1) }
 {
-    more <= LONGEST && held + more <= LONGEST
+    more <= MAXIMUM_LENGTH && held + more <= MAXIMUM_LENGTH
 }
 
 // Makes the zero at a place the kind byte of what follows it, and the length field the length.
@@ -202,5 +204,5 @@ fn seal_bytes(bytes: &mut [u8], at: usize, kind: u8)
 pub(crate) fn has_zero(key: &str) -> bool
     ensures { IsTrue result ↔ Contains key.now 0 }
 {
-    name_end(key.as_bytes()).is_some()
+    cstring_end(key.as_bytes()).is_some()
 }

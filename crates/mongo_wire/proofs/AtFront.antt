@@ -4,8 +4,8 @@ use Rattle.std.specs.List.{flat_map}
 use Rattle.std.specs.Int.{from_le_bytes, w32}
 use Rattle.std.proofs.lemmas.List.{take_at, length-append, append_assoc, take-append-drop, length-drop, length-take-le, take-take}
 use Rattle.std.proofs.lemmas.Nat.{from_le_bytes-to_le_bytes_4}
-use Rattle.mongo_bson.specs.Reading.{BeginsWithName, HasNoName}
-use Rattle.mongo_bson.proofs.Names.{one_text}
+use Rattle.mongo_bson.specs.Reading.{BeginsWithCstring, HasNoCstring}
+use Rattle.mongo_bson.proofs.Cstrings.{one_cstring}
 use Rattle.mongo_bson.proofs.Sizes.{number_at_front}
 use Rattle.mongo_wire.specs.Frame.{body, sequence, IsSequence, sequence_bytes, uint32}
 use Rattle.mongo_wire.specs.Sections.{BeginsWithDocument, HasNoDocument, AreDocuments, sized, BeginsWithSequence, HasNoSequence, BeginsWithSection}
@@ -52,18 +52,18 @@ content_is bytes rest content size s is e size_is content_cut =
     let counted : length (sized s) ≡ size = omega (arith, size_is, sequence_size bytes rest s is e, length-append (uint32 (4 + length (sequence_bytes s))) (sequence_bytes s)) in
     content_cut ∙ ap (drop 4) (ap (take size) e ∙ take_at (sized s) rest size counted)
 
-pub no_sequence_name : (bytes content : List ℕ) (size : ℕ) → size ≡ from_le_bytes w32 bytes → content ≡ drop 4 (take size bytes) → HasNoName content → HasNoSequence bytes
+pub no_sequence_name : (bytes content : List ℕ) (size : ℕ) → size ≡ from_le_bytes w32 bytes → content ≡ drop 4 (take size bytes) → HasNoCstring content → HasNoSequence bytes
 no_sequence_name bytes content size size_is cut none s rest is e =
     none s.identifier (flat_map (λ d. d) s.documents) is.name (content_is bytes rest content size s is e size_is cut)
 
 pub no_sequence_documents : (bytes content identifier documents : List ℕ) (size : ℕ) → size ≡ from_le_bytes w32 bytes → content ≡ drop 4 (take size bytes)
-    → BeginsWithName content identifier documents → (AreDocuments documents → ⊥) → HasNoSequence bytes
+    → BeginsWithCstring content identifier documents → (AreDocuments documents → ⊥) → HasNoSequence bytes
 no_sequence_documents bytes content identifier documents size size_is cut name none s rest is e =
-    let names = one_text identifier s.identifier documents (flat_map (λ d. d) s.documents) name.is_name.without_zero is.name.without_zero (sym name.spelled ∙ content_is bytes rest content size s is e size_is cut) in
+    let names = one_cstring identifier s.identifier documents (flat_map (λ d. d) s.documents) name.is_cstring.without_zero is.name.without_zero (sym name.spelled ∙ content_is bytes rest content size s is e size_is cut) in
     none (s.documents, is.each, names.1)
 
 pub sequence_found : (bytes content rest : List ℕ) (size : ℕ) (read : SequenceRef) → IsBytes bytes → 4 ≤ size → size < 2 ^ 31 → size ≤ length bytes → size ≡ from_le_bytes w32 bytes
-    → content ≡ drop 4 (take size bytes) → rest ≡ drop size bytes → BeginsWithName content read.identifier.now read.documents.now → AreDocuments read.documents.now → BeginsWithSequence bytes read rest
+    → content ≡ drop 4 (take size bytes) → rest ≡ drop size bytes → BeginsWithCstring content read.identifier.now read.documents.now → AreDocuments read.documents.now → BeginsWithSequence bytes read rest
 sequence_found bytes content rest size read small least fits within size_is cut left name (documents, each, spelled) =
     let s = made_of read.identifier.now documents in
     let whole : content ≡ sequence_bytes s = name.spelled ∙ ap (λ l. read.identifier.now ++ 0 ∷ l) spelled in
@@ -72,7 +72,7 @@ sequence_found bytes content rest size read small least fits within size_is cut 
     let four : take 4 (take size bytes) ≡ uint32 size = take-take 4 size bytes least ∙ sym (field 0 bytes small (omega arith)) ∙ ap uint32 (sym size_is) in
     record {
       sequence = s;
-      is_sequence = record { name = name.is_name; each = each; size = omega (arith, size_of) };
+      is_sequence = record { name = name.is_cstring; each = each; size = omega (arith, size_of) };
       spelled = sym (take-append-drop size bytes) ∙ ap (λ l. l ++ drop size bytes) (sym (take-append-drop 4 (take size bytes)) ∙ ap (λ l. l ++ drop 4 (take size bytes)) (four ∙ ap uint32 size_of) ∙ ap (λ l. uint32 (4 + length (sequence_bytes s)) ++ l) (sym cut ∙ whole)) ∙ ap (λ l. sized s ++ l) (sym left);
       shown = record { identifier = refl; documents = spelled };
     }

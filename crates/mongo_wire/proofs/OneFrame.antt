@@ -8,7 +8,7 @@ use Rattle.std.proofs.lemmas.Nat.{from_le_bytes-to_le_bytes_4}
 use Rattle.std.proofs.lemmas.Int.{to_z-of_z, to_z_pos, ints}
 use Rattle.std.proofs.Math.Facts.{Fits-of_z}
 use Rattle.mongo_bson.specs.Framed.{IsFramed}
-use Rattle.mongo_bson.proofs.Names.{one_text}
+use Rattle.mongo_bson.proofs.Cstrings.{one_cstring}
 use Rattle.mongo_bson.proofs.Sizes.{document_size, one_size, number_at_front}
 use Rattle.mongo_wire.specs.Frame.{Frame, IsFrame, Section, body, sequence, IsSection, IsSequence, IsChecksum, section_bytes, sequence_bytes, bodies, sequences_of, int32, uint32, message_code, known_flags}
 use Rattle.mongo_wire.specs.Header.{number_at, signed_at, op_code_of}
@@ -65,7 +65,7 @@ one_sequence s t x y p q e =
     let sizes = counted (4 + length (sequence_bytes s)) (4 + length (sequence_bytes t)) (sequence_bytes s) (sequence_bytes t) x y (omega (arith, p.size)) (omega (arith, q.size)) e in
     let size : length (sequence_bytes s) ≡ length (sequence_bytes t) = omega (arith, sizes.0) in
     let apart = same_front (sequence_bytes s) (sequence_bytes t) x y sizes.1 size in
-    let texts = one_text s.identifier t.identifier (flat_map (λ d. d) s.documents) (flat_map (λ d. d) t.documents) p.name.without_zero q.name.without_zero apart.0 in
+    let texts = one_cstring s.identifier t.identifier (flat_map (λ d. d) s.documents) (flat_map (λ d. d) t.documents) p.name.without_zero q.name.without_zero apart.0 in
     (same_made s.identifier t.identifier s.documents t.documents texts.0 (one_documents s.documents t.documents p.each q.each texts.1), apart.1)
 
 -- at most one section stands at the front

@@ -4,7 +4,7 @@ use Rattle.std.specs.Prelude.{◌≡◌, ℕ, ℤ, ◌+◌, ◌%◌, ◌^◌, �
 use Rattle.std.specs.List.{AllByRecursion}
 use Rattle.std.specs.Int.{to_le_bytes, cast_unsigned, w32}
 use Rattle.mongo_bson.specs.Framed.{IsFramed}
-use Rattle.mongo_bson.specs.Document.{IsName}
+use Rattle.mongo_bson.specs.Document.{IsCstring}
 use Rattle.mongo_wire.specs.declared.document_sequence.DocumentSequence.{DocumentSequence}
 
 -- four bytes, low byte first
@@ -35,7 +35,7 @@ section_bytes (body document) = 0 ∷ document
 section_bytes (sequence s) = 1 ∷ (uint32 (4 + length (sequence_bytes s)) ++ sequence_bytes s)
 
 pub record IsSequence (s : DocumentSequence) : Type 0 where
-  pub name : IsName s.identifier
+  pub name : IsCstring s.identifier
   pub each : AllByRecursion IsFramed s.documents
   pub size : 4 + length (sequence_bytes s) < 2 ^ 31
 

@@ -1,7 +1,7 @@
 -- What is asked of document sequences before they are written, and the bytes that they are written as.
 use Rattle.std.specs.Prelude.{◌≢◌, ℕ, ◌+◌, ◌^◌, ◌<◌, List, length, flat_map}
 use Rattle.std.specs.List.{AllByRecursion}
-use Rattle.mongo_bson.specs.Document.{IsName}
+use Rattle.mongo_bson.specs.Document.{IsCstring}
 use Rattle.mongo_bson.specs.Framed.{IsFramed}
 use Rattle.mongo_wire.specs.Frame.{sequence, section_bytes, sequence_bytes}
 use Rattle.mongo_wire.specs.declared.document_sequence.DocumentSequence.{DocumentSequence}
@@ -10,7 +10,7 @@ abbrev pub IsWithoutZero : DocumentSequence → Type 0
 IsWithoutZero s = AllByRecursion (λ b. b ≢ 0) s.identifier
 
 abbrev pub IsNamed : DocumentSequence → Type 0
-IsNamed s = IsName s.identifier
+IsNamed s = IsCstring s.identifier
 
 -- its size is one that an int32 counts
 abbrev pub IsCounted : DocumentSequence → Type 0

@@ -1,10 +1,8 @@
-ghost use Rattle.std.specs.Prelude.{◌≡◌, ◌≢◌, ◌↔◌, IsTrue, MatchOption};
-ghost use Rattle.std.specs.List.{All};
-ghost use Rattle.mongo_bson.specs.Reading.{IsFirstZero, BeginsWithName, HasNoName};
+ghost use Rattle.std.specs.Prelude.{◌≡◌, ◌↔◌, IsTrue, MatchOption};
 ghost use Rattle.mongo_wire.specs.Sections.{BeginsWithDocument, HasNoDocument, AreDocuments, BeginsWithSequence, HasNoSequence, BeginsWithSection, HasNoSection};
 
 use crate::header::number;
-use mongo_bson::RawDocument;
+use mongo_bson::{RawDocument, take_cstring};
 
 // A section as it lies in a frame.
 #[derive(Debug, Clone, Copy)]
@@ -77,7 +75,7 @@ fn take_sequence<'a>(bytes: &'a [u8]) -> Option<(SequenceRef<'a>, &'a [u8])>
     }
     let (section, rest) = bytes.split_at(size as usize);
     let (_size, content) = section.split_at(4);
-    let (identifier, documents) = take_name(content)?;
+    let (identifier, documents) = take_cstring(content)?;
     if are_documents(documents) {
         Some((
             SequenceRef {
@@ -89,28 +87,6 @@ fn take_sequence<'a>(bytes: &'a [u8]) -> Option<(SequenceRef<'a>, &'a [u8])>
     } else {
         None
     }
-}
-
-// The text before the first zero, and the bytes after that zero. None where no zero stands, or the text isn't UTF-8.
-fn take_name<'a>(bytes: &'a [u8]) -> Option<(&'a str, &'a [u8])>
-    ensures { MatchOption result (HasNoName bytes.now) (λ p. BeginsWithName bytes.now p.0.now p.1.now) }
-{
-    let end = first_zero(bytes)?;
-    let (name, rest) = bytes.split_at(end);
-    match str::from_utf8(name) {
-        Ok(text) => {
-            let (_zero, after) = rest.split_at(1);
-            Some((text, after))
-        }
-        Err(_) => None,
-    }
-}
-
-// Where the first zero stands.
-fn first_zero(bytes: &[u8]) -> Option<usize>
-    ensures { MatchOption result (All (λ b. b ≢ 0) bytes.now) (λ end. IsFirstZero bytes.now end) }
-{
-    bytes.iter().position(|b| *b == 0)
 }
 
 // Whether documents fill the bytes, one after another.

@@ -1,8 +1,8 @@
 use crate::{
-    BsonFault, Bytes, Documents, ObjectId, RawArrayBuf, RawDocumentBuf, RawValue,
-    array_entry_size_bytes, extend_raw_document_buf, get_or_prepend_id_field,
-    replacement_document_check, replacement_raw_document_check, to_raw_bson_array,
-    update_document_check, vec_to_raw_array_buf,
+    BsonFault, Bytes, Documents, Items, ObjectId, OwnedValue, RawArrayBuf, RawDocumentBuf,
+    RawValue, Text, Texts, TryClone, array_entry_size_bytes, extend_raw_document_buf,
+    get_or_prepend_id_field, replacement_document_check, replacement_raw_document_check,
+    to_raw_bson_array, update_document_check, vec_to_raw_array_buf,
 };
 use mongo_num::NumFault;
 use std::alloc::Global;
@@ -20,7 +20,12 @@ fn small_documents_have_their_bytes(rt: HostRuntime) -> Result<(), Fail> {
     let mut document = number_under(rt.alloc(), "a", 1)?;
     assert!(rt; document.as_bytes() == b"\x0C\x00\x00\x00\x10a\x00\x01\x00\x00\x00\x00".as_slice());
     assert!(rt; document.borrow().distinct_keys(rt.alloc())?);
-    assert!(rt; document.append("a\0", RawValue::Null) == Err(BsonFault::KeyHasZero));
+    for key in ["\0", "a\0", "\0a", "a\0b"] {
+        assert!(rt;
+            document.append(key, RawValue::Null) == Err(BsonFault::KeyHasZero),
+            "{key:?}"
+        );
+    }
     assert!(rt; document.as_bytes() == b"\x0C\x00\x00\x00\x10a\x00\x01\x00\x00\x00\x00".as_slice());
     document.append("a", RawValue::Int32(1))?;
     assert!(rt; !document.borrow().distinct_keys(rt.alloc())?);
@@ -74,16 +79,38 @@ fn an_entry_is_as_long_as_it_says(rt: HostRuntime) -> Result<(), Fail> {
     Ok(())
 }
 
+// Whether a list of one item has a copy that equals it.
+fn is_copied<T: TryClone + PartialEq + Drop>(alloc: Global, item: T) -> Result<bool, BsonFault> {
+    let mut items = Items::new(alloc);
+    items.push(item)?;
+    let copy = items.try_clone(alloc)?;
+    Ok(copy == items && copy.len() == 1)
+}
+
 #[test]
-fn keys_with_a_zero_are_refused(rt: HostRuntime) -> Result<(), Fail> {
-    let mut document = number_under(rt.alloc(), "a", 1)?;
-    for key in ["\0", "a\0", "\0a", "a\0b"] {
-        assert!(rt;
-            document.append(key, RawValue::Null) == Err(BsonFault::KeyHasZero),
-            "{key:?}"
-        );
-    }
-    assert!(rt; document == number_under(rt.alloc(), "a", 1)?);
+fn what_wants_memory_has_it(rt: HostRuntime) -> Result<(), Fail> {
+    let alloc = rt.alloc();
+    let mut bytes = Bytes::from_slice(alloc, b"ab")?;
+    bytes.extend_from_slice(b"c")?;
+    assert!(rt; bytes.as_bytes() == b"abc".as_slice());
+    let value = OwnedValue {
+        kind: 0x05,
+        bytes: bytes.try_clone(alloc)?,
+    };
+    let mut texts = Texts::new(alloc);
+    let mut text = Text::from_slice(alloc, "a")?;
+    text.push_str("b")?;
+    assert!(rt; text.as_str() == "ab");
+    texts.push(text)?;
+    let document = number_under(alloc, "a", 1)?;
+    assert!(rt; document.borrow().to_raw_document_buf(alloc)? == document);
+    let mut array = RawArrayBuf::new(alloc)?;
+    array.push(RawValue::Null)?;
+    assert!(rt; is_copied(alloc, bytes)?);
+    assert!(rt; is_copied(alloc, value)?);
+    assert!(rt; is_copied(alloc, texts)?);
+    assert!(rt; is_copied(alloc, document)?);
+    assert!(rt; is_copied(alloc, array)?);
     Ok(())
 }
 

@@ -3,7 +3,7 @@
 ghost use Rattle.std.specs.Prelude.{◌≡◌, ◌↔◌, ◌^◌, ◌<◌, ◌≤◌, ◌++◌, ◌∷◌, [], List, ℕ, length, IsTrue};
 ghost use Rattle.std.specs.Int.{from_le_bytes, w32};
 ghost use Rattle.mongo_bson.specs.Framed.{IsFramed};
-ghost use Rattle.mongo_bson.specs.Document.{Element, IsDocument, IsElement, IsName, IsString, IsBinary, Holds, truth, two_texts, string_and_id, code_with_scope, spell};
+ghost use Rattle.mongo_bson.specs.Document.{Element, IsDocument, IsElement, IsCstring, IsString, IsBinary, Holds, boolean, regular_expression, db_pointer, code_with_scope, spell};
 ghost use Rattle.mongo_bson.specs.Reading.{HoldsKind, IsCodeAndScope};
 ghost use Rattle.mongo_bson.specs.Keys.{Fill};
 
@@ -50,11 +50,11 @@ fn is_element(bytes: &[u8]) -> bool
 
 // Whether the bytes are a key, a zero and a value of this kind.
 fn is_key_and_value(kind: u8, bytes: &[u8]) -> bool
-    ensures { IsTrue result ↔ ((key value : List ℕ) × (bytes.now ≡ key ++ 0 ∷ value) × IsName key × HoldsKind kind value) }
+    ensures { IsTrue result ↔ ((key value : List ℕ) × (bytes.now ≡ key ++ 0 ∷ value) × IsCstring key × HoldsKind kind value) }
 {
     for end in 0..bytes.len() + 1 {
         let (key, rest) = bytes.split_at(end);
-        if is_name(key) {
+        if is_cstring(key) {
             if is_zero_and_value(kind, rest) {
                 return true;
             }
@@ -74,8 +74,8 @@ fn is_zero_and_value(kind: u8, bytes: &[u8]) -> bool
 }
 
 // Whether the bytes are a text without a zero.
-fn is_name(bytes: &[u8]) -> bool
-    ensures { IsTrue result ↔ IsName bytes.now }
+fn is_cstring(bytes: &[u8]) -> bool
+    ensures { IsTrue result ↔ IsCstring bytes.now }
 {
     if bytes.contains(&0) {
         return false;
@@ -95,11 +95,11 @@ fn is_value(kind: u8, value: &[u8]) -> bool
         0x05 => is_binary(value),
         0x06 => value.len() == 0,
         0x07 => value.len() == 12,
-        0x08 => is_truth(value),
+        0x08 => is_boolean(value),
         0x09 => value.len() == 8,
         0x0A => value.len() == 0,
-        0x0B => is_two_texts(value),
-        0x0C => is_string_and_id(value),
+        0x0B => is_regular_expression(value),
+        0x0C => is_db_pointer(value),
         0x0D => is_string(value),
         0x0E => is_string(value),
         0x0F => is_code_with_scope(value),
@@ -141,9 +141,9 @@ fn is_binary(bytes: &[u8]) -> bool
     bytes.len() >= 5 && number(bytes) < 0x8000_0000 && number(bytes) + 5 == bytes.len()
 }
 
-// Whether the bytes are a truth value.
-fn is_truth(bytes: &[u8]) -> bool
-    ensures { IsTrue result ↔ Holds truth bytes.now }
+// Whether the bytes are a boolean value.
+fn is_boolean(bytes: &[u8]) -> bool
+    ensures { IsTrue result ↔ Holds boolean bytes.now }
 {
     match bytes {
         [byte] => *byte == 0 || *byte == 1,
@@ -152,12 +152,12 @@ fn is_truth(bytes: &[u8]) -> bool
 }
 
 // Whether the bytes are two texts, each ended by a zero.
-fn is_two_texts(bytes: &[u8]) -> bool
-    ensures { IsTrue result ↔ Holds two_texts bytes.now }
+fn is_regular_expression(bytes: &[u8]) -> bool
+    ensures { IsTrue result ↔ Holds regular_expression bytes.now }
 {
     for end in 0..bytes.len() + 1 {
         let (first, rest) = bytes.split_at(end);
-        if is_name(first) {
+        if is_cstring(first) {
             if is_text_between_zeros(rest) {
                 return true;
             }
@@ -168,17 +168,17 @@ fn is_two_texts(bytes: &[u8]) -> bool
 
 // Whether the bytes are a zero, a text and a zero.
 fn is_text_between_zeros(bytes: &[u8]) -> bool
-    ensures { IsTrue result ↔ ((name : List ℕ) × (bytes.now ≡ 0 ∷ (name ++ 0 ∷ [])) × IsName name) }
+    ensures { IsTrue result ↔ ((name : List ℕ) × (bytes.now ≡ 0 ∷ (name ++ 0 ∷ [])) × IsCstring name) }
 {
     match bytes {
-        [0, name @ .., 0] => is_name(name),
+        [0, name @ .., 0] => is_cstring(name),
         _ => false,
     }
 }
 
 // Whether the bytes are a string and twelve bytes.
-fn is_string_and_id(bytes: &[u8]) -> bool
-    ensures { IsTrue result ↔ Holds string_and_id bytes.now }
+fn is_db_pointer(bytes: &[u8]) -> bool
+    ensures { IsTrue result ↔ Holds db_pointer bytes.now }
 {
     if bytes.len() < 12 {
         return false;

@@ -1,5 +1,5 @@
 use crate::tests::kinds::{document_of, value_of_kind};
-use crate::{BsonFault, ObjectId, RawDocument, RawDocumentBuf, RawValue, first_key};
+use crate::{BsonFault, ObjectId, RawDocument, RawDocumentBuf, RawValue, first_key, take_cstring};
 use std::test::Fail;
 
 #[test]
@@ -102,6 +102,8 @@ fn texts_may_hold_zeros_and_must_be_utf8(rt: HostRuntime) -> Result<(), Fail> {
     assert!(rt; !two.borrow().readable());
     let wide_key = RawDocument::from_bytes(b"\x09\x00\x00\x00\x0A\xC3\xA9\x00\x00")?;
     assert!(rt; wide_key.get("é")? == Some(RawValue::Null));
+    assert!(rt; take_cstring(b"\xC3\xA9\0b\0") == Some(("é", b"b\0".as_slice())));
+    assert!(rt; take_cstring(b"a\xFF\0").is_none() && take_cstring(b"a").is_none());
     let broken_key = RawDocument::from_bytes(b"\x08\x00\x00\x00\x0A\xFF\x00\x00")?;
     assert!(rt; broken_key.get("a") == Err(BsonFault::Malformed));
     Ok(())

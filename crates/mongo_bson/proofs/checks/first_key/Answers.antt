@@ -1,8 +1,7 @@
 use Rattle.std.proofs.Common.{subst}
 use Rattle.std.proofs.lemmas.Bool.{false≢true}
 use Rattle.mongo_bson.specs.Framed.{body_of}
-use Rattle.mongo_bson.specs.Elements.{element_read}
-use Rattle.mongo_bson.specs.Reading.{BeginsWithElement}
+use Rattle.mongo_bson.specs.Reading.{BeginsWithElement, element_read}
 use Rattle.mongo_bson.proofs.OneAnswer.{no_first}
 use Rattle.mongo_bson.proofs.checks.first_key.Goals as goal
 

@@ -1,7 +1,7 @@
 use Rattle.std.proofs.Common.{List, refl}
 use Rattle.mongo_bson.specs.Document.{Element}
 use Rattle.mongo_bson.specs.Keys.{Fill, bytes_of_texts}
-use Rattle.mongo_bson.specs.Elements.{element_read}
+use Rattle.mongo_bson.specs.Reading.{element_read}
 use Rattle.mongo_bson.proofs.Filled.{no_fill, reads_key, read_all}
 use Rattle.mongo_bson.proofs.Levels.{left_over, none_left}
 use Rattle.mongo_bson.proofs.distinct.keys_in.Goals as goal

@@ -9,4 +9,4 @@ returns-clause-shared c =
     let others = c.in_ok-others.ensures.keys in
     let fill = subst (λ w. Fill w mine.0) c.body.ensures mine.1 in
     let fill_other = subst (λ w. Fill w others.0) c.body-2.ensures others.1 in
-    tells_shared c.args.this.now c.args.other.now mine.0 others.0 (bytes_of_texts c.as_mut_slice.result.now) (bytes_of_texts c.as_slice.result.now) c.share_text.result fill fill_other (ap bytes_of_texts c.as_mut_slice.ensures.value ∙ mine.2) (ap bytes_of_texts c.as_slice.ensures.value ∙ others.2) c.share_text.ensures
+    tells_shared c.args.this.now c.args.other.now mine.0 others.0 (bytes_of_texts c.as_mut_slice.result.now) (bytes_of_texts c.as_mut_slice-2.result.now) c.share_text.result fill fill_other (ap bytes_of_texts c.as_mut_slice.ensures.value ∙ mine.2) (ap bytes_of_texts c.as_mut_slice-2.ensures.value ∙ others.2) c.share_text.ensures

@@ -1,7 +1,7 @@
 use Rattle.std.proofs.Common.{◌∙◌, sym}
 use Rattle.std.proofs.lemmas.Bool.{false≢true}
 use Rattle.std.proofs.lemmas.Slice.Eq.{bytes_eq-Decides}
-use Rattle.mongo_bson.specs.Elements.{element_read}
+use Rattle.mongo_bson.specs.Reading.{element_read}
 use Rattle.mongo_bson.specs.Find.{IsFirstOf}
 use Rattle.mongo_bson.proofs.Levels.{none_left}
 use Rattle.mongo_bson.proofs.Passed.{passes_one, passes_all}

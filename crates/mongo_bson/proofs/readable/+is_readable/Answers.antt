@@ -1,7 +1,7 @@
 use Rattle.std.proofs.Common.{◌-◌, ◌<◌, sym, ◌∙◌, subst, arith}
 use Rattle.std.proofs.lemmas.Bool.{false≢true}
 use Rattle.mongo_bson.specs.Document.{IsReadable}
-use Rattle.mongo_bson.specs.Elements.{element_read}
+use Rattle.mongo_bson.specs.Reading.{element_read}
 use Rattle.mongo_bson.proofs.Levels.{Reads, InsideIsReadable, nothing_readable, readable_reads, reads_readable, reads_more, reads_back, reads_stop, only_readable, left_over}
 use Rattle.mongo_bson.proofs.readable.+is_readable.Goals as goal
 

@@ -1,4 +1,4 @@
-use Rattle.mongo_bson.specs.Elements.{element_read}
+use Rattle.mongo_bson.specs.Reading.{element_read}
 use Rattle.mongo_bson.proofs.Levels.{scope_inside}
 use Rattle.mongo_bson.proofs.readable.document_inside.Goals as goal
 

@@ -1,5 +1,5 @@
 use Rattle.std.proofs.Common.{refl}
-use Rattle.mongo_bson.specs.Document.{fixed, truth, string, document, binary, two_texts, string_and_id, code_with_scope}
+use Rattle.mongo_bson.specs.Document.{fixed, boolean, string, document, binary, regular_expression, db_pointer, code_with_scope}
 use Rattle.mongo_bson.proofs.ByKind.{of_kind}
 use Rattle.mongo_bson.proofs.shape.value_len.Goals as goal
 
@@ -25,7 +25,7 @@ pub returns-in-7 : goal.returns-in-7
 returns-in-7 c = of_kind c.args.kind 0x07 (fixed 12) c.args.bytes.now c.fixed_len-in-7.result c.in-7.is refl c.fixed_len-in-7.ensures
 
 pub returns-in-8 : goal.returns-in-8
-returns-in-8 c = of_kind c.args.kind 0x08 truth c.args.bytes.now c.truth_len.result c.in-8.is refl c.truth_len.ensures
+returns-in-8 c = of_kind c.args.kind 0x08 boolean c.args.bytes.now c.boolean_len.result c.in-8.is refl c.boolean_len.ensures
 
 pub returns-in-9 : goal.returns-in-9
 returns-in-9 c = of_kind c.args.kind 0x09 (fixed 8) c.args.bytes.now c.fixed_len-in-9.result c.in-9.is refl c.fixed_len-in-9.ensures
@@ -34,10 +34,10 @@ pub returns-in-10 : goal.returns-in-10
 returns-in-10 c = of_kind c.args.kind 0x0A (fixed 0) c.args.bytes.now c.fixed_len-in-10.result c.in-10.is refl c.fixed_len-in-10.ensures
 
 pub returns-in-11 : goal.returns-in-11
-returns-in-11 c = of_kind c.args.kind 0x0B two_texts c.args.bytes.now c.two_texts_len.result c.in-11.is refl c.two_texts_len.ensures
+returns-in-11 c = of_kind c.args.kind 0x0B regular_expression c.args.bytes.now c.regular_expression_len.result c.in-11.is refl c.regular_expression_len.ensures
 
 pub returns-in-12 : goal.returns-in-12
-returns-in-12 c = of_kind c.args.kind 0x0C string_and_id c.args.bytes.now c.string_and_id_len.result c.in-12.is refl c.string_and_id_len.ensures
+returns-in-12 c = of_kind c.args.kind 0x0C db_pointer c.args.bytes.now c.db_pointer_len.result c.in-12.is refl c.db_pointer_len.ensures
 
 pub returns-in-13 : goal.returns-in-13
 returns-in-13 c = of_kind c.args.kind 0x0D string c.args.bytes.now c.string_len-in-13.result c.in-13.is refl c.string_len-in-13.ensures

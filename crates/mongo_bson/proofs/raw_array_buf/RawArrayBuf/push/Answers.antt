@@ -3,7 +3,8 @@ use Rattle.std.specs.Fmt.{decimal}
 use Rattle.std.specs.List.{Contains}
 use Rattle.mongo_bson.specs.Framed.{IsFramed}
 use Rattle.mongo_bson.specs.Array.{IsArray}
-use Rattle.mongo_bson.specs.Value.{kind_of, bytes_of}
+use Rattle.mongo_bson.specs.Document.{AddsElement}
+use Rattle.mongo_bson.specs.Value.{kind_of, bytes_of, element_of}
 use Rattle.mongo_bson.proofs.Numbered.{decimal_no_zero, push_refuses, too_long_at_number, array_goes_on}
 use Rattle.mongo_bson.proofs.raw_array_buf.RawArrayBuf.push.Goals as goal
 
@@ -30,3 +31,8 @@ invariant_of-self-in-Err-1 c =
       framed = subst IsFramed same array.framed;
       numbered = subst (λ d. IsArray d array.count) same array.numbered;
     }
+
+pub returns-in-Ok-clause-one_more : goal.returns-in-Ok-clause-one_more
+returns-in-Ok-clause-one_more c =
+    let array = c.args.self.now in
+    subst (λ key. AddsElement array.document c.append.new.self (element_of key c.args.value)) c.format.ensures.text c.in-Ok.ensures.one_more

@@ -1,6 +1,6 @@
 use Rattle.std.proofs.Common.{◌==◌, length, refl}
 use Rattle.std.proofs.lemmas.Bool.Decides.{Decides-eqb}
-use Rattle.mongo_bson.specs.Document.{fixed, truth, string, document, binary, two_texts, string_and_id, code_with_scope}
+use Rattle.mongo_bson.specs.Document.{fixed, boolean, string, document, binary, regular_expression, db_pointer, code_with_scope}
 use Rattle.mongo_bson.proofs.ByKind.{test_of_kind}
 use Rattle.mongo_bson.proofs.tests.plain_reader.is_value.Goals as goal
 
@@ -26,7 +26,7 @@ pub returns-in-7 : goal.returns-in-7
 returns-in-7 c = test_of_kind c.args.kind 0x07 (fixed 12) c.args.value.now (length c.args.value.now == 12) c.in-7.is refl (Decides-eqb (length c.args.value.now) 12)
 
 pub returns-in-8 : goal.returns-in-8
-returns-in-8 c = test_of_kind c.args.kind 0x08 truth c.args.value.now c.is_truth.result c.in-8.is refl c.is_truth.ensures
+returns-in-8 c = test_of_kind c.args.kind 0x08 boolean c.args.value.now c.is_boolean.result c.in-8.is refl c.is_boolean.ensures
 
 pub returns-in-9 : goal.returns-in-9
 returns-in-9 c = test_of_kind c.args.kind 0x09 (fixed 8) c.args.value.now (length c.args.value.now == 8) c.in-9.is refl (Decides-eqb (length c.args.value.now) 8)
@@ -35,10 +35,10 @@ pub returns-in-10 : goal.returns-in-10
 returns-in-10 c = test_of_kind c.args.kind 0x0A (fixed 0) c.args.value.now (length c.args.value.now == 0) c.in-10.is refl (Decides-eqb (length c.args.value.now) 0)
 
 pub returns-in-11 : goal.returns-in-11
-returns-in-11 c = test_of_kind c.args.kind 0x0B two_texts c.args.value.now c.is_two_texts.result c.in-11.is refl c.is_two_texts.ensures
+returns-in-11 c = test_of_kind c.args.kind 0x0B regular_expression c.args.value.now c.is_regular_expression.result c.in-11.is refl c.is_regular_expression.ensures
 
 pub returns-in-12 : goal.returns-in-12
-returns-in-12 c = test_of_kind c.args.kind 0x0C string_and_id c.args.value.now c.is_string_and_id.result c.in-12.is refl c.is_string_and_id.ensures
+returns-in-12 c = test_of_kind c.args.kind 0x0C db_pointer c.args.value.now c.is_db_pointer.result c.in-12.is refl c.is_db_pointer.ensures
 
 pub returns-in-13 : goal.returns-in-13
 returns-in-13 c = test_of_kind c.args.kind 0x0D string c.args.value.now c.is_string-in-13.result c.in-13.is refl c.is_string-in-13.ensures

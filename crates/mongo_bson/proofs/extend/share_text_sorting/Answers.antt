@@ -1,6 +1,6 @@
 use Rattle.mongo_bson.specs.Keys.{bytes_of_texts}
 use Rattle.mongo_bson.proofs.Searched.{common_moved, common_moved_back}
-use Rattle.mongo_bson.proofs.extend.share_text.Goals as goal
+use Rattle.mongo_bson.proofs.extend.share_text_sorting.Goals as goal
 
 pub returns : goal.returns
 returns c =

@@ -1,5 +1,5 @@
 use Rattle.mongo_bson.proofs.Shapes.{no_options, pattern_and_options}
-use Rattle.mongo_bson.proofs.shape.two_texts_len.Goals as goal
+use Rattle.mongo_bson.proofs.shape.regular_expression_len.Goals as goal
 
 pub returns-in_err-_options : goal.returns-in_err-_options
 returns-in_err-_options c =
