@@ -1,7 +1,7 @@
 -- What the readers of a frame's content find.
 use Rattle.std.proofs.Common.{◌≡◌, ℕ, ◌+◌, ◌-◌, ◌<◌, ◌≤◌, Option, None, Some, true, false, is_some, List, [], ◌∷◌, ◌++◌, length, take, drop, refl, sym, ap, ◌∙◌, subst, arith, append-nil}
 use Rattle.std.specs.List.{AllByRecursion, flat_map}
-use Rattle.std.proofs.lemmas.List.{take_at, drop_at, length-append, append_assoc, length-drop, drop-drop, take-append-drop}
+use Rattle.std.proofs.lemmas.List.{take_at, drop_at, length-append, append_assoc, length-drop, drop-drop, length-take-le, take-append-drop}
 use Rattle.std.proofs.lemmas.Bool.{false≢true}
 use Rattle.std.proofs.lemmas.Nat.{from_le_bytes-to_le_bytes_4}
 use Rattle.mongo_bson.proofs.Sizes.{number_at_front}
@@ -12,21 +12,20 @@ use Rattle.mongo_wire.specs.Sections.{BeginsWithSection, HasNoSection, Shows}
 use Rattle.mongo_wire.specs.declared.sections.SectionRef.TheVariants.{Body, Sequence}
 use Rattle.mongo_wire.specs.declared.sections.SequenceRef.{SequenceRef}
 use Rattle.mongo_wire.specs.Content.{IsAt, Finds, LiesAt, HasNoSections, IsContentOf, HasNoContent}
-use Rattle.mongo_wire.specs.declared.content.Place.{Place}
-use Rattle.mongo_wire.specs.declared.content.BodyPlace.{BodyPlace}
-use Rattle.mongo_wire.specs.declared.content.Content.{Content}
+use Rattle.mongo_wire.specs.declared.held_frame.Offsets.{Offsets}
 use Rattle.mongo_wire.proofs.Fields.{IsBytes, field, number_fits}
 use Rattle.mongo_wire.proofs.OneFrame.{one_section, least_section, one_sections, short_tail}
 
--- sections that were taken, and the place of the body among them
-pub record Took (bytes rest : List ℕ) (place : Option Place) : Type 0 where
+-- sections that were taken after the flags, and the place of the body among them
+pub record Took (bytes rest : List ℕ) (place : Option Offsets) : Type 0 where
   pub sections : List Section
   pub each : AllByRecursion IsSection sections
-  pub spelled : bytes ≡ flat_map section_bytes sections ++ rest
+  pub long : 4 ≤ length bytes
+  pub spelled : drop 4 bytes ≡ flat_map section_bytes sections ++ rest
   pub found : Finds bytes (bodies sections) place
 
-pub took_none : (bytes : List ℕ) → Took bytes bytes None
-took_none bytes = record { sections = []; each = tt; spelled = refl; found = refl }
+pub took_none : (bytes rest : List ℕ) → 4 ≤ length bytes → rest ≡ drop 4 bytes → Took bytes rest None
+took_none bytes rest long cut = record { sections = []; each = tt; long = long; spelled = sym cut; found = refl }
 
 -- lists of sections joined
 flat_joined : (ss ts : List Section) → flat_map section_bytes (ss ++ ts) ≡ flat_map section_bytes ss ++ flat_map section_bytes ts
@@ -78,19 +77,20 @@ shown_body (body d) read p = ap body (sym p)
 shown_body (sequence s) read p = absurd p
 
 -- a section of kind 1 has no body
-pub took_sequence : (bytes rest after : List ℕ) (place : Option Place) (read : SequenceRef) → Took bytes rest place → BeginsWithSection rest (Sequence read) after → Took bytes after place
+pub took_sequence : (bytes rest after : List ℕ) (place : Option Offsets) (read : SequenceRef) → Took bytes rest place → BeginsWithSection rest (Sequence read) after → Took bytes after place
 took_sequence bytes rest after place read took begins =
     let s = begins.section in
     let none = shown_sequence s read begins.shown in
     record {
       sections = took.sections ++ s ∷ [];
       each = each_joined took.sections (s ∷ []) took.each (begins.is_section, tt);
-      spelled = one_more bytes rest after took.sections s took.spelled begins.spelled;
+      long = took.long;
+      spelled = one_more (drop 4 bytes) rest after took.sections s took.spelled begins.spelled;
       found = subst (λ d. Finds bytes d place) (sym (bodies_joined took.sections (s ∷ []) ∙ ap (λ l. bodies took.sections ++ l) none ∙ append-nil (bodies took.sections))) took.found;
     }
 
-pub took_body : (bytes rest after : List ℕ) (place : Option Place) (read : RawDocument) (now : Place) → Took bytes rest place → is_some place ≡ false → BeginsWithSection rest (Body read) after
-    → now.start ≡ length bytes - length rest + 1 → now.end ≡ length bytes - length after → Took bytes after (Some now)
+pub took_body : (bytes rest after : List ℕ) (place : Option Offsets) (read : RawDocument) (now : Offsets) → Took bytes rest place → is_some place ≡ false → BeginsWithSection rest (Body read) after
+    → now.body_start ≡ length bytes - length rest + 1 → now.body_end ≡ length bytes - length after → Took bytes after (Some now)
 took_body bytes rest after (Some place) read now took none begins start end = absurd (false≢true (sym none))
 took_body bytes rest after None read now took none begins start end =
     let d = read.bytes.now in
@@ -98,19 +98,23 @@ took_body bytes rest after None read now took none begins start end =
     let s_is = shown_body s read begins.shown in
     let flat = flat_map section_bytes took.sections in
     let here : rest ≡ (0 ∷ d) ++ after = begins.spelled ∙ ap (λ z. section_bytes z ++ after) s_is in
-    let whole : bytes ≡ (flat ++ 0 ∷ []) ++ (d ++ after) = took.spelled ∙ ap (λ l. flat ++ l) here ∙ sym (append_assoc flat (0 ∷ []) (d ++ after)) in
+    let front = take 4 bytes ++ (flat ++ 0 ∷ []) in
+    let sections : drop 4 bytes ≡ (flat ++ 0 ∷ []) ++ (d ++ after) = took.spelled ∙ ap (λ l. flat ++ l) here ∙ sym (append_assoc flat (0 ∷ []) (d ++ after)) in
+    let whole : bytes ≡ front ++ (d ++ after) = sym (take-append-drop 4 bytes) ∙ ap (λ l. take 4 bytes ++ l) sections ∙ sym (append_assoc (take 4 bytes) (flat ++ 0 ∷ []) (d ++ after)) in
     let lengths = length-append flat rest in
+    let four : length (take 4 bytes) ≡ 4 = length-take-le 4 bytes took.long in
+    let size : length front ≡ 5 + length flat = omega (arith, four, length-append (take 4 bytes) (flat ++ 0 ∷ []), length-append flat (0 ∷ [])) in
+    let left : length bytes ≡ 4 + (length flat + length rest) = omega (arith, took.long, length-drop 4 bytes, ap length took.spelled, lengths) in
     let more = length-append d after in
     record {
       sections = took.sections ++ s ∷ [];
       each = each_joined took.sections (s ∷ []) took.each (begins.is_section, tt);
-      spelled = one_more bytes rest after took.sections s took.spelled begins.spelled;
+      long = took.long;
+      spelled = one_more (drop 4 bytes) rest after took.sections s took.spelled begins.spelled;
       found = (
         d,
         bodies_joined took.sections (s ∷ []) ∙ ap (λ l. l ++ bodies (s ∷ [])) took.found ∙ ap (λ z. bodies (z ∷ [])) s_is,
-        part_at bytes (flat ++ 0 ∷ []) d after now.start now.end whole
-            (omega (arith, length-append flat (0 ∷ []), ap length took.spelled, lengths, start))
-            (omega (arith, length-append flat (0 ∷ []), ap length took.spelled, lengths, ap length here, more, end)),
+        part_at bytes front d after now.body_start now.body_end whole (omega (arith, size, left, start)) (omega (arith, size, left, ap length here, more, end)),
       );
     }
 
@@ -121,7 +125,7 @@ too_long rest tail u us p e =
     omega (arith, ap length e, length-append (section_bytes u ++ flat_map section_bytes us) tail, length-append (section_bytes u) (flat_map section_bytes us), least_section u p)
 
 -- no section stands where one has to
-pub no_more_section : (bytes rest : List ℕ) (place : Option Place) → Took bytes rest place → 4 < length rest → HasNoSection rest → HasNoSections bytes
+pub no_more_section : (bytes rest : List ℕ) (place : Option Offsets) → Took bytes rest place → 4 < length rest → HasNoSection rest → HasNoSections (drop 4 bytes)
 no_more_section bytes rest place took long none sections document tail are =
     let (us, is, each, left) = goes_on took.sections sections rest tail took.each are.each are.short (sym took.spelled ∙ are.spelled) in
     stop us each left
@@ -131,10 +135,10 @@ no_more_section bytes rest place took long none sections document tail are =
     stop (u ∷ us) each left = none u (flat_map section_bytes us ++ tail) each.0 (left ∙ append_assoc (section_bytes u) (flat_map section_bytes us) tail)
 
 -- a second body
-two : (bytes : List ℕ) (documents more : List (List ℕ)) (document : List ℕ) (place : Place) → Finds bytes documents (Some place) → length (documents ++ document ∷ more) ≡ 1 → ⊥
+two : (bytes : List ℕ) (documents more : List (List ℕ)) (document : List ℕ) (place : Offsets) → Finds bytes documents (Some place) → length (documents ++ document ∷ more) ≡ 1 → ⊥
 two bytes documents more document place found one = omega (arith, length-append documents (document ∷ more), ap length found.1, one)
 
-pub second_body : (bytes rest after : List ℕ) (place : Option Place) (read : RawDocument) → Took bytes rest place → is_some place ≡ true → 4 < length rest → BeginsWithSection rest (Body read) after → HasNoSections bytes
+pub second_body : (bytes rest after : List ℕ) (place : Option Offsets) (read : RawDocument) → Took bytes rest place → is_some place ≡ true → 4 < length rest → BeginsWithSection rest (Body read) after → HasNoSections (drop 4 bytes)
 second_body bytes rest after None read took some long begins sections document tail are = absurd (false≢true some)
 second_body bytes rest after (Some place) read took some long begins sections document tail are =
     let (us, is, each, left) = goes_on took.sections sections rest tail took.each are.each are.short (sym took.spelled ∙ are.spelled) in
@@ -149,7 +153,7 @@ second_body bytes rest after (Some place) read took some long begins sections do
         two bytes (bodies took.sections) (bodies us) read.bytes.now place took.found (ap length (sym all ∙ are.one_body))
 
 -- no body
-pub no_body : (bytes rest : List ℕ) (place : Option Place) → Took bytes rest place → place ≡ None → length rest ≤ 4 → HasNoSections bytes
+pub no_body : (bytes rest : List ℕ) (place : Option Offsets) → Took bytes rest place → place ≡ None → length rest ≤ 4 → HasNoSections (drop 4 bytes)
 no_body bytes rest (Some place) took none short sections document tail are = absurd (false≢true (sym (ap is_some none)))
 no_body bytes rest None took none short sections document tail are =
     let (us, is, each, left) = goes_on took.sections sections rest tail took.each are.each are.short (sym took.spelled ∙ are.spelled) in
@@ -163,51 +167,56 @@ no_body bytes rest None took none short sections document tail are =
 
 -- ---- the whole content
 
-pub no_content : (bytes rest : List ℕ) → rest ≡ drop 4 bytes → HasNoSections rest → HasNoContent bytes
-no_content bytes rest cut none word sections document tail sum is =
-    none sections document tail (record { each = is.each; one_body = is.one_body; spelled = cut ∙ ap (drop 4) is.spelled; short = short_tail word tail sum is.checksum_is })
+pub no_content : (bytes : List ℕ) → HasNoSections (drop 4 bytes) → HasNoContent bytes
+no_content bytes none word sections document tail sum is =
+    none sections document tail (record { each = is.each; one_body = is.one_body; spelled = ap (drop 4) is.spelled; short = short_tail word tail sum is.checksum_is })
 
--- what lies in the rest lies four bytes further in all
-shifted : (bytes rest part : List ℕ) (from to : ℕ) → rest ≡ drop 4 bytes → 4 ≤ length bytes → IsAt rest part from to → IsAt bytes part (4 + from) (4 + to)
-shifted bytes rest part from to cut long at =
-    let count : (4 + to) - (4 + from) ≡ to - from = omega arith in
-    let place : drop (4 + from) bytes ≡ drop from rest = sym (drop-drop from 4 bytes) ∙ ap (drop from) (sym cut) in
+-- the sections end where the bytes after them begin
+pub lies_at : (bytes rest : List ℕ) (now place : Offsets) → Took bytes rest (Some now) → length rest ≤ 4 → place.body_start ≡ now.body_start → place.body_end ≡ now.body_end → place.sections_end ≡ length bytes - length rest
+    → LiesAt bytes place
+lies_at bytes rest now place took short start end ended =
+    let (document, one, at) = took.found in
     record {
-      ordered = omega (arith, at.ordered);
-      within = omega (arith, at.within, ap length cut, length-drop 4 bytes);
-      is = ap (λ n. take n (drop (4 + from) bytes)) count ∙ ap (take (to - from)) place ∙ at.is;
+      sections = took.sections;
+      body = document;
+      tail = rest;
+      are = record { each = took.each; one_body = one; spelled = took.spelled; short = short };
+      body_at = rw (start, end) at;
+      ended = omega (arith, took.long, length-drop 4 bytes, ap length took.spelled, length-append (flat_map section_bytes took.sections) rest, ended);
+      within = omega (arith, ended);
     }
 
-tail_is : (rest tail cut : List ℕ) (place : BodyPlace) (lies : LiesAt rest place) → cut ≡ drop place.sections_end rest → cut ≡ lies.tail
-tail_is rest tail cut place lies e = e ∙ ap (drop place.sections_end) lies.are.spelled ∙ drop_at (flat_map section_bytes lies.sections) lies.tail place.sections_end lies.ended
+-- the bytes after the sections
+tail_is : (bytes tail : List ℕ) (place : Offsets) (lies : LiesAt bytes place) → tail ≡ drop place.sections_end bytes → tail ≡ lies.tail
+tail_is bytes tail place lies cut =
+    cut ∙ ap (λ n. drop n bytes) (sym lies.ended) ∙ sym (drop-drop (length (flat_map section_bytes lies.sections)) 4 bytes) ∙ ap (drop (length (flat_map section_bytes lies.sections))) lies.are.spelled
+    ∙ drop_at (flat_map section_bytes lies.sections) lies.tail (length (flat_map section_bytes lies.sections)) refl
 
-pub content_found : (bytes rest tail : List ℕ) (place : BodyPlace) (content : Content) → IsBytes bytes → 4 ≤ length bytes → rest ≡ drop 4 bytes → LiesAt rest place → tail ≡ drop place.sections_end rest
-    → IsChecksum content.word tail content.checksum → content.word ≡ number_at 0 bytes → content.body.start ≡ 4 + place.body.start → content.body.end ≡ 4 + place.body.end → content.sections_end ≡ 4 + place.sections_end
-    → IsContentOf bytes content
-content_found bytes rest tail place content small long cut lies tail_cut sum word start end ended =
-    let front : uint32 content.word ≡ take 4 bytes = ap uint32 word ∙ field 0 bytes small long in
-    let all : bytes ≡ uint32 content.word ++ (flat_map section_bytes lies.sections ++ lies.tail) =
-    sym (take-append-drop 4 bytes) ∙ ap (λ l. take 4 bytes ++ l) (sym cut ∙ lies.are.spelled) ∙ ap (λ l. l ++ (flat_map section_bytes lies.sections ++ lies.tail)) (sym front) in
-    let body_at = shifted bytes rest lies.body place.body.start place.body.end cut long lies.body_at in
+pub content_found : (bytes tail : List ℕ) (place : Offsets) (word : ℕ) (sum : Option ℕ) → IsBytes bytes → 4 ≤ length bytes → LiesAt bytes place → tail ≡ drop place.sections_end bytes
+    → IsChecksum word tail sum → word ≡ number_at 0 bytes → IsContentOf bytes word sum place
+content_found bytes tail place word sum small long lies cut checksum word_is =
+    let front : uint32 word ≡ take 4 bytes = ap uint32 word_is ∙ field 0 bytes small long in
+    let all : bytes ≡ uint32 word ++ (flat_map section_bytes lies.sections ++ lies.tail) =
+    sym (take-append-drop 4 bytes) ∙ ap (λ l. take 4 bytes ++ l) lies.are.spelled ∙ ap (λ l. l ++ (flat_map section_bytes lies.sections ++ lies.tail)) (sym front) in
     record {
       sections = lies.sections;
       body = lies.body;
       tail = lies.tail;
       is_content = record {
-        word_fits = rw word (number_fits 0 bytes small);
+        word_fits = rw word_is (number_fits 0 bytes small);
         each = lies.are.each;
         one_body = lies.are.one_body;
-        checksum_is = subst (λ t. IsChecksum content.word t content.checksum) (tail_is rest tail tail place lies tail_cut) sum;
+        checksum_is = subst (λ t. IsChecksum word t sum) (tail_is bytes tail place lies cut) checksum;
         spelled = all;
       };
-      body_at = subst (λ n. IsAt bytes lies.body n content.body.end) (sym start) (subst (λ n. IsAt bytes lies.body (4 + place.body.start) n) (sym end) body_at);
-      sections_at = part_at bytes (uint32 content.word) (flat_map section_bytes lies.sections) lies.tail 4 content.sections_end all refl (omega (arith, lies.ended, ended));
+      body_at = lies.body_at;
+      sections_at = part_at bytes (uint32 word) (flat_map section_bytes lies.sections) lies.tail 4 place.sections_end all refl lies.ended;
     }
 
-pub no_content_tail : (bytes rest tail : List ℕ) (place : BodyPlace) (word : ℕ) → rest ≡ drop 4 bytes → LiesAt rest place → tail ≡ drop place.sections_end rest → word ≡ number_at 0 bytes
+pub no_content_tail : (bytes tail : List ℕ) (place : Offsets) (word : ℕ) → LiesAt bytes place → tail ≡ drop place.sections_end bytes → word ≡ number_at 0 bytes
     → ((sum : Option ℕ) → IsChecksum word tail sum → ⊥) → HasNoContent bytes
-no_content_tail bytes rest tail place word cut lies tail_cut word_is none other sections document after sum is =
+no_content_tail bytes tail place word lies cut word_is none other sections document after sum is =
     let same : word ≡ other = word_is ∙ ap (number_at 0) is.spelled ∙ number_at_front (uint32 other) (flat_map section_bytes sections ++ after) (omega arith) ∙ from_le_bytes-to_le_bytes_4 other is.word_fits in
-    let both = one_sections sections lies.sections after lies.tail is.each lies.are.each (short_tail other after sum is.checksum_is) lies.are.short (sym (cut ∙ ap (drop 4) is.spelled) ∙ lies.are.spelled) in
-    let here : IsChecksum other tail sum = subst (λ t. IsChecksum other t sum) (both.1 ∙ sym (tail_is rest tail tail place lies tail_cut)) is.checksum_is in
+    let both = one_sections sections lies.sections after lies.tail is.each lies.are.each (short_tail other after sum is.checksum_is) lies.are.short (sym (ap (drop 4) is.spelled) ∙ lies.are.spelled) in
+    let here : IsChecksum other tail sum = subst (λ t. IsChecksum other t sum) (both.1 ∙ sym (tail_is bytes tail place lies cut)) is.checksum_is in
     none sum (subst (λ w. IsChecksum w tail sum) (sym same) here)

@@ -1,5 +1,5 @@
 -- A header and the content after it are a frame of the grammar, and a frame is nothing else.
-use Rattle.std.proofs.Common.{◌≡◌, ℕ, ℤ, pos, ◌+◌, ◌^◌, ◌<◌, Some, List, [], ◌∷◌, ◌++◌, length, take, drop, refl, sym, ap, ◌∙◌, subst, bit_and, FitsSigned, arith}
+use Rattle.std.proofs.Common.{◌≡◌, ℕ, ℤ, pos, ◌+◌, ◌^◌, ◌<◌, Option, Some, List, [], ◌∷◌, ◌++◌, length, take, drop, refl, sym, ap, ◌∙◌, subst, bit_and, FitsSigned, arith}
 use Rattle.std.specs.List.{AllByRecursion, flat_map}
 use Rattle.std.specs.Int.{w32}
 use Rattle.std.proofs.lemmas.List.{take_all, drop-drop, drop_at, take-append-drop, length-append, length-drop, append_assoc}
@@ -12,8 +12,8 @@ use Rattle.mongo_wire.specs.Content.{IsAt, IsContentOf, HasNoContent}
 use Rattle.mongo_wire.specs.Held.{NoFrame, IsHeld}
 use Rattle.mongo_wire.specs.declared.header.Header.{Header}
 use Rattle.mongo_wire.specs.declared.op_code.OpCode.TheVariants.{Message}
-use Rattle.mongo_wire.specs.declared.content.Content.{Content}
 use Rattle.mongo_wire.specs.declared.held_frame.HeldFrame.{HeldFrame}
+use Rattle.mongo_wire.specs.declared.held_frame.Offsets.{Offsets}
 use Rattle.mongo_wire.proofs.Fields.{IsBytes, number_fits, signed_fits, field, signed_field}
 
 pub one_held : (a b : HeldFrame) → Some a ≡ Some b → a ≡ b
@@ -54,14 +54,14 @@ unsigned_is at n bytes small fits is =
 size_fits : (n : ℕ) (bytes : List ℕ) → IsBytes bytes → pos n ≡ signed_at 0 bytes → n < 2 ^ 31
 size_fits n bytes small is = (subst (FitsSigned w32) (sym is) (signed_fits 0 bytes small)).sfits
 
-abbrev parts_by : List ℕ → ℕ → List ℕ → List Section → Content → Frame
-parts_by head word document sections content = record {
+abbrev parts_by : List ℕ → ℕ → List ℕ → List Section → Option ℕ → Frame
+parts_by head word document sections sum = record {
   request_id = signed_at 4 head;
   response_to = signed_at 8 head;
   flags = bit_and word known_flags;
   body = document;
   sequences = sequences_of sections;
-  checksum = content.checksum;
+  checksum = sum;
 }
 
 abbrev made : ℤ → ℤ → ℤ → Header
@@ -69,9 +69,9 @@ made size id to = record { length = size; request_id = id; response_to = to; op_
 
 -- ---- what was found
 
-pub frame_found : (head bytes : List ℕ) (header : Header) (content : Content) → IsBytes head → length head ≡ 16 → header ≡ header_with head Message → signed_at 12 head ≡ pos 2013
-    → pos (16 + length bytes) ≡ signed_at 0 head → IsContentOf bytes content → IsHeld (head ++ bytes) (record { header = header; content = content })
-frame_found head bytes header content small sixteen header_is code size found =
+pub frame_found : (head bytes : List ℕ) (header : Header) (word : ℕ) (sum : Option ℕ) (offsets : Offsets) → IsBytes head → length head ≡ 16 → header ≡ header_with head Message → signed_at 12 head ≡ pos 2013
+    → pos (16 + length bytes) ≡ signed_at 0 head → IsContentOf bytes word sum offsets → IsHeld (head ++ bytes) (record { header = header; word = word; checksum = sum; offsets = offsets })
+frame_found head bytes header word sum offsets small sixteen header_is code size found =
     let frame = head ++ bytes in
     let counted : length frame ≡ 16 + length bytes = omega (arith, length-append head bytes, sixteen) in
     let fits : 16 + length bytes < 2 ^ 31 = size_fits (16 + length bytes) head small size in
@@ -80,12 +80,12 @@ frame_found head bytes header content small sixteen header_is code size found =
     let is = found.is_content in
     let back : drop 16 frame ≡ bytes = drop_at head bytes 16 sixteen in
     let spelled = ap (λ h. h ++ bytes) (fours head sixteen) ∙ regroup (take 4 head) (take 4 (drop 4 head)) (take 4 (drop 8 head)) (take 4 (drop 12 head)) bytes
-    ∙ respelled (take 4 head) (take 4 (drop 4 head)) (take 4 (drop 8 head)) (take 4 (drop 12 head)) (uint32 (length frame)) (int32 (signed_at 4 head)) (int32 (signed_at 8 head)) (uint32 message_code) bytes (uint32 content.word ++ (flat_map section_bytes found.sections ++ found.tail))
+    ∙ respelled (take 4 head) (take 4 (drop 4 head)) (take 4 (drop 8 head)) (take 4 (drop 12 head)) (uint32 (length frame)) (int32 (signed_at 4 head)) (int32 (signed_at 8 head)) (uint32 message_code) bytes (uint32 word ++ (flat_map section_bytes found.sections ++ found.tail))
     (ap uint32 (sym number) ∙ field 0 head small (omega arith)) (signed_field 4 head small (omega arith)) (signed_field 8 head small (omega arith)) (ap uint32 (sym code_is) ∙ field 12 head small (omega arith)) is.spelled in (
-      parts_by head content.word found.body found.sections content,
+      parts_by head word found.body found.sections sum,
       record {
         is_frame = record {
-          word = content.word;
+          word = word;
           sections = found.sections;
           tail = found.tail;
           spelled = spelled;
@@ -102,8 +102,8 @@ frame_found head bytes header content small sixteen header_is code size found =
         header_is = header_is ∙ ap (λ z. made z (signed_at 4 head) (signed_at 8 head)) (sym size ∙ ap pos (sym counted));
         flags_are = refl;
         checksum_is = refl;
-        body_at = subst (λ b. IsAt b found.body content.body.start content.body.end) (sym back) found.body_at;
-        sections_at = subst (λ b. IsAt b (flat_map section_bytes found.sections) 4 content.sections_end) (sym back) found.sections_at;
+        body_at = subst (λ b. IsAt b found.body offsets.body_start offsets.body_end) (sym back) found.body_at;
+        sections_at = subst (λ b. IsAt b (flat_map section_bytes found.sections) 4 offsets.sections_end) (sym back) found.sections_at;
       },
     )
 

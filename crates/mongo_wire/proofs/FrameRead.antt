@@ -21,7 +21,8 @@ use Rattle.mongo_wire.specs.declared.fault.ArgumentFault.TheVariants.{CheckedFai
 use Rattle.mongo_wire.specs.declared.fault.ResponseFault.{ResponseFault}
 use Rattle.mongo_wire.specs.declared.fault.ResponseFault.TheVariants.{OpCode as OpCodeFault, OverMaximum, Compressed, NotMessage, Sections}
 use Rattle.mongo_wire.specs.declared.frame_buffer.FrameBuffer.{FrameBuffer}
-use Rattle.mongo_wire.specs.declared.error.Error.{Error}
+use Rattle.mongo_wire.specs.Error.{kind_of_frame_fault}
+use Rattle.mongo_wire.specs.declared.fault.FrameFault.{FrameFault}
 use Rattle.mongo_wire.specs.declared.error.ErrorKind.{ErrorKind}
 use Rattle.mongo_wire.specs.declared.error.ErrorKind.TheVariants.{InvalidArgument, InvalidResponse, Command, Authentication, IncompatibleServer, Write, InsertMany, ReadFault, WriteFault, EndOfInput, Callback, PasswordNotAscii, OutOfMemory}
 use Rattle.mongo_wire.proofs.OneFrame.{one_frame, row_no_frame, row_in, signed_in}
@@ -179,11 +180,11 @@ same_taken most old new buffer frame rest parts is frame_is taken = at new (rw i
         let (frames, both, rests) = one_frame taken.frame frame left rest taken.parts parts taken.holds.is_held.is_frame frame_is (sym c) in
         (subst (λ f. HoldsFrame f parts buffer) frames (subst (λ p. HoldsFrame taken.frame p buffer) both taken.holds), ap Some rests)
 
-pub takes_again : {T : Type 0} (result : Result T Error) (most : ℤ) (old new : Option (List ℕ)) (buffer : FrameBuffer) (faults_old faults_new ends_old ends_new : ℕ)
-    → OnOk result (IsFrameTaken most old new buffer) → IfErr result (λ e. ReadRefused e.kind most old new faults_old faults_new ends_old ends_new)
+pub takes_again : {T : Type 0} (result : Result T FrameFault) (most : ℤ) (old new : Option (List ℕ)) (buffer : FrameBuffer) (faults_old faults_new ends_old ends_new : ℕ)
+    → OnOk result (IsFrameTaken most old new buffer) → IfErr result (λ fault. ReadRefused (kind_of_frame_fault fault) most old new faults_old faults_new ends_old ends_new)
     → (frame rest : List ℕ) (parts : Frame) → old ≡ Some (frame ++ rest) → IsFrame frame parts → pos (length frame) ≤ℤ most → TakesAgain frame parts rest new buffer result
 takes_again (Ok x) most old new buffer fo fn eo en p q frame rest parts is frame_is within = same_taken most old new buffer frame rest parts is frame_is p
-takes_again (Err e) most old new buffer fo fn eo en p q frame rest parts is frame_is within = no_refusal e.kind most old new fo fn eo en frame rest parts is frame_is within q
+takes_again (Err fault) most old new buffer fo fn eo en p q frame rest parts is frame_is within = no_refusal (kind_of_frame_fault fault) most old new fo fn eo en frame rest parts is frame_is within q
 
 -- ---- the whole frame came
 

@@ -1,16 +1,28 @@
 -- What a frame buffer holds.
-use Rattle.std.specs.Prelude.{◌≡◌, ◌+◌, ◌*◌, max, ℕ, ℤ, pos, ◌≤◌, ◌⊎◌, ◌≤ℤ◌, Option, None, Some, Result, Ok, Err, List, [], length, take, drop, Bool, true}
+use Rattle.std.specs.Prelude.{◌≡◌, ◌+◌, ◌*◌, max, ℕ, ℤ, pos, ◌≤◌, ◌⊎◌, ◌≤ℤ◌, Option, None, Some, Result, Ok, Err, List, [], length, take, drop, slice_range, Bool, true}
 use Rattle.std.specs.Io.KnownBytes.{Consumes}
 use Rattle.mongo_wire.specs.Frame.{Frame}
 use Rattle.mongo_wire.specs.Held.{IsHeldFrame}
+use Rattle.mongo_wire.specs.Error.{kind_of_frame_fault}
 use Rattle.mongo_wire.specs.Message.{IsUnreadable}
-use Rattle.mongo_wire.specs.declared.error.Error.{Error}
+use Rattle.mongo_wire.specs.Outside.{risen}
+use Rattle.mongo_wire.specs.Ref.{IsRefOf}
+use Rattle.mongo_wire.specs.declared.fault.FrameFault.{FrameFault}
+use Rattle.mongo_wire.specs.declared.message_ref.MessageRef.{MessageRef}
 use Rattle.mongo_wire.specs.declared.frame_buffer.FrameBuffer.{FrameBuffer}
 use Rattle.mongo_wire.specs.declared.held_frame.HeldFrame.{HeldFrame}
 
 -- the bytes of the last frame after its header
 abbrev pub held_bytes : FrameBuffer → List ℕ
 held_bytes buffer = take buffer.held buffer.store.items
+
+abbrev pub document_at : Option HeldFrame → List ℕ → List ℕ
+document_at None bytes = []
+document_at (Some held) bytes = slice_range bytes held.offsets.body_start held.offsets.body_end
+
+-- the document of the body of the frame that it holds, or nothing
+abbrev pub held_document : FrameBuffer → List ℕ
+held_document buffer = document_at buffer.last (held_bytes buffer)
 
 -- how many frames were taken
 abbrev pub frames_taken : FrameBuffer → ℕ
@@ -42,14 +54,31 @@ pub record IsFrameTaken (most : ℤ) (old new : Option (List ℕ)) (buffer : Fra
   pub taken : Consumes old new frame
 
 -- A frame of these parts stood before this rest: just it was taken, unless the source failed or memory ran out.
-abbrev pub TakesAgain : {T : Type 0} → List ℕ → Frame → List ℕ → Option (List ℕ) → FrameBuffer → Result T Error → Type 0
+abbrev pub TakesAgain : {T : Type 0} → List ℕ → Frame → List ℕ → Option (List ℕ) → FrameBuffer → Result T FrameFault → Type 0
 TakesAgain frame parts rest left buffer (Ok _) = HoldsFrame frame parts buffer × (left ≡ Some rest)
-TakesAgain frame parts rest left buffer (Err e) = IsUnreadable e.kind
+TakesAgain frame parts rest left buffer (Err fault) = IsUnreadable (kind_of_frame_fault fault)
 
 -- it holds nothing, and has counted nothing
 pub record IsCleared (old new : FrameBuffer) : Type 0 where
   pub nothing : HoldsNothing new
   pub frames : frames_taken new ≡ frames_taken old
+
+-- a frame was taken and counted, the buffer holds it, and the message shows it
+pub record IsReadInto (most : ℤ) (left_old left_new : Option (List ℕ)) (old : FrameBuffer) (message : MessageRef) (new : FrameBuffer) : Type 0 where
+  pub is_taken : IsFrameTaken most left_old left_new new
+  pub shown : IsRefOf is_taken.frame is_taken.parts message
+  pub counted : frames_taken new ≡ risen (frames_taken old)
+
+-- what the buffer is after a read
+abbrev pub ReadsInto : ℤ → Option (List ℕ) → Option (List ℕ) → FrameBuffer → Result MessageRef FrameFault → FrameBuffer → Type 0
+ReadsInto most left_old left_new old (Ok message) new = IsReadInto most left_old left_new old message new
+ReadsInto most left_old left_new old (Err fault) new = IsCleared old new
+
+-- the same of a next frame, of which there may be none
+abbrev pub NextInto : ℤ → Option (List ℕ) → Option (List ℕ) → FrameBuffer → Result (Option MessageRef) FrameFault → FrameBuffer → Type 0
+NextInto most left_old left_new old (Ok None) new = IsCleared old new
+NextInto most left_old left_new old (Ok (Some message)) new = IsReadInto most left_old left_new old message new
+NextInto most left_old left_new old (Err fault) new = IsCleared old new
 
 -- the buffer is no longer than it was, or than the maximum
 abbrev pub StaysWithin : ℤ → FrameBuffer → FrameBuffer → Type 0
@@ -60,6 +89,6 @@ abbrev pub GrowsFor : List ℕ → FrameBuffer → FrameBuffer → Type 0
 GrowsFor bytes old new = memory_of new ≤ max (memory_of old) (4096 + 2 * length bytes)
 
 -- where a frame of these parts stood before this rest
-abbrev pub FindsAgain : List ℕ → Frame → List ℕ → Option (List ℕ) → FrameBuffer → Result Bool Error → Type 0
+abbrev pub FindsAgain : List ℕ → Frame → List ℕ → Option (List ℕ) → FrameBuffer → Result Bool FrameFault → Type 0
 FindsAgain frame parts rest left buffer (Ok found) = (found ≡ true) × HoldsFrame frame parts buffer × (left ≡ Some rest)
-FindsAgain frame parts rest left buffer (Err e) = IsUnreadable e.kind
+FindsAgain frame parts rest left buffer (Err fault) = IsUnreadable (kind_of_frame_fault fault)

@@ -14,10 +14,10 @@ header_of frame parts = record { length = pos (length frame); request_id = parts
 pub record IsHeldFrame (frame : List ℕ) (parts : Frame) (held : HeldFrame) : Type 0 where
   pub is_frame : IsFrame frame parts
   pub header_is : held.header ≡ header_of frame parts
-  pub flags_are : bit_and held.content.word known_flags ≡ parts.flags
-  pub checksum_is : held.content.checksum ≡ parts.checksum
-  pub body_at : IsAt (drop 16 frame) parts.body held.content.body.start held.content.body.end
-  pub sections_at : IsAt (drop 16 frame) (flat_map section_bytes is_frame.sections) 4 held.content.sections_end
+  pub flags_are : bit_and held.word known_flags ≡ parts.flags
+  pub checksum_is : held.checksum ≡ parts.checksum
+  pub body_at : IsAt (drop 16 frame) parts.body held.offsets.body_start held.offsets.body_end
+  pub sections_at : IsAt (drop 16 frame) (flat_map section_bytes is_frame.sections) 4 held.offsets.sections_end
 
 -- the bytes are no frame of the grammar
 abbrev pub NoFrame : List ℕ → Type 0

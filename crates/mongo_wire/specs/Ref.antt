@@ -1,10 +1,8 @@
 -- A message that borrows its frame.
-use Rattle.std.specs.Prelude.{◌≡◌, ℕ, ℤ, pos, ◌≤ℤ◌, Option, None, Some, Result, Ok, Err, List, length, flat_map}
+use Rattle.std.specs.Prelude.{◌≡◌, ℕ, ℤ, pos, ◌≤ℤ◌, Option, None, Some, List, length, flat_map}
 use Rattle.std.specs.Io.KnownBytes.{Consumes}
 use Rattle.mongo_wire.specs.Frame.{Frame, IsFrame, section_bytes}
 use Rattle.mongo_wire.specs.Held.{header_of}
-use Rattle.mongo_wire.specs.Message.{IsUnreadable}
-use Rattle.mongo_wire.specs.declared.error.Error.{Error}
 use Rattle.mongo_wire.specs.declared.message_ref.MessageRef.{MessageRef}
 use Rattle.mongo_wire.specs.declared.message.Message.{Message}
 
@@ -25,16 +23,14 @@ pub record IsFrameRead (most : ℤ) (old new : Option (List ℕ)) (r : MessageRe
   pub within : pos (length frame) ≤ℤ most
   pub taken : Consumes old new frame
 
--- A frame of these parts stood before this rest: just it was read, unless the source failed or memory ran out.
-abbrev pub RefAgain : List ℕ → Frame → List ℕ → Option (List ℕ) → Result MessageRef Error → Type 0
-RefAgain frame parts rest left (Ok r) = IsRefOf frame parts r × (left ≡ Some rest)
-RefAgain frame parts rest left (Err e) = IsUnreadable e.kind
+-- the message shows the frame of these parts that stood before this rest, and just that frame was taken
+abbrev pub ShowsAgain : List ℕ → Frame → List ℕ → Option (List ℕ) → MessageRef → Type 0
+ShowsAgain frame parts rest left r = IsRefOf frame parts r × (left ≡ Some rest)
 
 -- the same of a next frame: there was one
-abbrev pub NextAgain : List ℕ → Frame → List ℕ → Option (List ℕ) → Result (Option MessageRef) Error → Type 0
-NextAgain frame parts rest left (Ok None) = ⊥
-NextAgain frame parts rest left (Ok (Some r)) = IsRefOf frame parts r × (left ≡ Some rest)
-NextAgain frame parts rest left (Err e) = IsUnreadable e.kind
+abbrev pub FoundAgain : List ℕ → Frame → List ℕ → Option (List ℕ) → Option MessageRef → Type 0
+FoundAgain frame parts rest left None = ⊥
+FoundAgain frame parts rest left (Some r) = ShowsAgain frame parts rest left r
 
 -- a message of its own with these parts, and no request id
 pub record IsOwned (parts : Frame) (m : Message) : Type 0 where

@@ -1,8 +1,9 @@
 ghost use Rattle.std.specs.Prelude.{◌≡◌, IfOk, IfErr};
-ghost use Rattle.mongo_wire.specs.Error.{kind_of_fault, kind_of_sink_error};
+ghost use Rattle.mongo_wire.specs.Error.{kind_of_fault, kind_of_frame_fault, kind_of_sink_error};
 
 use crate::{
-    ArgumentFault, AuthFault, CommandError, InsertManyError, ResponseFault, SinkError, WriteFailure,
+    ArgumentFault, AuthFault, CommandError, FrameFault, InsertManyError, ResponseFault, SinkError,
+    WriteFailure,
 };
 use mongo_bson::{BsonFault, Text};
 use std::alloc::{AllocError, AllocFailed, Global};
@@ -123,6 +124,21 @@ impl<T: Drop> From<AllocFailed<T>> for Error {
         Error {
             kind: ErrorKind::OutOfMemory,
         }
+    }
+}
+
+impl From<FrameFault> for Error {
+    ghost from_gives = { λ fault error. error.kind ≡ kind_of_frame_fault fault };
+
+    fn from(fault: FrameFault) -> Error {
+        let kind = match fault {
+            FrameFault::ReadFault => ErrorKind::ReadFault,
+            FrameFault::EndOfInput => ErrorKind::EndOfInput,
+            FrameFault::OutOfMemory => ErrorKind::OutOfMemory,
+            FrameFault::InvalidArgument(fault) => ErrorKind::InvalidArgument(fault),
+            FrameFault::InvalidResponse(fault) => ErrorKind::InvalidResponse(fault),
+        };
+        Error { kind }
     }
 }
 

@@ -1,4 +1,5 @@
 use mongo_bson::BsonFault;
+use std::alloc::AllocError;
 
 /// What is wrong with what a caller handed in.
 #[derive(Clone, Copy, Debug, PartialEq, Eq)]
@@ -51,6 +52,34 @@ pub enum ArgumentFault {
     OidcEnvironment,
     /// MONGODB-OIDC whose allowed hosts are no array.
     OidcHostsNotArray,
+}
+
+/// Why no frame was read.
+///
+/// It owns no memory, so that a call which lends its buffer on can still say what the buffer holds.
+#[derive(Clone, Copy, Debug, PartialEq, Eq)]
+pub enum FrameFault {
+    /// The source failed; its count of read faults rose.
+    ReadFault,
+    /// The source ended before the bytes that were awaited; its count of ends rose.
+    EndOfInput,
+    /// Memory ran out.
+    OutOfMemory,
+    /// The length in the header is below 16.
+    InvalidArgument(ArgumentFault),
+    /// The header or what follows it isn't an OP_MSG within the maximum.
+    InvalidResponse(ResponseFault),
+}
+
+impl From<AllocError> for FrameFault {
+    ghost use Rattle.std.specs.Prelude.{◌≡◌};
+    ghost use Rattle.mongo_wire.specs.declared.fault.FrameFault.TheVariants.{OutOfMemory};
+
+    ghost from_gives = { λ _ fault. fault ≡ OutOfMemory };
+
+    fn from(_error: AllocError) -> FrameFault {
+        FrameFault::OutOfMemory
+    }
 }
 
 /// What is wrong with a server's reply.

@@ -6,6 +6,9 @@ use std::alloc::Global;
 
 /// A buffer that holds one frame after its header at a time. Its memory is used again for each frame, and grows only as
 /// the bytes of a frame come.
+///
+/// [`FrameBuffer::read`] and [`FrameBuffer::next`] read a frame into it and lend it to the message that shows the frame;
+/// [`FrameBuffer::take_frame`] reads one without lending.
 #[derive(Debug, Drop)]
 pub struct FrameBuffer {
     pub(crate) store: Vec<u8>,
@@ -20,7 +23,7 @@ impl FrameBuffer {
     ghost use Rattle.mongo_wire.specs.Outside.{risen};
     ghost use Rattle.mongo_wire.specs.Frame.{Frame};
     ghost use Rattle.mongo_wire.specs.Ref.{IsRefOf};
-    ghost use Rattle.mongo_wire.specs.Buffer.{held_bytes, frames_taken, memory_of, HoldsFrame, HoldsNothing};
+    ghost use Rattle.mongo_wire.specs.Buffer.{held_bytes, held_document, frames_taken, memory_of, HoldsFrame, HoldsNothing};
 
     /// A buffer that holds nothing and has taken no frame. It takes no memory.
     pub fn new(alloc: Global) -> FrameBuffer
@@ -54,6 +57,7 @@ impl FrameBuffer {
     pub fn message(&self) -> Option<MessageRef<'_>>
         ensures some { (frame : List ℕ) (parts : Frame) → HoldsFrame frame parts self.now → IsSome result }
         ensures shown { (frame : List ℕ) (parts : Frame) → HoldsFrame frame parts self.now → IfSome result (IsRefOf frame parts) }
+        ensures document { IfSome result (λ message. message.document_payload.bytes.now ≡ held_document self.now) }
         ensures none { HoldsNothing self.now → IsNone result }
     {
         match self.last {

@@ -1,10 +1,11 @@
 ghost use Rattle.std.specs.Prelude.{◌≡◌, ◌+◌, ◌≤◌, ℤ, pos, ◌≤ℤ◌, length, None, Some, IfOk, IfErr};
+ghost use Rattle.mongo_wire.specs.Error.{kind_of_frame_fault};
 ghost use Rattle.mongo_wire.specs.Header.{signed_at, number_at, op_code_of, header_with, maximum_of};
 ghost use Rattle.mongo_wire.specs.Rows.{header_row, length_row};
 ghost use Rattle.mongo_wire.specs.declared.op_code.OpCode.TheVariants as op_code;
 
 use crate::message::FIRST_MAXIMUM;
-use crate::{ArgumentFault, ErrorKind, OpCode, ResponseFault};
+use crate::{ArgumentFault, FrameFault, OpCode, ResponseFault};
 
 /// The header of a frame: 16 bytes, four `int32` with the low byte first.
 #[derive(Clone, Copy, Debug, PartialEq, Eq)]
@@ -40,23 +41,23 @@ impl Header {
     }
 
     // The length of the frame, 16 to the maximum, where an OP_MSG follows. Else the row that the header calls for.
-    pub(crate) fn frame_length(&self, max: Option<i32>) -> Result<usize, ErrorKind>
+    pub(crate) fn length_within(&self, max: Option<i32>) -> Result<usize, FrameFault>
         ensures passes { IfOk result (λ n. length_row (maximum_of max) self.now.length (Some self.now.op_code) (pos 0) ≡ None) }
         ensures length { IfOk result (λ n. (pos n ≡ self.now.length) × (16 ≤ n)) }
         ensures message { IfOk result (λ n. self.now.op_code ≡ op_code.Message) }
         ensures within { IfOk result (λ n. pos n ≤ℤ maximum_of max) }
-        ensures row { IfErr result (λ kind. length_row (maximum_of max) self.now.length (Some self.now.op_code) (pos 0) ≡ Some kind) }
+        ensures row { IfErr result (λ fault. length_row (maximum_of max) self.now.length (Some self.now.op_code) (pos 0) ≡ Some (kind_of_frame_fault fault)) }
     {
         if self.length > max.unwrap_or(FIRST_MAXIMUM) {
-            return Err(ErrorKind::InvalidResponse(ResponseFault::OverMaximum));
+            return Err(FrameFault::InvalidResponse(ResponseFault::OverMaximum));
         }
         match self.op_code {
-            OpCode::Compressed => Err(ErrorKind::InvalidResponse(ResponseFault::Compressed)),
-            OpCode::Reply => Err(ErrorKind::InvalidResponse(ResponseFault::NotMessage)),
-            OpCode::Query => Err(ErrorKind::InvalidResponse(ResponseFault::NotMessage)),
+            OpCode::Compressed => Err(FrameFault::InvalidResponse(ResponseFault::Compressed)),
+            OpCode::Reply => Err(FrameFault::InvalidResponse(ResponseFault::NotMessage)),
+            OpCode::Query => Err(FrameFault::InvalidResponse(ResponseFault::NotMessage)),
             OpCode::Message => {
                 if self.length < 16 {
-                    Err(ErrorKind::InvalidArgument(ArgumentFault::CheckedFailure))
+                    Err(FrameFault::InvalidArgument(ArgumentFault::CheckedFailure))
                 } else {
                     Ok(self.length as usize)
                 }
@@ -73,23 +74,23 @@ pub(crate) struct FrameStart {
 }
 
 // The start of a frame within the maximum. Else the row that the header calls for.
-pub(crate) fn start_of(head: &[u8; 16], max: Option<i32>) -> Result<FrameStart, ErrorKind>
+pub(crate) fn start_of(head: &[u8; 16], max: Option<i32>) -> Result<FrameStart, FrameFault>
     ensures passes { IfOk result (λ start. header_row (maximum_of max) head.now ≡ None) }
     ensures header { IfOk result (λ start. start.header ≡ header_with head.now op_code.Message) }
     ensures code { IfOk result (λ start. signed_at 12 head.now ≡ pos 2013) }
     ensures size { IfOk result (λ start. pos (16 + start.rest) ≡ signed_at 0 head.now) }
     ensures within { IfOk result (λ start. pos (16 + start.rest) ≤ℤ maximum_of max) }
-    ensures row { IfErr result (λ kind. header_row (maximum_of max) head.now ≡ Some kind) }
+    ensures row { IfErr result (λ fault. header_row (maximum_of max) head.now ≡ Some (kind_of_frame_fault fault)) }
 {
     match Header::decode(head) {
-        Ok(header) => match header.frame_length(max) {
+        Ok(header) => match header.length_within(max) {
             Ok(length) => Ok(FrameStart {
                 header,
                 rest: length - 16,
             }),
-            Err(kind) => Err(kind),
+            Err(fault) => Err(fault),
         },
-        Err(fault) => Err(ErrorKind::InvalidResponse(fault)),
+        Err(fault) => Err(FrameFault::InvalidResponse(fault)),
     }
 }
 

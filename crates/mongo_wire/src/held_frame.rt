@@ -1,15 +1,30 @@
-ghost use Rattle.std.specs.Prelude.{◌≡◌, ◌+◌, ◌++◌, pos, length, MatchOption};
+ghost use Rattle.std.specs.Prelude.{◌≡◌, ◌+◌, ◌≤◌, ◌++◌, ℕ, pos, drop, length, Option, MatchOption};
+ghost use Rattle.mongo_wire.specs.Content.{HasNoSections, LiesAt};
+ghost use Rattle.mongo_wire.specs.Frame.{IsChecksum};
 ghost use Rattle.mongo_wire.specs.Header.{signed_at, header_with};
 ghost use Rattle.mongo_wire.specs.declared.op_code.OpCode.TheVariants as op_code;
 
 use crate::Header;
-use crate::content::{Content, read_content};
+use crate::header::number;
+use crate::sections::{SectionRef, take_section};
 
-// A frame by its header and by places in what follows the header.
+// Where the parts of a frame lie in the bytes after its header: the only body, and the sections, which begin at 4, after
+// the flags.
+#[derive(Debug, Clone, Copy)]
+pub(crate) struct Offsets {
+    pub(crate) body_start: usize,
+    pub(crate) body_end: usize,
+    pub(crate) sections_end: usize,
+}
+
+// A frame that a buffer holds: its numbers, and where the rest lies.
 #[derive(Debug, Clone, Copy)]
 pub(crate) struct HeldFrame {
     pub(crate) header: Header,
-    pub(crate) content: Content,
+    // the flag word
+    pub(crate) word: u32,
+    pub(crate) checksum: Option<u32>,
+    pub(crate) offsets: Offsets,
 }
 
 impl HeldFrame {
@@ -23,7 +38,73 @@ impl HeldFrame {
         requires whole { pos (16 + length bytes.now) ≡ signed_at 0 head.now }
         ensures { MatchOption result (NoFrame (head.now ++ bytes.now)) (IsHeld (head.now ++ bytes.now)) }
     {
-        let content = read_content(bytes)?;
-        Some(HeldFrame { header, content })
+        if bytes.len() < 4 {
+            return None;
+        }
+        let word = number(bytes, 0);
+        let offsets = find_sections(bytes)?;
+        let (_sections, tail) = bytes.split_at(offsets.sections_end);
+        match read_checksum(word, tail) {
+            Some(checksum) => Some(HeldFrame {
+                header,
+                word,
+                checksum,
+                offsets,
+            }),
+            None => None,
+        }
+    }
+}
+
+// Where the sections that follow the flags lie, one of them with a body. At most 4 bytes may follow them, too few for
+// another one.
+fn find_sections(bytes: &[u8]) -> Option<Offsets>
+    requires { 4 ≤ length bytes.now }
+    ensures { MatchOption result (HasNoSections (drop 4 bytes.now)) (LiesAt bytes.now) }
+{
+    let (_flags, sections) = bytes.split_at(4);
+    let mut rest = sections;
+    let mut body = None;
+    'sections: while rest.len() > 4 {
+        match take_section(rest) {
+            Some((SectionRef::Sequence(_sequence), after)) => rest = after,
+            Some((SectionRef::Body(_document), after)) => {
+                if body.is_some() {
+                    return None;
+                }
+                body = Some(Offsets {
+                    body_start: bytes.len() - rest.len() + 1,
+                    body_end: bytes.len() - after.len(),
+                    sections_end: bytes.len() - after.len(),
+                });
+                rest = after;
+            }
+            None => return None,
+        }
+    }
+    match body {
+        Some(body) => Some(Offsets {
+            body_start: body.body_start,
+            body_end: body.body_end,
+            sections_end: bytes.len() - rest.len(),
+        }),
+        None => None,
+    }
+}
+
+// The checksum that follows the sections, where the flag word tells of one. None where the tail is neither empty nor one.
+fn read_checksum(word: u32, tail: &[u8]) -> Option<Option<u32>>
+    ensures { MatchOption result ((sum : Option ℕ) → IsChecksum word tail.now sum → ⊥) (IsChecksum word tail.now) }
+{
+    if tail.is_empty() {
+        return Some(None);
+    }
+    if tail.len() != 4 {
+        return None;
+    }
+    if word % 2 == 1 {
+        Some(Some(number(tail, 0)))
+    } else {
+        None
     }
 }

@@ -1,4 +1,4 @@
-ghost use Rattle.std.specs.Prelude.{◌≡◌, ℕ, List, drop, IsSome, IfSome};
+ghost use Rattle.std.specs.Prelude.{◌≡◌, ℕ, List, drop, slice_range, IsSome, IfSome};
 ghost use Rattle.mongo_wire.specs.Frame.{Frame};
 ghost use Rattle.mongo_wire.specs.Held.{IsHeldFrame};
 
@@ -29,14 +29,15 @@ impl<'b> MessageRef<'b> {
     pub(crate) fn of(held: HeldFrame, bytes: &'b [u8]) -> Option<MessageRef<'b>>
         ensures some { (frame : List ℕ) (parts : Frame) → IsHeldFrame frame parts held → bytes.now ≡ drop 16 frame → IsSome result }
         ensures shown { (frame : List ℕ) (parts : Frame) → IsHeldFrame frame parts held → bytes.now ≡ drop 16 frame → IfSome result (IsRefOf frame parts) }
+        ensures document { IfSome result (λ message. message.document_payload.bytes.now ≡ slice_range bytes.now held.offsets.body_start held.offsets.body_end) }
     {
-        let document = bytes.get(held.content.body.start..held.content.body.end)?;
-        let sections = bytes.get(4..held.content.sections_end)?;
+        let document = bytes.get(held.offsets.body_start..held.offsets.body_end)?;
+        let sections = bytes.get(4..held.offsets.sections_end)?;
         match RawDocument::from_bytes(document) {
             Ok(document_payload) => Some(MessageRef {
                 header: held.header,
-                flags: MessageFlags::from_bits_truncate(held.content.word),
-                checksum: held.content.checksum,
+                flags: MessageFlags::from_bits_truncate(held.word),
+                checksum: held.checksum,
                 document_payload,
                 sections,
             }),

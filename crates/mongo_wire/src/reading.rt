@@ -1,9 +1,10 @@
 ghost use Rattle.std.specs.Prelude.{◌≡◌, ◌<◌, ◌≤◌, ◌+◌, ◌-◌, ◌*◌, ℕ, List, Some, true, false, max, take, drop, length, IfOk, IfErr, OnOk, OnErr};
 ghost use Rattle.std.specs.Io.KnownBytes.{Consumes};
+ghost use Rattle.mongo_wire.specs.Error.{kind_of_frame_fault};
 ghost use Rattle.mongo_wire.specs.Outside.{ReadsOn, ReadStops, HasEnded, HasMore};
 ghost use Rattle.mongo_wire.specs.Small.{IsOfSource};
 
-use crate::{Error, ErrorKind, Source};
+use crate::{FrameFault, Source};
 
 // How many bytes are read ahead of the memory for them at most.
 const PIECE: usize = 4096;
@@ -11,22 +12,18 @@ const PIECE: usize = 4096;
 /// Fills the buffer with the next bytes of the source.
 ///
 /// `ReadFault` where the source failed, `EndOfInput` where it ended before the buffer was full.
-pub fn fill<S: Source>(source: &mut S, buf: &mut [u8]) -> Result<(), Error>
+pub fn fill<S: Source>(source: &mut S, buf: &mut [u8]) -> Result<(), FrameFault>
     ensures filled { OnOk result (Consumes (S.state source.old).left (S.state source.new).left buf.new) }
-    ensures refused { IfErr result (λ e. ReadStops e.kind (S.state source.old).left (S.state source.new).left (S.state source.old).read_faults (S.state source.new).read_faults (S.state source.old).ends (S.state source.new).ends (length buf.old)) }
-    ensures of_source { IfErr result (λ e. IsOfSource e.kind) }
+    ensures refused { IfErr result (λ fault. ReadStops (kind_of_frame_fault fault) (S.state source.old).left (S.state source.new).left (S.state source.old).read_faults (S.state source.new).read_faults (S.state source.old).ends (S.state source.new).ends (length buf.old)) }
+    ensures of_source { IfErr result (λ fault. IsOfSource (kind_of_frame_fault fault)) }
     ensures on { ReadsOn (S.state source.old) (S.state source.new) }
 {
     let mut at = 0;
     'filling: while at < buf.len() {
         match source.read(&mut buf[at..]) {
-            Ok(0) => return Err(Error {
-                kind: ErrorKind::EndOfInput,
-            }),
+            Ok(0) => return Err(FrameFault::EndOfInput),
             Ok(count) => at += count,
-            Err(_) => return Err(Error {
-                kind: ErrorKind::ReadFault,
-            }),
+            Err(_) => return Err(FrameFault::ReadFault),
         }
     }
     Ok(())
@@ -36,23 +33,21 @@ pub fn fill<S: Source>(source: &mut S, buf: &mut [u8]) -> Result<(), Error>
 /// the first.
 ///
 /// `ReadFault` where the source failed, `EndOfInput` where it ended after the first byte and before the buffer was full.
-pub fn fill_or_end<S: Source>(source: &mut S, buf: &mut [u8]) -> Result<bool, Error>
+pub fn fill_or_end<S: Source>(source: &mut S, buf: &mut [u8]) -> Result<bool, FrameFault>
     requires { 0 < length buf.old }
     ensures filled { IfOk result (λ found. found ≡ true → Consumes (S.state source.old).left (S.state source.new).left buf.new) }
     ensures ended { IfOk result (λ found. found ≡ false → HasEnded (S.state source.old).left (S.state source.new).left (S.state source.old).ends (S.state source.new).ends) }
-    ensures refused { IfErr result (λ e. ReadStops e.kind (S.state source.old).left (S.state source.new).left (S.state source.old).read_faults (S.state source.new).read_faults (S.state source.old).ends (S.state source.new).ends (length buf.old)) }
-    ensures more { IfErr result (λ e. HasMore e.kind (S.state source.old).left) }
+    ensures refused { IfErr result (λ fault. ReadStops (kind_of_frame_fault fault) (S.state source.old).left (S.state source.new).left (S.state source.old).read_faults (S.state source.new).read_faults (S.state source.old).ends (S.state source.new).ends (length buf.old)) }
+    ensures more { IfErr result (λ fault. HasMore (kind_of_frame_fault fault) (S.state source.old).left) }
     ensures on { ReadsOn (S.state source.old) (S.state source.new) }
 {
     match source.read(buf) {
         Ok(0) => Ok(false),
         Ok(count) => match fill(source, &mut buf[count..]) {
             Ok(()) => Ok(true),
-            Err(error) => Err(error),
+            Err(fault) => Err(fault),
         },
-        Err(_) => Err(Error {
-            kind: ErrorKind::ReadFault,
-        }),
+        Err(_) => Err(FrameFault::ReadFault),
     }
 }
 
@@ -60,10 +55,14 @@ pub fn fill_or_end<S: Source>(source: &mut S, buf: &mut [u8]) -> Result<bool, Er
 /// grows only as they come.
 ///
 /// `ReadFault` where the source failed, `EndOfInput` where it ended before, `OutOfMemory`.
-pub fn take_into<S: Source>(source: &mut S, store: &mut Vec<u8>, wanted: usize) -> Result<(), Error>
+pub fn take_into<S: Source>(
+    source: &mut S,
+    store: &mut Vec<u8>,
+    wanted: usize,
+) -> Result<(), FrameFault>
     ensures taken { OnOk result (Consumes (S.state source.old).left (S.state source.new).left (take wanted store.new.items)) }
     ensures all { OnOk result (wanted ≤ length store.new.items) }
-    ensures refused { IfErr result (λ e. ReadStops e.kind (S.state source.old).left (S.state source.new).left (S.state source.old).read_faults (S.state source.new).read_faults (S.state source.old).ends (S.state source.new).ends wanted) }
+    ensures refused { IfErr result (λ fault. ReadStops (kind_of_frame_fault fault) (S.state source.old).left (S.state source.new).left (S.state source.old).read_faults (S.state source.new).read_faults (S.state source.old).ends (S.state source.new).ends wanted) }
     ensures some { OnErr result (0 < wanted) }
     // The store is at most as long as it was, or as was wanted, or as twice what came and one piece.
     ensures wanted { length store.new.items ≤ max (length store.old.items) wanted }
@@ -86,12 +85,12 @@ fn fill_store<S: Source>(
     store: &mut Vec<u8>,
     from: usize,
     to: usize,
-) -> Result<(), Error>
+) -> Result<(), FrameFault>
     requires { (from ≤ to) × (to ≤ length store.old.items) }
     ensures front { take from store.new.items ≡ take from store.old.items }
     ensures size { length store.new.items ≡ length store.old.items }
     ensures filled { OnOk result (Consumes (S.state source.old).left (S.state source.new).left (take (to - from) (drop from store.new.items))) }
-    ensures refused { IfErr result (λ e. ReadStops e.kind (S.state source.old).left (S.state source.new).left (S.state source.old).read_faults (S.state source.new).read_faults (S.state source.old).ends (S.state source.new).ends (to - from)) }
+    ensures refused { IfErr result (λ fault. ReadStops (kind_of_frame_fault fault) (S.state source.old).left (S.state source.new).left (S.state source.old).read_faults (S.state source.new).read_faults (S.state source.old).ends (S.state source.new).ends (to - from)) }
     ensures on { ReadsOn (S.state source.old) (S.state source.new) }
 {
     fill_part(source, store.as_mut_slice(), from, to)
@@ -102,11 +101,11 @@ fn fill_part<S: Source>(
     bytes: &mut [u8],
     from: usize,
     to: usize,
-) -> Result<(), Error>
+) -> Result<(), FrameFault>
     requires { (from ≤ to) × (to ≤ length bytes.old) }
     ensures front { take from bytes.new ≡ take from bytes.old }
     ensures filled { OnOk result (Consumes (S.state source.old).left (S.state source.new).left (take (to - from) (drop from bytes.new))) }
-    ensures refused { IfErr result (λ e. ReadStops e.kind (S.state source.old).left (S.state source.new).left (S.state source.old).read_faults (S.state source.new).read_faults (S.state source.old).ends (S.state source.new).ends (to - from)) }
+    ensures refused { IfErr result (λ fault. ReadStops (kind_of_frame_fault fault) (S.state source.old).left (S.state source.new).left (S.state source.old).read_faults (S.state source.new).read_faults (S.state source.old).ends (S.state source.new).ends (to - from)) }
     ensures on { ReadsOn (S.state source.old) (S.state source.new) }
 {
     fill(source, &mut bytes[from..to])
@@ -114,14 +113,14 @@ fn fill_part<S: Source>(
 
 // Makes the store longer where what came fills it: by as much as came so far, at least one piece, and to no more than is
 // wanted. The memory for it is reserved exactly.
-fn make_room(store: &mut Vec<u8>, came: usize, wanted: usize) -> Result<(), Error>
+fn make_room(store: &mut Vec<u8>, came: usize, wanted: usize) -> Result<(), FrameFault>
     requires { (came ≤ length store.old.items) × (came < wanted) }
     ensures kept { take came store.new.items ≡ take came store.old.items }
     ensures same { OnErr result (store.new.items ≡ store.old.items) }
     ensures longer { OnOk result (came < length store.new.items) }
     ensures wanted { length store.new.items ≤ max (length store.old.items) wanted }
     ensures came { length store.new.items ≤ max (length store.old.items) (4096 + 2 * came) }
-    ensures refused { IfErr result (λ e. e.kind ≡ ErrorKind.OutOfMemory) }
+    ensures refused { IfErr result (λ fault. fault ≡ FrameFault.OutOfMemory) }
 {
     if came < store.len() {
         return Ok(());

@@ -3,6 +3,7 @@ use Rattle.std.proofs.lemmas.List.{length-take-le}
 use Rattle.std.proofs.Math.Seq.{take-add}
 use Rattle.std.proofs.KnownBytes.{Consumes-trans}
 use Rattle.std.specs.Io.KnownBytes.{Consumes}
+use Rattle.mongo_wire.specs.Error.{kind_of_frame_fault}
 use Rattle.mongo_wire.proofs.ReadStopped.{passed_on, stops_after}
 use Rattle.mongo_wire.proofs.reading.take_into.Goals as goal
 
@@ -16,7 +17,7 @@ returns-in_err-fill_store-clause-refused g c =
     let after : at ≤ c.min-end.result = omega (arith, c.min-end.ensures, c.len.ensures, c.in_ok-make_room.ensures.longer, c.taking-test.true) in
     let within : length taken + (c.min-end.result - at) ≤ c.args.wanted = omega (arith, size, after, c.min-end.ensures) in
     rw (passed_on c.from_residual-in_err-fill_store.result error c.from_residual-in_err-fill_store.ensures.1)
-    (stops_after error.kind _ _ _ taken _ _ _ _ _ _ _ _ invariant.front invariant.on.faults_stay invariant.on.ends_stay within c.in_err-fill_store.ensures.refused)
+    (stops_after (kind_of_frame_fault error) _ _ _ taken _ _ _ _ _ _ _ _ invariant.front invariant.on.faults_stay invariant.on.ends_stay within c.in_err-fill_store.ensures.refused)
 
 pub taking-preserved : goal.taking-preserved
 taking-preserved g c =

@@ -1,6 +1,6 @@
 use Rattle.std.proofs.Common.{length}
 use Rattle.mongo_wire.proofs.Contents.{Took}
-use Rattle.mongo_wire.proofs.content.find_body.Given as goal
+use Rattle.mongo_wire.proofs.held_frame.find_sections.Given as goal
 
 -- sections were taken, and the body of one of them at most
 abbrev pub invariant-sections : goal.invariant-sections

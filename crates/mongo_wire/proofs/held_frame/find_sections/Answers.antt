@@ -1,6 +1,6 @@
 use Rattle.std.proofs.Common.{refl, sym, ◌∙◌}
-use Rattle.mongo_wire.proofs.Contents.{took_sequence, took_body, second_body, no_more_section, no_body}
-use Rattle.mongo_wire.proofs.content.find_body.Goals as goal
+use Rattle.mongo_wire.proofs.Contents.{took_none, took_sequence, took_body, second_body, no_more_section, no_body, lies_at}
+use Rattle.mongo_wire.proofs.held_frame.find_sections.Goals as goal
 
 pub sections-preserved-in-Some-Sequence-default : goal.sections-preserved-in-Some-Sequence-default
 sections-preserved-in-Some-Sequence-default c =
@@ -22,3 +22,9 @@ returns-in-None c = no_more_section c.args.bytes.now c.sections.rest.now c.secti
 
 pub returns-in-None-body : goal.returns-in-None-body
 returns-in-None-body c = no_body c.args.bytes.now c.sections.rest.now c.sections.body c.sections.invariant c.in-None-body.is c.sections-test.false
+
+pub sections-init : goal.sections-init
+sections-init c = took_none c.args.bytes.now c.split_at.result.1.now c.requires c.split_at.ensures.back
+
+pub returns-in-Some : goal.returns-in-Some
+returns-in-Some c = lies_at c.args.bytes.now c.sections.rest.now c.in-Some.body _ (rw c.in-Some.is at c.sections.invariant) c.sections-test.false refl refl refl
