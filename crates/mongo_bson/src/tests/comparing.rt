@@ -1,3 +1,5 @@
+ghost use Rattle.std.specs.Prelude.{◌≤◌};
+
 use crate::tests::kinds::{document_of, framed, value_of_kind};
 use crate::tests::plain_reader::is_document;
 use crate::{BsonFault, RawDocument, RawDocumentBuf, RawValue};
@@ -32,7 +34,9 @@ fn agree(bytes: &[u8]) -> bool {
 }
 
 // Whether the readers agree on the document cut at every so many bytes, as it is and in a new frame.
-fn agree_when_cut(alloc: Global, document: &[u8], every: usize) -> Result<bool, AllocError> {
+fn agree_when_cut(alloc: Global, document: &[u8], every: usize) -> Result<bool, AllocError>
+    requires { 1 ≤ every }
+{
     for cut in (0..document.len()).step_by(every) {
         let (front, _) = document.split_at(cut);
         let body = front.get(4..).unwrap_or(&[]);
