@@ -1,22 +1,44 @@
--- What a document's read that was cut short has taken.
-use Rattle.std.proofs.Common.{◌≡◌, ℕ, pos, ◌+◌, ◌≤◌, Option, None, Some, List, [], ◌++◌, length, is_some, refl, sym, ap, subst, append-nil, length-append, inl, inr, arith}
+-- What a document's read has taken, whole or cut short.
+use Rattle.std.proofs.Common.{◌≡◌, ℕ, pos, ◌+◌, ◌-◌, ◌*◌, ◌≤◌, max, Option, None, Some, List, [], ◌++◌, length, is_some, refl, sym, ap, subst, append-nil, length-append, inl, inr, arith}
 use Rattle.std.proofs.lemmas.Int.{ints}
 use Rattle.std.proofs.KnownBytes.{Consumes-trans}
 use Rattle.std.specs.Int.{cast_signed, w32}
 use Rattle.std.specs.Io.KnownBytes.{Consumes}
 use Rattle.mongo_bson.proofs.Sizes.{number_at_front}
 use Rattle.mongo_wire.specs.Header.{signed_at}
-use Rattle.mongo_wire.specs.Outside.{Rose, ReadStops, ConsumesAtMost, ConsumesFewer, RanOut}
+use Rattle.mongo_wire.specs.Outside.{ReadStops, ConsumesAtMost, ConsumesFewer, RanOut}
 use Rattle.mongo_wire.specs.Rows.{IsEmptied}
 use Rattle.mongo_wire.specs.Small.{DocumentRefused, IsStartedDocument, IsShortDocument, TakesSuch}
 use Rattle.mongo_wire.specs.declared.error.ErrorKind.{ErrorKind}
-use Rattle.mongo_wire.specs.declared.error.ErrorKind.TheVariants.{InvalidArgument, InvalidResponse, Command, Authentication, IncompatibleServer, Write, InsertMany, ReadFault, WriteFault, EndOfInput, Callback, PasswordNotAscii, OutOfMemory}
+use Rattle.mongo_wire.proofs.ReadStopped.{stop_cases, rose_after}
 
 signed_front : (field more : List ℕ) → length field ≡ 4 → signed_at 0 (field ++ more) ≡ signed_at 0 field
 signed_front field more four = ap (cast_signed w32) (number_at_front field more (omega arith))
 
+-- ---- the length was cut short
+
+ended_early : (old new : Option (List ℕ)) → is_some new ≡ is_some old → RanOut old new 4 → TakesSuch IsShortDocument old new × IsEmptied new
+ended_early None None tells ran = (([], tt, inl (omega arith)), tt)
+ended_early None (Some rest) tells ran = absurd (cc)
+ended_early (Some bytes) new tells ran =
+    let all : TakesSuch IsShortDocument (Some bytes) (Some []) × IsEmptied (Some []) = ((bytes, sym (append-nil bytes), inl ran.0), refl) in
+    subst (λ s. TakesSuch IsShortDocument (Some bytes) s × IsEmptied s) (sym ran.1) all
+
+pub length_cut : (kind : ErrorKind) (old new : Option (List ℕ)) (faults_old faults_new ends_old ends_new : ℕ) → is_some new ≡ is_some old
+    → ReadStops kind old new faults_old faults_new ends_old ends_new 4 → DocumentRefused kind old new faults_old faults_new ends_old ends_new
+length_cut kind old new fo fn eo en tells s =
+    stop_cases (λ k. DocumentRefused k old new fo fn eo en) kind old new fo fn eo en 4 s
+    (λ _ f. (f.0, (f.1.0, f.1.2, inl f.1.1))) (λ _ e. let (taken, empty) = ended_early old new tells e.1 in (e.0, taken, empty)) (λ _ m. (m.0, m.2, inl m.1))
+
+-- ---- the length came, and what it counts didn't
+
 started : (old mid new : Option (List ℕ)) (field : List ℕ) (n part : ℕ) → Consumes old mid field → length field ≡ 4 → signed_at 0 field ≡ pos n → 4 + part ≡ n → ConsumesAtMost mid new part → TakesSuch IsStartedDocument old new
 started old mid new field n part p four is least (more, within, q) =
+    let front = signed_front field more four in
+    (field ++ more, Consumes-trans old mid new field more p q, inr (omega (arith, four, length-append field more), omega (arith, ints, front, is, least), omega (arith, ints, front, is, least, within, four, length-append field more)))
+
+unfinished : (old mid new : Option (List ℕ)) (field : List ℕ) (n part : ℕ) → Consumes old mid field → length field ≡ 4 → signed_at 0 field ≡ pos n → 4 + part ≡ n → ConsumesFewer mid new part → TakesSuch IsShortDocument old new
+unfinished old mid new field n part p four is least (more, within, q) =
     let front = signed_front field more four in
     (field ++ more, Consumes-trans old mid new field more p q, inr (omega (arith, four, length-append field more), omega (arith, ints, front, is, least), omega (arith, ints, front, is, least, within, four, length-append field more)))
 
@@ -31,28 +53,23 @@ short old (Some bytes) new field n part tells p four is least ran =
     let both : TakesSuch IsShortDocument old (Some []) × IsEmptied (Some []) = (all, refl) in
     subst (λ s. TakesSuch IsShortDocument old s × IsEmptied s) (sym ran.1) both
 
-at_most : (old new : Option (List ℕ)) (n : ℕ) → ConsumesFewer old new n → ConsumesAtMost old new n
-at_most old new n c = (c.0, omega (arith, c.1), c.2)
-
-rose : (first old new : ℕ) → first ≤ old → Rose old new → Rose first new
-rose first old new q r = omega arith
-
--- the length came, and what it counts didn't
 pub document_cut : (kind : ErrorKind) (old mid new : Option (List ℕ)) (faults_first faults_old faults_new ends_first ends_old ends_new : ℕ) (field : List ℕ) (n part : ℕ)
     → is_some new ≡ is_some mid → Consumes old mid field → length field ≡ 4 → signed_at 0 field ≡ pos n → 4 + part ≡ n → faults_first ≤ faults_old → ends_first ≤ ends_old
     → ReadStops kind mid new faults_old faults_new ends_old ends_new part → DocumentRefused kind old new faults_first faults_new ends_first ends_new
-document_cut ReadFault old mid new ff fo fn ef eo en field n part tells p four is least fs es s = (rose ff fo fn fs s.0, started old mid new field n part p four is least (at_most mid new part s.1))
-document_cut OutOfMemory old mid new ff fo fn ef eo en field n part tells p four is least fs es s = started old mid new field n part p four is least s
-document_cut EndOfInput old mid new ff fo fn ef eo en field n part tells p four is least fs es s =
-    let cut = short old mid new field n part tells p four is least s.1 in
-    (rose ef eo en es s.0, cut.0, cut.1)
-document_cut (InvalidArgument _) old mid new ff fo fn ef eo en field n part tells p four is least fs es s = absurd s
-document_cut (InvalidResponse _) old mid new ff fo fn ef eo en field n part tells p four is least fs es s = absurd s
-document_cut (Command _) old mid new ff fo fn ef eo en field n part tells p four is least fs es s = absurd s
-document_cut (Authentication _) old mid new ff fo fn ef eo en field n part tells p four is least fs es s = absurd s
-document_cut IncompatibleServer old mid new ff fo fn ef eo en field n part tells p four is least fs es s = absurd s
-document_cut (Write _) old mid new ff fo fn ef eo en field n part tells p four is least fs es s = absurd s
-document_cut (InsertMany _) old mid new ff fo fn ef eo en field n part tells p four is least fs es s = absurd s
-document_cut WriteFault old mid new ff fo fn ef eo en field n part tells p four is least fs es s = absurd s
-document_cut (Callback _) old mid new ff fo fn ef eo en field n part tells p four is least fs es s = absurd s
-document_cut PasswordNotAscii old mid new ff fo fn ef eo en field n part tells p four is least fs es s = absurd s
+document_cut kind old mid new ff fo fn ef eo en field n part tells p four is least fs es s =
+    stop_cases (λ k. DocumentRefused k old new ff fn ef en) kind mid new fo fn eo en part s
+    (λ _ f. (rose_after ff fo fn fs f.0, unfinished old mid new field n part p four is least f.1))
+    (λ _ e. let (taken, empty) = short old mid new field n part tells p four is least e.1 in (rose_after ef eo en es e.0, taken, empty))
+    (λ _ m. started old mid new field n part p four is least m)
+
+-- ---- memory
+
+-- memory for the length, and then for what it counts
+pub memory_after : (old mid new : Option (List ℕ)) (field had left : List ℕ) (first second third : ℕ) → Consumes old mid field → old ≡ Some had → new ≡ Some left → length field ≤ length had - length left → length field ≡ 4
+    → ((h l : List ℕ) → old ≡ Some h → mid ≡ Some l → second ≤ max first (4096 + 2 * (length h - length l)))
+    → ((h l : List ℕ) → mid ≡ Some h → new ≡ Some l → third ≤ max second (4096 + 2 * (4 + (length h - length l))))
+    → third ≤ max first (4096 + 2 * (length had - length left))
+memory_after old None new field had left first second third p had_is left_is some four a b = absurd (rw had_is at p)
+memory_after old (Some there) new field had left first second third p had_is left_is some four a b =
+    let spelled : had ≡ field ++ there = rw had_is at p in
+    omega (arith, ap length spelled, length-append field there, some, four, a had there had_is refl, b there left refl left_is)

@@ -13,7 +13,7 @@ use Rattle.mongo_wire.specs.Message.{ReadRefused, IsUnreadable}
 use Rattle.std.proofs.lemmas.List.{drop_at}
 use Rattle.mongo_wire.specs.Held.{NoFrame, IsHeld}
 use Rattle.mongo_wire.specs.declared.held_frame.HeldFrame.{HeldFrame}
-use Rattle.mongo_wire.specs.Buffer.{HoldsFrame, held_bytes, IsFrameTaken, TakesAgain}
+use Rattle.mongo_wire.specs.Buffer.{HoldsFrame, held_bytes, IsFrameTaken, TakesAgain, GrowsFor, memory_of}
 use Rattle.mongo_wire.specs.declared.op_code.OpCode.{OpCode}
 use Rattle.mongo_wire.specs.declared.op_code.OpCode.TheVariants as op_code
 use Rattle.mongo_wire.specs.declared.fault.ArgumentFault.{ArgumentFault}
@@ -197,3 +197,10 @@ frame_taken most before mid new head bytes rest held buffer p q sixteen size wit
   within = omega (arith, ints, length-append head bytes, sixteen, size, within);
   taken = Consumes-trans before mid new head bytes p q;
 }
+
+-- memory for what came behind other bytes
+pub grows_later : (old mid new : Option (List ℕ)) (taken : List ℕ) (start first last : FrameBuffer) → memory_of first ≡ memory_of start → Consumes old mid taken → GrowsFor mid new first last → GrowsFor old new start last
+grows_later old None new taken start first last same p grows had left had_is left_is = absurd (rw had_is at p)
+grows_later old (Some there) new taken start first last same p grows had left had_is left_is =
+    let spelled : had ≡ taken ++ there = rw had_is at p in
+    omega (arith, same, ap length spelled, length-append taken there, grows there left refl left_is)

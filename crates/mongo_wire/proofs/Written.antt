@@ -14,6 +14,10 @@ use Rattle.mongo_wire.specs.declared.document_sequence.DocumentSequence.{Documen
 use Rattle.std.proofs.lemmas.List.Folds.{flat_map-map}
 use Rattle.mongo_wire.specs.Message.{Fits, WriteCut, WriteRefused, written_frame, frame_length, content_of, checksum_bytes, id_of, id_after}
 use Rattle.mongo_wire.specs.declared.message.Message.{Message}
+use Rattle.std.specs.Result.{IsErrOf}
+use Rattle.mongo_wire.specs.Error.{kind_of_sink_error}
+use Rattle.mongo_wire.specs.declared.outside.SinkError.{SinkError}
+use Rattle.mongo_wire.specs.declared.outside.SinkError.TheVariants.{Failed as SinkFailed, OutOfMemory as SinkMemory}
 use Rattle.mongo_wire.specs.declared.error.ErrorKind.{ErrorKind}
 use Rattle.mongo_wire.specs.declared.error.ErrorKind.TheVariants.{InvalidArgument, InvalidResponse, Command, Authentication, IncompatibleServer, Write, InsertMany, ReadFault, WriteFault, EndOfInput, Callback, PasswordNotAscii, OutOfMemory}
 
@@ -149,3 +153,9 @@ written_more f xs i x within at old mid new front one =
 -- what the exit of a `?` returns where the error stays as it is
 pub passed_on : {T E : Type 0} (r : Result T E) (x : E) → IsErrAnd r (λ y. y ≡ x) → r ≡ Err x
 passed_on r x p = let (e, is, same) = err_from_is_err_and r p in is ∙ ap Err same
+
+-- a sink's fault as a cause
+pub write_stopped : {T : Type 0} (fault : SinkError) (old new : Option (List ℕ)) (faults_old faults_new : ℕ) (bytes : List ℕ) → (IsErrOf {T = T} (Err fault) SinkFailed → Rose faults_old faults_new) → AppendsFront old new bytes
+    → WriteStops (kind_of_sink_error fault) old new faults_old faults_new bytes
+write_stopped SinkFailed old new fo fn bytes rose front = (rose refl, front)
+write_stopped SinkMemory old new fo fn bytes rose front = front

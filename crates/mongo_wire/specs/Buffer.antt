@@ -1,5 +1,5 @@
 -- What a frame buffer holds.
-use Rattle.std.specs.Prelude.{◌≡◌, ◌+◌, ◌*◌, max, ℕ, ℤ, pos, ◌≤◌, ◌⊎◌, ◌≤ℤ◌, Option, None, Some, Result, Ok, Err, List, [], length, take, drop, slice_range, Bool, true}
+use Rattle.std.specs.Prelude.{◌≡◌, ◌+◌, ◌-◌, ◌*◌, max, ℕ, ℤ, pos, ◌≤◌, ◌⊎◌, ◌≤ℤ◌, Option, None, Some, Result, Ok, Err, List, [], length, take, drop, slice_range, vec_capacity, Bool, true}
 use Rattle.std.specs.Io.KnownBytes.{Consumes}
 use Rattle.mongo_wire.specs.Frame.{Frame}
 use Rattle.mongo_wire.specs.Held.{IsHeldFrame}
@@ -28,9 +28,9 @@ held_document buffer = document_at buffer.last (held_bytes buffer)
 abbrev pub frames_taken : FrameBuffer → ℕ
 frames_taken buffer = buffer.frames
 
--- how many bytes it has ever had to hold at once
+-- how many bytes of memory it has
 abbrev pub memory_of : FrameBuffer → ℕ
-memory_of buffer = length buffer.store.items
+memory_of buffer = vec_capacity buffer.store
 
 -- it holds the frame of these parts
 pub record HoldsFrame (frame : List ℕ) (parts : Frame) (buffer : FrameBuffer) : Type 0 where
@@ -80,13 +80,13 @@ NextInto most left_old left_new old (Ok None) new = IsCleared old new
 NextInto most left_old left_new old (Ok (Some message)) new = IsReadInto most left_old left_new old message new
 NextInto most left_old left_new old (Err fault) new = IsCleared old new
 
--- the buffer is no longer than it was, or than the maximum
+-- the buffer has no more memory than it had, or than the maximum
 abbrev pub StaysWithin : ℤ → FrameBuffer → FrameBuffer → Type 0
 StaysWithin most old new = (memory_of new ≤ memory_of old) ⊎ (pos (memory_of new) ≤ℤ most)
 
--- for these bytes the buffer is made no longer than for twice as many and one piece
-abbrev pub GrowsFor : List ℕ → FrameBuffer → FrameBuffer → Type 0
-GrowsFor bytes old new = memory_of new ≤ max (memory_of old) (4096 + 2 * length bytes)
+-- for the bytes that were consumed the buffer gets memory for twice as many and one piece at most
+abbrev pub GrowsFor : Option (List ℕ) → Option (List ℕ) → FrameBuffer → FrameBuffer → Type 0
+GrowsFor left_old left_new old new = (had left : List ℕ) → left_old ≡ Some had → left_new ≡ Some left → memory_of new ≤ max (memory_of old) (4096 + 2 * (length had - length left))
 
 -- where a frame of these parts stood before this rest
 abbrev pub FindsAgain : List ℕ → Frame → List ℕ → Option (List ℕ) → FrameBuffer → Result Bool FrameFault → Type 0

@@ -1,6 +1,6 @@
 -- The outside: sources that give bytes and sinks that take them. One that tells its bytes means a list; the
 -- counts of faults and ends mean numbers that never fall.
-use Rattle.std.specs.Prelude.{◌≡◌, ℕ, ◌+◌, ◌-◌, ◌^◌, ◌<◌, ◌≤◌, min, Option, None, Some, List, [], length, take, is_some, IfSome, ⊤}
+use Rattle.std.specs.Prelude.{◌≡◌, ℕ, ◌+◌, ◌-◌, ◌^◌, ◌<◌, ◌≤◌, min, Option, None, Some, Result, Ok, Err, List, [], length, take, is_some, IfSome, ⊤}
 use Rattle.std.specs.Io.KnownBytes.{Appends, Consumes, Keeps}
 use Rattle.mongo_wire.specs.declared.error.ErrorKind.{ErrorKind}
 use Rattle.mongo_wire.specs.declared.error.ErrorKind.TheVariants.{ReadFault, WriteFault, EndOfInput, OutOfMemory}
@@ -48,6 +48,11 @@ pub record WritesOn (old new : State) : Type 0 where
   pub faults_stay : old.write_faults ≤ new.write_faults
   pub flushed_stays : old.flushed ≤ new.flushed
   pub unread : Unread old new
+
+-- A read counts a fault only where it fails, and an end only where it gives nothing for a buffer with room.
+abbrev pub ReadCounts : {E : Type 0} → Result ℕ E → ℕ → State → State → Type 0
+ReadCounts (Ok count) room old new = (new.read_faults ≡ old.read_faults) × (0 < count → new.ends ≡ old.ends) × (room ≡ 0 → new.ends ≡ old.ends)
+ReadCounts (Err failed) room old new = new.ends ≡ old.ends
 
 -- all that was written, where it is told, is flushed
 abbrev pub IsFlushed : Option (List ℕ) → ℕ → Type 0

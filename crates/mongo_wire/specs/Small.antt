@@ -1,7 +1,7 @@
 -- What the small reads of a source answer.
 use Rattle.std.specs.Prelude.{◌≡◌, ℕ, ℤ, pos, ◌<◌, ◌≤◌, ◌<ℤ◌, ◌≤ℤ◌, ◌⊎◌, Option, None, Some, List, ◌++◌, length, ⊤}
 use Rattle.std.specs.Io.KnownBytes.{Consumes}
-use Rattle.mongo_wire.specs.Outside.{Rose, ConsumesAtMost, RanOut}
+use Rattle.mongo_wire.specs.Outside.{Rose, ConsumesFewer, RanOut}
 use Rattle.mongo_wire.specs.Header.{number_at, signed_at, op_code_of, header_with}
 use Rattle.mongo_wire.specs.Rows.{IsEmptied}
 use Rattle.mongo_wire.specs.declared.header.Header.{Header}
@@ -18,7 +18,7 @@ IsOfSource kind = ⊥
 
 -- Why filling so many bytes was refused, and what it has consumed. It takes no memory.
 abbrev pub FillStops : ErrorKind → Option (List ℕ) → Option (List ℕ) → ℕ → ℕ → ℕ → ℕ → ℕ → Type 0
-FillStops ReadFault old new faults_old faults_new ends_old ends_new wanted = Rose faults_old faults_new × ConsumesAtMost old new wanted
+FillStops ReadFault old new faults_old faults_new ends_old ends_new wanted = Rose faults_old faults_new × ConsumesFewer old new wanted
 FillStops EndOfInput old new faults_old faults_new ends_old ends_new wanted = Rose ends_old ends_new × RanOut old new wanted
 FillStops kind old new faults_old faults_new ends_old ends_new wanted = ⊥
 
@@ -77,7 +77,7 @@ abbrev pub TakesSuch : (List ℕ → Type 0) → Option (List ℕ) → Option (L
 TakesSuch P old new = (taken : List ℕ) × Consumes old new taken × P taken
 
 abbrev pub DocumentRefused : ErrorKind → Option (List ℕ) → Option (List ℕ) → ℕ → ℕ → ℕ → ℕ → Type 0
-DocumentRefused ReadFault old new faults_old faults_new ends_old ends_new = Rose faults_old faults_new × TakesSuch IsStartedDocument old new
+DocumentRefused ReadFault old new faults_old faults_new ends_old ends_new = Rose faults_old faults_new × TakesSuch IsShortDocument old new
 DocumentRefused OutOfMemory old new faults_old faults_new ends_old ends_new = TakesSuch IsStartedDocument old new
 DocumentRefused EndOfInput old new faults_old faults_new ends_old ends_new = Rose ends_old ends_new × TakesSuch IsShortDocument old new × IsEmptied new
 DocumentRefused (InvalidArgument CheckedFailure) old new faults_old faults_new ends_old ends_new = TakesSuch HasLowLength old new

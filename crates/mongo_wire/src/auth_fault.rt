@@ -71,7 +71,7 @@ pub enum AuthFault {
 }
 
 impl AuthFault {
-    /// A copy of the fault. Want of memory is the only refusal.
+    /// A copy of the fault.
     pub fn try_clone(&self, alloc: Global) -> Result<AuthFault, BsonFault>
         ensures copied { IfOk result (λ fault. fault ≡ self.now) }
         ensures refused { IfErr result (λ fault. fault ≡ BsonFault.OutOfMemory) }

@@ -39,7 +39,7 @@ impl Message {
 
 // A copy of the document, and after its elements the sequences as arrays.
 //
-// `TooLong` where it would pass 2147483647 bytes; else want of memory is the only refusal.
+// `TooLong` where it would pass 2147483647 bytes
 fn with_arrays(
     alloc: Global,
     body: &RawDocumentBuf,
@@ -61,7 +61,7 @@ fn with_arrays(
     Ok(document)
 }
 
-// The document that the bytes are. Want of memory is the only refusal.
+// The document that the bytes are.
 fn copy_of(alloc: Global, bytes: &[u8]) -> Result<RawDocumentBuf, BsonFault>
     requires { IsFramed bytes.now }
     ensures copied { IfOk result (λ document. document ≡ enclosed (body_of bytes.now)) }
@@ -76,7 +76,7 @@ fn copy_of(alloc: Global, bytes: &[u8]) -> Result<RawDocumentBuf, BsonFault>
 
 // Adds a sequence as an array.
 //
-// `TooLong` where the document would pass 2147483647 bytes; else want of memory is the only refusal.
+// `TooLong` where the document would pass 2147483647 bytes
 fn add_array(
     alloc: Global,
     document: &mut RawDocumentBuf,

@@ -17,7 +17,7 @@ pub struct CommandError {
 }
 
 impl CommandError {
-    /// A copy of the error. Want of memory is the only refusal.
+    /// A copy of the error.
     pub fn try_clone(&self, alloc: Global) -> Result<CommandError, BsonFault>
         ensures copied { IfOk result (λ error. error ≡ self.now) }
         ensures refused { IfErr result (λ fault. fault ≡ BsonFault.OutOfMemory) }

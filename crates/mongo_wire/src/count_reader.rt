@@ -1,6 +1,6 @@
 ghost use Rattle.std.specs.Prelude.{◌≡◌, ◌+◌, ◌-◌, ◌^◌, ◌<◌, ◌≤◌, min, length, IfOk, OnErr, MatchResult};
 ghost use Rattle.std.specs.Io.KnownBytes.{ReadConsumes};
-ghost use Rattle.mongo_wire.specs.Outside.{Rose, ReadsOn};
+ghost use Rattle.mongo_wire.specs.Outside.{Rose, ReadCounts, ReadsOn};
 
 use crate::{Failed, Outside, Source};
 
@@ -42,6 +42,7 @@ impl<S: Source> Source for SyncCountReader<S> {
         ensures bytes { ReadConsumes (S.state self.old.reader).left (S.state self.new.reader).left result buf.new }
         ensures failed { OnErr result (Rose (S.state self.old.reader).read_faults (S.state self.new.reader).read_faults) }
         ensures ended { IfOk result (λ count. count ≡ 0 → 0 < length buf.new → Rose (S.state self.old.reader).ends (S.state self.new.reader).ends) }
+        ensures exact { ReadCounts result (length buf.new) (S.state self.old.reader) (S.state self.new.reader) }
         ensures on { ReadsOn (S.state self.old.reader) (S.state self.new.reader) }
         ensures counted { MatchResult result (λ count. self.new.bytes_read ≡ min (self.old.bytes_read + count) (2 ^ 64 - 1)) (λ _. self.new.bytes_read ≡ self.old.bytes_read) }
     {

@@ -13,7 +13,7 @@ pub struct DocumentSequence {
 }
 
 impl DocumentSequence {
-    /// A copy of the sequence. Want of memory is the only refusal.
+    /// A copy of the sequence.
     pub fn try_clone(&self, alloc: Global) -> Result<DocumentSequence, BsonFault>
         ensures copied { IfOk result (λ sequence. sequence ≡ self.now) }
         ensures refused { IfErr result (λ fault. fault ≡ BsonFault.OutOfMemory) }

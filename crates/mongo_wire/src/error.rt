@@ -16,7 +16,7 @@ pub struct Error {
 }
 
 impl Error {
-    /// A copy of the error. Want of memory is the only refusal.
+    /// A copy of the error.
     pub fn try_clone(&self, alloc: Global) -> Result<Error, BsonFault>
         ensures copied { IfOk result (λ error. error ≡ self.now) }
         ensures refused { IfErr result (λ fault. fault ≡ BsonFault.OutOfMemory) }
@@ -59,7 +59,7 @@ pub enum ErrorKind {
 }
 
 impl ErrorKind {
-    /// A copy of the cause. Want of memory is the only refusal.
+    /// A copy of the cause.
     pub fn try_clone(&self, alloc: Global) -> Result<ErrorKind, BsonFault>
         ensures copied { IfOk result (λ kind. kind ≡ self.now) }
         ensures refused { IfErr result (λ fault. fault ≡ BsonFault.OutOfMemory) }

@@ -1,6 +1,6 @@
 ghost use Rattle.std.specs.Prelude.{◌≡◌, ◌<◌, ◌≤◌, ◌↔◌, [], length, drop, true, IfOk, OnOk, OnErr, IsErr, IsErrOf};
 ghost use Rattle.std.specs.Io.KnownBytes.{Keeps, ReadConsumes, WriteAppends};
-ghost use Rattle.mongo_wire.specs.Outside.{Rose, IsFlushed, ReadsOn, WritesOn, risen};
+ghost use Rattle.mongo_wire.specs.Outside.{Rose, IsFlushed, ReadCounts, ReadsOn, WritesOn, risen};
 ghost use Rattle.mongo_wire.specs.Failing.{fails_at, counted_fault, unread, output_of, state_of};
 
 use crate::{Failed, MemoryLink, Outside, Sink, SinkError, Source};
@@ -86,6 +86,7 @@ impl Source for FailingLink {
         ensures bytes { ReadConsumes (unread self.old.link) (unread self.new.link) result buf.new }
         ensures failed { OnErr result (Rose self.old.read_faults self.new.read_faults) }
         ensures ended { IfOk result (λ count. count ≡ 0 → 0 < length buf.new → Rose self.old.link.ends self.new.link.ends) }
+        ensures exact { ReadCounts result (length buf.new) (state_of self.old.link self.old.read_faults self.old.write_faults) (state_of self.new.link self.new.read_faults self.new.write_faults) }
         ensures on { ReadsOn (state_of self.old.link self.old.read_faults self.old.write_faults) (state_of self.new.link self.new.read_faults self.new.write_faults) }
         // It fails just where its byte isn't 0, moves at most so many bytes, and each call counts.
         ensures fails { IsErr result ↔ (fails_at self.old.failing self.old.calls ≡ true) }

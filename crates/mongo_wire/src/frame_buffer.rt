@@ -14,7 +14,7 @@ pub struct FrameBuffer {
     pub(crate) store: Vec<u8>,
     pub(crate) held: usize,
     pub(crate) last: Option<HeldFrame>,
-    frames: u64,
+    pub(crate) frames: u64,
     pub ghost within: { held ≤ length store.items },
 }
 

@@ -89,8 +89,9 @@ impl FrameBuffer {
         ensures again { (frame rest : List ℕ) (parts : Frame) → (S.state source.old).left ≡ Some (frame ++ rest) → IsFrame frame parts → pos (length frame) ≤ℤ maximum_of max → TakesAgain frame parts rest (S.state source.new).left self.new result }
         ensures counted { OnOk result (frames_taken self.new ≡ risen (frames_taken self.old)) }
         ensures emptied { OnErr result (IsCleared self.old self.new) }
-        // Memory is for bytes that came, for twice as many at most and one piece of 4096, and never for more than the maximum.
-        ensures came { (bytes : List ℕ) → (S.state source.old).left ≡ Some bytes → GrowsFor bytes self.old self.new }
+        // Memory is for bytes that came, for twice as many at most and one piece of 4096, and never for more than the maximum:
+        // the buffer's capacity says so.
+        ensures came { GrowsFor (S.state source.old).left (S.state source.new).left self.old self.new }
         ensures within { StaysWithin (maximum_of max) self.old self.new }
         ensures on { ReadsOn (S.state source.old) (S.state source.new) }
     {
@@ -117,7 +118,7 @@ impl FrameBuffer {
         ensures counted { IfOk result (λ found. found ≡ true → frames_taken self.new ≡ risen (frames_taken self.old)) }
         ensures none { IfOk result (λ found. found ≡ false → IsCleared self.old self.new) }
         ensures emptied { OnErr result (IsCleared self.old self.new) }
-        ensures came { (bytes : List ℕ) → (S.state source.old).left ≡ Some bytes → GrowsFor bytes self.old self.new }
+        ensures came { GrowsFor (S.state source.old).left (S.state source.new).left self.old self.new }
         ensures within { StaysWithin (maximum_of max) self.old self.new }
         ensures on { ReadsOn (S.state source.old) (S.state source.new) }
     {
@@ -145,7 +146,7 @@ impl FrameBuffer {
         ensures refused { (before : Option (List ℕ)) (faults ends : ℕ) → Consumes before (S.state source.old).left head.now → is_some (S.state source.old).left ≡ is_some before → faults ≤ (S.state source.old).read_faults → ends ≤ (S.state source.old).ends → IfErr result (λ fault. ReadRefused (kind_of_frame_fault fault) (maximum_of max) before (S.state source.new).left faults (S.state source.new).read_faults ends (S.state source.new).ends) }
         ensures counted { OnOk result (frames_taken self.new ≡ risen (frames_taken self.old)) }
         ensures emptied { OnErr result (IsCleared self.old self.new) }
-        ensures came { (bytes : List ℕ) → (S.state source.old).left ≡ Some bytes → GrowsFor bytes self.old self.new }
+        ensures came { GrowsFor (S.state source.old).left (S.state source.new).left self.old self.new }
         ensures within { StaysWithin (maximum_of max) self.old self.new }
         ensures on { ReadsOn (S.state source.old) (S.state source.new) }
     {
@@ -153,7 +154,7 @@ impl FrameBuffer {
             Ok(start) => start,
             Err(fault) => return Err(fault),
         };
-        match take_into(source, &mut self.store, start.rest) {
+        match take_into(source, &mut self.store, 0, start.rest) {
             Ok(()) => {}
             Err(fault) => return Err(fault),
         }

@@ -103,7 +103,7 @@ pub(crate) fn number(bytes: &[u8], at: usize) -> u32
 }
 
 // The signed number that stands there.
-fn signed(bytes: &[u8], at: usize) -> i32
+pub(crate) fn signed(bytes: &[u8], at: usize) -> i32
     requires { at + 4 ≤ length bytes.now }
     ensures { result ≡ signed_at at bytes.now }
 {

@@ -7,6 +7,8 @@
 //!
 //! The outside is three traits: a [`Source`] gives bytes, a [`Sink`] takes them, a [`Link`] does both. What they mean
 //! stands on their calls: told bytes are lists, counts of faults and ends never fall.
+//!
+//! A call that takes an allocator may answer want of memory; where nothing else is said, that is its only refusal.
 #![tactic(auto)]
 
 mod auth_fault;
@@ -66,6 +68,7 @@ pub use write_error::{
     IndexedWriteError, InsertManyError, WriteConcernError, WriteError, WriteErrors, WriteFailure,
     WriteFailureCause,
 };
+pub use writing::write_all;
 
 #[cfg(test)]
 mod tests;

@@ -63,7 +63,9 @@ impl Source for MemoryLink {
         let mut rest = &self.input.as_slice()[self.at..];
         match rest.read(buf) {
             Ok(0) => {
-                self.ends = self.ends.saturating_add(1);
+                if !buf.is_empty() {
+                    self.ends = self.ends.saturating_add(1);
+                }
                 Ok(0)
             }
             Ok(count) => {

@@ -36,7 +36,7 @@ pub struct Message {
 }
 
 impl Message {
-    /// A copy of the message. Want of memory is the only refusal.
+    /// A copy of the message.
     pub fn try_clone(&self, alloc: Global) -> Result<Message, BsonFault>
         ensures copied { IfOk result (λ message. message ≡ self.now) }
         ensures refused { IfErr result (λ fault. fault ≡ BsonFault.OutOfMemory) }

@@ -1,6 +1,6 @@
 ghost use Rattle.std.specs.Prelude.{◌≡◌, ◌<◌, ◌≤◌, length, IfOk, OnOk, OnErr, IsErrOf};
 ghost use Rattle.std.specs.Io.KnownBytes.{Keeps, ReadConsumes, WriteAppends};
-ghost use Rattle.mongo_wire.specs.Outside.{Rose, State, IsFlushed, ReadsOn, WritesOn};
+ghost use Rattle.mongo_wire.specs.Outside.{Rose, State, IsFlushed, ReadCounts, ReadsOn, WritesOn};
 
 /// A source failed to give bytes. Its count of read faults rose, and it has given none.
 #[derive(Clone, Copy, Debug, PartialEq, Eq)]
@@ -27,13 +27,14 @@ pub trait Outside {
 pub trait Source: Outside {
     /// Gives some of the next bytes, at most as many as the buffer has room for, and says how many.
     ///
-    /// 0 for a buffer with room says that the source has ended; `ends` rose then. `Failed` comes only where
-    /// `read_faults` rose, and has taken nothing.
+    /// 0 for a buffer with room says that the source has ended; `ends` rose then, and else it stays. `Failed` comes only
+    /// where `read_faults` rose, which else stays, and has taken nothing.
     fn read(&mut self, buf: &mut [u8]) -> Result<usize, Failed>
         ensures most { IfOk result (λ count. count ≤ length buf.new) }
         ensures bytes { ReadConsumes (Self.state self.old).left (Self.state self.new).left result buf.new }
         ensures failed { OnErr result (Rose (Self.state self.old).read_faults (Self.state self.new).read_faults) }
         ensures ended { IfOk result (λ count. count ≡ 0 → 0 < length buf.new → Rose (Self.state self.old).ends (Self.state self.new).ends) }
+        ensures exact { ReadCounts result (length buf.new) (Self.state self.old) (Self.state self.new) }
         ensures on { ReadsOn (Self.state self.old) (Self.state self.new) };
 
     /// How often a read failed so far. It never falls, and stays at its last value.

@@ -9,16 +9,16 @@ ghost use Rattle.mongo_wire.specs.declared.document_sequence.DocumentSequence.{D
 
 use crate::sections::{SectionRef, SequenceRef, take_document, take_section};
 use crate::{DocumentSequence, Error, Message, MessageRef, Sequences};
-use mongo_bson::{BsonFault, Bytes, Documents, RawDocument, RawDocumentBuf, Text};
+use mongo_bson::{BsonFault, Documents, Text};
 use std::alloc::Global;
 
-// A message of its own from one that borrows its frame. Want of memory is the only refusal.
+// A message of its own from one that borrows its frame.
 pub(crate) fn owned_message(alloc: Global, message: MessageRef<'_>) -> Result<Message, Error>
     ensures copied { (frame : List ℕ) (parts : Frame) → IsRefOf frame parts message.entry → IfOk result (IsOwned parts) }
     ensures refused { IfErr result (λ e. e.kind ≡ OutOfMemory) }
 {
     Ok(Message {
-        document_payload: owned_document(alloc, message.document_payload)?,
+        document_payload: message.document_payload.to_raw_document_buf(alloc)?,
         document_sequences: owned_sequences(alloc, message.sections)?,
         response_to: message.header.response_to,
         flags: message.flags,
@@ -67,22 +67,11 @@ fn owned_documents(alloc: Global, bytes: &[u8]) -> Result<Documents, BsonFault>
     'documents: while !rest.is_empty() {
         match take_document(rest) {
             Some((document, after)) => {
-                documents.push(owned_document(alloc, document)?)?;
+                documents.push(document.to_raw_document_buf(alloc)?)?;
                 rest = after;
             }
             None => return Ok(documents),
         }
     }
     Ok(documents)
-}
-
-fn owned_document(alloc: Global, document: RawDocument<'_>) -> Result<RawDocumentBuf, BsonFault>
-    ensures copied { IfOk result (λ owned. owned ≡ document.entry.bytes.now) }
-    ensures refused { IfErr result (λ fault. fault ≡ BsonFault.OutOfMemory) }
-{
-    let bytes = Bytes::from_slice(alloc, document.as_bytes())?;
-    match RawDocumentBuf::from_bytes(bytes) {
-        Ok(owned) => Ok(owned),
-        Err(_) => unreachable!(),
-    }
 }

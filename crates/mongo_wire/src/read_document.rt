@@ -1,15 +1,14 @@
-ghost use Rattle.std.specs.Prelude.{◌≡◌, ◌-◌, ◌≤◌, ◌<ℤ◌, pos, length, MatchOption, IfOk, IfErr};
+ghost use Rattle.std.specs.Prelude.{◌≡◌, ◌+◌, ◌-◌, ◌*◌, ◌≤◌, ◌<ℤ◌, ℕ, List, [], Some, max, pos, length, vec_capacity, MatchOption, IfOk, IfErr, OnOk};
+ghost use Rattle.mongo_wire.specs.Error.{kind_of_frame_fault};
 ghost use Rattle.mongo_wire.specs.Header.{signed_at};
-ghost use Rattle.mongo_wire.specs.Outside.{ReadsOn, ReadStops};
-ghost use Rattle.mongo_wire.specs.Small.{Continues, TakesDocument, DocumentRefused};
+ghost use Rattle.mongo_wire.specs.Outside.{ReadsOn};
+ghost use Rattle.mongo_wire.specs.Small.{TakesDocument, DocumentRefused};
 
-use crate::reading::fill;
-use crate::{ArgumentFault, Error, ErrorKind, Source};
+use crate::header::signed;
+use crate::reading::take_into;
+use crate::{ArgumentFault, Error, FrameFault, Source};
 use mongo_bson::Bytes;
 use std::alloc::Global;
-
-// How many bytes are read ahead of the memory for them at most.
-const PIECE: usize = 4096;
 
 /// Reads the bytes of the next document of the source: an `int32` with the low byte first, and as many bytes as it says,
 /// its own four included. Memory grows as they come. What is in the document isn't judged.
@@ -21,57 +20,44 @@ pub fn read_document_bytes<S: Source>(alloc: Global, source: &mut S) -> Result<B
     ensures refused { IfErr result (λ e. DocumentRefused e.kind (S.state source.old).left (S.state source.new).left (S.state source.old).read_faults (S.state source.new).read_faults (S.state source.old).ends (S.state source.new).ends) }
     ensures on { ReadsOn (S.state source.old) (S.state source.new) }
 {
-    let mut field = [0u8; 4];
-    fill(source, &mut field)?;
-    let Some(length) = document_length(&field) else {
-        return Err(Error {
-            kind: ErrorKind::InvalidArgument(ArgumentFault::CheckedFailure),
-        });
+    let mut store = Vec::new(alloc);
+    match take_document(source, &mut store) {
+        Ok(()) => Ok(Bytes::from_vec(store)),
+        Err(fault) => Err(fault.into()),
+    }
+}
+
+// Takes the bytes of the next document into an empty store, whose memory is for twice what came and one piece of 4096 at
+// most.
+fn take_document<S: Source>(source: &mut S, store: &mut Vec<u8>) -> Result<(), FrameFault>
+    requires { store.old.items ≡ [] }
+    ensures read { OnOk result (TakesDocument (S.state source.old).left (S.state source.new).left store.new.items) }
+    ensures refused { IfErr result (λ fault. DocumentRefused (kind_of_frame_fault fault) (S.state source.old).left (S.state source.new).left (S.state source.old).read_faults (S.state source.new).read_faults (S.state source.old).ends (S.state source.new).ends) }
+    ensures came { (had left : List ℕ) → (S.state source.old).left ≡ Some had → (S.state source.new).left ≡ Some left → vec_capacity store.new ≤ max (vec_capacity store.old) (4096 + 2 * (length had - length left)) }
+    ensures on { ReadsOn (S.state source.old) (S.state source.new) }
+{
+    match take_into(source, store, 0, 4) {
+        Ok(()) => {}
+        Err(fault) => return Err(fault),
+    }
+    let Some(length) = document_length(store.as_slice()) else {
+        return Err(FrameFault::InvalidArgument(ArgumentFault::CheckedFailure));
     };
-    let bytes = take_after(alloc, source, &field, length)?;
-    Ok(Bytes::from_vec(bytes))
+    match take_into(source, store, 4, length) {
+        Ok(()) => Ok(()),
+        Err(fault) => Err(fault),
+    }
 }
 
 // The length that a document's first four bytes give, where it isn't below 4.
-fn document_length(field: &[u8; 4]) -> Option<usize>
-    ensures { MatchOption result (signed_at 0 field.now <ℤ pos 4) (λ length. (signed_at 0 field.now ≡ pos length) × (4 ≤ length)) }
+fn document_length(bytes: &[u8]) -> Option<usize>
+    requires { 4 ≤ length bytes.now }
+    ensures { MatchOption result (signed_at 0 bytes.now <ℤ pos 4) (λ length. (signed_at 0 bytes.now ≡ pos length) × (4 ≤ length)) }
 {
-    let length = i32::from_le_bytes(*field);
+    let length = signed(bytes, 0);
     if length < 4 {
         None
     } else {
         Some(length as usize)
     }
-}
-
-// The bytes that were read before, and the next ones of the source, as many as are wanted together.
-//
-// `ReadFault` where the source failed, `EndOfInput` where it ended before.
-fn take_after<S: Source>(
-    alloc: Global,
-    source: &mut S,
-    front: &[u8],
-    wanted: usize,
-) -> Result<Vec<u8>, Error>
-    requires { length front.now ≤ wanted }
-    ensures taken { IfOk result (λ bytes. Continues front.now (S.state source.old).left (S.state source.new).left bytes.items) }
-    ensures all { IfOk result (λ bytes. length bytes.items ≡ wanted) }
-    ensures refused { IfErr result (λ e. ReadStops e.kind (S.state source.old).left (S.state source.new).left (S.state source.old).read_faults (S.state source.new).read_faults (S.state source.old).ends (S.state source.new).ends (wanted - length front.now)) }
-    ensures on { ReadsOn (S.state source.old) (S.state source.new) }
-{
-    let mut taken = Vec::from_slice(alloc, front)?;
-    'taking: while taken.len() < wanted {
-        let mut piece = [0u8; PIECE];
-        let room = (wanted - taken.len()).min(PIECE);
-        match source.read(&mut piece[..room]) {
-            Ok(0) => return Err(Error {
-                kind: ErrorKind::EndOfInput,
-            }),
-            Ok(count) => taken.extend_from_slice(&piece[..count])?,
-            Err(_) => return Err(Error {
-                kind: ErrorKind::ReadFault,
-            }),
-        }
-    }
-    Ok(taken)
 }

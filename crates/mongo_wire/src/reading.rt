@@ -1,4 +1,4 @@
-ghost use Rattle.std.specs.Prelude.{◌≡◌, ◌<◌, ◌≤◌, ◌+◌, ◌-◌, ◌*◌, ℕ, List, Some, true, false, max, take, drop, length, IfOk, IfErr, OnOk, OnErr};
+ghost use Rattle.std.specs.Prelude.{◌≡◌, ◌<◌, ◌≤◌, ◌+◌, ◌-◌, ◌*◌, ℕ, List, Some, true, false, max, take, drop, length, vec_capacity, IfOk, IfErr, OnOk, OnErr};
 ghost use Rattle.std.specs.Io.KnownBytes.{Consumes};
 ghost use Rattle.mongo_wire.specs.Error.{kind_of_frame_fault};
 ghost use Rattle.mongo_wire.specs.Outside.{ReadsOn, ReadStops, HasEnded, HasMore};
@@ -51,30 +51,39 @@ pub fn fill_or_end<S: Source>(source: &mut S, buf: &mut [u8]) -> Result<bool, Fr
     }
 }
 
-/// Takes the next bytes of the source into the front of the store, as many as are wanted, over what is there. The store
-/// grows only as they come.
+/// Takes the next bytes of the source into the store, behind those that came before and over what is there, until as many
+/// as are wanted are there in all. The store's memory grows only as they come.
 ///
 /// `ReadFault` where the source failed, `EndOfInput` where it ended before, `OutOfMemory`.
 pub fn take_into<S: Source>(
     source: &mut S,
     store: &mut Vec<u8>,
+    before: usize,
     wanted: usize,
 ) -> Result<(), FrameFault>
-    ensures taken { OnOk result (Consumes (S.state source.old).left (S.state source.new).left (take wanted store.new.items)) }
+    requires { (before ≤ length store.old.items) × (before ≤ wanted) }
+    ensures front { take before store.new.items ≡ take before store.old.items }
+    ensures taken { OnOk result (Consumes (S.state source.old).left (S.state source.new).left (take (wanted - before) (drop before store.new.items))) }
     ensures all { OnOk result (wanted ≤ length store.new.items) }
-    ensures refused { IfErr result (λ fault. ReadStops (kind_of_frame_fault fault) (S.state source.old).left (S.state source.new).left (S.state source.old).read_faults (S.state source.new).read_faults (S.state source.old).ends (S.state source.new).ends wanted) }
-    ensures some { OnErr result (0 < wanted) }
-    // The store is at most as long as it was, or as was wanted, or as twice what came and one piece.
-    ensures wanted { length store.new.items ≤ max (length store.old.items) wanted }
-    ensures came { (bytes : List ℕ) → (S.state source.old).left ≡ Some bytes → length store.new.items ≤ max (length store.old.items) (4096 + 2 * length bytes) }
+    ensures refused { IfErr result (λ fault. ReadStops (kind_of_frame_fault fault) (S.state source.old).left (S.state source.new).left (S.state source.old).read_faults (S.state source.new).read_faults (S.state source.old).ends (S.state source.new).ends (wanted - before)) }
+    ensures some { OnErr result (before < wanted) }
+    ensures size { length store.new.items ≤ max (length store.old.items) wanted }
+    // Its memory is what it was, or for what was wanted at most, and for twice what came in all and one piece at most.
+    ensures wanted { vec_capacity store.new ≤ max (vec_capacity store.old) wanted }
+    ensures came { (had left : List ℕ) → (S.state source.old).left ≡ Some had → (S.state source.new).left ≡ Some left → vec_capacity store.new ≤ max (vec_capacity store.old) (4096 + 2 * (before + (length had - length left))) }
     ensures on { ReadsOn (S.state source.old) (S.state source.new) }
 {
-    let mut at = 0;
+    let mut at = before;
     'taking: while at < wanted {
-        make_room(store, at, wanted)?;
+        match make_room(store, at, wanted) {
+            Ok(()) => {}
+            Err(fault) => return Err(fault),
+        }
         let end = store.len().min(wanted);
-        fill_store(source, store, at, end)?;
-        at = end;
+        match fill_store(source, store, at, end) {
+            Ok(()) => at = end,
+            Err(fault) => return Err(fault),
+        }
     }
     Ok(())
 }
@@ -89,6 +98,7 @@ fn fill_store<S: Source>(
     requires { (from ≤ to) × (to ≤ length store.old.items) }
     ensures front { take from store.new.items ≡ take from store.old.items }
     ensures size { length store.new.items ≡ length store.old.items }
+    ensures memory { vec_capacity store.new ≡ vec_capacity store.old }
     ensures filled { OnOk result (Consumes (S.state source.old).left (S.state source.new).left (take (to - from) (drop from store.new.items))) }
     ensures refused { IfErr result (λ fault. ReadStops (kind_of_frame_fault fault) (S.state source.old).left (S.state source.new).left (S.state source.old).read_faults (S.state source.new).read_faults (S.state source.old).ends (S.state source.new).ends (to - from)) }
     ensures on { ReadsOn (S.state source.old) (S.state source.new) }
@@ -96,6 +106,7 @@ fn fill_store<S: Source>(
     fill_part(source, store.as_mut_slice(), from, to)
 }
 
+// Fills a part of the bytes, from one place to another, with the next bytes of the source.
 fn fill_part<S: Source>(
     source: &mut S,
     bytes: &mut [u8],
@@ -116,17 +127,33 @@ fn fill_part<S: Source>(
 fn make_room(store: &mut Vec<u8>, came: usize, wanted: usize) -> Result<(), FrameFault>
     requires { (came ≤ length store.old.items) × (came < wanted) }
     ensures kept { take came store.new.items ≡ take came store.old.items }
-    ensures same { OnErr result (store.new.items ≡ store.old.items) }
     ensures longer { OnOk result (came < length store.new.items) }
-    ensures wanted { length store.new.items ≤ max (length store.old.items) wanted }
-    ensures came { length store.new.items ≤ max (length store.old.items) (4096 + 2 * came) }
+    ensures size { length store.new.items ≤ max (length store.old.items) wanted }
+    ensures wanted { vec_capacity store.new ≤ max (vec_capacity store.old) wanted }
+    ensures came { vec_capacity store.new ≤ max (vec_capacity store.old) (4096 + 2 * came) }
     ensures refused { IfErr result (λ fault. fault ≡ FrameFault.OutOfMemory) }
 {
     if came < store.len() {
         return Ok(());
     }
     let more = came.max(PIECE).min(wanted - came);
-    store.reserve_exact(more)?;
-    store.resize(came + more, 0)?;
-    Ok(())
+    match store.reserve_exact(more) {
+        Ok(()) => {
+            lengthen(store, came + more);
+            Ok(())
+        }
+        Err(_) => Err(FrameFault::OutOfMemory),
+    }
+}
+
+// Makes the store this long, within the memory that it has.
+fn lengthen(store: &mut Vec<u8>, wanted: usize)
+    requires { wanted ≤ vec_capacity store.old }
+    ensures kept { take (length store.old.items) store.new.items ≡ store.old.items }
+    ensures size { length store.new.items ≡ max (length store.old.items) wanted }
+    ensures memory { vec_capacity store.new ≡ vec_capacity store.old }
+{
+    'lengthening: while store.len() < wanted {
+        store.push_reserved(0);
+    }
 }

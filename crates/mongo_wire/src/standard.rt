@@ -34,7 +34,9 @@ impl<R: Read> Source for StdSource<R> {
     fn read(&mut self, buf: &mut [u8]) -> Result<usize, Failed> {
         match self.reader.read(buf) {
             Ok(0) => {
-                self.ends = self.ends.saturating_add(1);
+                if !buf.is_empty() {
+                    self.ends = self.ends.saturating_add(1);
+                }
                 Ok(0)
             }
             Ok(count) => Ok(count),

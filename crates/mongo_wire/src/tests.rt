@@ -1,6 +1,8 @@
+mod copies;
 mod links;
 mod reading;
 mod small;
+mod standard;
 mod writing;
 
 use crate::{DocumentSequence, Error, ErrorKind, Message, MessageFlags, Sequences};
@@ -66,6 +68,10 @@ pub(crate) fn failing_at(alloc: Global, call: usize) -> Result<Bytes, Error> {
 
 pub(crate) fn is_read_fault(kind: &ErrorKind) -> bool {
     matches!(kind, ErrorKind::ReadFault)
+}
+
+pub(crate) fn is_end(kind: &ErrorKind) -> bool {
+    matches!(kind, ErrorKind::EndOfInput)
 }
 
 pub(crate) fn is_write_fault(kind: &ErrorKind) -> bool {

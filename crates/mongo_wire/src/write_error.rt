@@ -17,7 +17,7 @@ pub struct WriteError {
 }
 
 impl WriteError {
-    /// A copy of the write error. Want of memory is the only refusal.
+    /// A copy of the write error.
     pub fn try_clone(&self, alloc: Global) -> Result<WriteError, BsonFault>
         ensures copied { IfOk result (λ error. error ≡ self.now) }
         ensures refused { IfErr result (λ fault. fault ≡ BsonFault.OutOfMemory) }
@@ -41,7 +41,7 @@ pub struct IndexedWriteError {
 }
 
 impl IndexedWriteError {
-    /// A copy of the write error and its place. Want of memory is the only refusal.
+    /// A copy of the write error and its place.
     pub fn try_clone(&self, alloc: Global) -> Result<IndexedWriteError, BsonFault>
         ensures copied { IfOk result (λ error. error ≡ self.now) }
         ensures refused { IfErr result (λ fault. fault ≡ BsonFault.OutOfMemory) }
@@ -78,7 +78,7 @@ pub struct WriteConcernError {
 }
 
 impl WriteConcernError {
-    /// A copy of the write concern error. Want of memory is the only refusal.
+    /// A copy of the write concern error.
     pub fn try_clone(&self, alloc: Global) -> Result<WriteConcernError, BsonFault>
         ensures copied { IfOk result (λ error. error ≡ self.now) }
         ensures refused { IfErr result (λ fault. fault ≡ BsonFault.OutOfMemory) }
@@ -103,7 +103,7 @@ pub enum WriteFailureCause {
 }
 
 impl WriteFailureCause {
-    /// A copy of the cause. Want of memory is the only refusal.
+    /// A copy of the cause.
     pub fn try_clone(&self, alloc: Global) -> Result<WriteFailureCause, BsonFault>
         ensures copied { IfOk result (λ cause. cause ≡ self.now) }
         ensures refused { IfErr result (λ fault. fault ≡ BsonFault.OutOfMemory) }
@@ -129,7 +129,7 @@ pub struct WriteFailure {
 }
 
 impl WriteFailure {
-    /// A copy of the write failure. Want of memory is the only refusal.
+    /// A copy of the write failure.
     pub fn try_clone(&self, alloc: Global) -> Result<WriteFailure, BsonFault>
         ensures copied { IfOk result (λ failure. failure ≡ self.now) }
         ensures refused { IfErr result (λ fault. fault ≡ BsonFault.OutOfMemory) }
@@ -153,7 +153,7 @@ pub struct InsertManyError {
 }
 
 impl InsertManyError {
-    /// A copy of the insert error. Want of memory is the only refusal.
+    /// A copy of the insert error.
     pub fn try_clone(&self, alloc: Global) -> Result<InsertManyError, BsonFault>
         ensures copied { IfOk result (λ error. error ≡ self.now) }
         ensures refused { IfErr result (λ fault. fault ≡ BsonFault.OutOfMemory) }

@@ -1,10 +1,29 @@
-ghost use Rattle.std.specs.Prelude.{◌≡◌, ◌<◌, ◌≤◌, ◌+◌, ◌++◌, length, [], IfOk, IfErr, OnOk};
+ghost use Rattle.std.specs.Prelude.{◌≡◌, ◌<◌, ◌≤◌, ◌+◌, ◌++◌, length, [], IfOk, IfErr, IsErrOf, OnErr, OnOk};
 ghost use Rattle.std.specs.Io.KnownBytes.{Appends, Keeps};
-ghost use Rattle.mongo_wire.specs.Outside.{WritesOn, WriteStops, IsFlushed};
+ghost use Rattle.mongo_wire.specs.Outside.{AppendsFront, Rose, WritesOn, WriteStops, IsFlushed};
 
-use crate::{Error, Sink};
+use crate::{Error, Sink, SinkError};
 
-/// Writes all bytes to the sink.
+/// Writes all bytes to the sink. It doesn't flush.
+///
+/// `Failed` where the sink failed, `OutOfMemory` where it wanted memory; a front of the bytes is written then.
+pub fn write_all<K: Sink>(sink: &mut K, bytes: &[u8]) -> Result<(), SinkError>
+    ensures written { OnOk result (Appends (K.state sink.old).written (K.state sink.new).written bytes.now) }
+    ensures failed { IsErrOf result SinkError.Failed → Rose (K.state sink.old).write_faults (K.state sink.new).write_faults }
+    ensures front { OnErr result (AppendsFront (K.state sink.old).written (K.state sink.new).written bytes.now) }
+    ensures on { WritesOn (K.state sink.old) (K.state sink.new) }
+{
+    let mut at = 0;
+    'writing: while at < bytes.len() {
+        match sink.write(&bytes[at..]) {
+            Ok(count) => at += count,
+            Err(fault) => return Err(fault),
+        }
+    }
+    Ok(())
+}
+
+/// Writes all bytes to the sink, as [`write_all`], and answers the error of this crate.
 ///
 /// `WriteFault` where the sink failed, `OutOfMemory` where it wanted memory; a front of the bytes is written then.
 pub fn write_out<K: Sink>(sink: &mut K, bytes: &[u8]) -> Result<(), Error>
@@ -12,14 +31,10 @@ pub fn write_out<K: Sink>(sink: &mut K, bytes: &[u8]) -> Result<(), Error>
     ensures refused { IfErr result (λ e. WriteStops e.kind (K.state sink.old).written (K.state sink.new).written (K.state sink.old).write_faults (K.state sink.new).write_faults bytes.now) }
     ensures on { WritesOn (K.state sink.old) (K.state sink.new) }
 {
-    let mut at = 0;
-    'writing: while at < bytes.len() {
-        match sink.write(&bytes[at..]) {
-            Ok(count) => at += count,
-            Err(fault) => return Err(fault.into()),
-        }
+    match write_all(sink, bytes) {
+        Ok(()) => Ok(()),
+        Err(fault) => Err(fault.into()),
     }
-    Ok(())
 }
 
 /// Flushes the sink.

@@ -150,6 +150,34 @@ fn a_frame_is_read_byte_by_byte_unless_a_call_fails(rt: HostRuntime) -> Result<(
 }
 
 #[test]
+fn a_refused_read_shows_nothing(rt: HostRuntime) -> Result<(), Fail> {
+    let alloc = rt.alloc();
+    // a length below 16, one past the maximum, other op codes, a frame cut short, and one without a body
+    for (length, op_code) in [
+        (15, 2013),
+        (50_331_649, 2013),
+        (26, 2012),
+        (26, 1),
+        (26, 7),
+        (26, 2013),
+        (20, 2013),
+    ] {
+        let mut input = Bytes::from_slice(alloc, &EMPTY_MESSAGE)?;
+        input.extend_from_slice(&header(length, op_code))?;
+        input.extend_from_slice(&[0; 4])?;
+        let mut link = MemoryLink::new(alloc, input);
+        let mut buffer = FrameBuffer::new(alloc);
+        assert!(rt; buffer.take_frame(&mut link, None).is_ok());
+        assert_eq!(rt; buffer.as_bytes(), &EMPTY_MESSAGE[16..]);
+        assert!(rt; buffer.read(&mut link, None).is_err());
+        assert_eq!(rt; buffer.as_bytes().len(), 0);
+        assert!(rt; buffer.message().is_none());
+        assert_eq!(rt; buffer.frames(), 1);
+    }
+    Ok(())
+}
+
+#[test]
 fn memory_is_taken_for_bytes_that_came(rt: HostRuntime) -> Result<(), Fail> {
     let alloc = rt.alloc();
     let mut input = Bytes::from_slice(alloc, &header(50_331_648, 2013))?;
@@ -162,7 +190,7 @@ fn memory_is_taken_for_bytes_that_came(rt: HostRuntime) -> Result<(), Fail> {
     Ok(())
 }
 
-// A frame of the first maximum: the empty body, and one sequence of the identifier `a` with 10066323 empty documents.
+// A frame of the first maximum: the empty body, and one sequence of the identifier `a` with one document of zeros.
 fn greatest_frame(alloc: Global) -> Result<Bytes, Error> {
     let mut bytes = Vec::new(alloc);
     bytes.extend_from_slice(&header(50_331_648, 2013))?;
@@ -170,9 +198,8 @@ fn greatest_frame(alloc: Global) -> Result<Bytes, Error> {
     bytes.push(1)?;
     bytes.extend_from_slice(&50_331_621u32.to_le_bytes())?;
     bytes.extend_from_slice(&[0x61, 0])?;
-    for _ in 0..10_066_323 {
-        bytes.extend_from_slice(&[5, 0, 0, 0, 0])?;
-    }
+    bytes.extend_from_slice(&50_331_615u32.to_le_bytes())?;
+    bytes.resize(50_331_648, 0)?;
     Ok(Bytes::from_vec(bytes))
 }
 

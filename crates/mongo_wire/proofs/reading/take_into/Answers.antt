@@ -1,42 +1,95 @@
 use Rattle.std.proofs.Common.{rules, arith, ◌≡◌, ◌≤◌, ◌+◌, ◌-◌, ◌++◌, length, take, drop, subst, sym, ap, ◌∙◌}
-use Rattle.std.proofs.lemmas.List.{length-take-le}
-use Rattle.std.proofs.Math.Seq.{take-add}
+use Rattle.std.proofs.lemmas.List.{length-take-le, length-drop}
 use Rattle.std.proofs.KnownBytes.{Consumes-trans}
 use Rattle.std.specs.Io.KnownBytes.{Consumes}
 use Rattle.mongo_wire.specs.Error.{kind_of_frame_fault}
-use Rattle.mongo_wire.proofs.ReadStopped.{passed_on, stops_after}
+use Rattle.mongo_wire.proofs.ReadStopped.{stops_after, same_front, next_part, came_before, came_then}
 use Rattle.mongo_wire.proofs.reading.take_into.Goals as goal
 
-pub returns-in_err-fill_store-clause-refused : goal.returns-in_err-fill_store-clause-refused
-returns-in_err-fill_store-clause-refused g c =
+pub returns-in-Err-fill_store-clause-refused : goal.returns-in-Err-fill_store-clause-refused
+returns-in-Err-fill_store-clause-refused g c =
     let at = c.taking.at in
-    let taken = take at c.taking.store.items in
+    let before = c.args.before in
+    let store = c.taking.store.items in
+    let taken = take (at - before) (drop before store) in
     let invariant = c.taking.invariant in
-    let error = c.in_err-fill_store.field-0.0 in
-    let size : length taken ≡ at = length-take-le at c.taking.store.items invariant.within in
-    let after : at ≤ c.min-end.result = omega (arith, c.min-end.ensures, c.len.ensures, c.in_ok-make_room.ensures.longer, c.taking-test.true) in
-    let within : length taken + (c.min-end.result - at) ≤ c.args.wanted = omega (arith, size, after, c.min-end.ensures) in
-    rw (passed_on c.from_residual-in_err-fill_store.result error c.from_residual-in_err-fill_store.ensures.1)
-    (stops_after (kind_of_frame_fault error) _ _ _ taken _ _ _ _ _ _ _ _ invariant.front invariant.on.faults_stay invariant.on.ends_stay within c.in_err-fill_store.ensures.refused)
+    let size : length taken ≡ at - before = length-take-le (at - before) (drop before store) (omega (arith, length-drop before store, invariant.within, invariant.behind)) in
+    let after : at ≤ c.min-end.result = omega (arith, c.min-end.ensures, c.len.ensures, c.in-Ok.ensures.longer, c.taking-test.true) in
+    let within : length taken + (c.min-end.result - at) ≤ c.args.wanted - before = omega (arith, size, after, c.min-end.ensures, invariant.behind) in
+    stops_after (kind_of_frame_fault c.in-Err-fill_store.fault) _ _ _ taken _ _ _ _ _ _ _ _ invariant.taken invariant.on.faults_stay invariant.on.ends_stay within c.in-Err-fill_store.ensures.refused
+
+pub returns-in-Err-fill_store-clause-front : goal.returns-in-Err-fill_store-clause-front
+returns-in-Err-fill_store-clause-front g c =
+    let invariant = c.taking.invariant in
+    let front : take c.taking.at c.taking.store.items ≡ take c.taking.at c.fill_store.new.store.items = sym c.in-Ok.ensures.kept ∙ sym c.in-Err-fill_store.ensures.front in
+    sym (same_front c.args.before c.taking.at c.taking.store.items c.fill_store.new.store.items invariant.behind front) ∙ invariant.front
+
+pub returns-in-Err-fill_store-clause-came : goal.returns-in-Err-fill_store-clause-came
+returns-in-Err-fill_store-clause-came g c = λ had left had_is left_is.
+    let at = c.taking.at in
+    let before = c.args.before in
+    let store = c.taking.store.items in
+    let invariant = c.taking.invariant in
+    let taken = take (at - before) (drop before store) in
+    let size : length taken ≡ at - before = length-take-le (at - before) (drop before store) (omega (arith, length-drop before store, invariant.within, invariant.behind)) in
+    let came = came_then (kind_of_frame_fault c.in-Err-fill_store.fault) _ _ _ taken _ _ _ _ _ had left invariant.taken had_is left_is c.in-Err-fill_store.ensures.refused in
+    let room = c.in-Ok.ensures in
+    omega (arith, c.in-Err-fill_store.ensures.memory, room.came, invariant.came, invariant.behind, size, came)
+
+pub returns-in-Err-clause-refused : goal.returns-in-Err-clause-refused
+returns-in-Err-clause-refused g c =
+    let at = c.taking.at in
+    let before = c.args.before in
+    let store = c.taking.store.items in
+    let invariant = c.taking.invariant in
+    let taken = take (at - before) (drop before store) in
+    let size : length taken ≡ at - before = length-take-le (at - before) (drop before store) (omega (arith, length-drop before store, invariant.within, invariant.behind)) in
+    rw c.in-Err.ensures.refused (taken, omega (arith, size, invariant.short, invariant.behind), invariant.taken)
+
+pub returns-in-Err-clause-came : goal.returns-in-Err-clause-came
+returns-in-Err-clause-came g c = λ had left had_is left_is.
+    let at = c.taking.at in
+    let before = c.args.before in
+    let store = c.taking.store.items in
+    let invariant = c.taking.invariant in
+    let taken = take (at - before) (drop before store) in
+    let size : length taken ≡ at - before = length-take-le (at - before) (drop before store) (omega (arith, length-drop before store, invariant.within, invariant.behind)) in
+    let came = came_before _ _ taken had left invariant.taken had_is left_is in
+    omega (arith, c.in-Err.ensures.came, invariant.came, invariant.behind, size, came)
+
+pub returns-clause-came : goal.returns-clause-came
+returns-clause-came g c = λ had left had_is left_is.
+    let at = c.taking.at in
+    let before = c.args.before in
+    let store = c.taking.store.items in
+    let invariant = c.taking.invariant in
+    let taken = take (at - before) (drop before store) in
+    let size : length taken ≡ at - before = length-take-le (at - before) (drop before store) (omega (arith, length-drop before store, invariant.within, invariant.behind)) in
+    let came = came_before _ _ taken had left invariant.taken had_is left_is in
+    omega (arith, invariant.came, invariant.behind, size, came)
 
 pub taking-preserved : goal.taking-preserved
 taking-preserved g c =
     let at = c.taking.at in
+    let before = c.args.before in
     let end = c.min-end.result in
     let invariant = c.taking.invariant in
-    let new = c.fill_store.new.store.items in
+    let old = c.taking.store.items in
     let made = c.make_room.new.store.items in
-    let filled = c.in_ok-fill_store.ensures in
-    let room = c.in_ok-make_room.ensures in
+    let new = c.fill_store.new.store.items in
+    let filled = c.in-Ok-fill_store.ensures in
+    let room = c.in-Ok.ensures in
     let after : at ≤ end = omega (arith, c.min-end.ensures, c.len.ensures, room.longer, c.taking-test.true) in
-    let count : at + (end - at) ≡ end = omega (arith, after) in
-    let front : take at c.taking.store.items ≡ take at new = sym room.kept ∙ sym filled.front in
-    let whole : take at c.taking.store.items ++ take (end - at) (drop at new) ≡ take end new = ap (λ l. l ++ take (end - at) (drop at new)) front ∙ sym (take-add at (end - at) new) ∙ ap (λ n. take n new) count in
+    let front : take at old ≡ take at new = sym room.kept ∙ sym filled.front in
+    let whole = next_part before at end old new invariant.behind after front in
     record {
       within = omega (arith, c.min-end.ensures, c.len.ensures, filled.size);
       short = omega (arith, c.min-end.ensures);
-      front = subst (Consumes _ _) whole (Consumes-trans _ _ _ _ _ invariant.front filled.filled);
-      wanted = omega (arith, filled.size, room.wanted, invariant.wanted);
-      came = omega (arith, filled.size, room.came, invariant.came, after);
+      behind = omega (arith, invariant.behind, after);
+      front = sym (same_front before at old new invariant.behind front) ∙ invariant.front;
+      taken = subst (Consumes _ _) whole (Consumes-trans _ _ _ _ _ invariant.taken filled.filled);
+      size = omega (arith, filled.size, room.size, invariant.size);
+      wanted = omega (arith, filled.memory, room.wanted, invariant.wanted);
+      came = omega (arith, filled.memory, room.came, invariant.came, after);
       on = search rules;
     }

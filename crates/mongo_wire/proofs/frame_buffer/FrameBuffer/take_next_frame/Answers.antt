@@ -1,7 +1,7 @@
-use Rattle.std.proofs.Common.{refl}
+use Rattle.std.proofs.Common.{refl, ap, vec_capacity}
 use Rattle.mongo_wire.specs.Error.{kind_of_frame_fault}
 use Rattle.mongo_wire.specs.Header.{maximum_of}
-use Rattle.mongo_wire.proofs.FrameRead.{header_stopped, same_taken, no_refusal}
+use Rattle.mongo_wire.proofs.FrameRead.{header_stopped, same_taken, no_refusal, grows_later}
 use Rattle.mongo_wire.proofs.frame_buffer.FrameBuffer.take_next_frame.Goals as goal
 
 pub returns-in-Ok-clause-again : goal.returns-in-Ok-clause-again
@@ -18,3 +18,11 @@ pub returns-in-Err-clause-refused : goal.returns-in-Err-clause-refused
 returns-in-Err-clause-refused g c =
     let refused = c.in-Err.ensures in
     header_stopped (kind_of_frame_fault c.in-Err.fault) (maximum_of c.args.max) _ _ _ _ _ _ refused.on.tells refused.refused
+
+pub returns-in-Ok-clause-came : goal.returns-in-Ok-clause-came
+returns-in-Ok-clause-came g c =
+    grows_later _ _ _ _ c.args.self.now c.clear.new.self c.take_rest.new.self (ap (λ s. vec_capacity s) c.clear.ensures.store) (c.in-Ok-true.ensures.filled c.in-Ok-true.field-0-test) c.in-Ok.ensures.came
+
+pub returns-in-Err-take_rest-clause-came : goal.returns-in-Err-take_rest-clause-came
+returns-in-Err-take_rest-clause-came g c =
+    grows_later _ _ _ _ c.args.self.now c.clear.new.self c.take_rest.new.self (ap (λ s. vec_capacity s) c.clear.ensures.store) (c.in-Ok-true.ensures.filled c.in-Ok-true.field-0-test) c.in-Err-take_rest.ensures.came

@@ -1,7 +1,7 @@
 use Rattle.std.proofs.Common.{length, take, ◌-◌, ◌≤◌}
 use Rattle.std.specs.Io.KnownBytes.{Appends}
 use Rattle.mongo_wire.specs.Outside.{WritesOn}
-use Rattle.mongo_wire.proofs.writing.write_out.Given as goal
+use Rattle.mongo_wire.proofs.writing.write_all.Given as goal
 
 -- a front of the bytes is written so far
 abbrev pub invariant-writing : goal.invariant-writing
