@@ -118,12 +118,13 @@ fn has_ends<T: Int>(least: i128, greatest: i128, width: u32) -> bool {
     let low = Checked(T::of_i128(least));
     let high = Checked(T::of_i128(greatest));
     let one = Checked(T::of_i128(1));
+    let last = width.saturating_sub(1);
     held(!low) == Some(greatest)
         && held(high + one).is_none()
         && held(low - one).is_none()
-        && held((one << (width - 1)) & low) == Some(least)
+        && held((one << last) & low) == Some(least)
         && held(one << width).is_none()
-        && held(high >> (width - 1)) == Some(if least == 0 { 1 } else { 0 })
+        && held(high >> last) == Some(if least == 0 { 1 } else { 0 })
 }
 
 #[test]
