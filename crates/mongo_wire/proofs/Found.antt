@@ -1,8 +1,12 @@
 -- A header and the content after it are a frame of the grammar, and a frame is nothing else.
-use Rattle.std.proofs.Common.{◌≡◌, ℕ, ℤ, pos, ◌+◌, ◌^◌, ◌<◌, Option, Some, List, [], ◌∷◌, ◌++◌, length, take, drop, refl, sym, ap, ◌∙◌, subst, bit_and, FitsSigned, arith}
+use Rattle.std.proofs.Common.{◌≡◌, ℕ, ℤ, pos, ◌+◌, ◌-◌, ◌^◌, ◌<◌, ◌≤◌, slice_range, Option, Some, List, [], ◌∷◌, ◌++◌, length, take, drop, refl, sym, ap, ◌∙◌, subst, bit_and, FitsSigned, arith}
 use Rattle.std.specs.List.{AllByRecursion, flat_map}
 use Rattle.std.specs.Int.{w32}
-use Rattle.std.proofs.lemmas.List.{take_all, drop-drop, drop_at, take-append-drop, length-append, length-drop, append_assoc}
+use Rattle.std.proofs.lemmas.List.{take_all, take-take, drop-drop, drop_at, drop-take, take-append-drop, length-append, length-drop, length-take-le, append_assoc}
+use Rattle.std.proofs.lemmas.List.Edits.{take-paste}
+use Rattle.std.proofs.Math.Seq.{paste}
+use Rattle.mongo_wire.specs.Buffer.{HoldsFrame}
+use Rattle.mongo_wire.specs.declared.frame_buffer.FrameBuffer.{FrameBuffer}
 use Rattle.std.proofs.lemmas.Int.{to_z_pos}
 use Rattle.std.proofs.Math.Facts.{to_z_inj}
 use Rattle.mongo_bson.specs.Framed.{IsFramed}
@@ -116,3 +120,25 @@ no_frame head bytes sixteen none parts is =
       checksum_is = is.checksum_is;
       spelled = sym (drop_at head bytes 16 sixteen) ∙ ap (drop 16) is.spelled;
     })
+
+-- ---- the document that a buffer holds
+
+pub body_lies : (buffer : FrameBuffer) (frame : List ℕ) (parts : Frame) (held : HeldFrame) → HoldsFrame frame parts buffer → buffer.last ≡ Some held → buffer.held ≤ length buffer.store.items
+    → (held.offsets.body_start ≤ held.offsets.body_end) × (held.offsets.body_end ≤ length buffer.store.items) × (slice_range buffer.store.items held.offsets.body_start held.offsets.body_end ≡ parts.body)
+body_lies buffer frame parts held holds is within =
+    let s = held.offsets.body_start in
+    let e = held.offsets.body_end in
+    let h = buffer.held in
+    let xs = buffer.store.items in
+    let at : IsAt (drop 16 frame) parts.body s e = subst (λ f. IsAt (drop 16 frame) parts.body f.offsets.body_start f.offsets.body_end) (one_held holds.held held (sym holds.last_is ∙ is)) holds.is_held.body_at in
+    let size : length (take h xs) ≡ h = length-take-le h xs within in
+    let inside : e ≤ h = omega (arith, at.within, ap length holds.bytes_are, size) in
+    let count : s + (h - s) ≡ h = omega (arith, at.ordered, inside) in
+    let cut : take (e - s) (drop s (take h xs)) ≡ take (e - s) (drop s xs) = ap (λ n. take (e - s) (drop s (take n xs))) (sym count) ∙ ap (take (e - s)) (drop-take s (h - s) xs) ∙ take-take (e - s) (h - s) (drop s xs) (omega (arith, at.ordered, inside)) in
+    (at.ordered, omega (arith, inside, within), sym cut ∙ ap (λ b. take (e - s) (drop s b)) holds.bytes_are ∙ at.is)
+
+-- a part that is copied to the front
+pub pasted_front : (xs : List ℕ) (from to : ℕ) → from ≤ to → to ≤ length xs → take (to - from) (paste xs 0 (drop from xs) (to - from)) ≡ take (to - from) (drop from xs)
+pasted_front xs from to ordered within =
+    let count : to - from ≡ 0 + (to - from) = omega arith in
+    ap (λ n. take n (paste xs 0 (drop from xs) (to - from))) count ∙ take-paste xs 0 (drop from xs) (to - from) (omega arith) (omega (arith, within, length-drop from xs))

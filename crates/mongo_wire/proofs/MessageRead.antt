@@ -7,9 +7,10 @@ use Rattle.std.specs.Io.KnownBytes.{Consumes}
 use Rattle.mongo_wire.specs.Frame.{Frame, IsFrame, known_flags}
 use Rattle.mongo_wire.specs.Message.{parts_of, IsRead, ReadRefused, ReadsAgain}
 use Rattle.mongo_wire.specs.Rows.{TakesStarted}
-use Rattle.mongo_wire.specs.Ref.{IsFrameRead, IsOwned}
+use Rattle.mongo_wire.specs.Buffer.{IsFrameTaken}
+use Rattle.mongo_wire.specs.Ref.{IsOwned}
 use Rattle.mongo_wire.specs.declared.message.Message.{Message}
-use Rattle.mongo_wire.specs.declared.message_ref.MessageRef.{MessageRef}
+use Rattle.mongo_wire.specs.declared.frame_buffer.FrameBuffer.{FrameBuffer}
 use Rattle.mongo_wire.specs.declared.error.Error.{Error}
 use Rattle.mongo_wire.proofs.OneFrame.{one_frame, same_parts, frame_row, frame_size, least_frame}
 use Rattle.mongo_wire.proofs.FrameRead.{no_refusal}
@@ -27,21 +28,21 @@ copied_parts frame parts m is owned =
     same_parts parts.request_id parts.request_id parts.response_to m.response_to parts.flags (bit_and m.flags.0 known_flags) parts.body m.document_payload parts.sequences m.document_sequences parts.checksum m.checksum
     refl (sym owned.response_is) flags (sym owned.body_is) (sym owned.sequences_are) (sym owned.checksum_is)
 
-pub read_whole : (most : ℤ) (old new : Option (List ℕ)) (r : MessageRef) (m : Message) (read : IsFrameRead most old new r) → IsOwned read.parts m → IsRead most old new m
-read_whole most old new r m read owned = record {
+pub read_whole : (most : ℤ) (old new : Option (List ℕ)) (buffer : FrameBuffer) (m : Message) (read : IsFrameTaken most old new buffer) → IsOwned read.parts m → IsRead most old new m
+read_whole most old new buffer m read owned = record {
   frame = read.frame;
   id = read.parts.request_id;
-  is_frame = subst (IsFrame read.frame) (copied_parts read.frame read.parts m read.ref_of.is_frame owned) read.ref_of.is_frame;
+  is_frame = subst (IsFrame read.frame) (copied_parts read.frame read.parts m read.holds.is_held.is_frame owned) read.holds.is_held.is_frame;
   within = read.within;
   taken = read.taken;
-  flags_known = owned.flags_are ∙ copied_flags read.frame read.parts m read.ref_of.is_frame owned;
+  flags_known = owned.flags_are ∙ copied_flags read.frame read.parts m read.holds.is_held.is_frame owned;
   unnumbered = owned.unnumbered;
 }
 
 -- memory ran out after the whole frame came
-pub read_then_stopped : (most : ℤ) (old new : Option (List ℕ)) (r : MessageRef) → IsFrameRead most old new r → TakesStarted most old new
-read_then_stopped most old new r read =
-    let is = read.ref_of.is_frame in
+pub read_then_stopped : (most : ℤ) (old new : Option (List ℕ)) (buffer : FrameBuffer) → IsFrameTaken most old new buffer → TakesStarted most old new
+read_then_stopped most old new buffer read =
+    let is = read.holds.is_held.is_frame in
     (read.frame, read.taken, inr (record { whole = omega (arith, least_frame read.frame read.parts is); good = frame_row most read.frame read.parts is read.within }, omega (arith, ints, frame_size read.frame read.parts is)))
 
 same_id : (p q : Frame) → p ≡ q → p.request_id ≡ q.request_id

@@ -1,7 +1,8 @@
-ghost use Rattle.std.specs.Prelude.{◌≡◌, ◌≤◌, length};
+ghost use Rattle.std.specs.Prelude.{◌≡◌, ◌-◌, ◌≤◌, length, take, slice_range};
 
 use crate::MessageRef;
 use crate::held_frame::HeldFrame;
+use mongo_bson::{Bytes, RawDocumentBuf};
 use std::alloc::Global;
 
 /// A buffer that holds one frame after its header at a time. Its memory is used again for each frame, and grows only as
@@ -66,6 +67,29 @@ impl FrameBuffer {
         }
     }
 
+    /// The body's document of the frame that the buffer holds, in the buffer's own memory.
+    pub fn into_document(self) -> RawDocumentBuf
+        requires holds { (frame : List ℕ) × (parts : Frame) × HoldsFrame frame parts self }
+        ensures document { (frame : List ℕ) (parts : Frame) → HoldsFrame frame parts self → result ≡ parts.body }
+    {
+        let FrameBuffer {
+            store,
+            held: _,
+            last,
+            frames: _,
+        } = self;
+        match last {
+            Some(frame) => {
+                let bytes = part_of(store, frame.offsets.body_start, frame.offsets.body_end);
+                match RawDocumentBuf::from_bytes(Bytes::from_vec(bytes)) {
+                    Ok(document) => document,
+                    Err(_) => unreachable!(),
+                }
+            }
+            None => unreachable!(),
+        }
+    }
+
     // Holds nothing from here on.
     pub(crate) fn clear(&mut self)
         ensures nothing { HoldsNothing self.new }
@@ -88,4 +112,31 @@ impl FrameBuffer {
         self.last = Some(frame);
         self.frames = self.frames.saturating_add(1);
     }
+}
+
+// A part of the bytes, moved to the front of their memory.
+fn part_of(bytes: Vec<u8>, from: usize, to: usize) -> Vec<u8>
+    requires { (from ≤ to) × (to ≤ length bytes.items) }
+    ensures { result.items ≡ slice_range bytes.items from to }
+{
+    let mut bytes = bytes;
+    move_to_front(&mut bytes, from, to);
+    bytes.truncate(to - from);
+    bytes
+}
+
+// Moves a part of the bytes to their front.
+fn move_to_front(bytes: &mut Vec<u8>, from: usize, to: usize)
+    requires { (from ≤ to) × (to ≤ length bytes.old.items) }
+    ensures { take (to - from) bytes.new.items ≡ slice_range bytes.old.items from to }
+{
+    copy_to_front(bytes.as_mut_slice(), from, to);
+}
+
+fn copy_to_front(bytes: &mut [u8], from: usize, to: usize)
+    requires { (from ≤ to) × (to ≤ length bytes.old) }
+    ensures front { take (to - from) bytes.new ≡ slice_range bytes.old from to }
+    ensures size { length bytes.new ≡ length bytes.old }
+{
+    bytes.copy_within(from..to, 0);
 }

@@ -6,7 +6,6 @@ ghost use Rattle.mongo_wire.specs.Message.{IsRead, ReadRefused, ReadsAgain, Writ
 ghost use Rattle.mongo_wire.specs.declared.fault.ArgumentFault.{ArgumentFault};
 ghost use Rattle.mongo_wire.specs.declared.error.ErrorKind.TheVariants.{InvalidArgument};
 
-use crate::frames::read_frame;
 use crate::measure::measured;
 use crate::owned::owned_message;
 use crate::write_message::write_frame;
@@ -74,9 +73,9 @@ impl Message {
         ensures on { ReadsOn (S.state source.old) (S.state source.new) }
     {
         let mut buffer = FrameBuffer::new(alloc);
-        match read_frame(alloc, source, max, &mut buffer) {
-            Ok(message) => owned_message(alloc, message),
-            Err(error) => Err(error),
+        match buffer.take_frame(source, max) {
+            Ok(()) => owned_message(alloc, buffer),
+            Err(fault) => Err(fault.into()),
         }
     }
 

@@ -3,26 +3,36 @@ ghost use Rattle.std.specs.List.{AllByRecursion};
 ghost use Rattle.mongo_bson.specs.Framed.{IsFramed};
 ghost use Rattle.mongo_wire.specs.Frame.{Frame, Section, IsSection, IsSequence, section_bytes, sequences_of};
 ghost use Rattle.mongo_wire.specs.Sections.{ShowsSequence};
-ghost use Rattle.mongo_wire.specs.Ref.{IsRefOf, IsOwned};
+ghost use Rattle.mongo_wire.specs.Buffer.{HoldsFrame};
+ghost use Rattle.mongo_wire.specs.Ref.{IsOwned};
 ghost use Rattle.mongo_wire.specs.declared.error.ErrorKind.TheVariants.{OutOfMemory};
 ghost use Rattle.mongo_wire.specs.declared.document_sequence.DocumentSequence.{DocumentSequence as SequenceValue};
 
 use crate::sections::{SectionRef, SequenceRef, take_document, take_section};
-use crate::{DocumentSequence, Error, Message, MessageRef, Sequences};
+use crate::{DocumentSequence, Error, FrameBuffer, Message, Sequences};
 use mongo_bson::{BsonFault, Documents, Text};
 use std::alloc::Global;
 
-// A message of its own from one that borrows its frame.
-pub(crate) fn owned_message(alloc: Global, message: MessageRef<'_>) -> Result<Message, Error>
-    ensures copied { (frame : List ℕ) (parts : Frame) → IsRefOf frame parts message.entry → IfOk result (IsOwned parts) }
+// A message of its own from the buffer that holds its frame. Its body keeps the buffer's memory.
+pub(crate) fn owned_message(alloc: Global, buffer: FrameBuffer) -> Result<Message, Error>
+    requires holds { (frame : List ℕ) × (parts : Frame) × HoldsFrame frame parts buffer }
+    ensures copied { (frame : List ℕ) (parts : Frame) → HoldsFrame frame parts buffer → IfOk result (IsOwned parts) }
     ensures refused { IfErr result (λ e. e.kind ≡ OutOfMemory) }
 {
+    let message = match buffer.message() {
+        Some(message) => message,
+        None => unreachable!(),
+    };
+    let response_to = message.header.response_to;
+    let flags = message.flags;
+    let checksum = message.checksum;
+    let document_sequences = owned_sequences(alloc, message.sections)?;
     Ok(Message {
-        document_payload: message.document_payload.to_raw_document_buf(alloc)?,
-        document_sequences: owned_sequences(alloc, message.sections)?,
-        response_to: message.header.response_to,
-        flags: message.flags,
-        checksum: message.checksum,
+        document_payload: buffer.into_document(),
+        document_sequences,
+        response_to,
+        flags,
+        checksum,
         request_id: None,
     })
 }
