@@ -1,0 +1,3 @@
+pub mod Cached
+pub mod Escaped
+pub mod Parts

@@ -1,0 +1,11 @@
+use Rattle.mongo_scram.proofs.Cached.{inserted, insert_salted}
+use Rattle.mongo_scram.proofs.cache.SaltedCache.insert.Goals as goal
+
+pub invariant_of-self : goal.invariant_of-self
+invariant_of-self c = record {
+  salted = insert_salted c.insert.result c.args.self.now.entries.entries c.insert.new.self.entries c.args.key c.args.tag c.insert.ensures.entries c.insert.ensures.err c.args.self.now.salted c.requires.salted;
+}
+
+pub returns-clause-added : goal.returns-clause-added
+returns-clause-added c =
+    inserted c.args.self.now.entries.entries c.insert.new.self.entries c.args.key c.args.tag c.in_ok-insert.ensures.entries c.requires.absent

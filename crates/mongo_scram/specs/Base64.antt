@@ -1,0 +1,8 @@
+-- Base64 as SCRAM writes bytes (RFC 5802, section 4; RFC 4648, section 4): padded, and no spare bits.
+use Rattle.std.specs.Prelude.{ℕ, List}
+use Rattle.base64.specs.Engines.{standard}
+use Rattle.base64.specs.GeneralPurpose.{encode_of}
+
+-- the base64 text of bytes
+unfoldable pub base64_of : List ℕ → List ℕ
+base64_of bytes = encode_of standard bytes

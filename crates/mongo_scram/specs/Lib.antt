@@ -1,0 +1,12 @@
+pub mod Base64
+pub mod Cache
+pub mod Client
+pub mod Entry
+pub mod Key
+pub mod KeyOrder
+pub mod Messages
+pub mod Parsed
+pub mod ServerMessages
+pub mod UserName
+pub mod Validity
+pub mod Version

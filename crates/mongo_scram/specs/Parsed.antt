@@ -1,0 +1,26 @@
+-- What the readers of the server's messages answer.
+use Rattle.std.specs.Prelude.{ℕ, List, ⊤}
+use Rattle.mongo_wire.specs.declared.error.ErrorKind.{ErrorKind}
+use Rattle.mongo_wire.specs.declared.error.ErrorKind.TheVariants.{Authentication, OutOfMemory}
+use Rattle.mongo_wire.specs.declared.auth_fault.AuthFault.TheVariants.{Malformed}
+use Rattle.mongo_scram.specs.declared.server_final.ServerFinalBody.{ServerFinalBody}
+use Rattle.mongo_scram.specs.declared.parse.FirstMessage.{FirstMessage}
+use Rattle.mongo_scram.specs.ServerMessages.{IsServerFirst, IsCount, FirstMessageRow, SaysFinal}
+
+-- what the message says
+pub record HoldsFirst (message : List ℕ) (first : FirstMessage) : Type 0 where
+  pub count : List ℕ
+  pub is_first : IsServerFirst message first.nonce.now first.salt count
+  pub is_count : IsCount count first.i
+
+-- why nothing was read: a row of the message, or want of memory
+abbrev pub FirstRefused : List ℕ → ErrorKind → Type 0
+FirstRefused message (Authentication fault) = FirstMessageRow message fault
+FirstRefused message OutOfMemory = ⊤
+FirstRefused message kind = ⊥
+
+-- why it says nothing: it is no server final message, or memory ran out
+abbrev pub FinalRefused : List ℕ → ErrorKind → Type 0
+FinalRefused message (Authentication Malformed) = (body : ServerFinalBody) → SaysFinal message body → ⊥
+FinalRefused message OutOfMemory = ⊤
+FinalRefused message kind = ⊥

@@ -1,0 +1,62 @@
+-- What the server says in a SCRAM conversation (RFC 5802, sections 5.1 and 7): lists of attributes, each a letter, `=`
+-- and a value, parted by commas.
+use Rattle.std.specs.Prelude.{◌≡◌, ◌≢◌, ℕ, ◌^◌, ◌<◌, ◌⊎◌, List, [], ◌∷◌, ◌++◌, Option, None, Some, codes}
+use Rattle.std.specs.List.{AllByRecursion}
+use Rattle.std.specs.Str.{IsUtf8}
+use Rattle.std.specs.Str.Parse.{IsNumeral, digits_value, without_leading_plus}
+use Rattle.base64.specs.GeneralPurpose.{IsBytes}
+use Rattle.mongo_wire.specs.declared.auth_fault.AuthFault.{AuthFault}
+use Rattle.mongo_wire.specs.declared.auth_fault.AuthFault.TheVariants.{Malformed, CountUnreadable}
+use Rattle.mongo_scram.specs.Base64.{base64_of}
+use Rattle.mongo_scram.specs.declared.server_final.ServerFinalBody.{ServerFinalBody}
+use Rattle.mongo_scram.specs.declared.server_final.ServerFinalBody.TheVariants.{Error, Verifier}
+
+-- no byte is a comma
+abbrev pub HasNoComma : List ℕ → Type 0
+HasNoComma bytes = AllByRecursion (λ byte. byte ≢ 0x2C) bytes
+
+-- the message begins with these three parts, cut at its commas; extensions may follow
+pub record BeginsWithParts (message first second third : List ℕ) : Type 0 where
+  pub extensions : List ℕ
+  pub joined : message ≡ first ++ (0x2C ∷ (second ++ (0x2C ∷ (third ++ extensions))))
+  pub first_ends : HasNoComma first
+  pub second_ends : HasNoComma second
+  pub third_ends : HasNoComma third
+  pub extensions_are : (extensions ≡ []) ⊎ ((more : List ℕ) × (extensions ≡ 0x2C ∷ more))
+
+-- `server-first-message`: `r=` and the nonce, `s=` and the salt in base64, `i=` and the text of the iteration count
+pub record IsServerFirst (message nonce salt count : List ℕ) : Type 0 where
+  pub text : IsUtf8 message
+  pub parts : BeginsWithParts message (codes "r=" ++ nonce) (codes "s=" ++ base64_of salt) (codes "i=" ++ count)
+  pub bytes : IsBytes salt
+
+-- the text is this number in decimal digits, where a `+` may stand first
+abbrev pub IsCount : List ℕ → ℕ → Type 0
+IsCount text number = IsNumeral 10 (without_leading_plus text) × (digits_value 10 (without_leading_plus text) ≡ number) × (number < 2 ^ 32)
+
+-- why a message is no server first message
+abbrev pub FirstMessageRow : List ℕ → AuthFault → Type 0
+FirstMessageRow message Malformed = (nonce salt count : List ℕ) → IsServerFirst message nonce salt count → ⊥
+FirstMessageRow message CountUnreadable = (nonce salt count : List ℕ) × IsServerFirst message nonce salt count × ((number : ℕ) → IsCount count number → ⊥)
+FirstMessageRow message fault = ⊥
+
+-- the part stands at the front of the text, up to a comma or the text's end
+pub record IsBeforeComma (text part : List ℕ) : Type 0 where
+  pub extensions : List ℕ
+  pub joined : text ≡ part ++ extensions
+  pub part_ends : HasNoComma part
+  pub extensions_are : (extensions ≡ []) ⊎ ((more : List ℕ) × (extensions ≡ 0x2C ∷ more))
+
+-- the base64 text decodes to these bytes, or to none
+abbrev pub Decodes : List ℕ → Option (List ℕ) → Type 0
+Decodes text None = (bytes : List ℕ) → IsBytes bytes → text ≢ base64_of bytes
+Decodes text (Some bytes) = IsBytes bytes × (text ≡ base64_of bytes)
+
+-- what the attribute says: `e=` and an error's text, or `v=` and the verifier in base64
+abbrev pub Says : List ℕ → ServerFinalBody → Type 0
+Says message (Error text) = message ≡ codes "e=" ++ text
+Says message (Verifier bytes) = (text : List ℕ) × (message ≡ codes "v=" ++ text) × Decodes text bytes
+
+-- `server-final-message`
+abbrev pub SaysFinal : List ℕ → ServerFinalBody → Type 0
+SaysFinal message body = IsUtf8 message × Says message body

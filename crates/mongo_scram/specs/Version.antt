@@ -1,0 +1,21 @@
+-- What a version of SCRAM fixes: its hash function H, and its name.
+use Rattle.std.specs.Prelude.{ℕ, List, codes}
+use Rattle.sha1.specs.Sha1.{sha1}
+use Rattle.sha2.specs.Sha256.{sha256}
+use Rattle.mongo_scram.specs.declared.scram_version.ScramVersion.{ScramVersion}
+use Rattle.mongo_scram.specs.declared.scram_version.ScramVersion.TheVariants.{Sha1, Sha256}
+
+-- H (RFC 5802, section 2.2; RFC 7677)
+abbrev pub digest_of : ScramVersion → List ℕ → List ℕ
+digest_of Sha1 = sha1
+digest_of Sha256 = sha256
+
+-- the length of a digest in bytes
+abbrev pub digest_len : ScramVersion → ℕ
+digest_len Sha1 = 20
+digest_len Sha256 = 32
+
+-- the mechanism's name
+abbrev pub name_of : ScramVersion → List ℕ
+name_of Sha1 = codes "SCRAM-SHA-1"
+name_of Sha256 = codes "SCRAM-SHA-256"

@@ -1,0 +1,177 @@
+ghost use Rattle.std.specs.Prelude.{◌≡◌, ℕ, ◌+◌, ◌-◌, ◌^◌, [], length, min, List, All, Contains, IfOk, IfErr, IfSome, IfNone, OnOk, OnErr, IsTrue, ◌↔◌};
+ghost use Rattle.mongo_scram.specs.Entry.{IsSaltedEntry};
+ghost use Rattle.mongo_wire.specs.declared.error.ErrorKind.TheVariants.{OutOfMemory};
+
+use crate::ScramVersion;
+use mongo_bson::{Bytes, Text};
+use mongo_mac::Tag;
+use mongo_wire::Error;
+use std::alloc::Global;
+use std::cmp::Ordering;
+use std::collections::BTreeMap;
+use std::fmt;
+
+/// What a salted password is derived from.
+#[derive(Drop)]
+pub struct SaltedKey {
+    /// The version of SCRAM.
+    pub version: ScramVersion,
+    /// The user name, as the credential has it.
+    pub username: Text,
+    /// The password, as the credential has it.
+    pub password: Text,
+    /// The salt.
+    pub salt: Bytes,
+    /// The iteration count.
+    pub count: u32,
+}
+
+// A password's text is never shown.
+impl fmt::Debug for SaltedKey {
+    ghost use Rattle.std.specs.Prelude.{Some, codes};
+
+    ghost debug_output = { λ _. Some (codes "SaltedKey { .. }") };
+
+    fn fmt<W: fmt::Write>(&self, f: &mut fmt::Formatter<W>) -> fmt::Result {
+        f.write_str("SaltedKey { .. }")
+    }
+}
+
+impl Ord for SaltedKey {
+    ghost use Rattle.std.proofs.Common.{rules};
+    ghost use Rattle.std.specs.Cmp.Rules.{comparing};
+    ghost use Rattle.mongo_scram.specs.KeyOrder.{key_cmp, key_cmp-total};
+
+    ghost cmp = { key_cmp };
+
+    ghost total = { key_cmp-total };
+
+    ghost matches_partial_cmp = { Prim.search (comparing, rules) };
+
+    ghost matches_eq = { Prim.search (comparing, rules) };
+
+    fn cmp(&self, other: &SaltedKey) -> Ordering {
+        self.count
+            .cmp(&other.count)
+            .then(self.salt.as_bytes().cmp(other.salt.as_bytes()))
+            .then(self.username.as_bytes().cmp(other.username.as_bytes()))
+            .then(self.password.as_bytes().cmp(other.password.as_bytes()))
+            .then(
+                self.version
+                    .name()
+                    .as_bytes()
+                    .cmp(other.version.name().as_bytes()),
+            )
+    }
+}
+
+impl PartialOrd for SaltedKey {
+    ghost use Rattle.std.specs.Cmp.{partial_order_from_total};
+    ghost use Rattle.std.specs.Ordering.{as_partial_cmp};
+    ghost use Rattle.mongo_scram.specs.KeyOrder.{key_cmp, key_cmp-total};
+
+    ghost partial_cmp = { as_partial_cmp key_cmp };
+
+    ghost laws = { partial_order_from_total key_cmp-total };
+
+    fn partial_cmp(&self, other: &SaltedKey) -> Option<Ordering> {
+        Some(self.cmp(other))
+    }
+}
+
+impl PartialEq for SaltedKey {
+    ghost use Rattle.std.specs.Cmp.{eq_by_cmp_equiv, partial_equiv_from_equiv};
+    ghost use Rattle.std.specs.Ordering.{eq_by_cmp};
+    ghost use Rattle.mongo_scram.specs.KeyOrder.{key_cmp, key_cmp-total};
+
+    ghost eq = { eq_by_cmp key_cmp };
+
+    ghost laws = { partial_equiv_from_equiv (eq_by_cmp_equiv key_cmp-total) };
+
+    fn eq(&self, other: &SaltedKey) -> bool {
+        self.cmp(other).is_eq()
+    }
+}
+
+impl Eq for SaltedKey {
+    ghost use Rattle.std.specs.Cmp.{eq_by_cmp_equiv};
+    ghost use Rattle.mongo_scram.specs.KeyOrder.{key_cmp-total};
+
+    ghost laws = { eq_by_cmp_equiv key_cmp-total };
+}
+
+/// The salted passwords of logins that were accepted, each under its whole key, so that the next login with the key
+/// derives nothing. Finding a key takes a logarithm of their number.
+#[derive(Drop)]
+pub struct SaltedCache {
+    entries: BTreeMap<SaltedKey, Tag>,
+    rounds: u64,
+    pub ghost salted: { All IsSaltedEntry entries.entries },
+}
+
+impl SaltedCache {
+    ghost use Rattle.mongo_scram.specs.Cache.{entries_of, rounds_of, Adds};
+    ghost use Rattle.mongo_scram.specs.Entry.{salted_of};
+
+    /// A cache with no entry, whose logins have derived nothing. It takes no memory.
+    pub fn new(alloc: Global) -> SaltedCache
+        ensures entries { entries_of result ≡ [] }
+        ensures rounds { rounds_of result ≡ 0 }
+    {
+        SaltedCache {
+            entries: BTreeMap::new(alloc),
+            rounds: 0,
+        }
+    }
+
+    /// The salted password of a key; None exactly where the key has no entry.
+    pub fn get(&self, key: &SaltedKey) -> Option<&Tag>
+        ensures found { IfSome result (λ tag. Contains (entries_of self.now) (key.now, tag.now)) }
+        ensures salted { IfSome result (λ tag. tag.now ≡ salted_of key.now) }
+        ensures absent { IfNone result ((tag : List ℕ) → Contains (entries_of self.now) (key.now, tag) → ⊥) }
+    {
+        self.entries.get(key)
+    }
+
+    /// The number of entries.
+    pub fn len(&self) -> usize
+        ensures { result ≡ length (entries_of self.now) }
+    {
+        self.entries.len()
+    }
+
+    /// Whether there is no entry.
+    pub fn is_empty(&self) -> bool
+        ensures { IsTrue result ↔ (entries_of self.now ≡ []) }
+    {
+        self.entries.is_empty()
+    }
+
+    /// How many rounds of Hi the logins with this cache have derived; it stays at 18446744073709551615.
+    pub fn rounds(&self) -> u64
+        ensures { result ≡ rounds_of self.now }
+    {
+        self.rounds
+    }
+
+    // Puts a key in that has no entry, with its salted password. Want of memory leaves the entries as they were.
+    pub(crate) fn insert(&mut self, key: SaltedKey, tag: Tag) -> Result<(), Error>
+        requires salted { tag ≡ salted_of key }
+        requires absent { (other : List ℕ) → Contains (entries_of self.old) (key, other) → ⊥ }
+        ensures added { OnOk result (Adds (entries_of self.old) (entries_of self.new) (key, tag)) }
+        ensures unchanged { OnErr result (entries_of self.new ≡ entries_of self.old) }
+        ensures rounds { rounds_of self.new ≡ rounds_of self.old }
+        ensures refused { IfErr result (λ e. e.kind ≡ OutOfMemory) }
+    {
+        self.entries.insert(key, tag)?;
+        Ok(())
+    }
+
+    // Counts the rounds that a login has derived.
+    pub(crate) fn add_rounds(&mut self, count: u32)
+        ensures rounds { rounds_of self.new ≡ min (rounds_of self.old + count) (2 ^ 64 - 1) }
+        ensures entries { entries_of self.new ≡ entries_of self.old }
+    {
+        self.rounds = self.rounds.saturating_add(u64::from(count));
+    }
+}

@@ -1,0 +1,40 @@
+//! SCRAM, the login by challenge and response of RFC 5802, over SHA-1 and SHA-256 (RFC 7677), as MongoDB's authentication
+//! specification has it.
+//!
+//! The client says its user name and a nonce; the server answers with a longer nonce, a salt and an iteration count; both
+//! derive a key from the password, and each proves to the other that it knows the key:
+//!
+//! ```text
+//! client first:  n,,n=user,r=fyko+d2lbbFgONRv9qkxdawL
+//! server first:  r=fyko+d2lbbFgONRv9qkxdawL3rfcNHYJY1ZVvWVs7j,s=QSXCR+Q6sek8bf92,i=4096
+//! client final:  c=biws,r=fyko+d2lbbFgONRv9qkxdawL3rfcNHYJY1ZVvWVs7j,p=v0X8v3Bz2T0CJGbJQyF0X+HI4Ts=
+//! server final:  v=rmF9pqV8S7suAoZWja4dJRkFsKQ=
+//! ```
+//!
+//! [`ClientFirst`] and [`ClientFinal`] are what the client says, [`ServerFirst`] and [`ServerFinal`] what it hears.
+//! [`ScramVersion::compute_salted_password`] derives the key, and [`SaltedCache`] keeps it for the next login.
+//!
+//! Proved: each message is RFC 5802's equation over lists of bytes, which `specs/Messages.antt` states; a message of the
+//! server is read where it is one, and else refused by the first of its rows; the derivation takes exactly as many steps as
+//! the count says; the verifier is equal as a whole; each entry of the cache is the salted password of its whole key. Want of
+//! memory is the one refusal without a cause.
+#![tactic(auto)]
+
+mod base64_text;
+mod cache;
+mod key;
+mod messages;
+mod parse;
+mod refusal;
+mod scram_version;
+mod server_final;
+mod server_first;
+#[cfg(test)]
+mod tests;
+mod user_name;
+
+pub use cache::{SaltedCache, SaltedKey};
+pub use messages::{ClientFinal, ClientFirst, nonce_text};
+pub use scram_version::ScramVersion;
+pub use server_final::{ServerFinal, ServerFinalBody};
+pub use server_first::ServerFirst;

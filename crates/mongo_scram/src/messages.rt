@@ -1,0 +1,270 @@
+ghost use Rattle.std.specs.Prelude.{◌≡◌, ◌++◌, codes, take, IfOk, IfErr, OnOk, string_bytes};
+ghost use Rattle.mongo_scram.specs.Base64.{base64_of};
+ghost use Rattle.mongo_scram.specs.Messages.{open_message, no_proof, transcript, proof, verifier};
+ghost use Rattle.mongo_scram.specs.Version.{digest_of};
+ghost use Rattle.mongo_wire.specs.declared.error.ErrorKind.TheVariants.{OutOfMemory};
+
+use crate::ScramVersion;
+use crate::base64_text::encoded;
+use crate::server_first::ServerFirst;
+use crate::user_name::push_user_name;
+use mongo_bson::{OwnedValue, Text};
+use mongo_mac::{Tag, xor};
+use mongo_wire::Error;
+use std::alloc::{AllocError, Global};
+
+/// What the client says of channel binding: it has none, and names no other user (RFC 5802, section 7, `gs2-header`).
+const GS2_HEADER: &str = "n,,";
+
+/// A nonce for a message: 32 bytes in base64, 44 characters.
+pub fn nonce_text(alloc: Global, nonce: &[u8; 32]) -> Result<Text, Error>
+    ensures nonce { IfOk result (λ text. text ≡ base64_of nonce.now) }
+    ensures refused { IfErr result (λ e. e.kind ≡ OutOfMemory) }
+{
+    let text = encoded(alloc, nonce.as_slice())?;
+    Ok(Text::from_slice(alloc, text.as_str())?)
+}
+
+/// The client's first message.
+#[derive(Debug, Drop)]
+pub struct ClientFirst {
+    source: Text,
+    message: String,
+    nonce: Text,
+    include_db: bool,
+    pub ghost opens: { take 3 (string_bytes message) ≡ codes "n,," },
+}
+
+impl ClientFirst {
+    ghost use Rattle.std.specs.Prelude.{◌≡◌, codes, IfOk, IfErr};
+    ghost use Rattle.mongo_scram.specs.Base64.{base64_of};
+    ghost use Rattle.mongo_scram.specs.Messages.{open_message};
+    ghost use Rattle.mongo_scram.specs.Client.{message_of, bare_of, nonce_of, source_of, includes_db};
+
+    /// The first message of a user: `n,,n=` the user name `,r=` the nonce in base64. With `include_db` its command names
+    /// the source's database, as one that goes with a hello does.
+    pub fn new(
+        alloc: Global,
+        source: &str,
+        username: &str,
+        include_db: bool,
+        nonce: &[u8; 32],
+    ) -> Result<ClientFirst, Error>
+        ensures message { IfOk result (λ first. message_of first ≡ open_message username.now (base64_of nonce.now)) }
+        ensures nonce { IfOk result (λ first. nonce_of first ≡ base64_of nonce.now) }
+        ensures source { IfOk result (λ first. source_of first ≡ source.now) }
+        ensures db { IfOk result (λ first. includes_db first ≡ include_db) }
+        ensures refused { IfErr result (λ e. e.kind ≡ OutOfMemory) }
+    {
+        let nonce = nonce_text(alloc, nonce)?;
+        ClientFirst::with_nonce(alloc, source, username, include_db, nonce.as_str())
+    }
+
+    /// The same with the text of a nonce. RFC 5802 has nonces of printable ASCII without a comma.
+    pub fn with_nonce(
+        alloc: Global,
+        source: &str,
+        username: &str,
+        include_db: bool,
+        nonce: &str,
+    ) -> Result<ClientFirst, Error>
+        ensures message { IfOk result (λ first. message_of first ≡ open_message username.now nonce.now) }
+        ensures nonce { IfOk result (λ first. nonce_of first ≡ nonce.now) }
+        ensures source { IfOk result (λ first. source_of first ≡ source.now) }
+        ensures db { IfOk result (λ first. includes_db first ≡ include_db) }
+        ensures refused { IfErr result (λ e. e.kind ≡ OutOfMemory) }
+    {
+        let message = open_text(alloc, username, nonce)?;
+        Ok(ClientFirst {
+            source: Text::from_slice(alloc, source)?,
+            message,
+            nonce: Text::from_slice(alloc, nonce)?,
+            include_db,
+        })
+    }
+
+    /// The message.
+    pub fn message(&self) -> &str
+        ensures { result.now ≡ message_of self.now }
+    {
+        self.message.as_str()
+    }
+
+    /// The message without its GS2 header (RFC 5802, `client-first-message-bare`).
+    pub fn bare_message(&self) -> &str
+        ensures { result.now ≡ bare_of self.now }
+    {
+        match self.message.as_str().strip_prefix(GS2_HEADER) {
+            Some(bare) => bare,
+            None => unreachable!(),
+        }
+    }
+
+    /// The GS2 header, `n,,`.
+    pub fn gs2_header(&self) -> &str
+        ensures { result.now ≡ codes "n,," }
+    {
+        GS2_HEADER
+    }
+
+    /// The client's nonce.
+    pub fn nonce(&self) -> &str
+        ensures { result.now ≡ nonce_of self.now }
+    {
+        self.nonce.as_str()
+    }
+}
+
+// `n,,n=` the user name `,r=` the nonce.
+#[tactic(auto, unfolding(crate::specs::Messages::bare_message, crate::specs::Messages::open_message))]
+fn open_text(alloc: Global, username: &str, nonce: &str) -> Result<String, Error>
+    ensures message { IfOk result (λ text. string_bytes text ≡ open_message username.now nonce.now) }
+    ensures refused { IfErr result (λ e. e.kind ≡ OutOfMemory) }
+{
+    let mut text = String::from_str(alloc, GS2_HEADER)?;
+    text.push_str("n=")?;
+    push_user_name(&mut text, username)?;
+    text.push_str(",r=")?;
+    text.push_str(nonce)?;
+    Ok(text)
+}
+
+/// The client's last message, and what it and the server sign.
+#[derive(Debug, Drop)]
+pub struct ClientFinal {
+    source: Text,
+    message: String,
+    auth_message: String,
+    conversation_id: OwnedValue,
+}
+
+impl ClientFinal {
+    ghost use Rattle.std.specs.Prelude.{◌≡◌, IfOk, IfErr};
+    ghost use Rattle.mongo_scram.specs.Client.{bare_of, final_of, auth_message_of, conversation_of, final_source_of};
+    ghost use Rattle.mongo_scram.specs.Messages.{transcript, close_message};
+    ghost use Rattle.mongo_scram.specs.Version.{digest_of};
+
+    /// The message that proves the salted password to the server: `c=biws,r=` the server's nonce `,p=` the proof in
+    /// base64 (RFC 5802, section 3).
+    #[tactic(auto, unfolding(crate::specs::Messages::close_message))]
+    pub fn new(
+        alloc: Global,
+        source: &str,
+        salted: &Tag,
+        client_first: &ClientFirst,
+        server_first: &ServerFirst,
+        version: &ScramVersion,
+    ) -> Result<ClientFinal, Error>
+        ensures auth_message { IfOk result (λ last. auth_message_of last ≡
+            transcript (bare_of client_first.now) server_first.now.message server_first.now.nonce) }
+        ensures message { IfOk result (λ last. final_of last ≡
+            close_message (digest_of version.now) salted.now (auth_message_of last) server_first.now.nonce) }
+        ensures conversation { IfOk result (λ last. conversation_of last ≡ server_first.now.conversation_id) }
+        ensures source { IfOk result (λ last. final_source_of last ≡ source.now) }
+        ensures refused { IfErr result (λ e. e.kind ≡ OutOfMemory) }
+    {
+        let nonce = server_first.nonce.as_str();
+        let auth_message = transcript_text(
+            alloc,
+            client_first.bare_message(),
+            server_first.message.as_str(),
+            nonce,
+        )?;
+        let proof = client_proof(salted, auth_message.as_bytes(), version);
+        let message = close_text(alloc, nonce, &proof)?;
+        Ok(ClientFinal {
+            source: Text::from_slice(alloc, source)?,
+            message,
+            auth_message,
+            conversation_id: server_first.conversation_id.try_clone(alloc)?,
+        })
+    }
+
+    /// The message.
+    pub fn message(&self) -> &str
+        ensures { result.now ≡ final_of self.now }
+    {
+        self.message.as_str()
+    }
+
+    /// What the client and the server sign (RFC 5802, `AuthMessage`).
+    pub fn auth_message(&self) -> &str
+        ensures { result.now ≡ auth_message_of self.now }
+    {
+        self.auth_message.as_str()
+    }
+
+    /// The message as the payload of a command.
+    pub fn payload(&self) -> &[u8]
+        ensures { result.now ≡ final_of self.now }
+    {
+        self.message.as_bytes()
+    }
+
+    /// The conversation that the server's first message named.
+    pub(crate) fn conversation_id(&self) -> &OwnedValue
+        ensures { result.now ≡ conversation_of self.now }
+    {
+        &self.conversation_id
+    }
+}
+
+// The bare first message, the server's first and the last one without its proof, parted by commas.
+#[tactic(auto, unfolding(crate::specs::Messages::transcript))]
+fn transcript_text(
+    alloc: Global,
+    bare: &str,
+    server_first: &str,
+    nonce: &str,
+) -> Result<String, Error>
+    ensures text { IfOk result (λ text. string_bytes text ≡ transcript bare.now server_first.now nonce.now) }
+    ensures refused { IfErr result (λ e. e.kind ≡ OutOfMemory) }
+{
+    let mut text = String::from_str(alloc, bare)?;
+    text.push_str(",")?;
+    text.push_str(server_first)?;
+    text.push_str(",")?;
+    push_no_proof(&mut text, nonce)?;
+    Ok(text)
+}
+
+// `c=biws,r=` the nonce `,p=` the proof in base64.
+fn close_text(alloc: Global, nonce: &str, proof: &Tag) -> Result<String, Error>
+    ensures text { IfOk result (λ text. string_bytes text ≡ no_proof nonce.now ++ (codes ",p=" ++ base64_of proof.now)) }
+    ensures refused { IfErr result (λ e. e.kind ≡ OutOfMemory) }
+{
+    let mut text = String::new(alloc);
+    push_no_proof(&mut text, nonce)?;
+    text.push_str(",p=")?;
+    let proof = encoded(alloc, proof.as_bytes())?;
+    text.push_str(proof.as_str())?;
+    Ok(text)
+}
+
+#[tactic(auto, unfolding(crate::specs::Messages::no_proof))]
+fn push_no_proof(text: &mut String, nonce: &str) -> Result<(), AllocError>
+    ensures { OnOk result (string_bytes text.new ≡ string_bytes text.old ++ no_proof nonce.now) }
+{
+    text.push_str("c=biws,r=")?;
+    text.push_str(nonce)
+}
+
+// ClientProof := ClientKey XOR ClientSignature.
+#[tactic(auto, unfolding(crate::specs::Messages::client_key, crate::specs::Messages::proof))]
+pub(crate) fn client_proof(salted: &Tag, auth_message: &[u8], version: &ScramVersion) -> Tag
+    ensures { result ≡ proof (digest_of version.now) salted.now auth_message.now }
+{
+    let client_key = version.hmac(salted.as_bytes(), b"Client Key");
+    let stored_key = version.h(client_key.as_bytes());
+    let signature = version.hmac(stored_key.as_bytes(), auth_message);
+    xor(&client_key, &signature)
+}
+
+// ServerSignature := HMAC(ServerKey, AuthMessage).
+#[tactic(auto, unfolding(crate::specs::Messages::server_key, crate::specs::Messages::verifier))]
+pub(crate) fn server_signature(salted: &Tag, auth_message: &[u8], version: &ScramVersion) -> Tag
+    ensures { result ≡ verifier (digest_of version.now) salted.now auth_message.now }
+{
+    let server_key = version.hmac(salted.as_bytes(), b"Server Key");
+    version.hmac(server_key.as_bytes(), auth_message)
+}

@@ -1,0 +1,123 @@
+// What the server says, cut at its commas (RFC 5802, sections 5.1 and 7).
+
+ghost use Rattle.std.specs.Prelude.{◌≡◌, ◌≢◌, ℕ, ◌++◌, ◌∷◌, List, MatchOption, IfOk, IfErr};
+ghost use Rattle.mongo_scram.specs.ServerMessages.{HasNoComma, BeginsWithParts, IsBeforeComma, SaysFinal};
+ghost use Rattle.mongo_scram.specs.Parsed.{HoldsFirst, FirstRefused, FinalRefused};
+
+use crate::base64_text::decoded;
+use crate::refusal::refused;
+use crate::server_final::ServerFinalBody;
+use mongo_bson::{Bytes, Text};
+use mongo_wire::{AuthFault, Error};
+use std::alloc::Global;
+
+/// What a server first message says, its texts borrowed from it.
+#[derive(Drop)]
+pub struct FirstMessage<'a> {
+    /// The nonce, the client's with the server's behind it.
+    pub nonce: &'a str,
+    /// The salt.
+    pub salt: Bytes,
+    /// The iteration count.
+    pub i: u32,
+}
+
+/// Reads a server first message: `r=` nonce, `s=` salt in base64, `i=` iteration count, and extensions that are passed
+/// over, parted by commas.
+///
+/// `Malformed` where a part is missing, has another key, or the salt is no base64; else `CountUnreadable` where the count
+/// is no decimal number below 2^32.
+pub fn read_server_first<'a>(alloc: Global, message: &'a str) -> Result<FirstMessage<'a>, Error>
+    ensures first { IfOk result (HoldsFirst message.now) }
+    ensures refused { IfErr result (λ e. FirstRefused message.now e.kind) }
+{
+    let Some(parts) = parts_of(message) else {
+        return Err(refused(AuthFault::Malformed));
+    };
+    let Some(nonce) = value_of(parts.first, "r=") else {
+        return Err(refused(AuthFault::Malformed));
+    };
+    let Some(salt_text) = value_of(parts.second, "s=") else {
+        return Err(refused(AuthFault::Malformed));
+    };
+    let Some(salt) = decoded(alloc, salt_text)? else {
+        return Err(refused(AuthFault::Malformed));
+    };
+    let Some(count) = value_of(parts.third, "i=") else {
+        return Err(refused(AuthFault::Malformed));
+    };
+    match count.parse::<u32>() {
+        Ok(i) => Ok(FirstMessage { nonce, salt, i }),
+        Err(_) => Err(refused(AuthFault::CountUnreadable)),
+    }
+}
+
+/// Reads a server final message: `e=` and the error's text, or `v=` and the verifier in base64; everything behind the
+/// equals sign belongs to it.
+///
+/// `Malformed` where it is neither.
+pub fn read_server_final(alloc: Global, message: &str) -> Result<ServerFinalBody, Error>
+    ensures says { IfOk result (SaysFinal message.now) }
+    ensures refused { IfErr result (λ e. FinalRefused message.now e.kind) }
+{
+    if let Some(text) = value_of(message, "e=") {
+        return Ok(ServerFinalBody::Error(Text::from_slice(alloc, text)?));
+    }
+    match value_of(message, "v=") {
+        Some(verifier) => Ok(ServerFinalBody::Verifier(decoded(alloc, verifier)?)),
+        None => Err(refused(AuthFault::Malformed)),
+    }
+}
+
+// The value of an attribute with this key, which is a letter and `=`.
+fn value_of<'a>(part: &'a str, key: &str) -> Option<&'a str>
+    ensures { MatchOption result ((value : List ℕ) → part.now ≢ key.now ++ value)
+        (λ value. part.now ≡ key.now ++ value.now) }
+{
+    part.strip_prefix(key)
+}
+
+// The first three parts of a message.
+#[derive(Clone, Copy)]
+struct Parts<'a> {
+    first: &'a str,
+    second: &'a str,
+    third: &'a str,
+}
+
+fn parts_of(message: &str) -> Option<Parts<'_>>
+    ensures { MatchOption result
+        ((first second third : List ℕ) → BeginsWithParts message.now first second third → ⊥)
+        (λ parts. BeginsWithParts message.now parts.first.now parts.second.now parts.third.now) }
+{
+    let Some((first, rest)) = cut(message) else {
+        return None;
+    };
+    let Some((second, rest)) = cut(rest) else {
+        return None;
+    };
+    let third = before_comma(rest);
+    Some(Parts {
+        first,
+        second,
+        third,
+    })
+}
+
+// What stands before the first comma, and behind it.
+fn cut(text: &str) -> Option<(&str, &str)>
+    ensures { MatchOption result (HasNoComma text.now)
+        (λ p. HasNoComma p.0.now × (text.now ≡ p.0.now ++ (0x2C ∷ p.1.now))) }
+{
+    text.split_once(',')
+}
+
+// The text up to its first comma, or all of it.
+fn before_comma(text: &str) -> &str
+    ensures { IsBeforeComma text.now result.now }
+{
+    match cut(text) {
+        Some((before, _)) => before,
+        None => text,
+    }
+}

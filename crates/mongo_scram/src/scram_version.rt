@@ -1,0 +1,79 @@
+ghost use Rattle.std.specs.Prelude.{◌≡◌, ◌+◌, ◌≤◌, length};
+ghost use Rattle.mongo_mac.specs.Hi.{hi_of};
+ghost use Rattle.mongo_mac.specs.Hmac.{hmac_of};
+ghost use Rattle.mongo_scram.specs.Version.{digest_of, digest_len, name_of};
+
+use mongo_mac::{Sha1Fn, Sha256Fn, Steps, Tag, digest, hi, hmac};
+use std::fmt;
+use std::sync::ledger::Ledger;
+
+/// A version of SCRAM, by its hash function H.
+#[derive(Clone, Copy, Debug, PartialEq, Eq, PartialOrd, Ord)]
+pub enum ScramVersion {
+    /// SCRAM-SHA-1 (RFC 5802).
+    Sha1,
+    /// SCRAM-SHA-256 (RFC 7677).
+    Sha256,
+}
+
+impl ScramVersion {
+    /// The name of the mechanism, `SCRAM-SHA-1` or `SCRAM-SHA-256`.
+    pub(crate) fn name(&self) -> &'static str
+        ensures { result.now ≡ name_of self.now }
+    {
+        match self {
+            ScramVersion::Sha1 => "SCRAM-SHA-1",
+            ScramVersion::Sha256 => "SCRAM-SHA-256",
+        }
+    }
+
+    // H(text).
+    pub(crate) fn h(&self, text: &[u8]) -> Tag
+        ensures value { result ≡ digest_of self.now text.now }
+        ensures len { length result ≡ digest_len self.now }
+    {
+        match self {
+            ScramVersion::Sha1 => digest::<Sha1Fn>(text),
+            ScramVersion::Sha256 => digest::<Sha256Fn>(text),
+        }
+    }
+
+    // HMAC(key, text).
+    pub(crate) fn hmac(&self, key: &[u8], text: &[u8]) -> Tag
+        ensures value { result ≡ hmac_of (digest_of self.now) key.now text.now }
+        ensures len { length result ≡ digest_len self.now }
+    {
+        match self {
+            ScramVersion::Sha1 => hmac::<Sha1Fn>(key, text),
+            ScramVersion::Sha256 => hmac::<Sha256Fn>(key, text),
+        }
+    }
+
+    // Hi(text, salt, i), by exactly i steps.
+    pub(crate) fn hi<G: Ledger>(
+        &self,
+        text: &[u8],
+        salt: &[u8],
+        i: u32,
+        steps: &mut Steps<G>,
+    ) -> Tag
+        requires { 1 ≤ i }
+        ensures value { result ≡ hi_of (digest_of self.now) text.now salt.now i }
+        ensures cost { steps.new ≡ steps.old + i }
+    {
+        match self {
+            ScramVersion::Sha1 => hi::<Sha1Fn, G>(text, salt, i, steps),
+            ScramVersion::Sha256 => hi::<Sha256Fn, G>(text, salt, i, steps),
+        }
+    }
+}
+
+impl fmt::Display for ScramVersion {
+    ghost use Rattle.std.specs.Prelude.{Some};
+
+    ghost output = { λ version. Some (name_of version) };
+
+    fn fmt<W: fmt::Write>(&self, f: &mut fmt::Formatter<W>) -> fmt::Result {
+        f.write_str(self.name())
+    }
+}
