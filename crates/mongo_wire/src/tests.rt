@@ -70,10 +70,6 @@ pub(crate) fn is_read_fault(kind: &ErrorKind) -> bool {
     matches!(kind, ErrorKind::ReadFault)
 }
 
-pub(crate) fn is_end(kind: &ErrorKind) -> bool {
-    matches!(kind, ErrorKind::EndOfInput)
-}
-
 pub(crate) fn is_write_fault(kind: &ErrorKind) -> bool {
     matches!(kind, ErrorKind::WriteFault)
 }

@@ -1,6 +1,7 @@
 // Readers and writers of std that fail, end, take little or take nothing. No clause says what they give or take.
-use super::{EMPTY_MESSAGE, empty_message, is_end, is_read_fault, is_write_fault};
+use super::{EMPTY_MESSAGE, empty_message, is_read_fault, is_write_fault};
 use crate::{Message, RequestIds, Sink, Source, StdLink, StdSink, StdSource};
+use std::alloc::Global;
 use std::io;
 use std::io::{Read, Write};
 use std::test::Fail;
@@ -60,6 +61,14 @@ impl Write for FailingWriter {
     }
 }
 
+// Whether the source failed, where no message was read.
+fn read_once<S: Source>(alloc: Global, source: &mut S) -> Option<bool> {
+    match Message::read_from(alloc, source, None) {
+        Ok(_message) => None,
+        Err(error) => Some(is_read_fault(&error.kind)),
+    }
+}
+
 #[test]
 fn a_reader_that_fails_is_told_from_one_that_ends(rt: HostRuntime) {
     let alloc = rt.alloc();
@@ -69,21 +78,13 @@ fn a_reader_that_fails_is_told_from_one_that_ends(rt: HostRuntime) {
             given: 0,
             failing: Some(failing),
         });
-        let first = match Message::read_from(alloc, &mut source, None) {
-            Ok(_) => 0,
-            Err(error) if is_read_fault(&error.kind) => 1,
-            Err(_) => 2,
-        };
-        assert_eq!(rt; first, if failing < 26 { 1 } else { 0 });
-        assert_eq!(rt; source.read_faults(), first);
+        assert_eq!(rt; read_once(alloc, &mut source) == Some(true), failing < 26);
+        assert_eq!(rt; source.read_faults() == 1, failing < 26);
         assert_eq!(rt; source.ends(), 0);
-        let second = match Message::read_from(alloc, &mut source, None) {
-            Err(error) => (is_read_fault(&error.kind), is_end(&error.kind)),
-            Ok(_) => (false, false),
-        };
         // fewer than the 16 bytes of a header are left where 11 or more were given, and none after the whole frame
-        let fails = failing == 26;
-        assert_eq!(rt; second, (fails, failing > 10 && !fails));
+        let second = read_once(alloc, &mut source);
+        assert_eq!(rt; second == Some(true), failing == 26);
+        assert_eq!(rt; source.ends() == 1, failing > 10 && failing != 26);
         assert_eq!(rt; source.read_faults(), if failing < 27 { 1 } else { 0 });
     }
 }
@@ -111,11 +112,10 @@ fn a_writer_that_fails_or_takes_nothing_is_told(rt: HostRuntime) -> Result<(), F
         let mut sink = StdSink::new(&mut writer);
         let mut ids = RequestIds::new(0);
         let told = match empty_message(alloc)?.write_op_msg_to(alloc, &mut sink, None, &mut ids) {
-            Ok(()) => 0,
-            Err(error) if is_write_fault(&error.kind) => 1,
-            Err(_) => 2,
+            Ok(()) => false,
+            Err(error) => is_write_fault(&error.kind),
         };
-        assert_eq!(rt; told, faults);
+        assert_eq!(rt; told, faults == 1);
         assert_eq!(rt; sink.write_faults(), faults);
         assert_eq!(rt; writer.held.len(), written);
         assert!(rt; EMPTY_MESSAGE.starts_with(writer.held.as_slice()));
