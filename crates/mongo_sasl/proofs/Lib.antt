@@ -1,0 +1,6 @@
+pub mod OneReply
+mod FirstOfKey
+mod Foreign
+mod SaslRead
+mod MechanismNames
+mod Judged

@@ -1,0 +1,26 @@
+use Rattle.std.proofs.Common.{◌≡◌, true, false, sym, ◌∙◌}
+use Rattle.mongo_command.proofs.Elements.{taken, stopped}
+use Rattle.mongo_sasl.specs.Validation.{is_oidc_property}
+use Rattle.mongo_sasl.proofs.FirstOfKey.{elements_of}
+use Rattle.mongo_sasl.proofs.Foreign.{left_known, left_foreign, left_none, left_unbroken}
+use Rattle.mongo_sasl.proofs.properties.has_foreign_property.Goals as goal
+
+pub returns-then-not-is_oidc_property : goal.returns-then-not-is_oidc_property
+returns-then-not-is_oidc_property c = λ all is.
+    let takes = taken c.loop-item.item-iterator c.next.new.self c.in-Some.item c.in-Ok.name c.in-Ok._value c.in-Some.ensures.steps c.in-Ok.is in
+    let foreign : is_oidc_property c.in-Ok.name.now ≡ false = sym c.is_oidc_property.ensures ∙ c.if-not-is_oidc_property.true in
+    sym (left_foreign c.loop-item.item-iterator.rest.now c.next.new.self.rest.now c.in-Ok.name.now c.in-Ok._value all (c.loop-item.invariant all is) takes foreign)
+
+pub loop-item-preserved : goal.loop-item-preserved
+loop-item-preserved c = λ all is.
+    let takes = taken c.loop-item.item-iterator c.next.new.self c.in-Some.item c.in-Ok.name c.in-Ok._value c.in-Some.ensures.steps c.in-Ok.is in
+    let known : is_oidc_property c.in-Ok.name.now ≡ true = sym c.is_oidc_property.ensures ∙ c.if-not-is_oidc_property.false in
+    left_known c.loop-item.item-iterator.rest.now c.next.new.self.rest.now c.in-Ok.name.now c.in-Ok._value all (c.loop-item.invariant all is) takes known
+
+pub unreachable-requires : goal.unreachable-requires
+unreachable-requires c =
+    let elements = elements_of c.args.properties.bytes.now c.requires in
+    left_unbroken c.loop-item.item-iterator.rest.now elements.0 (stopped c.loop-item.item-iterator c.next.new.self c.in-Some.item c.in-Err.field-0 c.in-Some.ensures.steps c.in-Err.is) (c.loop-item.invariant elements.0 elements.1)
+
+pub returns : goal.returns
+returns c = λ all is. sym (left_none c.loop-item.item-iterator.rest.now all c.in-None.ensures.steps.0 (c.loop-item.invariant all is))

@@ -1,0 +1,120 @@
+ghost use Rattle.std.specs.Prelude.{◌≡◌, IfOk, IfErr};
+
+use crate::AuthMechanism;
+use mongo_bson::{BsonFault, RawDocumentBuf, Text};
+use std::alloc::Global;
+use std::fmt;
+
+/// Who logs in, and how. A field that is None is left to the mechanism.
+#[derive(Default, PartialEq, Drop)]
+pub struct Credential {
+    /// The user's name.
+    pub username: Option<Text>,
+    /// The database that the user belongs to.
+    pub source: Option<Text>,
+    /// The user's password.
+    pub password: Option<Text>,
+    /// The mechanism to log in by; without one it is negotiated.
+    pub mechanism: Option<AuthMechanism>,
+    /// What the mechanism takes besides.
+    pub mechanism_properties: Option<RawDocumentBuf>,
+}
+
+impl Credential {
+    ghost use Rattle.std.specs.Prelude.{◌≡◌, None, IfOk, IfErr};
+    ghost use Rattle.mongo_sasl.specs.Credential.{resolved_source};
+
+    /// A credential that says nothing.
+    pub fn new() -> Credential
+        ensures { result ≡ record { username = None; source = None; password = None; mechanism = None; mechanism_properties = None } }
+    {
+        Credential::default()
+    }
+
+    /// The credential with this user name.
+    pub fn username(self, username: Option<Text>) -> Credential
+        ensures { result ≡ record self { username = username } }
+    {
+        Credential { username, ..self }
+    }
+
+    /// The credential with this source.
+    pub fn source(self, source: Option<Text>) -> Credential
+        ensures { result ≡ record self { source = source } }
+    {
+        Credential { source, ..self }
+    }
+
+    /// The credential with this password.
+    pub fn password(self, password: Option<Text>) -> Credential
+        ensures { result ≡ record self { password = password } }
+    {
+        Credential { password, ..self }
+    }
+
+    /// The credential with this mechanism.
+    pub fn mechanism(self, mechanism: Option<AuthMechanism>) -> Credential
+        ensures { result ≡ record self { mechanism = mechanism } }
+    {
+        Credential { mechanism, ..self }
+    }
+
+    /// The credential with these mechanism properties.
+    pub fn mechanism_properties(self, mechanism_properties: Option<RawDocumentBuf>) -> Credential
+        ensures { result ≡ record self { mechanism_properties = mechanism_properties } }
+    {
+        Credential {
+            mechanism_properties,
+            ..self
+        }
+    }
+
+    /// The database of the credential's mechanism, or `admin` without one; the credential's own source isn't asked.
+    pub fn resolved_source(&self) -> &str
+        ensures { result.now ≡ resolved_source self.now.mechanism }
+    {
+        match &self.mechanism {
+            Some(mechanism) => mechanism.default_source(None),
+            None => "admin",
+        }
+    }
+
+    /// A copy of the credential.
+    pub fn try_clone(&self, alloc: Global) -> Result<Credential, BsonFault>
+        ensures copied { IfOk result (λ credential. credential ≡ self.now) }
+        ensures refused { IfErr result (λ fault. fault ≡ BsonFault.OutOfMemory) }
+    {
+        Ok(Credential {
+            username: copy_of(alloc, &self.username)?,
+            source: copy_of(alloc, &self.source)?,
+            password: copy_of(alloc, &self.password)?,
+            mechanism: self.mechanism,
+            mechanism_properties: match &self.mechanism_properties {
+                Some(properties) => Some(properties.try_clone(alloc)?),
+                None => None,
+            },
+        })
+    }
+}
+
+/// Neither the password nor anything else of a credential is shown.
+impl fmt::Debug for Credential {
+    ghost use Rattle.std.specs.Prelude.{Some, codes};
+
+    ghost debug_output = { λ _. Some (codes "Credential(\"REDACTED\")") };
+
+    fn fmt<W: fmt::Write>(&self, f: &mut fmt::Formatter<W>) -> fmt::Result {
+        f.write_str("Credential(\"REDACTED\")")
+    }
+}
+
+// A copy of a text that may be absent.
+fn copy_of(alloc: Global, text: &Option<Text>) -> Result<Option<Text>, BsonFault>
+    ensures copied { IfOk result (λ copy. copy ≡ text.now) }
+    ensures refused { IfErr result (λ fault. fault ≡ BsonFault.OutOfMemory) }
+{
+    match text {
+        Some(text) => Ok(Some(text.try_clone(alloc)?)),
+        None => Ok(None),
+    }
+}
