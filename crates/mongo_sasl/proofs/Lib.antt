@@ -4,3 +4,4 @@ mod Foreign
 mod SaslRead
 mod MechanismNames
 mod Judged
+mod Negotiated

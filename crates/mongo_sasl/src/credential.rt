@@ -1,7 +1,9 @@
-ghost use Rattle.std.specs.Prelude.{◌≡◌, IfOk, IfErr};
+ghost use Rattle.std.specs.Prelude.{◌≡◌, ◌++◌, codes, IfOk, IfErr};
+ghost use Rattle.mongo_wire.specs.declared.error.ErrorKind.TheVariants.{OutOfMemory};
 
 use crate::AuthMechanism;
-use mongo_bson::{BsonFault, RawDocumentBuf, Text};
+use mongo_bson::{BsonFault, RawDocumentBuf, RawValue, Text};
+use mongo_wire::Error;
 use std::alloc::Global;
 use std::fmt;
 
@@ -21,8 +23,8 @@ pub struct Credential {
 }
 
 impl Credential {
-    ghost use Rattle.std.specs.Prelude.{◌≡◌, None, IfOk, IfErr};
-    ghost use Rattle.mongo_sasl.specs.Credential.{resolved_source};
+    ghost use Rattle.std.specs.Prelude.{◌≡◌, None, IfOk, IfErr, OnOk, OnErr};
+    ghost use Rattle.mongo_sasl.specs.Credential.{resolved_source, negotiated, NegotiationRefused};
 
     /// A credential that says nothing.
     pub fn new() -> Credential
@@ -79,6 +81,31 @@ impl Credential {
         }
     }
 
+    /// Asks a hello for the user's mechanisms, where the credential has a user name and no mechanism: puts
+    /// `saslSupportedMechs` at the end of its document, `admin.` and the user name, by the authentication specification.
+    /// Else the document stays as it is.
+    ///
+    /// `Bson(TooLong)` where the document would pass 2147483647 bytes. A refusal leaves the document as it was.
+    pub fn append_needed_mechanism_negotiation(
+        &self,
+        alloc: Global,
+        command: &mut RawDocumentBuf,
+    ) -> Result<(), Error>
+        ensures negotiated { OnOk result (command.new ≡ negotiated self.now command.old) }
+        ensures unchanged { OnErr result (command.new ≡ command.old) }
+        ensures refused { IfErr result (λ e. NegotiationRefused e.kind self.now command.old) }
+    {
+        let Some(username) = &self.username else {
+            return Ok(());
+        };
+        if self.mechanism.is_some() {
+            return Ok(());
+        }
+        let user = user_of_admin(alloc, username)?;
+        command.append("saslSupportedMechs", RawValue::Str(user.as_str()))?;
+        Ok(())
+    }
+
     /// A copy of the credential.
     pub fn try_clone(&self, alloc: Global) -> Result<Credential, BsonFault>
         ensures copied { IfOk result (λ credential. credential ≡ self.now) }
@@ -106,6 +133,16 @@ impl fmt::Debug for Credential {
     fn fmt<W: fmt::Write>(&self, f: &mut fmt::Formatter<W>) -> fmt::Result {
         f.write_str("Credential(\"REDACTED\")")
     }
+}
+
+// The user of this name that belongs to `admin`.
+fn user_of_admin(alloc: Global, username: &Text) -> Result<Text, Error>
+    ensures user { IfOk result (λ user. user ≡ codes "admin." ++ username.now) }
+    ensures refused { IfErr result (λ e. e.kind ≡ OutOfMemory) }
+{
+    let mut user = Text::from_slice(alloc, "admin.")?;
+    user.push_str(username.as_str())?;
+    Ok(user)
 }
 
 // A copy of a text that may be absent.

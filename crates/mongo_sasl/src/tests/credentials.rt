@@ -1,6 +1,6 @@
 use super::{credential, document};
 use crate::{AuthMechanism, Credential, Moment};
-use mongo_bson::RawValue;
+use mongo_bson::{RawDocumentBuf, RawValue};
 use std::test::Fail;
 
 #[test]
@@ -22,6 +22,30 @@ fn a_copy_of_a_credential_is_equal_to_it(rt: HostRuntime) -> Result<(), Fail> {
         .mechanism_properties(Some(document(alloc, &[("CASE", RawValue::Null)])?));
     assert!(rt; given.try_clone(alloc)? == given);
     assert!(rt; given != Credential::new());
+    Ok(())
+}
+
+#[test]
+fn mechanisms_are_asked_for_where_there_is_a_user_and_no_mechanism(
+    rt: HostRuntime,
+) -> Result<(), Fail> {
+    let alloc = rt.alloc();
+    let ann = credential(alloc, Some("ann"), Some("orders"), None)?;
+    let mut hello = RawDocumentBuf::new(alloc)?;
+    ann.append_needed_mechanism_negotiation(alloc, &mut hello)?;
+    let asked = b"\x27\0\0\0\x02saslSupportedMechs\0\x0a\0\0\0admin.ann\0\0";
+    assert_eq!(rt; hello.as_bytes(), asked.as_slice());
+
+    let silent = [
+        Credential::new(),
+        credential(alloc, None, Some("orders"), Some("pencil"))?,
+        credential(alloc, Some("ann"), None, None)?.mechanism(Some(AuthMechanism::ScramSha1)),
+    ];
+    for credential in silent {
+        let mut hello = RawDocumentBuf::new(alloc)?;
+        credential.append_needed_mechanism_negotiation(alloc, &mut hello)?;
+        assert_eq!(rt; hello.as_bytes(), b"\x05\0\0\0\0".as_slice());
+    }
     Ok(())
 }
 
