@@ -1,9 +1,9 @@
 ghost use Rattle.std.specs.Prelude.{◌≡◌, IfOk, IfErr};
-ghost use Rattle.mongo_establish.specs.Client.{driver_document, os_document, client_document, hello_with_client};
+ghost use Rattle.mongo_establish.specs.Client.{driver_document, os_document, client_document, hello_with_client, client_hello};
 ghost use Rattle.mongo_wire.specs.declared.error.ErrorKind.TheVariants.{OutOfMemory};
 
 use mongo_bson::{RawDocumentBuf, RawValue};
-use mongo_command::hello_command;
+use mongo_command::{Command, LEGACY_HELLO_COMMAND_NAME, hello_command};
 use mongo_wire::Error;
 use std::alloc::Global;
 
@@ -43,8 +43,8 @@ fn client(alloc: Global) -> Result<RawDocumentBuf, Error>
     Ok(document)
 }
 
-/// The body of the hello that opens a connection, with the client's metadata. Want of memory is the only refusal.
-pub fn hello_body(alloc: Global) -> Result<RawDocumentBuf, Error>
+// The hello's body, with the client's metadata.
+fn hello_body(alloc: Global) -> Result<RawDocumentBuf, Error>
     ensures body { IfOk result (λ document. document ≡ hello_with_client) }
     ensures refused { IfErr result (λ e. e.kind ≡ OutOfMemory) }
 {
@@ -52,4 +52,13 @@ pub fn hello_body(alloc: Global) -> Result<RawDocumentBuf, Error>
     let mut body = hello_command(alloc)?.body;
     body.append("client", RawValue::Document(client.borrow()))?;
     Ok(body)
+}
+
+/// The hello that opens a connection, with the client's metadata.
+pub fn client_hello(alloc: Global) -> Result<Command, Error>
+    ensures command { IfOk result (λ command. command ≡ client_hello) }
+    ensures refused { IfErr result (λ e. e.kind ≡ OutOfMemory) }
+{
+    let body = hello_body(alloc)?;
+    Command::new_raw(alloc, LEGACY_HELLO_COMMAND_NAME, "admin", body)
 }

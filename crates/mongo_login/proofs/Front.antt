@@ -3,9 +3,9 @@ use Rattle.std.proofs.Common.{◌≡◌, ℕ, ◌+◌, ◌<◌, ◌≤◌, Optio
 use Rattle.std.proofs.Math.Seq.{take-append_seam, drop-append_seam}
 use Rattle.std.proofs.lemmas.Bool.{lt-leb}
 use Rattle.std.specs.Io.KnownBytes.{Consumes, IsAtEnd}
-use Rattle.mongo_login.specs.Settings.{limit, judged}
+use Rattle.mongo_settings.specs.Settings.{limit, judged}
 use Rattle.mongo_login.specs.Input.{ReadsInput}
-use Rattle.mongo_login.specs.declared.settings.SettingsError.TheVariants.{BadSettings}
+use Rattle.mongo_settings.specs.declared.settings.SettingsError.TheVariants.{BadSettings}
 
 -- the bytes held of a told input are its front
 held_front : (old left : Option (List ℕ)) (held input : List ℕ) → old ≡ Some input → Consumes old left held → (rest : List ℕ) × (left ≡ Some rest) × (input ≡ held ++ rest)

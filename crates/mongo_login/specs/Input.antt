@@ -1,6 +1,6 @@
 -- What is read of a source whose bytes are settings: all of it, or a front that is past the limit.
 use Rattle.std.specs.Prelude.{◌≡◌, ℕ, ◌+◌, ◌<◌, ◌≤◌, ◌⊎◌, Option, Some, List, [], length, take, drop}
-use Rattle.mongo_login.specs.Settings.{limit}
+use Rattle.mongo_settings.specs.Settings.{limit}
 
 -- Of this input these bytes were held and these are left: the whole input and nothing, or one byte more than the limit
 -- and what follows it.

@@ -1,11 +1,4 @@
-pub mod Headline
 pub mod Input
-pub mod Keys
-pub mod Line
-pub mod Names
 pub mod Output
-pub mod Rehearsal
-pub mod Report
 pub mod Run
-pub mod Settings
 pub mod Words

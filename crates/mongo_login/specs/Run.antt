@@ -1,12 +1,18 @@
--- How the program ends, and what it has printed then.
-use Rattle.std.specs.Prelude.{◌≡◌, ℕ, ◌+◌, ◌<◌, ◌≤◌, ◌⊎◌, Option, Some, Ok, List, [], ◌++◌, length, drop, ⊤}
-use Rattle.std.specs.Io.KnownBytes.{Keeps}
-use Rattle.mongo_wire.specs.Outside.{AppendsFront}
-use Rattle.mongo_login.specs.declared.settings.Settings.{Settings}
+-- How a run ends, and what the source and the sink hold then.
+use Rattle.std.specs.Prelude.{◌≡◌, ℕ, ◌+◌, ◌<◌, ◌≤◌, ◌⊎◌, Option, Some, Result, Ok, Err, List, [], length, drop, ⊤}
+use Rattle.std.specs.Io.KnownBytes.{Appends, Keeps}
+use Rattle.mongo_wire.specs.Outside.{State, Rose, AppendsFront, ConsumesAtMost, IsFlushed}
+use Rattle.mongo_settings.specs.declared.settings.Settings.{Settings}
+use Rattle.mongo_settings.specs.declared.settings.SettingsError.{SettingsError}
+use Rattle.mongo_settings.specs.declared.settings.SettingsError.TheVariants.{BadSettings as Bad, NotBuilt as Unbuilt, OutOfMemory}
+use Rattle.mongo_settings.specs.declared.rehearsal.RehearsalStatus.{RehearsalStatus}
+use Rattle.mongo_settings.specs.declared.rehearsal.RehearsalStatus.TheVariants as rehearsal
+use Rattle.mongo_settings.specs.Settings.{limit, judged}
+use Rattle.mongo_settings.specs.Outcome.{status_of, IsAccepted, IsRefused}
+use Rattle.mongo_settings.specs.Rehearsal.{IsReport}
 use Rattle.mongo_login.specs.declared.status.Status.{Status}
 use Rattle.mongo_login.specs.declared.status.Status.TheVariants.{Done, Refused, BadSettings, Usage, SourceFault, SinkFault, NoMemory, NotBuilt}
-use Rattle.mongo_login.specs.Settings.{limit, judged}
-use Rattle.mongo_login.specs.Headline.{Rehearsed, RehearsedRefused}
+use Rattle.mongo_login.specs.Words.{IsRehearse}
 
 -- the number that the process ends with
 abbrev pub code_of_status : Status → ℕ
@@ -19,49 +25,140 @@ code_of_status SinkFault = 5
 code_of_status NoMemory = 6
 code_of_status NotBuilt = 7
 
--- this end, or want of memory
-abbrev pub EndsAs : Status → Status → Type 0
-EndsAs status result = (result ≡ status) ⊎ (result ≡ NoMemory)
+-- the end of a report that was written whole
+abbrev pub status_after : RehearsalStatus → Status
+status_after rehearsal.Accepted = Done
+status_after rehearsal.Refused = Refused
 
--- the ends at which nothing is written
-abbrev pub WritesNothing : Status → Type 0
-WritesNothing BadSettings = ⊤
-WritesNothing Usage = ⊤
-WritesNothing SourceFault = ⊤
-WritesNothing NotBuilt = ⊤
-WritesNothing status = ⊥
+-- ---- what was printed
 
--- the ends that are judged on a text that was read to its end
-abbrev pub ReadsToItsEnd : Status → Type 0
-ReadsToItsEnd Done = ⊤
-ReadsToItsEnd Refused = ⊤
-ReadsToItsEnd NotBuilt = ⊤
-ReadsToItsEnd status = ⊥
+-- The source was read to its end, its bytes are settings, and exactly their report, which ends so, was written after what
+-- was there, all of it flushed.
+pub record Printed (status : RehearsalStatus) (input : List ℕ) (source_after sink sink_after : State) : Type 0 where
+  pub settings : Settings
+  pub settings_are : judged input ≡ Ok settings
+  pub read : source_after.left ≡ Some []
+  pub text : List ℕ
+  pub report : IsReport settings text
+  pub status_is : status ≡ status_of report.outcome
+  pub written : Appends sink.written sink_after.written text
+  pub flushed : IsFlushed sink_after.written sink_after.flushed
+
+-- a front of the report of the settings was written after what was there
+pub record PrintedFront (input : List ℕ) (sink sink_after : State) : Type 0 where
+  pub settings : Settings
+  pub settings_are : judged input ≡ Ok settings
+  pub text : List ℕ
+  pub report : IsReport settings text
+  pub front : AppendsFront sink.written sink_after.written text
+
+-- nothing was written, or a front of the report of the settings
+abbrev pub PrintedAtMost : List ℕ → State → State → Type 0
+PrintedAtMost input sink sink_after = Keeps sink.written sink_after.written ⊎ PrintedFront input sink sink_after
 
 -- What is left of an input that was read as settings: nothing of one within the limit, and of a longer one what follows
 -- the byte past the limit.
 abbrev pub LeftOver : List ℕ → Option (List ℕ) → Type 0
 LeftOver input left = ((length input ≤ limit) × (left ≡ Some [])) ⊎ ((limit < length input) × (left ≡ Some (drop (limit + 1) input)))
 
--- The source was read to its end, its bytes are settings, and exactly a report of which this holds was written after
--- what was there, all of it flushed.
-pub record Printed (IsReport : Settings → List ℕ → Type 0) (input old : List ℕ) (left written : Option (List ℕ)) (flushed : ℕ) : Type 0 where
-  pub settings : Settings
-  pub settings_are : judged input ≡ Ok settings
-  pub read : left ≡ Some []
-  pub report : List ℕ
-  pub is_report : IsReport settings report
-  pub written_is : written ≡ Some (old ++ report)
-  pub flushed_is : flushed ≡ length (old ++ report)
+-- ---- the ends, one a status
 
--- a front of the report of the settings was written after what was there
-pub record PrintedFront (input old : List ℕ) (written : Option (List ℕ)) : Type 0 where
-  pub settings : Settings
-  pub settings_are : judged input ≡ Ok settings
-  pub report : List ℕ
-  pub is_report : Rehearsed settings report ⊎ RehearsedRefused settings report
-  pub front : AppendsFront (Some old) written report
+-- a source and a sink, before a run and after it
+pub record Run (S K : Type 0) : Type 0 where
+  pub source : S
+  pub source_after : S
+  pub sink : K
+  pub sink_after : K
 
--- nothing was written, or a front of the report of the settings
-abbrev pub PrintedAtMost : List ℕ → List ℕ → Option (List ℕ) → Type 0
-PrintedAtMost input old written = Keeps (Some old) written ⊎ PrintedFront input old written
+abbrev pub run_of : {S K : Type 0} → S → S → K → K → Run S K
+run_of source source_after sink sink_after = record { source = source; source_after = source_after; sink = sink; sink_after = sink_after }
+
+-- where the source tells its bytes, it had these
+abbrev pub GaveInput : State → (List ℕ → Type 0) → Type 0
+GaveInput source P = (input : List ℕ) → source.left ≡ Some input → P input
+
+module _ {S K : Type 0} (source : S → State) (sink : K → State) where
+  -- the report was written whole; an end of the source was met
+  pub record Reports (status : RehearsalStatus) (run : Run S K) : Type 0 where
+    pub ended : Rose (source run.source).ends (source run.source_after).ends
+    pub printed : GaveInput (source run.source) (λ input. Printed status input (source run.source_after) (sink run.sink) (sink run.sink_after))
+
+  -- the text isn't settings: at most one byte past the limit was read, and nothing was written
+  pub record IsBad (run : Run S K) : Type 0 where
+    pub judged_so : GaveInput (source run.source) (λ input. judged input ≡ Err Bad)
+    pub read : GaveInput (source run.source) (λ input. LeftOver input (source run.source_after).left)
+    pub unwritten : run.sink_after ≡ run.sink
+
+  -- a key that isn't read yet: the source was read to its end, and nothing was written
+  pub record IsUnbuilt (run : Run S K) : Type 0 where
+    pub judged_so : GaveInput (source run.source) (λ input. judged input ≡ Err Unbuilt)
+    pub ended : Rose (source run.source).ends (source run.source_after).ends
+    pub read : GaveInput (source run.source) (λ input. (source run.source_after).left ≡ Some [])
+    pub unwritten : run.sink_after ≡ run.sink
+
+  -- the source failed: no more than one byte past the limit was read, and nothing was written
+  pub record SourceFailed (run : Run S K) : Type 0 where
+    pub rose : Rose (source run.source).read_faults (source run.source_after).read_faults
+    pub read : ConsumesAtMost (source run.source).left (source run.source_after).left (limit + 1)
+    pub unwritten : run.sink_after ≡ run.sink
+
+  -- the sink failed: the source was read to its end, and a front of the report was written
+  pub record SinkFailed (run : Run S K) : Type 0 where
+    pub rose : Rose (sink run.sink).write_faults (sink run.sink_after).write_faults
+    pub ended : Rose (source run.source).ends (source run.source_after).ends
+    pub read : GaveInput (source run.source) (λ input. (source run.source_after).left ≡ Some [])
+    pub printed : GaveInput (source run.source) (λ input. PrintedFront input (sink run.sink) (sink run.sink_after))
+
+  -- memory ran out: no more than one byte past the limit was read, and at most a front of the report was written
+  pub record RanOut (run : Run S K) : Type 0 where
+    pub read : ConsumesAtMost (source run.source).left (source run.source_after).left (limit + 1)
+    pub printed : GaveInput (source run.source) (λ input. PrintedAtMost input (sink run.sink) (sink run.sink_after))
+
+  -- how a rehearsal ends
+  abbrev pub RehearseEnds : Run S K → Status → Type 0
+  RehearseEnds run Done = Reports rehearsal.Accepted run
+  RehearseEnds run Refused = Reports rehearsal.Refused run
+  RehearseEnds run BadSettings = IsBad run
+  RehearseEnds run Usage = ⊥
+  RehearseEnds run SourceFault = SourceFailed run
+  RehearseEnds run SinkFault = SinkFailed run
+  RehearseEnds run NoMemory = RanOut run
+  RehearseEnds run NotBuilt = IsUnbuilt run
+
+  -- the words are no command: nothing is read or written
+  pub record IsUsage (words : List (List ℕ)) (run : Run S K) : Type 0 where
+    pub no_command : IsRehearse words → ⊥
+    pub unread : run.source_after ≡ run.source
+    pub unwritten : run.sink_after ≡ run.sink
+
+  -- how a run of a command ends
+  abbrev pub RunEnds : List (List ℕ) → Run S K → Status → Type 0
+  RunEnds words run Usage = IsUsage words run
+  RunEnds words run status = IsRehearse words × RehearseEnds run status
+
+  -- ---- what decides
+
+  -- the source and the sink didn't fail
+  pub record Unfailed (run : Run S K) : Type 0 where
+    pub reads : Rose (source run.source).read_faults (source run.source_after).read_faults → ⊥
+    pub writes : Rose (sink run.sink).write_faults (sink run.sink_after).write_faults → ⊥
+
+-- this end, or want of memory
+abbrev pub EndsAs : Status → Status → Type 0
+EndsAs status result = (result ≡ status) ⊎ (result ≡ NoMemory)
+
+-- settings end as their reply bytes come out
+pub record SettingsDecide (settings : Settings) (result : Status) : Type 0 where
+  pub accepts : IsAccepted settings → EndsAs Done result
+  pub refuses : IsRefused settings → EndsAs Refused result
+
+-- what the text is decides how it ends
+abbrev pub TextDecides : Result Settings SettingsError → Status → Type 0
+TextDecides (Ok settings) result = SettingsDecide settings result
+TextDecides (Err Bad) result = EndsAs BadSettings result
+TextDecides (Err Unbuilt) result = EndsAs NotBuilt result
+TextDecides (Err OutOfMemory) result = ⊤
+
+-- Where nothing fails, the words and the text decide; want of memory may stand in its place.
+abbrev pub IsDecided : {S K : Type 0} → (S → State) → (K → State) → List (List ℕ) → Run S K → Status → Type 0
+IsDecided source sink words run result = IsRehearse words → Unfailed source sink run → GaveInput (source run.source) (λ input. TextDecides (judged input) result)

@@ -1,14 +1,14 @@
 //! Reading the text of settings from a source.
-ghost use Rattle.std.specs.Prelude.{◌≡◌, ℕ, List, Some, ◌+◌, ◌≤◌, length, IfOk, OnErr, IsErrOf};
+ghost use Rattle.std.specs.Prelude.{◌≡◌, ℕ, List, Some, ◌+◌, ◌≤◌, length, IfOk, IsErrOf};
 ghost use Rattle.std.specs.Io.KnownBytes.{Consumes};
 ghost use Rattle.mongo_wire.specs.Outside.{ReadsOn, Rose, ConsumesAtMost};
-ghost use Rattle.mongo_login.specs.Settings.{limit, judged};
+ghost use Rattle.mongo_settings.specs.Settings.{limit, judged};
 ghost use Rattle.mongo_login.specs.Input.{ReadsInput};
 
 #[cfg(test)]
 mod tests;
 
-use crate::settings::LIMIT;
+use mongo_settings::LIMIT;
 use mongo_wire::Source;
 use std::alloc::{AllocError, Global};
 
@@ -36,14 +36,14 @@ impl From<AllocError> for InputError {
 
 /// Reads a source to its end, or until it has given one byte more than settings may have, 4194305 of them.
 ///
-/// `Fault` where the source failed. A refusal has consumed a front of the same size at most.
+/// `Fault` where the source failed. No more than that is consumed.
 pub fn read_input<S: Source>(alloc: Global, source: &mut S) -> Result<Vec<u8>, InputError>
     ensures read { (input : List ℕ) → (S.state source.old).left ≡ Some input → IfOk result (λ held. ReadsInput input held.items (S.state source.new).left) }
     ensures judged_alike { (input : List ℕ) → (S.state source.old).left ≡ Some input → IfOk result (λ held. judged held.items ≡ judged input) }
     ensures consumed { IfOk result (λ held. Consumes (S.state source.old).left (S.state source.new).left held.items) }
     ensures ended { IfOk result (λ held. length held.items ≤ limit → Rose (S.state source.old).ends (S.state source.new).ends) }
     ensures failed { IsErrOf result InputError.Fault → Rose (S.state source.old).read_faults (S.state source.new).read_faults }
-    ensures refused { OnErr result (ConsumesAtMost (S.state source.old).left (S.state source.new).left (limit + 1)) }
+    ensures at_most { ConsumesAtMost (S.state source.old).left (S.state source.new).left (limit + 1) }
     ensures on { ReadsOn (S.state source.old) (S.state source.new) }
 {
     let mut held = Vec::new(alloc);

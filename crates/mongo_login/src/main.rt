@@ -7,10 +7,7 @@
 
 mod input;
 mod output;
-mod rehearsal;
-mod report;
 mod run;
-mod settings;
 mod status;
 mod words;
 
@@ -37,7 +34,7 @@ fn main(rt: HostRuntime) -> ExitCode {
         ),
         Err(_) => Status::NoMemory,
     };
-    ExitCode::from(status.code())
+    ExitCode::from(status)
 }
 
 /// The words after the program's name.

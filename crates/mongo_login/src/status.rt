@@ -1,4 +1,5 @@
-ghost use Rattle.std.specs.Prelude.{◌≡◌};
+use mongo_settings::RehearsalStatus;
+use std::process::ExitCode;
 
 /// How the program ended.
 #[derive(Clone, Copy, Debug, PartialEq, Eq)]
@@ -23,12 +24,28 @@ pub enum Status {
 
 impl Status {
     ghost use Rattle.std.specs.Prelude.{◌≡◌};
+    ghost use Rattle.mongo_login.specs.Run.{status_after};
+
+    /// How a run ends that has written and flushed the report of such a rehearsal.
+    pub fn after(status: RehearsalStatus) -> Status
+        ensures { result ≡ status_after status }
+    {
+        match status {
+            RehearsalStatus::Accepted => Status::Done,
+            RehearsalStatus::Refused => Status::Refused,
+        }
+    }
+}
+
+/// The number that the process ends with.
+impl From<Status> for ExitCode {
+    ghost use Rattle.std.specs.Prelude.{◌≡◌};
+    ghost use Rattle.std.specs.Process.{exit_status};
     ghost use Rattle.mongo_login.specs.Run.{code_of_status};
 
-    /// The number that the process ends with.
-    pub fn code(self) -> u8
-        ensures { result ≡ code_of_status self }
-    {
-        self as u8
+    ghost from_gives = { λ status code. exit_status code ≡ code_of_status status };
+
+    fn from(status: Status) -> ExitCode {
+        ExitCode::from(status as u8)
     }
 }

@@ -1,9 +1,8 @@
 use Rattle.std.proofs.Common.{rules, arith, ◌≡◌, ◌+◌, ◌<◌, ◌≤◌, length, ◌++◌, take}
 use Rattle.std.proofs.lemmas.Grind.{common_steps}
-use Rattle.std.proofs.lemmas.Result.{err_from_is_err_and}
 use Rattle.std.proofs.KnownBytes.{Consumes-trans}
 use Rattle.std.specs.Io.KnownBytes.{Consumes}
-use Rattle.mongo_login.specs.Settings.{limit}
+use Rattle.mongo_settings.specs.Settings.{limit}
 use Rattle.mongo_login.proofs.Front.{reads_whole, reads_front, judged-front}
 use Rattle.mongo_login.proofs.input.read_input.Goals as goal
 
@@ -16,14 +15,13 @@ returns-in-Ok-eq0-clause-read g c =
     let end = c.in-Ok-eq0.ensures.bytes.1 c.in-Ok-eq0.field-0-test room in
     λ input told. reads_whole _ _ held input told all end short
 
-pub returns-in_err-extend_from_slice-in-Ok-clause-refused :
-    goal.returns-in_err-extend_from_slice-in-Ok-clause-refused
-returns-in_err-extend_from_slice-in-Ok-clause-refused g c =
+pub returns-in_err-extend_from_slice-in-Ok-clause-at_most :
+    goal.returns-in_err-extend_from_slice-in-Ok-clause-at_most
+returns-in_err-extend_from_slice-in-Ok-clause-at_most g c =
     let piece = take c.in-Ok.count c.read.new.buf in
     let room : length c.read.new.buf ≡ c.min-room.result = grind (arith, common_steps, c.read.auto.buf) in
     let short : length (c.reading.held.items ++ piece) ≤ limit + 1 = grind (arith, common_steps) in
-    let (e, is, gives) = err_from_is_err_and c.from_residual.result c.from_residual.ensures.1 in
-    rw is (c.reading.held.items ++ piece, short, Consumes-trans _ _ _ _ piece c.reading.invariant.front c.in-Ok.ensures.bytes.0)
+    (c.reading.held.items ++ piece, short, Consumes-trans _ _ _ _ piece c.reading.invariant.front c.in-Ok.ensures.bytes.0)
 
 pub returns-clause-read : goal.returns-clause-read
 returns-clause-read g c =

@@ -1,7 +1,7 @@
 use Rattle.std.proofs.Common.{◌≤◌, ◌+◌, ◌-◌, length}
 use Rattle.std.specs.Io.KnownBytes.{Consumes}
 use Rattle.mongo_wire.specs.Outside.{ReadsOn}
-use Rattle.mongo_login.specs.Settings.{limit}
+use Rattle.mongo_settings.specs.Settings.{limit}
 use Rattle.mongo_login.proofs.input.read_input.Given as goal
 
 -- what is held is what the source gave so far

@@ -1,7 +1,0 @@
-use Rattle.std.proofs.Common.{rules, append_assoc}
-use Rattle.mongo_login.specs.Report.{sizes_line}
-use Rattle.mongo_login.proofs.report.description.push_sizes.Goals as goal
-
-pub returns : goal.returns
-unfolding sizes_line
-returns c = search (rules, append_assoc)

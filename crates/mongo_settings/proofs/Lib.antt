@@ -1,0 +1,6 @@
+mod Frames
+mod Json
+mod Sent
+mod Spaced
+mod Rehearsing
+pub mod OneReport

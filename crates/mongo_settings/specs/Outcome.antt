@@ -1,0 +1,68 @@
+-- How the establishment that settings ask for comes out over their reply bytes.
+use Rattle.std.specs.Prelude.{◌≡◌, ℕ, ℤ, pos, None, List, ◌++◌}
+use Rattle.mongo_command.specs.declared.server_address.ServerAddress.TheVariants.{Tcp}
+use Rattle.mongo_command.specs.Conversation.{IsSaid}
+use Rattle.mongo_establish.specs.declared.establisher.PendingConnection.{PendingConnection}
+use Rattle.mongo_establish.specs.declared.generation.PoolGeneration.TheVariants.{Normal}
+use Rattle.mongo_establish.specs.Asked.{Asked, asked_for}
+use Rattle.mongo_establish.specs.Script.{Script, IsScript, IsWritten, IsTaken, HasScript}
+use Rattle.mongo_establish.specs.Stopped.{Refusal, IsRefusal}
+use Rattle.mongo_settings.specs.declared.settings.Settings.{Settings}
+use Rattle.mongo_settings.specs.declared.rehearsal.RehearsalStatus.{RehearsalStatus}
+use Rattle.mongo_settings.specs.declared.rehearsal.RehearsalStatus.TheVariants.{Accepted, Refused}
+
+-- the connection to a host
+abbrev pub pending_to : List ℕ → PendingConnection
+pending_to host = record { id = 1; address = Tcp host None; generation = Normal 0 }
+
+-- the id of the first command
+abbrev pub first_id : ℤ
+first_id = pos 0
+
+-- what settings ask for
+abbrev pub asked_of : Settings → Asked
+asked_of settings = asked_for (pending_to settings.host) first_id
+
+-- a script, and of the reply bytes what is taken and unread
+pub record Acceptance : Type 0 where
+  pub script : Script
+  pub taken : List ℕ
+  pub unread : List ℕ
+
+pub data Outcome : Type 0 where
+  accepted : Acceptance → Outcome
+  refused : Refusal → Outcome
+
+-- the reply bytes that are taken are exactly those of a script
+pub record IsAcceptance (settings : Settings) (acceptance : Acceptance) : Type 0 where
+  pub is_script : IsScript (asked_of settings) acceptance.script
+  pub joined : settings.replies ≡ acceptance.taken ++ acceptance.unread
+  pub is_taken : IsTaken acceptance.script acceptance.taken
+
+-- the outcome of settings: a script, or the first refusal that applies
+abbrev pub IsOutcome : Settings → Outcome → Type 0
+IsOutcome settings (accepted acceptance) = IsAcceptance settings acceptance
+IsOutcome settings (refused refusal) = IsRefusal (asked_of settings) settings.replies refusal
+
+-- the frames of its commands, joined
+abbrev pub Writes : Settings → Outcome → List ℕ → Type 0
+Writes settings (accepted acceptance) bytes = IsWritten (asked_of settings) acceptance.script bytes
+Writes settings (refused refusal) bytes = IsSaid refusal.commands first_id bytes
+
+-- the reply bytes that it takes
+abbrev pub taken_by : Outcome → List ℕ
+taken_by (accepted acceptance) = acceptance.taken
+taken_by (refused refusal) = refusal.taken
+
+abbrev pub status_of : Outcome → RehearsalStatus
+status_of (accepted acceptance) = Accepted
+status_of (refused refusal) = Refused
+
+-- the reply bytes begin with a script's
+abbrev pub IsAccepted : Settings → Type 0
+IsAccepted settings = HasScript (asked_of settings) settings.replies
+
+-- the reply bytes lead to a refusal
+pub record IsRefused (settings : Settings) : Type 0 where
+  pub refusal : Refusal
+  pub is_refusal : IsRefusal (asked_of settings) settings.replies refusal

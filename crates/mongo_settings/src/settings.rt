@@ -1,0 +1,109 @@
+//! Settings: the text of one JSON object.
+ghost use Rattle.std.specs.Prelude.{◌≡◌};
+ghost use Rattle.serde_json.specs.View.{view};
+ghost use Rattle.mongo_settings.specs.Settings.{rule, json_of, judged, settings_of, Gives};
+
+mod floats;
+mod keys;
+mod reading;
+#[cfg(test)]
+mod tests;
+
+use floats::holds_float;
+use keys::judge_keys;
+use mongo_bson::{Bytes, Text};
+use reading::given;
+use serde_json::{Category, Value};
+use std::alloc::{AllocError, Global};
+
+/// The longest text of settings, in bytes.
+pub const LIMIT: usize = 4_194_304;
+
+/// What a rehearsal is told.
+#[derive(Debug, Drop)]
+pub struct Settings {
+    /// The host that the connection is to.
+    pub host: Text,
+    /// The bytes that the server answers.
+    pub replies: Bytes,
+}
+
+/// Why a text is no settings.
+#[derive(Clone, Copy, Debug, PartialEq, Eq)]
+pub enum SettingsError {
+    /// The text is no settings.
+    BadSettings,
+    /// A key isn't read yet.
+    NotBuilt,
+    /// Memory ran out.
+    OutOfMemory,
+}
+
+impl From<AllocError> for SettingsError {
+    ghost use Rattle.mongo_settings.specs.declared.settings.SettingsError.TheVariants.{OutOfMemory};
+
+    ghost from_gives = { λ _ e. e ≡ OutOfMemory };
+
+    fn from(_error: AllocError) -> SettingsError {
+        SettingsError::OutOfMemory
+    }
+}
+
+/// Reads settings: the text of one JSON object in UTF-8.
+///
+/// Refusals, in this order: `BadSettings` where the text is longer than 4194304 bytes, isn't JSON or holds a float; those
+/// of [`settings_of`].
+#[tactic(auto, unfolding(crate::specs::Settings::judged))]
+pub fn read(alloc: Global, text: &[u8]) -> Result<Settings, SettingsError>
+    ensures { Gives (λ s. s) result (judged text.now) }
+{
+    check(text.len() <= LIMIT)?;
+    let value = json_of(alloc, text)?;
+    check(!holds_float(&value))?;
+    settings_of(alloc, &value)
+}
+
+/// The settings that a JSON value is.
+///
+/// Refusals, in this order: `BadSettings` where it is no object or has a key that the format hasn't; `NotBuilt` where it
+/// has a key that isn't read yet; `BadSettings` where a key's value is of another kind, or `host` isn't there.
+#[tactic(auto, unfolding(crate::specs::Settings::settings_of))]
+pub fn settings_of(alloc: Global, value: &Value) -> Result<Settings, SettingsError>
+    ensures { Gives (λ s. s) result (settings_of (view value.now)) }
+{
+    judge_keys(value)?;
+    let host = given::<Text>(alloc, value, "host")?;
+    let replies = given::<Bytes>(alloc, value, "replies")?;
+    match host {
+        Some(host) => Ok(Settings {
+            host,
+            replies: replies.unwrap_or(Bytes::new(alloc)),
+        }),
+        None => Err(SettingsError::BadSettings),
+    }
+}
+
+// a rule of settings
+fn check(holds: bool) -> Result<(), SettingsError>
+    ensures { result ≡ rule holds }
+{
+    if holds {
+        Ok(())
+    } else {
+        Err(SettingsError::BadSettings)
+    }
+}
+
+// the value of a text of JSON in UTF-8
+#[tactic(auto, unfolding(crate::specs::Settings::json_of))]
+fn json_of(alloc: Global, text: &[u8]) -> Result<Value, SettingsError>
+    ensures { Gives view result (json_of text.now) }
+{
+    match Value::from_slice(alloc, text) {
+        Ok(value) => Ok(value),
+        Err(error) => match error.classify() {
+            Category::Memory => Err(SettingsError::OutOfMemory),
+            _ => Err(SettingsError::BadSettings),
+        },
+    }
+}
