@@ -82,7 +82,7 @@ impl Credential {
     }
 
     /// Asks a hello for the user's mechanisms, where the credential has a user name and no mechanism: puts
-    /// `saslSupportedMechs` at the end of its document, `admin.` and the user name, by the authentication specification.
+    /// `saslSupportedMechs` at the end of its document, `admin.` and the user name, whatever the credential's source is.
     /// Else the document stays as it is.
     ///
     /// `Bson(TooLong)` where the document would pass 2147483647 bytes. A refusal leaves the document as it was.
