@@ -54,7 +54,7 @@ pub enum ArgumentFault {
     OidcHostsNotArray,
 }
 
-/// Why no frame was read.
+/// Why nothing was read.
 ///
 /// It owns no memory, so that a call which lends its buffer on can still say what the buffer holds.
 #[derive(Clone, Copy, Debug, PartialEq, Eq)]
@@ -65,7 +65,7 @@ pub enum FrameFault {
     EndOfInput,
     /// Memory ran out.
     OutOfMemory,
-    /// The length in the header is below 16.
+    /// The length in a header is below 16, or that of a document below 4.
     InvalidArgument(ArgumentFault),
     /// The header or what follows it isn't an OP_MSG within the maximum.
     InvalidResponse(ResponseFault),

@@ -5,7 +5,7 @@ use crate::held_frame::HeldFrame;
 use mongo_bson::{Bytes, RawDocumentBuf};
 use std::alloc::Global;
 
-/// A buffer that holds one frame after its header at a time. Its memory is used again for each frame, and grows only as
+/// A buffer that holds the bytes of one frame after its header at a time. Its memory is used again for each frame, and grows only as
 /// the bytes of a frame come.
 ///
 /// [`FrameBuffer::read`] and [`FrameBuffer::next`] read a frame into it and lend it to the message that shows the frame;
@@ -47,7 +47,7 @@ impl FrameBuffer {
         &self.store.as_slice()[..self.held]
     }
 
-    /// How many frames were taken into the buffer. It stays at its last value.
+    /// How many frames were taken into the buffer. It stays at 18446744073709551615.
     pub fn frames(&self) -> u64
         ensures { result ≡ frames_taken self.now }
     {

@@ -6,7 +6,7 @@ ghost use Rattle.mongo_wire.specs.Small.{IsOfSource};
 
 use crate::{FrameFault, Source};
 
-// How many bytes are read ahead of the memory for them at most.
+// How many bytes memory is reserved for at least.
 const PIECE: usize = 4096;
 
 /// Fills the buffer with the next bytes of the source.

@@ -169,7 +169,7 @@ fn a_refused_read_shows_nothing(rt: HostRuntime) -> Result<(), Fail> {
         let mut buffer = FrameBuffer::new(alloc);
         assert!(rt; buffer.take_frame(&mut link, None).is_ok());
         assert_eq!(rt; buffer.as_bytes(), &EMPTY_MESSAGE[16..]);
-        assert!(rt; buffer.read(&mut link, None).is_err());
+        assert!(rt; read_frame(alloc, &mut link, None, &mut buffer).is_err());
         assert_eq!(rt; buffer.as_bytes().len(), 0);
         assert!(rt; buffer.message().is_none());
         assert_eq!(rt; buffer.frames(), 1);
