@@ -6,6 +6,7 @@ pub mod OneSaid
 pub mod Leads
 pub mod Ends
 pub mod Phases
+pub mod CommandDocument
 pub mod Elements
 pub mod FieldAnswers
 pub mod Entries

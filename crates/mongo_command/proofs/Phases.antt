@@ -1,5 +1,5 @@
 -- What the two phases of an exchange answer, from what writing and reading a message do.
-use Rattle.std.proofs.Common.{◌≡◌, ◌≢◌, ℤ, ◌+◌, ◌^◌, ◌<◌, ◌%◌, bit_and, IfSome, ◌∙◌, refl, ap, subst, sym, inr, None, Some, Result, Ok, Err, [], length, IfOk, IfErr, OnOk, unwrap_or}
+use Rattle.std.proofs.Common.{◌≡◌, ◌≢◌, ℕ, ℤ, ◌+◌, ◌^◌, ◌<◌, ◌%◌, bit_and, IfSome, ◌∙◌, refl, ap, subst, sym, inr, None, Some, Result, Ok, Err, List, [], length, IfOk, IfErr, OnOk, unwrap_or}
 use Rattle.std.specs.List.{AllByRecursion}
 use Rattle.mongo_wire.specs.Frame.{sequence_bytes, known_flags}
 use Rattle.std.specs.Prelude.{⊤}
@@ -11,7 +11,12 @@ use Rattle.mongo_wire.specs.declared.fault.ArgumentFault.TheVariants.{Identifier
 use Rattle.mongo_wire.specs.declared.message.Message.{Message}
 use Rattle.std.specs.Io.KnownBytes.{Appends}
 use Rattle.mongo_wire.specs.Outside.{State, Unwritten, AppendsFront}
-use Rattle.mongo_wire.specs.Message.{HasNames, HasSizes, TellsChecksum, IsRead, ReadRefused, WriteCut, WriteRefused, Writes, IsFrameOf, written_frame, id_of, id_after}
+use Rattle.mongo_wire.specs.Message.{HasNames, HasSizes, TellsChecksum, IsRead, ReadRefused, WriteCut, WriteRefused, Writes, IsFrameOf, written_frame, id_of, id_after, parts_of}
+use Rattle.mongo_wire.specs.Buffer.{IsFrameTaken, HoldsFrame, held_bytes, held_document, document_at}
+use Rattle.mongo_wire.specs.Frame.{Frame}
+use Rattle.mongo_wire.specs.declared.fault.FrameFault.{FrameFault}
+use Rattle.mongo_wire.specs.Error.{kind_of_frame_fault}
+use Rattle.mongo_wire.specs.declared.frame_buffer.FrameBuffer.{FrameBuffer}
 use Rattle.mongo_command.specs.Exchange.{Cut, Sends, SendRefused, sent_fault, Receives, ReceiveRefused}
 
 cut_of : (kind : ErrorKind) (maximum : ℤ) (m : Message) (old new : State) (before after : ℤ) → m.request_id ≡ None → new.left ≡ old.left → WriteCut maximum m old.written new.written before after → Cut kind maximum m old new before after (Some kind)
@@ -63,9 +68,30 @@ sent (Ok x) maximum m old new before after none unsummed unread reads ends w fra
 sent (Err e) maximum m old new before after none unsummed unread reads ends w frame = tt
 
 pub received : (r : Result Message Error) (maximum : ℤ) (old new : State) → Unwritten old new → IfOk r (IsRead maximum old.left new.left) → IfOk r (λ m. Receives maximum old new m.document_payload)
-received (Ok m) maximum old new unwritten read = record { unwritten = unwritten; message = m; read = read; document_is = refl }
+received (Ok m) maximum old new unwritten read = record { unwritten = unwritten; frame = read.frame; parts = parts_of read.id m; is_frame = read.is_frame; within = read.within; taken = read.taken; document_is = refl }
 received (Err e) maximum old new unwritten read = tt
 
-pub receive_refused : (r : Result Message Error) (maximum : ℤ) (old new : State) → Unwritten old new → IfErr r (λ e. ReadRefused e.kind maximum old.left new.left old.read_faults new.read_faults old.ends new.ends) → IfErr r (λ e. ReceiveRefused e.kind maximum old new)
+-- the document of a buffer is the body of the frame that it holds
+document_held : (frame : List ℕ) (parts : Frame) (buffer : FrameBuffer) → HoldsFrame frame parts buffer → held_document buffer ≡ parts.body
+document_held frame parts buffer h =
+    ap (λ last. document_at last (held_bytes buffer)) h.last_is
+    ∙ ap (document_at (Some h.held)) h.bytes_are
+    ∙ h.is_held.body_at.is
+
+pub received_into : (maximum : ℤ) (old new : State) (buffer : FrameBuffer) → Unwritten old new → IsFrameTaken maximum old.left new.left buffer → Receives maximum old new (held_document buffer)
+received_into maximum old new buffer unwritten t = record {
+  unwritten = unwritten;
+  frame = t.frame;
+  parts = t.parts;
+  is_frame = t.holds.is_held.is_frame;
+  within = t.within;
+  taken = t.taken;
+  document_is = document_held t.frame t.parts buffer t.holds;
+}
+
+pub receive_refused : {T : Type 0} (r : Result T Error) (maximum : ℤ) (old new : State) → Unwritten old new → IfErr r (λ e. ReadRefused e.kind maximum old.left new.left old.read_faults new.read_faults old.ends new.ends) → IfErr r (λ e. ReceiveRefused e.kind maximum old new)
 receive_refused (Ok m) maximum old new unwritten refused = tt
 receive_refused (Err e) maximum old new unwritten refused = record { refused = refused; unwritten = unwritten }
+
+pub fault_refused : (fault : FrameFault) (e : Error) (maximum : ℤ) (old new : State) → Unwritten old new → e.kind ≡ kind_of_frame_fault fault → ReadRefused (kind_of_frame_fault fault) maximum old.left new.left old.read_faults new.read_faults old.ends new.ends → ReceiveRefused e.kind maximum old new
+fault_refused fault e maximum old new unwritten is refused = subst (λ kind. ReceiveRefused kind maximum old new) (sym is) (record { refused = refused; unwritten = unwritten })

@@ -1,6 +1,6 @@
 -- One exchange: a command's frame is written and flushed, and one frame is taken.
 use Rattle.std.specs.Prelude.{◌≡◌, ℕ, ℤ, pos, ◌-◌, ◌^◌, ◌<◌, ◌≤◌, ◌<ℤ◌, ◌≤ℤ◌, ◌⊎◌, Bool, Option, None, Some, List, [], length, if◌then◌else◌, option_map, is_some, ⊤}
-use Rattle.std.specs.Io.KnownBytes.{Appends}
+use Rattle.std.specs.Io.KnownBytes.{Appends, Consumes}
 use Rattle.mongo_wire.specs.declared.error.ErrorKind.{ErrorKind}
 use Rattle.mongo_wire.specs.declared.error.ErrorKind.TheVariants.{InvalidArgument, WriteFault, OutOfMemory}
 use Rattle.mongo_wire.specs.declared.fault.ArgumentFault.TheVariants.{Bson, MaximumNegative, TooLong as FrameTooLong}
@@ -8,7 +8,10 @@ use Rattle.mongo_wire.specs.declared.message.Message.{Message}
 use Rattle.mongo_wire.specs.Outside.{State, Unwritten, Rose, AppendsFront, IsFlushed}
 use Rattle.mongo_wire.specs.Bytes.{next_id}
 use Rattle.mongo_wire.specs.Header.{maximum_of}
-use Rattle.mongo_wire.specs.Message.{IsRead, ReadRefused, Fits, IsFrameOf, frame_length, written_frame}
+use Rattle.mongo_wire.specs.declared.frame_buffer.FrameBuffer.{FrameBuffer}
+use Rattle.mongo_wire.specs.Frame.{Frame, IsFrame}
+use Rattle.mongo_wire.specs.Buffer.{HoldsFrame, IsCleared}
+use Rattle.mongo_wire.specs.Message.{ReadRefused, Fits, IsFrameOf, frame_length, written_frame}
 use Rattle.mongo_bson.specs.declared.fault.BsonFault.TheVariants.{TooLong}
 use Rattle.mongo_command.specs.Command.{command_document}
 use Rattle.mongo_command.specs.declared.command.Command.{Command}
@@ -20,7 +23,7 @@ exhaust_flag allowed = if allowed then 65536 else 0
 
 -- the message that a command is sent as
 abbrev pub command_message : Command → Message
-command_message command = record { document_payload = command_document command.body command.target_db; document_sequences = []; response_to = pos 0; flags = record { 0 = exhaust_flag command.exhaust_allowed }; checksum = None; request_id = None }
+command_message command = record { document_payload = command_document command; document_sequences = []; response_to = pos 0; flags = record { 0 = exhaust_flag command.exhaust_allowed }; checksum = None; request_id = None }
 
 -- the greatest frame: the description's, or the first maximum before there is one
 abbrev pub frame_maximum : Option StreamDescription → ℤ
@@ -44,18 +47,29 @@ pub record Sends (maximum : ℤ) (message : Message) (old new : State) (before a
   pub ends : new.ends ≡ old.ends
   pub drawn : after ≡ next_id before
 
--- one frame was taken, of this document, and nothing after it
+-- one frame within the maximum was taken, of this document, and nothing after it
 pub record Receives (maximum : ℤ) (old new : State) (document : List ℕ) : Type 0 where
   pub unwritten : Unwritten old new
-  pub message : Message
-  pub read : IsRead maximum old.left new.left message
-  pub document_is : document ≡ message.document_payload
+  pub frame : List ℕ
+  pub parts : Frame
+  pub is_frame : IsFrame frame parts
+  pub within : pos (length frame) ≤ℤ maximum
+  pub taken : Consumes old.left new.left frame
+  pub document_is : document ≡ parts.body
 
 -- an exchange: the message is sent, and then one of this document is received
 pub record Exchanges (maximum : ℤ) (message : Message) (old new : State) (before after : ℤ) (document : List ℕ) : Type 0 where
   pub middle : State
   pub sends : Sends maximum message old middle before after
   pub receives : Receives maximum middle new document
+
+-- the buffer holds a frame
+abbrev pub HoldsReply : FrameBuffer → Type 0
+HoldsReply buffer = (frame : List ℕ) × (parts : Frame) × HoldsFrame frame parts buffer
+
+-- what a refusal leaves of a buffer: what it was, or nothing, and nothing counted
+abbrev pub IsKeptOrCleared : FrameBuffer → FrameBuffer → Type 0
+IsKeptOrCleared old new = (new ≡ old) ⊎ IsCleared old new
 
 -- nothing was done
 pub record Unsent (old new : State) (before after : ℤ) (kept : Option ErrorKind) : Type 0 where

@@ -1,0 +1,25 @@
+-- What the writer of a command's generic arguments holds: the fields that it still has to write.
+use Rattle.std.specs.Prelude.{◌≡◌, ℕ, ◌-◌, ◌^◌, ◌<◌, Option, None, Some, List, [], ◌∷◌, length, flat_map, Contains, ⊤}
+use Rattle.std.specs.List.{AllByRecursion}
+use Rattle.std.specs.Borrow.{Bor}
+use Rattle.mongo_bson.specs.Document.{Element}
+use Rattle.mongo_bson.specs.Value.{element_of}
+use Rattle.mongo_bson.specs.declared.raw_value.RawValue.{RawValue}
+use Rattle.mongo_bson.specs.declared.fault.BsonFault.{BsonFault}
+use Rattle.mongo_bson.specs.declared.fault.BsonFault.TheVariants.{TooLong, OutOfMemory}
+
+-- the element of a field that is there
+abbrev pub field_elements : Option (Bor (List ℕ) × RawValue) → List Element
+field_elements None = []
+field_elements (Some field) = element_of field.0.now field.1 ∷ []
+
+-- its key has no zero byte
+abbrev pub IsNamed : Option (Bor (List ℕ) × RawValue) → Type 0
+IsNamed None = ⊤
+IsNamed (Some field) = Contains field.0.now 0 → ⊥
+
+-- why a document isn't written: it would be longer than an int32 can say, or memory ran out
+abbrev pub TooLongFor : BsonFault → List ℕ → Type 0
+TooLongFor TooLong document = 2 ^ 31 - 1 < length document
+TooLongFor OutOfMemory document = ⊤
+TooLongFor fault document = ⊥

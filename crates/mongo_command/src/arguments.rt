@@ -1,0 +1,140 @@
+ghost use Rattle.std.specs.Prelude.{◌≡◌, ◌++◌, flat_map, codes, Contains, option_map, IfErr, OnOk};
+ghost use Rattle.std.specs.List.{AllByRecursion};
+ghost use Rattle.mongo_bson.specs.Framed.{IsFramed, body_of, enclosed};
+ghost use Rattle.mongo_bson.specs.Document.{spell};
+ghost use Rattle.mongo_command.specs.Literal.{text_element, document_element, int64_element, truth_element};
+ghost use Rattle.mongo_command.specs.ServerApi.{version_text};
+ghost use Rattle.mongo_command.specs.Command.{given, timestamp_element, sent_concern};
+ghost use Rattle.mongo_command.specs.Arguments.{field_elements, IsNamed, TooLongFor};
+
+use crate::ServerApi;
+use mongo_bson::{BsonFault, RawDocumentBuf, RawValue, Text};
+
+// The length of a document without elements.
+const EMPTY_DOCUMENT: usize = 5;
+
+// A field of a command that may be there: its key and its value.
+pub(crate) type ArgumentField<'a> = Option<(&'static str, RawValue<'a>)>;
+
+// Puts the fields that are there at the end of a document.
+pub(crate) fn append_fields(
+    document: &mut RawDocumentBuf,
+    fields: &[ArgumentField<'_>],
+) -> Result<(), BsonFault>
+    requires framed { IsFramed document.old }
+    requires sealed { document.old ≡ enclosed (body_of document.old) }
+    requires named { AllByRecursion IsNamed fields.now }
+    ensures added { OnOk result (document.new ≡ enclosed (body_of document.old ++ flat_map spell (flat_map field_elements fields.now))) }
+    ensures framed { OnOk result (IsFramed document.new) }
+    ensures refused { IfErr result (λ fault. TooLongFor fault (enclosed (body_of document.old ++ flat_map spell (flat_map field_elements fields.now)))) }
+{
+    for field in fields {
+        append_field(document, *field)?;
+    }
+    Ok(())
+}
+
+// Puts a field at the end of a document, where it is there.
+fn append_field(document: &mut RawDocumentBuf, field: ArgumentField<'_>) -> Result<(), BsonFault>
+    requires framed { IsFramed document.old }
+    requires sealed { document.old ≡ enclosed (body_of document.old) }
+    requires named { IsNamed field }
+    ensures added { OnOk result (document.new ≡ enclosed (body_of document.old ++ flat_map spell (field_elements field.entry))) }
+    ensures framed { OnOk result (IsFramed document.new) }
+    ensures refused { IfErr result (λ fault. TooLongFor fault (enclosed (body_of document.old ++ flat_map spell (field_elements field.entry)))) }
+{
+    match field {
+        Some((key, value)) => document.append(key, value),
+        None => Ok(()),
+    }
+}
+
+// A text.
+pub(crate) fn text_field<'a>(key: &'static str, text: &'a Option<Text>) -> ArgumentField<'a>
+    requires { ¬ Contains key.now 0 }
+    ensures elements { field_elements result ≡ given (text_element key.now) text.now }
+    ensures named { IsNamed result }
+{
+    match text {
+        Some(text) => Some((key, RawValue::Str(text.as_str()))),
+        None => None,
+    }
+}
+
+// A document.
+pub(crate) fn document_field<'a>(
+    key: &'static str,
+    document: &'a Option<RawDocumentBuf>,
+) -> ArgumentField<'a>
+    requires { ¬ Contains key.now 0 }
+    ensures elements { field_elements result ≡ given (document_element key.now) document.now }
+    ensures named { IsNamed result }
+{
+    match document {
+        Some(document) => Some((key, RawValue::Document(document.borrow()))),
+        None => None,
+    }
+}
+
+// A truth value.
+pub(crate) fn truth_field(key: &'static str, truth: Option<bool>) -> ArgumentField<'static>
+    requires { ¬ Contains key.now 0 }
+    ensures elements { field_elements result ≡ given (truth_element key.now) truth }
+    ensures named { IsNamed result }
+{
+    match truth {
+        Some(truth) => Some((key, RawValue::Bool(truth))),
+        None => None,
+    }
+}
+
+// A 64-bit number.
+pub(crate) fn int64_field(key: &'static str, number: Option<i64>) -> ArgumentField<'static>
+    requires { ¬ Contains key.now 0 }
+    ensures elements { field_elements result ≡ given (int64_element key.now) number }
+    ensures named { IsNamed result }
+{
+    match number {
+        Some(number) => Some((key, RawValue::Int64(number))),
+        None => None,
+    }
+}
+
+// A timestamp, of which these are the bytes.
+pub(crate) fn timestamp_field<'a>(
+    key: &'static str,
+    bytes: &'a Option<[u8; 8]>,
+) -> ArgumentField<'a>
+    requires { ¬ Contains key.now 0 }
+    ensures elements { field_elements result ≡ given (timestamp_element key.now) bytes.now }
+    ensures named { IsNamed result }
+{
+    match bytes {
+        Some(bytes) => Some((key, RawValue::Other(0x11, bytes.as_slice()))),
+        None => None,
+    }
+}
+
+// The version of a server API.
+pub(crate) fn version_field(server_api: Option<ServerApi>) -> ArgumentField<'static>
+    ensures elements { field_elements result ≡ given (text_element (codes "apiVersion")) (option_map (λ api. version_text api.version) server_api) }
+    ensures named { IsNamed result }
+{
+    match server_api {
+        Some(api) => Some(("apiVersion", RawValue::Str(api.version.as_str()))),
+        None => None,
+    }
+}
+
+// A write concern, unless it is empty.
+pub(crate) fn write_concern_field<'a>(concern: &'a Option<RawDocumentBuf>) -> ArgumentField<'a>
+    ensures elements { field_elements result ≡ given (document_element (codes "writeConcern")) (sent_concern concern.now) }
+    ensures named { IsNamed result }
+{
+    match concern {
+        Some(concern) if concern.as_bytes().len() > EMPTY_DOCUMENT => {
+            Some(("writeConcern", RawValue::Document(concern.borrow())))
+        }
+        _ => None,
+    }
+}

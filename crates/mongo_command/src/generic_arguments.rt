@@ -1,0 +1,155 @@
+ghost use Rattle.std.specs.Prelude.{◌≡◌, ◌++◌, flat_map, option_map, option_and_then, IsSome, IfSome, IfOk, IfErr, OnOk};
+ghost use Rattle.std.specs.List.{AllByRecursion};
+ghost use Rattle.mongo_bson.specs.Framed.{IsFramed, body_of, enclosed};
+ghost use Rattle.mongo_bson.specs.Document.{spell};
+ghost use Rattle.mongo_command.specs.Command.{carried_elements, argument_elements, read_concern_document};
+ghost use Rattle.mongo_command.specs.Arguments.{field_elements, IsNamed, TooLongFor};
+
+use crate::ServerApi;
+use crate::arguments::{
+    ArgumentField, append_fields, document_field, int64_field, truth_field, version_field,
+    write_concern_field,
+};
+use crate::read_concern::ReadConcern;
+use mongo_bson::{BsonFault, RawDocumentBuf, RawValue};
+use std::alloc::Global;
+
+// The fields that a command of any name can carry beside its body, in the order in which they are sent.
+#[derive(Debug, Default, Drop)]
+pub(crate) struct GenericArguments {
+    // the session (`lsid`)
+    pub(crate) lsid: Option<RawDocumentBuf>,
+    // the newest cluster time that is known (`$clusterTime`)
+    pub(crate) cluster_time: Option<RawDocumentBuf>,
+    // `apiVersion`, `apiStrict`, `apiDeprecationErrors`
+    pub(crate) server_api: Option<ServerApi>,
+    // `$readPreference`
+    pub(crate) read_preference: Option<RawDocumentBuf>,
+    // the number of the transaction, or of the write that may be sent again (`txnNumber`)
+    pub(crate) txn_number: Option<i64>,
+    // `startTransaction`
+    pub(crate) start_transaction: Option<bool>,
+    // `autocommit`
+    pub(crate) autocommit: Option<bool>,
+    // `readConcern`
+    pub(crate) read_concern: Option<ReadConcern>,
+    // `writeConcern`
+    pub(crate) write_concern: Option<RawDocumentBuf>,
+    // what a router needs to find a transaction again (`recoveryToken`)
+    pub(crate) recovery_token: Option<RawDocumentBuf>,
+}
+
+impl GenericArguments {
+    // Puts `$db` and the arguments that are there at the end of a document.
+    pub(crate) fn append_to(
+        &self,
+        alloc: Global,
+        target_db: &str,
+        document: &mut RawDocumentBuf,
+    ) -> Result<(), BsonFault>
+        ensures added { OnOk result (document.new ≡ enclosed (body_of document.old ++ flat_map spell (argument_elements target_db.now self.now))) }
+        ensures framed { OnOk result (IsFramed document.new) }
+        ensures refused { IfErr result (λ fault. TooLongFor fault (enclosed (body_of document.old ++ flat_map spell (argument_elements target_db.now self.now)))) }
+    {
+        let read_concern = self.read_concern_document(alloc)?;
+        let fields = self.fields(&read_concern);
+        document.append("$db", RawValue::Str(target_db))?;
+        append_fields(document, &fields)
+    }
+
+    // The arguments but `$db`, in their order.
+    fn fields<'a>(&'a self, read_concern: &'a Option<RawDocumentBuf>) -> [ArgumentField<'a>; 12]
+        requires { read_concern.now ≡ option_map read_concern_document self.now.read_concern }
+        ensures elements { flat_map field_elements result ≡ carried_elements self.now }
+        ensures named { AllByRecursion IsNamed result }
+    {
+        [
+            document_field("lsid", &self.lsid),
+            document_field("$clusterTime", &self.cluster_time),
+            version_field(self.server_api),
+            truth_field("apiStrict", strict_of(self.server_api)),
+            truth_field(
+                "apiDeprecationErrors",
+                deprecation_errors_of(self.server_api),
+            ),
+            document_field("$readPreference", &self.read_preference),
+            int64_field("txnNumber", self.txn_number),
+            truth_field("startTransaction", self.start_transaction),
+            truth_field("autocommit", self.autocommit),
+            document_field("readConcern", read_concern),
+            write_concern_field(&self.write_concern),
+            document_field("recoveryToken", &self.recovery_token),
+        ]
+    }
+
+    // The document of the read concern, where there is one.
+    fn read_concern_document(&self, alloc: Global) -> Result<Option<RawDocumentBuf>, BsonFault>
+        ensures document { IfOk result (λ document. document ≡ option_map read_concern_document self.now.read_concern) }
+        ensures refused { IfErr result (λ fault. IfSome self.now.read_concern (λ concern. TooLongFor fault (read_concern_document concern))) }
+        ensures none { IfErr result (λ fault. IsSome self.now.read_concern) }
+    {
+        match &self.read_concern {
+            Some(concern) => Ok(Some(concern.to_document(alloc)?)),
+            None => Ok(None),
+        }
+    }
+}
+
+impl GenericArguments {
+    // A copy of the arguments.
+    pub(crate) fn try_clone(&self, alloc: Global) -> Result<GenericArguments, BsonFault>
+        ensures copied { IfOk result (λ arguments. arguments ≡ self.now) }
+        ensures refused { IfErr result (λ fault. fault ≡ BsonFault.OutOfMemory) }
+    {
+        let read_concern = match &self.read_concern {
+            Some(concern) => Some(concern.try_clone(alloc)?),
+            None => None,
+        };
+        Ok(GenericArguments {
+            lsid: document_copy(alloc, &self.lsid)?,
+            cluster_time: document_copy(alloc, &self.cluster_time)?,
+            server_api: self.server_api,
+            read_preference: document_copy(alloc, &self.read_preference)?,
+            txn_number: self.txn_number,
+            start_transaction: self.start_transaction,
+            autocommit: self.autocommit,
+            read_concern,
+            write_concern: document_copy(alloc, &self.write_concern)?,
+            recovery_token: document_copy(alloc, &self.recovery_token)?,
+        })
+    }
+}
+
+// A copy of a document that may be there.
+pub(crate) fn document_copy(
+    alloc: Global,
+    document: &Option<RawDocumentBuf>,
+) -> Result<Option<RawDocumentBuf>, BsonFault>
+    ensures copied { IfOk result (λ copy. copy ≡ document.now) }
+    ensures refused { IfErr result (λ fault. fault ≡ BsonFault.OutOfMemory) }
+{
+    match document {
+        Some(document) => Ok(Some(document.try_clone(alloc)?)),
+        None => Ok(None),
+    }
+}
+
+// What a server API says of `apiStrict`.
+fn strict_of(server_api: Option<ServerApi>) -> Option<bool>
+    ensures { result ≡ option_and_then (λ api. api.strict) server_api }
+{
+    match server_api {
+        Some(api) => api.strict,
+        None => None,
+    }
+}
+
+// What a server API says of `apiDeprecationErrors`.
+fn deprecation_errors_of(server_api: Option<ServerApi>) -> Option<bool>
+    ensures { result ≡ option_and_then (λ api. api.deprecation_errors) server_api }
+{
+    match server_api {
+        Some(api) => api.deprecation_errors,
+        None => None,
+    }
+}
