@@ -1,4 +1,4 @@
--- Base64 as SCRAM writes bytes (RFC 5802, section 4; RFC 4648, section 4): padded, and no spare bits.
+-- Base64 as SCRAM writes bytes (RFC 5802, sections 5.1 and 7; RFC 4648, section 4): padded, and no spare bits.
 use Rattle.std.specs.Prelude.{ℕ, List}
 use Rattle.base64.specs.Engines.{standard}
 use Rattle.base64.specs.GeneralPurpose.{encode_of}

@@ -1,2 +1,1 @@
 mod cache;
-mod messages;
