@@ -8,9 +8,9 @@ use Rattle.mongo_bench.specs.declared.task.Hash.TheVariants.{Sha1, Sha256}
 use Rattle.mongo_bench.specs.declared.task.Pass.{Pass}
 use Rattle.mongo_bench.specs.declared.task.Pass.TheVariants.{Iterate, Readable}
 use Rattle.mongo_bench.specs.declared.task.Shape.{Shape}
-use Rattle.mongo_bench.specs.declared.task.Shape.TheVariants.{Nested, Flat}
+use Rattle.mongo_bench.specs.declared.task.Shape.TheVariants.{Nested, Flat, TooDeep}
 use Rattle.mongo_bench.specs.declared.task.Direction.{Direction}
-use Rattle.mongo_bench.specs.declared.task.Direction.TheVariants.{Write, Read}
+use Rattle.mongo_bench.specs.declared.task.Direction.TheVariants.{Write, Read, ReadOwned}
 use Rattle.mongo_bench.specs.declared.task.FrameSize.{FrameSize}
 use Rattle.mongo_bench.specs.declared.task.FrameSize.TheVariants.{Small, Middle, Large}
 use Rattle.mongo_bench.specs.declared.task.Task.{Task}
@@ -32,14 +32,24 @@ one_pass Readable Readable same = refl
 one_shape : (s t : Shape) → name_of_shape s ≡ name_of_shape t → s ≡ t
 one_shape Nested Nested same = refl
 one_shape Nested Flat same = cc
+one_shape Nested TooDeep same = cc
 one_shape Flat Nested same = cc
 one_shape Flat Flat same = refl
+one_shape Flat TooDeep same = cc
+one_shape TooDeep Nested same = cc
+one_shape TooDeep Flat same = cc
+one_shape TooDeep TooDeep same = refl
 
 one_direction : (d e : Direction) → name_of_direction d ≡ name_of_direction e → d ≡ e
 one_direction Write Write same = refl
 one_direction Write Read same = cc
+one_direction Write ReadOwned same = cc
 one_direction Read Write same = cc
 one_direction Read Read same = refl
+one_direction Read ReadOwned same = cc
+one_direction ReadOwned Write same = cc
+one_direction ReadOwned Read same = cc
+one_direction ReadOwned ReadOwned same = refl
 
 one_size : (s t : FrameSize) → name_of_size s ≡ name_of_size t → s ≡ t
 one_size Small Small same = refl

@@ -4,6 +4,7 @@ use Rattle.std.specs.Fmt.{decimal}
 use Rattle.std.specs.Io.KnownBytes.{Appends}
 use Rattle.hex.specs.Hex.{encode_lower}
 use Rattle.mongo_bson.specs.Framed.{IsFramed}
+use Rattle.mongo_bson.specs.Document.{IsReadable, greatest_depth}
 use Rattle.mongo_mac.specs.Digests.{sha1, sha256}
 use Rattle.mongo_mac.specs.Hi.{hi_of}
 use Rattle.mongo_bench.specs.declared.task.Hash.{Hash}
@@ -11,9 +12,9 @@ use Rattle.mongo_bench.specs.declared.task.Hash.TheVariants.{Sha1, Sha256}
 use Rattle.mongo_bench.specs.declared.task.Pass.{Pass}
 use Rattle.mongo_bench.specs.declared.task.Pass.TheVariants.{Iterate, Readable}
 use Rattle.mongo_bench.specs.declared.task.Shape.{Shape}
-use Rattle.mongo_bench.specs.declared.task.Shape.TheVariants.{Nested, Flat}
+use Rattle.mongo_bench.specs.declared.task.Shape.TheVariants.{Nested, Flat, TooDeep}
 use Rattle.mongo_bench.specs.declared.task.Direction.{Direction}
-use Rattle.mongo_bench.specs.declared.task.Direction.TheVariants.{Write, Read}
+use Rattle.mongo_bench.specs.declared.task.Direction.TheVariants.{Write, Read, ReadOwned}
 use Rattle.mongo_bench.specs.declared.task.FrameSize.{FrameSize}
 use Rattle.mongo_bench.specs.declared.task.FrameSize.TheVariants.{Small, Middle, Large}
 use Rattle.mongo_bench.specs.declared.task.Task.{Task}
@@ -43,6 +44,7 @@ name_of_pass Readable = codes "readable"
 abbrev pub name_of_shape : Shape → List ℕ
 name_of_shape Nested = codes "nested"
 name_of_shape Flat = codes "flat"
+name_of_shape TooDeep = codes "too-deep"
 
 -- the bytes of a frame, and the words for frames
 abbrev pub bytes_of : FrameSize → ℕ
@@ -53,6 +55,7 @@ bytes_of Large = 16777216
 abbrev pub name_of_direction : Direction → List ℕ
 name_of_direction Write = codes "write"
 name_of_direction Read = codes "read"
+name_of_direction ReadOwned = codes "read-owned"
 
 abbrev pub name_of_size : FrameSize → List ℕ
 name_of_size Small = codes "100"
@@ -94,11 +97,21 @@ derived_by Sha256 count = hi_of sha256 password salt count
 abbrev pub line_of : Hash → ℕ → List ℕ
 line_of hash count = encode_lower (derived_by hash count) ++ codes "\n"
 
--- what a task prints: a derivation its line, a walk a number or a word, a document its bytes, and frames a number
+-- what a pass tells of a document: a number, or whether it is readable
+abbrev pub Tells : Pass → List ℕ → List ℕ → Type 0
+Tells Iterate document text = (elements : ℕ) × (text ≡ decimal elements ++ codes "\n")
+Tells Readable document text =
+    (IsReadable greatest_depth document × (text ≡ codes "readable\n")) ⊎ (¬ (IsReadable greatest_depth document) × (text ≡ codes "not readable\n"))
+
+-- what was written grew by what the pass tells of the document
+abbrev pub Told : Pass → List ℕ → Option (List ℕ) → Option (List ℕ) → Type 0
+Told pass document old new = (text : List ℕ) × Tells pass document text × Appends old new text
+
+-- what a task prints: a derivation its line, a walk what its pass tells of a document, a document its bytes, and frames a
+-- number
 abbrev pub Prints : Task → List ℕ → Type 0
 Prints (Derive hash count) text = text ≡ line_of hash count
-Prints (Walk Iterate shape count) text = (elements : ℕ) × (text ≡ decimal elements ++ codes "\n")
-Prints (Walk Readable shape count) text = (text ≡ codes "readable\n") ⊎ (text ≡ codes "not readable\n")
+Prints (Walk pass shape count) text = (document : List ℕ) × IsFramed document × Tells pass document text
 Prints (Document shape) text = IsFramed text
 Prints (Frames direction size count) text = (length : ℕ) × (text ≡ decimal length ++ codes "\n")
 

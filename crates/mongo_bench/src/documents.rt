@@ -10,11 +10,15 @@ const NESTED_COPIES: usize = 644;
 // How many elements stand in the flat document, for the same.
 const FLAT_ELEMENTS: usize = 1_233_677;
 
-/// The document of a shape, of nearly 16 MiB. Each call makes the same bytes.
+// How many documents stand in one another in the document that is too deep: one more than a readable document may have.
+const TOO_DEEP_LEVELS: u32 = 101;
+
+/// The document of a shape: the nested and the flat one have nearly 16 MiB. Each call makes the same bytes.
 pub(crate) fn document_of(alloc: Global, shape: Shape) -> Result<RawDocumentBuf, BsonFault> {
     match shape {
         Shape::Nested => nested(alloc),
         Shape::Flat => flat(alloc),
+        Shape::TooDeep => too_deep(alloc),
     }
 }
 
@@ -78,6 +82,17 @@ fn flat(alloc: Global) -> Result<RawDocumentBuf, BsonFault> {
             _ => RawValue::Double(0x3FF0_0000_0000_0000),
         };
         document.append(digits.format(i), value)?;
+    }
+    Ok(document)
+}
+
+// An empty document inside so many that hold nothing else.
+fn too_deep(alloc: Global) -> Result<RawDocumentBuf, BsonFault> {
+    let mut document = RawDocumentBuf::new(alloc)?;
+    for _ in 1..TOO_DEEP_LEVELS {
+        let mut outer = RawDocumentBuf::new(alloc)?;
+        outer.append("a", RawValue::Document(document.borrow()))?;
+        document = outer;
     }
     Ok(document)
 }

@@ -1,15 +1,14 @@
-ghost use Rattle.std.specs.Prelude.{◌≡◌, ◌≢◌};
+ghost use Rattle.std.specs.Prelude.{◌≡◌, ◌≢◌, IfOk};
 ghost use Rattle.mongo_bench.specs.Task.{Printed};
+ghost use Rattle.mongo_bench.specs.Work.{work_of_frames};
 
-use crate::run::Status;
+use crate::run::{Ran, Status};
 use crate::task::{Direction, FrameSize, Task};
 use crate::walking::write_number;
+use crate::work::{Passed, read, read_owned, write};
 use bitflags::Flags;
 use mongo_bson::{RawDocumentBuf, RawValue};
-use mongo_wire::{
-    Error, FrameBuffer, Message, MessageFlags, RequestIds, Sequences, StdSink, StdSource,
-    read_frame,
-};
+use mongo_wire::{Error, Message, MessageFlags, RequestIds, Sequences, StdSink};
 use std::alloc::Global;
 use std::io::Write;
 
@@ -24,51 +23,41 @@ pub fn run_frames<W: Write>(
     size: FrameSize,
     count: u32,
     out: &mut W,
-) -> Status
-    ensures done { result ≡ Status.Done → Printed (Task.Frames direction size count) (W.contents out.old) (W.contents out.new) }
-    ensures ran { (result ≢ Status.Usage) × (result ≢ Status.NoWords) }
+) -> Ran
+    ensures done { result.status ≡ Status.Done → Printed (Task.Frames direction size count) (W.contents out.old) (W.contents out.new) }
+    ensures work { result.status ≡ Status.Done → result.work ≡ work_of_frames direction count }
+    ensures ran { (result.status ≢ Status.Usage) × (result.status ≢ Status.NoWords) }
 {
-    let passed = match direction {
-        Direction::Write => write_frames(alloc, size, count),
-        Direction::Read => read_frames(alloc, size, count),
-    };
-    // The frames are of the grammar and the memory never fails, so nothing else is refused.
-    let Ok(length) = passed else {
-        return Status::NoMemory;
-    };
-    match write_number(length, out) {
-        Ok(()) => Status::Done,
-        Err(_) => Status::SinkFault,
+    // The frames are of the grammar and the memory never fails, so nothing but want of memory is refused.
+    match pass_frames(alloc, direction, size, count) {
+        Ok(passed) => Ran::written(write_number(passed.last, out), passed.work),
+        Err(_) => Ran::without_memory(),
     }
 }
 
-// How many bytes the last frame has, of so many that are written over one another into memory that is kept.
-fn write_frames(alloc: Global, size: FrameSize, count: u32) -> Result<usize, Error> {
+// How many bytes the last frame has, of so many of this size that are written or read.
+fn pass_frames(
+    alloc: Global,
+    direction: Direction,
+    size: FrameSize,
+    count: u32,
+) -> Result<Passed<usize>, Error>
+    ensures { IfOk result (λ passed. passed.work ≡ work_of_frames direction count) }
+{
     let message = message_of(alloc, size)?;
-    let mut ids = RequestIds::new(0);
-    let mut held = Vec::new(alloc);
-    for _ in 0..count {
-        held.clear();
-        let mut sink = StdSink::new(&mut held);
-        message.write_op_msg_to(alloc, &mut sink, None, &mut ids)?;
+    match direction {
+        Direction::Write => write(alloc, &message, count),
+        Direction::Read => read(alloc, frame_of(alloc, &message)?.as_slice(), count),
+        Direction::ReadOwned => read_owned(alloc, frame_of(alloc, &message)?.as_slice(), count),
     }
-    Ok(held.len())
 }
 
-// How many bytes the last frame has, of so many that are read into one buffer.
-fn read_frames(alloc: Global, size: FrameSize, count: u32) -> Result<usize, Error> {
-    let mut ids = RequestIds::new(0);
+// The bytes of the message's frame.
+fn frame_of(alloc: Global, message: &Message) -> Result<Vec<u8>, Error> {
     let mut held = Vec::new(alloc);
     let mut sink = StdSink::new(&mut held);
-    message_of(alloc, size)?.write_op_msg_to(alloc, &mut sink, None, &mut ids)?;
-    let mut buffer = FrameBuffer::new(alloc);
-    let mut length = 0;
-    for _ in 0..count {
-        let mut source = StdSource::new(held.as_slice());
-        let message = read_frame(alloc, &mut source, None, &mut buffer)?;
-        length = message.sections.len() + 20;
-    }
-    Ok(length)
+    message.write_op_msg_to(alloc, &mut sink, None, &mut RequestIds::new(0))?;
+    Ok(held)
 }
 
 // A message whose frame has this size: its document holds one binary value.

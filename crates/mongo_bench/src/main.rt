@@ -2,11 +2,11 @@
 //!
 //! - `hi-sha1 COUNT` and `hi-sha256 COUNT` print the hex of Hi (RFC 5802, section 2.2) of a fixed
 //!   password and salt, after COUNT steps. `bench/hi` measures them.
-//! - `iterate nested|flat COUNT` and `readable nested|flat COUNT` pass COUNT times over a document of nearly
-//!   16 MiB and print what the last pass found; `document nested|flat` prints its bytes. `bench/iterate`
-//!   measures them.
-//! - `frames write|read 100|10000|16777216 COUNT` writes or reads COUNT frames of that size over memory and prints how
-//!   many bytes the last one had. `bench/frames` measures them.
+//! - `iterate SHAPE COUNT` and `readable SHAPE COUNT` pass COUNT times over a document and print what the last pass found;
+//!   `document SHAPE` prints its bytes. SHAPE is `nested` or `flat`, of nearly 16 MiB, or `too-deep`, which is not readable.
+//!   `bench/iterate` measures the first two.
+//! - `frames write|read|read-owned 100|10000|16777216 COUNT` writes or reads COUNT frames of that size over memory and
+//!   prints how many bytes the last one had. `bench/frames` measures them.
 #![tactic(auto)]
 
 mod documents;
@@ -16,6 +16,7 @@ mod task;
 #[cfg(test)]
 mod tests;
 mod walking;
+mod work;
 
 use run::{Status, run_counted};
 use std::marker::Brand;
@@ -26,7 +27,9 @@ use std::{env, io};
 
 fn main(rt: HostRuntime) -> ExitCode {
     let status = match words_of(&rt) {
-        Ok(words) => run_counted::<_, Brand>(rt.alloc(), &words, &mut rt.stdout(), Blank::new(1)),
+        Ok(words) => {
+            run_counted::<_, Brand>(rt.alloc(), &words, &mut rt.stdout(), Blank::new(1)).status
+        }
         Err(_) => Status::NoWords,
     };
     ExitCode::from(status.code())

@@ -1,12 +1,14 @@
-ghost use Rattle.std.specs.Prelude.{◌≡◌, ◌≢◌, ◌<◌, ◌≤◌, ◌+◌, ◌++◌, ◌↔◌, ℕ, OnOk, map, codes, string_bytes};
+ghost use Rattle.std.specs.Prelude.{◌≡◌, ◌≢◌, ◌<◌, ◌≤◌, ◌+◌, ◌++◌, ◌↔◌, ℕ, IsOk, OnOk, map, codes, string_bytes};
 ghost use Rattle.hex.specs.Hex.{encode_lower};
 ghost use Rattle.std.specs.Io.KnownBytes.{Appends};
 ghost use Rattle.mongo_bench.specs.Status.{code_of};
 ghost use Rattle.mongo_bench.specs.Task.{Asks, AsksNothing, Printed, steps_of, derived_by};
+ghost use Rattle.mongo_bench.specs.Work.{nothing_done, work_of};
 
 use crate::frames::run_frames;
 use crate::task::{Hash, PASSWORD, SALT, Task, task_of};
 use crate::walking::{run_document, run_walk};
+use crate::work::Work;
 use mongo_mac::{Sha1Fn, Sha256Fn, Steps, Tag, hi};
 use std::alloc::Global;
 use std::io;
@@ -43,6 +45,40 @@ impl Status {
     }
 }
 
+/// How a run ended, and what was done in it.
+#[derive(Clone, Copy, PartialEq, Eq, Debug)]
+pub struct Ran {
+    /// How it ended.
+    pub status: Status,
+    /// What was done, where it ended well.
+    pub work: Work,
+}
+
+impl Ran {
+    /// The end of a run whose line was written, or wasn't.
+    pub fn written(line: io::Result<()>, work: Work) -> Ran
+        ensures done { (result.status ≡ Status.Done) ↔ IsOk line }
+        ensures fault { result.status ≢ Status.Done → result.status ≡ Status.SinkFault }
+        ensures work { result.work ≡ work }
+    {
+        let status = match line {
+            Ok(()) => Status::Done,
+            Err(_) => Status::SinkFault,
+        };
+        Ran { status, work }
+    }
+
+    /// The end of a run for which there was no memory.
+    pub fn without_memory() -> Ran
+        ensures { result ≡ record { status = Status.NoMemory; work = nothing_done } }
+    {
+        Ran {
+            status: Status::NoMemory,
+            work: Work::nothing(),
+        }
+    }
+}
+
 /// Runs the task that `words` ask for, and writes what it prints to `out`. Where the writer fails, it may
 /// have taken a part of it.
 pub fn run<W: Write, G: Ledger>(
@@ -50,18 +86,24 @@ pub fn run<W: Write, G: Ledger>(
     words: &[String],
     out: &mut W,
     steps: &mut Steps<G>,
-) -> Status
-    ensures done { (task : Task) → Asks (map string_bytes words.now) task → result ≡ Status.Done →
+) -> Ran
+    ensures done { (task : Task) → Asks (map string_bytes words.now) task → result.status ≡ Status.Done →
         Printed task (W.contents out.old) (W.contents out.new) }
+    // So many passes and frames were done, and no others.
+    ensures work { (task : Task) → Asks (map string_bytes words.now) task → result.status ≡ Status.Done →
+        result.work ≡ work_of task }
     ensures cost { (task : Task) → Asks (map string_bytes words.now) task →
         steps.new ≡ steps.old + steps_of task }
-    ensures usage { (result ≡ Status.Usage) ↔ AsksNothing (map string_bytes words.now) }
-    ensures usage_does_nothing { result ≡ Status.Usage →
+    ensures usage { (result.status ≡ Status.Usage) ↔ AsksNothing (map string_bytes words.now) }
+    ensures usage_does_nothing { result.status ≡ Status.Usage →
         (out.new ≡ out.old) × (steps.new ≡ steps.old) }
-    ensures had_words { result ≢ Status.NoWords }
+    ensures had_words { result.status ≢ Status.NoWords }
 {
     let Some(task) = task_of(words) else {
-        return Status::Usage;
+        return Ran {
+            status: Status::Usage,
+            work: Work::nothing(),
+        };
     };
     match task {
         Task::Derive(hash, count) => run_derivation(hash, count, out, steps),
@@ -77,15 +119,17 @@ pub fn run_counted<W: Write, G: Ledger>(
     words: &[String],
     out: &mut W,
     blank: Blank,
-) -> Status
+) -> Ran
     requires name { blank.name ≡ G.name }
     requires parts { blank.parts ≡ G.parts }
     requires has_a_part { 0 < G.parts }
-    ensures done { (task : Task) → Asks (map string_bytes words.now) task → result ≡ Status.Done →
+    ensures done { (task : Task) → Asks (map string_bytes words.now) task → result.status ≡ Status.Done →
         Printed task (W.contents out.old) (W.contents out.new) }
-    ensures usage { (result ≡ Status.Usage) ↔ AsksNothing (map string_bytes words.now) }
-    ensures usage_writes_nothing { result ≡ Status.Usage → out.new ≡ out.old }
-    ensures had_words { result ≢ Status.NoWords }
+    ensures work { (task : Task) → Asks (map string_bytes words.now) task → result.status ≡ Status.Done →
+        result.work ≡ work_of task }
+    ensures usage { (result.status ≡ Status.Usage) ↔ AsksNothing (map string_bytes words.now) }
+    ensures usage_writes_nothing { result.status ≡ Status.Usage → out.new ≡ out.old }
+    ensures had_words { result.status ≢ Status.NoWords }
 {
     let mut steps = Steps::<G>::new(blank);
     run(alloc, words, out, &mut steps)
@@ -97,17 +141,15 @@ fn run_derivation<W: Write, G: Ledger>(
     count: u32,
     out: &mut W,
     steps: &mut Steps<G>,
-) -> Status
+) -> Ran
     requires { 1 ≤ count }
-    ensures done { result ≡ Status.Done → Printed (Task.Derive hash count) (W.contents out.old) (W.contents out.new) }
+    ensures done { result.status ≡ Status.Done → Printed (Task.Derive hash count) (W.contents out.old) (W.contents out.new) }
+    ensures work { result.work ≡ nothing_done }
     ensures cost { steps.new ≡ steps.old + count }
-    ensures ran { (result ≢ Status.Usage) × (result ≢ Status.NoWords) }
+    ensures ran { (result.status ≢ Status.Usage) × (result.status ≢ Status.NoWords) }
 {
     let tag = derive(hash, count, steps);
-    match write_line(&tag, out) {
-        Ok(()) => Status::Done,
-        Err(_) => Status::SinkFault,
-    }
+    Ran::written(write_line(&tag, out), Work::nothing())
 }
 
 /// The bytes that a derivation gives.

@@ -34,6 +34,8 @@ pub enum Shape {
     Nested,
     /// Small elements, all of one level.
     Flat,
+    /// One document in another, one level more than a readable document may have.
+    TooDeep,
 }
 
 /// What is done with frames.
@@ -41,8 +43,10 @@ pub enum Shape {
 pub enum Direction {
     /// They are written.
     Write,
-    /// They are read.
+    /// They are read into a buffer that is kept.
     Read,
+    /// Each is read into a message that owns its parts.
+    ReadOwned,
 }
 
 /// How long the frames are.
@@ -83,8 +87,7 @@ pub enum Task {
 }
 
 /// The task that `words` ask for: its name, the shape of its document or the direction and size of its frames where it
-/// has them, and a count from 1 to
-/// 2^32 - 1 in decimal digits with no sign and no leading zero where it has one.
+/// has them, and a count from 1 to 2^32 - 1 in decimal digits with no sign and no leading zero where it has one.
 pub fn task_of(words: &[String]) -> Option<Task>
     ensures { let texts = map string_bytes words.now in
         MatchOption result (AsksNothing texts) (Asks texts) }
@@ -163,6 +166,7 @@ fn shape_of(name: &str) -> Option<Shape>
     match name {
         "nested" => Some(Shape::Nested),
         "flat" => Some(Shape::Flat),
+        "too-deep" => Some(Shape::TooDeep),
         _ => None,
     }
 }
@@ -174,6 +178,7 @@ fn direction_of(name: &str) -> Option<Direction>
     match name {
         "write" => Some(Direction::Write),
         "read" => Some(Direction::Read),
+        "read-owned" => Some(Direction::ReadOwned),
         _ => None,
     }
 }

@@ -1,11 +1,13 @@
-ghost use Rattle.std.specs.Prelude.{◌≡◌, ◌≢◌, ◌++◌, if◌then◌else◌, OnOk, codes};
+ghost use Rattle.std.specs.Prelude.{◌≡◌, ◌≢◌, ◌<◌, ◌++◌, if◌then◌else◌, OnOk, codes};
 ghost use Rattle.std.specs.Fmt.{decimal};
 ghost use Rattle.std.specs.Io.KnownBytes.{Appends};
-ghost use Rattle.mongo_bench.specs.Task.{Printed};
+ghost use Rattle.mongo_bench.specs.Task.{Printed, Told};
+ghost use Rattle.mongo_bench.specs.Work.{nothing_done, work_of_pass};
 
 use crate::documents::document_of;
-use crate::run::Status;
+use crate::run::{Ran, Status};
 use crate::task::{Pass, Shape, Task};
+use crate::work::{Work, iterate, judge};
 use itoa::Buffer;
 use mongo_bson::{RawDocument, RawValue};
 use std::alloc::Global;
@@ -16,72 +18,66 @@ use std::io::Write;
 const LEVELS: u32 = 100;
 
 /// Makes the document, passes over it so often, and writes what the last pass found.
-pub fn run_walk<W: Write>(
-    alloc: Global,
-    pass: Pass,
-    shape: Shape,
-    count: u32,
-    out: &mut W,
-) -> Status
-    ensures done { result ≡ Status.Done → Printed (Task.Walk pass shape count) (W.contents out.old) (W.contents out.new) }
-    ensures ran { (result ≢ Status.Usage) × (result ≢ Status.NoWords) }
+pub fn run_walk<W: Write>(alloc: Global, pass: Pass, shape: Shape, count: u32, out: &mut W) -> Ran
+    requires { 0 < count }
+    ensures done { result.status ≡ Status.Done → Printed (Task.Walk pass shape count) (W.contents out.old) (W.contents out.new) }
+    ensures work { result.status ≡ Status.Done → result.work ≡ work_of_pass pass count }
+    ensures ran { (result.status ≢ Status.Usage) × (result.status ≢ Status.NoWords) }
 {
     let Ok(document) = document_of(alloc, shape) else {
-        return Status::NoMemory;
+        return Ran::without_memory();
     };
-    let written = match pass {
-        Pass::Iterate => write_number(iterate(document.borrow(), count), out),
-        Pass::Readable => write_word(is_readable(document.borrow(), count), out),
-    };
-    match written {
-        Ok(()) => Status::Done,
-        Err(_) => Status::SinkFault,
+    walk(document.borrow(), pass, count, out)
+}
+
+/// Passes over the document so often, and writes what the last pass found.
+pub fn walk<W: Write>(document: RawDocument<'_>, pass: Pass, count: u32, out: &mut W) -> Ran
+    requires { 0 < count }
+    ensures told { result.status ≡ Status.Done → Told pass document.entry.bytes.now (W.contents out.old) (W.contents out.new) }
+    ensures work { result.work ≡ work_of_pass pass count }
+    ensures ran { (result.status ≢ Status.Usage) × (result.status ≢ Status.NoWords) }
+{
+    match pass {
+        Pass::Iterate => {
+            let passed = iterate(document, count);
+            Ran::written(write_number(passed.last, out), passed.work)
+        }
+        Pass::Readable => {
+            let passed = judge(document, count);
+            Ran::written(write_word(passed.last, out), passed.work)
+        }
     }
 }
 
 /// Makes the document and writes its bytes.
-pub fn run_document<W: Write>(alloc: Global, shape: Shape, out: &mut W) -> Status
-    ensures done { result ≡ Status.Done → Printed (Task.Document shape) (W.contents out.old) (W.contents out.new) }
-    ensures ran { (result ≢ Status.Usage) × (result ≢ Status.NoWords) }
+pub fn run_document<W: Write>(alloc: Global, shape: Shape, out: &mut W) -> Ran
+    ensures done { result.status ≡ Status.Done → Printed (Task.Document shape) (W.contents out.old) (W.contents out.new) }
+    ensures work { result.work ≡ nothing_done }
+    ensures ran { (result.status ≢ Status.Usage) × (result.status ≢ Status.NoWords) }
 {
     let Ok(document) = document_of(alloc, shape) else {
-        return Status::NoMemory;
+        return Ran::without_memory();
     };
-    match write_bytes(document.as_bytes(), out) {
-        Ok(()) => Status::Done,
-        Err(_) => Status::SinkFault,
-    }
+    Ran::written(write_bytes(document.as_bytes(), out), Work::nothing())
 }
 
-// What the last of so many walks over the elements of all levels counts.
-fn iterate(document: RawDocument<'_>, count: u32) -> usize {
-    let mut elements = 0;
-    for _ in 0..count {
-        elements = elements_in(document, LEVELS);
-    }
-    elements
-}
-
-// Whether the document is readable, judged so often.
-fn is_readable(document: RawDocument<'_>, count: u32) -> bool {
-    let mut readable = true;
-    for _ in 0..count {
-        readable = document.readable();
-    }
-    readable
+/// How many elements stand in the document and in the documents and arrays inside it, down to 100 levels, up to the first
+/// fault in each.
+pub fn elements_in(document: RawDocument<'_>) -> usize {
+    elements_to(document, LEVELS)
 }
 
 // How many elements stand in the document and in the documents and arrays inside it, down to so many levels, up to the
 // first fault in each.
-fn elements_in(document: RawDocument<'_>, levels: u32) -> usize {
+fn elements_to(document: RawDocument<'_>, levels: u32) -> usize {
     let mut elements = 0usize;
     if levels == 0 {
         return elements;
     }
     for item in document.iter() {
         let inside = match item {
-            Ok((_key, RawValue::Document(inner))) => elements_in(inner, levels - 1),
-            Ok((_key, RawValue::Array(inner))) => elements_in(inner, levels - 1),
+            Ok((_key, RawValue::Document(inner))) => elements_to(inner, levels - 1),
+            Ok((_key, RawValue::Array(inner))) => elements_to(inner, levels - 1),
             Ok(_) => 0,
             Err(_) => return elements,
         };

@@ -1,5 +1,5 @@
 use Rattle.std.proofs.Common.{◌≡◌, ◌∙◌}
-use Rattle.mongo_bench.specs.declared.task.Task.TheVariants.{Derive}
+use Rattle.mongo_bench.specs.declared.task.Task.TheVariants.{Derive, Walk, Frames}
 use Rattle.mongo_bench.proofs.OneTask.{one_task}
 use Rattle.mongo_bench.proofs.run.run.Goals as goal
 
@@ -12,3 +12,13 @@ pub returns-in-Derive-clause-cost : goal.returns-in-Derive-clause-cost
 returns-in-Derive-clause-cost g c = λ task asked.
     let same : task ≡ Derive c.in-Derive.hash c.in-Derive.count = one_task _ task c.in-Some.task asked c.in-Some.ensures ∙ c.in-Derive.is in
     rw same c.run_derivation.ensures.cost
+
+pub returns-in-Walk-clause-work : goal.returns-in-Walk-clause-work
+returns-in-Walk-clause-work g c = λ task asked done.
+    let same : task ≡ Walk c.in-Walk.pass c.in-Walk.shape c.in-Walk.count = one_task _ task c.in-Some.task asked c.in-Some.ensures ∙ c.in-Walk.is in
+    rw same (c.run_walk.ensures.work done)
+
+pub returns-in-Frames-clause-work : goal.returns-in-Frames-clause-work
+returns-in-Frames-clause-work g c = λ task asked done.
+    let same : task ≡ Frames c.in-Frames.direction c.in-Frames.size c.in-Frames.count = one_task _ task c.in-Some.task asked c.in-Some.ensures ∙ c.in-Frames.is in
+    rw same (c.run_frames.ensures.work done)

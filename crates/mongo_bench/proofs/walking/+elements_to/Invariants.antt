@@ -1,8 +1,8 @@
 use Rattle.std.proofs.Common.{◌<◌}
-use Rattle.mongo_bench.proofs.walking.+elements_in.Given as goal
+use Rattle.mongo_bench.proofs.walking.+elements_to.Given as goal
 
-abbrev pub decreases-elements_in : goal.decreases-elements_in
-decreases-elements_in l = l.levels
+abbrev pub decreases-elements_to : goal.decreases-elements_to
+decreases-elements_to l = l.levels
 
 abbrev pub invariant-loop-item : goal.invariant-loop-item
 invariant-loop-item l =

@@ -1,0 +1,185 @@
+ghost use Rattle.std.specs.Prelude.{◌≡◌, ◌+◌, ◌-◌, ◌^◌, ◌<◌, ◌≤◌, ◌↔◌, IsTrue, OnOk, IfOk};
+ghost use Rattle.mongo_bson.specs.Document.{IsReadable, greatest_depth};
+ghost use Rattle.mongo_bench.specs.Work.{nothing_done, only_iterated, only_judged, only_read, only_read_owned, only_written};
+
+use crate::walking::elements_in;
+use mongo_bson::RawDocument;
+use mongo_wire::{Error, FrameBuffer, Message, RequestIds, StdSink, StdSource, read_frame};
+use std::alloc::Global;
+
+/// How often each thing that is measured was done. Only the private calls of this module count, each after it has done its
+/// one thing once, so a count says how often it was done.
+#[derive(Clone, Copy, PartialEq, Eq, Debug)]
+pub struct Work {
+    /// Iterations over the elements of all levels of a document.
+    iterated: u32,
+    /// Judgements whether a document is readable.
+    judged: u32,
+    /// Frames written.
+    written: u32,
+    /// Frames read into a buffer that is kept.
+    read: u32,
+    /// Frames read into a message that owns its parts.
+    read_owned: u32,
+}
+
+/// What the last of many passes gave, and what was done in all.
+#[derive(Clone, Copy, PartialEq, Eq, Debug)]
+pub struct Passed<T> {
+    /// What the last pass gave.
+    pub last: T,
+    /// What was done.
+    pub work: Work,
+}
+
+/// Iterates so often over the document's elements of all levels, and gives how many the last iteration met.
+pub fn iterate(document: RawDocument<'_>, count: u32) -> Passed<usize>
+    ensures { result.work ≡ only_iterated count }
+{
+    let mut last = 0;
+    let mut work = Work::nothing();
+    'passes: while work.iterated < count {
+        last = work.iterate(document);
+    }
+    Passed { last, work }
+}
+
+/// Judges so often whether the document is readable.
+pub fn judge(document: RawDocument<'_>, count: u32) -> Passed<bool>
+    ensures work { result.work ≡ only_judged count }
+    ensures judged { 0 < count → (IsTrue result.last ↔ IsReadable greatest_depth document.entry.bytes.now) }
+{
+    let mut last = false;
+    let mut work = Work::nothing();
+    'passes: while work.judged < count {
+        last = work.judge(document);
+    }
+    Passed { last, work }
+}
+
+/// Writes the message's frame so often over itself into memory that is kept, and gives how many bytes the last one had.
+pub fn write(alloc: Global, message: &Message, count: u32) -> Result<Passed<usize>, Error>
+    ensures { IfOk result (λ passed. passed.work ≡ only_written count) }
+{
+    let mut ids = RequestIds::new(0);
+    let mut held = Vec::new(alloc);
+    let mut work = Work::nothing();
+    'passes: while work.written < count {
+        held.clear();
+        work.write(alloc, message, &mut ids, &mut held)?;
+    }
+    Ok(Passed {
+        last: held.len(),
+        work,
+    })
+}
+
+/// Reads the frame so often into one buffer, and gives how many bytes the last one had.
+pub fn read(alloc: Global, frame: &[u8], count: u32) -> Result<Passed<usize>, Error>
+    ensures { IfOk result (λ passed. passed.work ≡ only_read count) }
+{
+    let mut buffer = FrameBuffer::new(alloc);
+    let mut last = 0;
+    let mut work = Work::nothing();
+    'passes: while work.read < count {
+        last = work.read(alloc, frame, &mut buffer)?;
+    }
+    Ok(Passed { last, work })
+}
+
+/// Reads the frame so often into a message that owns its parts, and gives how many bytes the last one had.
+pub fn read_owned(alloc: Global, frame: &[u8], count: u32) -> Result<Passed<usize>, Error>
+    ensures { IfOk result (λ passed. passed.work ≡ only_read_owned count) }
+{
+    let mut last = 0;
+    let mut work = Work::nothing();
+    'passes: while work.read_owned < count {
+        last = work.read_owned(alloc, frame)?;
+    }
+    Ok(Passed { last, work })
+}
+
+impl Work {
+    /// Nothing yet.
+    pub fn nothing() -> Work
+        ensures { result ≡ nothing_done }
+    {
+        Work {
+            iterated: 0,
+            judged: 0,
+            written: 0,
+            read: 0,
+            read_owned: 0,
+        }
+    }
+
+    // One iteration over the elements of all levels: how many it met.
+    fn iterate(&mut self, document: RawDocument<'_>) -> usize
+        requires { self.old.iterated < 2 ^ 32 - 1 }
+        ensures { self.new ≡ record self.old { iterated = self.old.iterated + 1 } }
+    {
+        let elements = elements_in(document);
+        self.iterated += 1;
+        elements
+    }
+
+    // One judgement whether the document is readable.
+    fn judge(&mut self, document: RawDocument<'_>) -> bool
+        requires { self.old.judged < 2 ^ 32 - 1 }
+        ensures work { self.new ≡ record self.old { judged = self.old.judged + 1 } }
+        ensures judged { IsTrue result ↔ IsReadable greatest_depth document.entry.bytes.now }
+    {
+        let readable = document.readable();
+        self.judged += 1;
+        readable
+    }
+
+    // One frame, written behind what is held.
+    fn write(
+        &mut self,
+        alloc: Global,
+        message: &Message,
+        ids: &mut RequestIds,
+        held: &mut Vec<u8>,
+    ) -> Result<(), Error>
+        requires { self.old.written < 2 ^ 32 - 1 }
+        ensures { OnOk result (self.new ≡ record self.old { written = self.old.written + 1 }) }
+    {
+        let mut sink = StdSink::new(held);
+        message.write_op_msg_to(alloc, &mut sink, None, ids)?;
+        self.written += 1;
+        Ok(())
+    }
+
+    // One frame, read into the buffer: how many bytes it has.
+    fn read(
+        &mut self,
+        alloc: Global,
+        frame: &[u8],
+        buffer: &mut FrameBuffer,
+    ) -> Result<usize, Error>
+        requires { self.old.read < 2 ^ 32 - 1 }
+        ensures { OnOk result (self.new ≡ record self.old { read = self.old.read + 1 }) }
+    {
+        let mut source = StdSource::new(frame);
+        let message = read_frame(alloc, &mut source, None, buffer)?;
+        let length = message.sections.len().wrapping_add(HEADER_AND_FLAGS);
+        self.read += 1;
+        Ok(length)
+    }
+
+    // One frame, read into a message that owns its document: how many bytes the frame has where that is all it holds.
+    fn read_owned(&mut self, alloc: Global, frame: &[u8]) -> Result<usize, Error>
+        requires { self.old.read_owned < 2 ^ 32 - 1 }
+        ensures { OnOk result (self.new ≡ record self.old { read_owned = self.old.read_owned + 1 }) }
+    {
+        let mut source = StdSource::new(frame);
+        let message = Message::read_from(alloc, &mut source, None)?;
+        let document = message.document_payload.as_bytes().len();
+        self.read_owned += 1;
+        Ok(document.wrapping_add(HEADER_AND_FLAGS + 1))
+    }
+}
+
+// How many bytes stand before the sections of a frame; a section of kind 0 has one more before its document.
+const HEADER_AND_FLAGS: usize = 20;
