@@ -1,4 +1,6 @@
-ghost use Rattle.std.specs.Prelude.{◌≡◌, ◌<◌, ◌≤◌};
+ghost use Rattle.std.specs.Prelude.{◌≡◌, ◌<◌, ◌≤◌, ℕ, List, Contains};
+ghost use Rattle.std.specs.Bool.{OnTrue};
+ghost use Rattle.mongo_scram.specs.Cache.{entries_of};
 
 use crate::{SaltedCache, SaltedKey, ScramVersion};
 use mongo_bson::{Bytes, Text};
@@ -54,15 +56,39 @@ fn key_of(alloc: Global, parts: &Parts) -> Result<SaltedKey, Error> {
     })
 }
 
-// Derives the salted password of a key that isn't there, and puts it in.
+// Puts a key in that isn't there.
 fn put<G: Ledger>(blank: Blank, cache: &mut SaltedCache, key: SaltedKey) -> Result<(), Error>
     requires name { blank.name ≡ G.name }
     requires parts { blank.parts ≡ G.parts }
     requires has_a_part { 0 < G.parts }
 {
-    if key.count == 0 || cache.get(&key).is_some() {
+    if key.count == 0 {
         return Ok(());
     }
+    if is_absent(cache, &key) {
+        put_new::<G>(blank, cache, key)
+    } else {
+        Ok(())
+    }
+}
+
+fn is_absent(cache: &SaltedCache, key: &SaltedKey) -> bool
+    ensures { OnTrue result ((tag : List ℕ) → Contains (entries_of cache.now) (key.now, tag) → ⊥) }
+{
+    match cache.get(key) {
+        Some(_tag) => false,
+        None => true,
+    }
+}
+
+// Derives the salted password of a key, with a counter of its own, of the ledger that `blank` opens, and puts it in.
+fn put_new<G: Ledger>(blank: Blank, cache: &mut SaltedCache, key: SaltedKey) -> Result<(), Error>
+    requires name { blank.name ≡ G.name }
+    requires parts { blank.parts ≡ G.parts }
+    requires has_a_part { 0 < G.parts }
+    requires counted { 1 ≤ key.count }
+    requires absent { (tag : List ℕ) → Contains (entries_of cache.old) (key, tag) → ⊥ }
+{
     let mut steps = Steps::<G>::new(blank);
     let tag = key.version.compute_salted_password(
         key.username.as_str(),
@@ -71,6 +97,8 @@ fn put<G: Ledger>(blank: Blank, cache: &mut SaltedCache, key: SaltedKey) -> Resu
         key.salt.as_bytes(),
         &mut steps,
     )?;
-    cache.add_rounds(key.count);
-    cache.insert(key, tag)
+    let count = key.count;
+    cache.insert(key, tag)?;
+    cache.add_rounds(count);
+    Ok(())
 }

@@ -1,0 +1,282 @@
+ghost use Rattle.std.specs.Prelude.{◌≡◌, ◌<◌, ◌≤◌};
+
+use crate::parse::{read_server_final, read_server_first};
+use crate::{ClientFinal, ClientFirst, ScramVersion, ServerFinal, ServerFirst};
+use mongo_bson::{Bytes, OwnedValue, Text};
+use mongo_mac::{Sha1Fn, Steps, Tag, hi};
+use mongo_wire::{AuthFault, Error, ErrorKind};
+use std::alloc::Global;
+use std::marker::Brand;
+use std::sync::ledger::{Blank, Ledger};
+use std::test::Fail;
+
+/// How the password becomes what Hi takes.
+#[derive(Clone, Copy)]
+enum Prepared {
+    /// As RFC 5802 has it.
+    Plain,
+    /// As the mechanism of MongoDB has it.
+    Mechanism,
+}
+
+/// A whole conversation.
+#[derive(Clone, Copy)]
+struct Exchange {
+    version: ScramVersion,
+    prepared: Prepared,
+    username: &'static str,
+    password: &'static str,
+    nonce: &'static str,
+    open: &'static str,
+    server_first: &'static str,
+    close: &'static str,
+    verifier: &'static str,
+}
+
+// The conversations of RFC 5802, section 5, of RFC 7677, section 3, of SCRAM-SHA-1 in the MongoDB authentication
+// specification, and, by Python's hashlib and hmac, one whose user name is escaped.
+fn row_at(place: u8) -> Exchange {
+    match place {
+        0 => Exchange {
+            version: ScramVersion::Sha1,
+            prepared: Prepared::Plain,
+            username: "user",
+            password: "pencil",
+            nonce: "fyko+d2lbbFgONRv9qkxdawL",
+            open: "n,,n=user,r=fyko+d2lbbFgONRv9qkxdawL",
+            server_first: "r=fyko+d2lbbFgONRv9qkxdawL3rfcNHYJY1ZVvWVs7j,s=QSXCR+Q6sek8bf92,i=4096",
+            close: "c=biws,r=fyko+d2lbbFgONRv9qkxdawL3rfcNHYJY1ZVvWVs7j,p=v0X8v3Bz2T0CJGbJQyF0X+HI4Ts=",
+            verifier: "v=rmF9pqV8S7suAoZWja4dJRkFsKQ=",
+        },
+        1 => Exchange {
+            version: ScramVersion::Sha256,
+            prepared: Prepared::Mechanism,
+            username: "user",
+            password: "pencil",
+            nonce: "rOprNGfwEbeRWgbNEkqO",
+            open: "n,,n=user,r=rOprNGfwEbeRWgbNEkqO",
+            server_first: "r=rOprNGfwEbeRWgbNEkqO%hvYDpWUa2RaTCAfuxFIlj)hNlF$k0,s=W22ZaJ0SNY7soEsUEjb6gQ==,i=4096",
+            close: "c=biws,r=rOprNGfwEbeRWgbNEkqO%hvYDpWUa2RaTCAfuxFIlj)hNlF$k0,p=dHzbZapWIk4jUhN+Ute9ytag9zjfMHgsqmmiz7AndVQ=",
+            verifier: "v=6rriTRBi23WpRR/wtup+mMhUZUn/dB5nLTJRsjl95G4=",
+        },
+        2 => Exchange {
+            version: ScramVersion::Sha1,
+            prepared: Prepared::Mechanism,
+            username: "user",
+            password: "pencil",
+            nonce: "fyko+d2lbbFgONRv9qkxdawL",
+            open: "n,,n=user,r=fyko+d2lbbFgONRv9qkxdawL",
+            server_first: "r=fyko+d2lbbFgONRv9qkxdawLHo+Vgk7qvUOKUwuWLIWg4l/9SraGMHEE,s=rQ9ZY3MntBeuP3E1TDVC4w==,i=10000",
+            close: "c=biws,r=fyko+d2lbbFgONRv9qkxdawLHo+Vgk7qvUOKUwuWLIWg4l/9SraGMHEE,p=MC2T8BvbmWRckDw8oWl5IVghwCY=",
+            verifier: "v=UMWeI25JD1yNYZRMpZ4VHvhZ9e0=",
+        },
+        _ => Exchange {
+            version: ScramVersion::Sha256,
+            prepared: Prepared::Mechanism,
+            username: "a=b,c",
+            password: "pw",
+            nonce: "nonce",
+            open: "n,,n=a=3Db=2Cc,r=nonce",
+            server_first: "r=nonceserver,s=W22ZaJ0SNY7soEsUEjb6gQ==,i=4096",
+            close: "c=biws,r=nonceserver,p=Z1JRkER3nOOZexlGyu4OxqClSWkPose2EwBQOKDKMv8=",
+            verifier: "v=AAmyEJy9Yddx+Mmy5GVpjuTBbLVFkaFfA34muj/pbpQ=",
+        },
+    }
+}
+
+#[test]
+fn conversations_of_the_standards(rt: HostRuntime) -> Result<(), Fail> {
+    for place in 0..4 {
+        let row = row_at(place);
+        let held = conversation_of::<Brand>(Blank::new(1), rt.alloc(), &row)?;
+        assert_eq!(rt; held.open.message(), row.open);
+        assert_eq!(rt; held.close.message(), row.close);
+        let last = server_final(rt.alloc(), row.verifier, 1)?;
+        assert!(rt;
+            last.validate(&held.salted, &held.close, &row.version)
+                .is_ok()
+        );
+    }
+    Ok(())
+}
+
+// A server final message, the conversation that it names, and what the client of the first conversation answers it.
+fn final_message(place: u8) -> (&'static str, u8, &'static str) {
+    match place {
+        0 => ("v=rmF9pqV8S7suAoZWja4dJRkFsKU=", 1, "Verifier"),
+        1 => ("v=rmF9", 1, "Verifier"),
+        2 => ("v=rmF9pqV8S7suAoZWja4dJRkFsKQ", 1, "Malformed"),
+        3 => ("e=other-error", 1, "ServerError"),
+        4 => ("v=rmF9pqV8S7suAoZWja4dJRkFsKQ=", 2, "Conversation"),
+        _ => ("e=other-error", 2, "Conversation"),
+    }
+}
+
+#[test]
+fn server_final_messages(rt: HostRuntime) -> Result<(), Fail> {
+    let row = row_at(0);
+    let held = conversation_of::<Brand>(Blank::new(1), rt.alloc(), &row)?;
+    for place in 0..6 {
+        let (message, number, fault) = final_message(place);
+        let last = server_final(rt.alloc(), message, number)?;
+        let answer = last.validate(&held.salted, &held.close, &row.version);
+        assert_eq!(rt; name_of(&answer), Some(fault), "{message}");
+    }
+    Ok(())
+}
+
+// A server first message, whether its reply says that the conversation is done, and what a client with the nonce `nonce`
+// and the ceiling 10000000 answers it.
+fn first_message(place: u8) -> (&'static str, bool, Option<&'static str>) {
+    match place {
+        0 => (
+            "r=nonceserver,s=W22ZaJ0SNY7soEsUEjb6gQ==,i=4096",
+            false,
+            None,
+        ),
+        1 => ("r=nonce,s=,i=+4096,x=more", false, None),
+        2 => ("r=nonce,s=,i=10000000", false, None),
+        3 => ("", false, Some("Malformed")),
+        4 => (
+            "r=nonce,s=W22ZaJ0SNY7soEsUEjb6gQ==",
+            false,
+            Some("Malformed"),
+        ),
+        5 => ("n=nonce,s=,i=4096", false, Some("Malformed")),
+        6 => ("r=nonce,t=,i=4096", false, Some("Malformed")),
+        7 => (
+            "r=nonce,s=W22ZaJ0SNY7soEsUEjb6gR==,i=4096",
+            false,
+            Some("Malformed"),
+        ),
+        8 => ("r=nonce,s=,j=4096", false, Some("Malformed")),
+        9 => ("r=nonce,s=*,i=x", false, Some("Malformed")),
+        10 => ("r=nonce,s=,i=", false, Some("CountUnreadable")),
+        11 => ("r=nonce,s=,i=4096x", false, Some("CountUnreadable")),
+        12 => ("r=nonce,s=,i=-4096", false, Some("CountUnreadable")),
+        13 => ("r=nonce,s=,i=4294967296", false, Some("CountUnreadable")),
+        14 => ("r=other,s=,i=1", true, Some("EndedEarly")),
+        15 => ("r=other,s=,i=1", false, Some("Nonce")),
+        16 => ("r=nonc,s=,i=4096", false, Some("Nonce")),
+        17 => ("r=nonce,s=,i=42", false, Some("CountLow")),
+        18 => ("r=nonce,s=,i=4095", false, Some("CountLow")),
+        _ => ("r=nonce,s=,i=10000001", false, Some("CountHigh")),
+    }
+}
+
+#[test]
+fn server_first_messages(rt: HostRuntime) -> Result<(), Fail> {
+    for place in 0..20 {
+        let (message, done, fault) = first_message(place);
+        let answer = match server_first(rt.alloc(), message, done) {
+            Ok(first) => first.validate("nonce", 10_000_000),
+            Err(error) => Err(error),
+        };
+        assert_eq!(rt; name_of(&answer), fault, "{message}");
+    }
+    Ok(())
+}
+
+#[test]
+fn messages_that_are_no_final_ones(rt: HostRuntime) {
+    for message in ["", "e", "v", "x=", "=v", "ve=", "i=1"] {
+        let answer = read_server_final(rt.alloc(), message).map(|_body| ());
+        assert_eq!(rt; name_of(&answer), Some("Malformed"), "{message}");
+    }
+}
+
+// The name of the fault that a login was refused for.
+fn name_of(answer: &Result<(), Error>) -> Option<&'static str> {
+    match answer {
+        Ok(()) => None,
+        Err(error) => match &error.kind {
+            ErrorKind::Authentication(AuthFault::Malformed) => Some("Malformed"),
+            ErrorKind::Authentication(AuthFault::CountUnreadable) => Some("CountUnreadable"),
+            ErrorKind::Authentication(AuthFault::EndedEarly) => Some("EndedEarly"),
+            ErrorKind::Authentication(AuthFault::Nonce) => Some("Nonce"),
+            ErrorKind::Authentication(AuthFault::CountLow) => Some("CountLow"),
+            ErrorKind::Authentication(AuthFault::CountHigh) => Some("CountHigh"),
+            ErrorKind::Authentication(AuthFault::Conversation) => Some("Conversation"),
+            ErrorKind::Authentication(AuthFault::ServerError(_)) => Some("ServerError"),
+            ErrorKind::Authentication(AuthFault::Verifier) => Some("Verifier"),
+            ErrorKind::Authentication(AuthFault::PasswordControl) => Some("PasswordControl"),
+            ErrorKind::PasswordNotAscii => Some("PasswordNotAscii"),
+            _ => Some("another"),
+        },
+    }
+}
+
+// The id of a conversation, as an int32.
+fn id_of(alloc: Global, number: u8) -> Result<OwnedValue, Error> {
+    Ok(OwnedValue {
+        kind: 0x10,
+        bytes: Bytes::from_slice(alloc, &[number, 0, 0, 0])?,
+    })
+}
+
+fn server_first(alloc: Global, message: &str, done: bool) -> Result<ServerFirst, Error> {
+    let read = read_server_first(alloc, message)?;
+    Ok(ServerFirst {
+        conversation_id: id_of(alloc, 1)?,
+        done,
+        message: Text::from_slice(alloc, message)?,
+        nonce: Text::from_slice(alloc, read.nonce)?,
+        salt: read.salt,
+        i: read.i,
+    })
+}
+
+fn server_final(alloc: Global, message: &str, number: u8) -> Result<ServerFinal, Error> {
+    Ok(ServerFinal {
+        conversation_id: id_of(alloc, number)?,
+        done: true,
+        body: read_server_final(alloc, message)?,
+    })
+}
+
+/// What a client has when it has said all.
+#[derive(Drop)]
+struct Conversation {
+    open: ClientFirst,
+    salted: Tag,
+    close: ClientFinal,
+}
+
+// A row's conversation up to the client's last message, with a counter of its own, of the ledger that `blank` opens.
+fn conversation_of<G: Ledger>(
+    blank: Blank,
+    alloc: Global,
+    row: &Exchange,
+) -> Result<Conversation, Error>
+    requires name { blank.name ≡ G.name }
+    requires parts { blank.parts ≡ G.parts }
+    requires has_a_part { 0 < G.parts }
+{
+    let mut steps = Steps::<G>::new(blank);
+    let open = ClientFirst::with_nonce(alloc, "admin", row.username, false, row.nonce)?;
+    let first = server_first(alloc, row.server_first, false)?;
+    first.validate(open.nonce(), 10_000)?;
+    let salted = salted_password(row, &first, &mut steps)?;
+    let close = ClientFinal::new(alloc, "admin", &salted, &open, &first, &row.version)?;
+    Ok(Conversation {
+        open,
+        salted,
+        close,
+    })
+}
+
+fn salted_password<G: Ledger>(
+    row: &Exchange,
+    first: &ServerFirst,
+    steps: &mut Steps<G>,
+) -> Result<Tag, Error>
+    requires { 1 ≤ first.now.i }
+{
+    let salt = first.salt.as_bytes();
+    match row.prepared {
+        Prepared::Plain => Ok(hi::<Sha1Fn, G>(row.password.as_bytes(), salt, first.i, steps)),
+        Prepared::Mechanism => row
+            .version
+            .compute_salted_password(row.username, row.password, first.i, salt, steps),
+    }
+}
