@@ -4,7 +4,7 @@ use Rattle.std.specs.Fmt.{decimal}
 use Rattle.std.specs.Io.KnownBytes.{Appends}
 use Rattle.hex.specs.Hex.{encode_lower}
 use Rattle.mongo_bson.specs.Framed.{IsFramed}
-use Rattle.mongo_bson.specs.Document.{IsReadable, greatest_depth}
+use Rattle.mongo_bson.specs.Document.{IsReadable, maximum_depth}
 use Rattle.mongo_mac.specs.Digests.{sha1, sha256}
 use Rattle.mongo_mac.specs.Hi.{hi_of}
 use Rattle.mongo_bench.specs.declared.task.Hash.{Hash}
@@ -101,7 +101,7 @@ line_of hash count = encode_lower (derived_by hash count) ++ codes "\n"
 abbrev pub Tells : Pass → List ℕ → List ℕ → Type 0
 Tells Iterate document text = (elements : ℕ) × (text ≡ decimal elements ++ codes "\n")
 Tells Readable document text =
-    (IsReadable greatest_depth document × (text ≡ codes "readable\n")) ⊎ (¬ (IsReadable greatest_depth document) × (text ≡ codes "not readable\n"))
+    (IsReadable maximum_depth document × (text ≡ codes "readable\n")) ⊎ (¬ (IsReadable maximum_depth document) × (text ≡ codes "not readable\n"))
 
 -- what was written grew by what the pass tells of the document
 abbrev pub Told : Pass → List ℕ → Option (List ℕ) → Option (List ℕ) → Type 0

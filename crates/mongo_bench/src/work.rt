@@ -1,5 +1,5 @@
 ghost use Rattle.std.specs.Prelude.{◌≡◌, ◌+◌, ◌-◌, ◌^◌, ◌<◌, ◌≤◌, ◌↔◌, IsTrue, OnOk, IfOk};
-ghost use Rattle.mongo_bson.specs.Document.{IsReadable, greatest_depth};
+ghost use Rattle.mongo_bson.specs.Document.{IsReadable, maximum_depth};
 ghost use Rattle.mongo_bench.specs.Work.{nothing_done, only_iterated, only_judged, only_read, only_read_owned, only_written};
 
 use crate::walking::elements_in;
@@ -47,7 +47,7 @@ pub fn iterate(document: RawDocument<'_>, count: u32) -> Passed<usize>
 /// Judges so often whether the document is readable.
 pub fn judge(document: RawDocument<'_>, count: u32) -> Passed<bool>
     ensures work { result.work ≡ only_judged count }
-    ensures judged { 0 < count → (IsTrue result.last ↔ IsReadable greatest_depth document.entry.bytes.now) }
+    ensures judged { 0 < count → (IsTrue result.last ↔ IsReadable maximum_depth document.entry.bytes.now) }
 {
     let mut last = false;
     let mut work = Work::nothing();
@@ -127,7 +127,7 @@ impl Work {
     fn judge(&mut self, document: RawDocument<'_>) -> bool
         requires { self.old.judged < 2 ^ 32 - 1 }
         ensures work { self.new ≡ record self.old { judged = self.old.judged + 1 } }
-        ensures judged { IsTrue result ↔ IsReadable greatest_depth document.entry.bytes.now }
+        ensures judged { IsTrue result ↔ IsReadable maximum_depth document.entry.bytes.now }
     {
         let readable = document.readable();
         self.judged += 1;
