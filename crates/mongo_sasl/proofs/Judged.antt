@@ -23,9 +23,9 @@ value_there (Some e) None is = absurd is
 value_there (Some e) (Some value) is = refl
 
 -- the same of the properties is judged the same
-pub said_alike : (c : Credential) (callback foreign foreign' resource resource' hosts hosts' : Bool) (environment environment' : Option (List ℕ)) → foreign ≡ foreign' → environment ≡ environment' → resource ≡ resource' → hosts ≡ hosts'
+pub judged_alike : (c : Credential) (callback foreign foreign' resource resource' hosts hosts' : Bool) (environment environment' : Option (List ℕ)) → foreign ≡ foreign' → environment ≡ environment' → resource ≡ resource' → hosts ≡ hosts'
     → first_broken (oidc_table c callback foreign environment resource hosts) ≡ first_broken (oidc_table c callback foreign' environment' resource' hosts')
-said_alike c callback foreign foreign' resource resource' hosts hosts' environment environment' f e r h =
+judged_alike c callback foreign foreign' resource resource' hosts hosts' environment environment' f e r h =
     ap (λ x. first_broken (oidc_table c callback x environment resource hosts)) f
     ∙ ap (λ x. first_broken (oidc_table c callback foreign' x resource hosts)) e
     ∙ ap (λ x. first_broken (oidc_table c callback foreign' environment' x hosts)) r

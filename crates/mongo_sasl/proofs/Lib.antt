@@ -5,3 +5,5 @@ mod SaslRead
 mod MechanismNames
 mod Judged
 mod Negotiated
+mod FieldsPut
+mod StartBody

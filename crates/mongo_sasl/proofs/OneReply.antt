@@ -12,7 +12,7 @@ use Rattle.mongo_command.specs.Field.{field_of, Required, ReadsTruth}
 use Rattle.mongo_command.specs.Conversation.{IsOne, HasNone}
 use Rattle.mongo_command.proofs.OneField.{truth_one}
 use Rattle.mongo_sasl.specs.declared.sasl_response.SaslResponse.{SaslResponse}
-use Rattle.mongo_sasl.specs.Reply.{Succeeded, Failed, failure_text, ReadsValue, ReadsGeneric, IsSaslTable, IsSaslReply, IsSaslFailure, IsSaslMalformed, AuthRow, SaslRow}
+use Rattle.mongo_sasl.specs.Reply.{Succeeded, IsRefusal, failure_text, ReadsValue, ReadsGeneric, IsSaslTable, IsSaslReply, IsSaslFailure, IsSaslMalformed, AuthRow, SaslRow}
 
 one_required : {A : Type 0} (Reads : Element → A → Type 0) → ((e : Element) (a b : A) → Reads e a → Reads e b → a ≡ b) → (found : Option Element) (a b : A) → Required Reads found a → Required Reads found b → a ≡ b
 unfolding Required
@@ -51,7 +51,7 @@ one_failure : (reply a b : List ℕ) → IsSaslFailure reply a → IsSaslFailure
 one_failure reply a b p q = p.text_is ∙ ap (λ es. failure_text (field_of (codes "errmsg") es)) (same_elements reply p.elements q.elements p.well_formed q.well_formed) ∙ sym q.text_is
 
 -- what succeeded didn't fail
-pub not_both : (ok : Option Element) → Succeeded ok → Failed ok → ⊥
+pub not_both : (ok : Option Element) → Succeeded ok → IsRefusal ok → ⊥
 not_both None succeeded failed = absurd failed
 not_both (Some e) succeeded failed = let same : Some (pos 1) ≡ Some failed.0 = sym succeeded ∙ failed.1 in failed.2 cc
 

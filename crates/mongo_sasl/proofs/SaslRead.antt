@@ -9,21 +9,21 @@ use Rattle.mongo_bson.specs.Find.{FindsBytes}
 use Rattle.mongo_bson.specs.declared.owned_value.OwnedValue.{OwnedValue}
 use Rattle.mongo_wire.specs.declared.auth_fault.AuthFault.TheVariants.{Malformed, Refused}
 use Rattle.mongo_wire.specs.declared.error.ErrorKind.{ErrorKind}
-use Rattle.mongo_wire.specs.declared.error.ErrorKind.TheVariants.{Authentication, OutOfMemory as NoMemoryLeft}
+use Rattle.mongo_wire.specs.declared.error.ErrorKind.TheVariants.{Authentication, OutOfMemory}
 use Rattle.mongo_command.specs.declared.field.FieldFault.{FieldFault}
-use Rattle.mongo_command.specs.declared.field.FieldFault.TheVariants.{Unreadable, OutOfMemory}
+use Rattle.mongo_command.specs.declared.field.FieldFault.TheVariants.{Unreadable, OutOfMemory as NoMemory}
 use Rattle.mongo_command.specs.Field.{field_of, Required}
 use Rattle.mongo_command.specs.Fields.{Answers, IsValueOf}
 use Rattle.mongo_sasl.specs.declared.sasl_response.SaslResponse.{SaslResponse}
-use Rattle.mongo_sasl.specs.Reply.{Succeeded, Failed, ReadsValue, IsSaslTable, IsSaslReply, IsSaslFailure, SaslRefused, IsUnsuccessful}
-use Rattle.mongo_sasl.specs.View.{value_of, read_as, kind_of_fault}
+use Rattle.mongo_sasl.specs.Reply.{Succeeded, IsRefusal, ReadsValue, IsSaslTable, IsSaslReply, IsSaslFailure, SaslRefused, IsUnsuccessful}
+use Rattle.mongo_sasl.specs.View.{value_of, read_as, kind_of_field_fault}
 use Rattle.mongo_sasl.proofs.FirstOfKey.{bytes_found, bytes_none}
 use Rattle.mongo_sasl.proofs.OneReply.{same_elements, not_both}
 
 -- ---- the whole reply
 
-failed_here : (reply text : List ℕ) (elements : List Element) → IsWellFormed reply elements → IsSaslFailure reply text → Failed (field_of (codes "ok") elements)
-failed_here reply text elements well is = subst (λ es. Failed (field_of (codes "ok") es)) (same_elements reply is.elements elements is.well_formed well) is.failed
+failed_here : (reply text : List ℕ) (elements : List Element) → IsWellFormed reply elements → IsSaslFailure reply text → IsRefusal (field_of (codes "ok") elements)
+failed_here reply text elements well is = subst (λ es. IsRefusal (field_of (codes "ok") es)) (same_elements reply is.elements elements is.well_formed well) is.failed
 
 succeeded_here : (reply : List ℕ) (elements : List Element) (sasl : SaslResponse) → IsWellFormed reply elements → IsSaslReply reply sasl → Succeeded (field_of (codes "ok") elements)
 succeeded_here reply elements sasl well is = subst (λ es. Succeeded (field_of (codes "ok") es)) (same_elements reply is.elements elements is.well_formed well) is.succeeded
@@ -33,18 +33,18 @@ pub unsuccessful : (reply : List ℕ) (elements : List Element) (kind : ErrorKin
 unsuccessful reply elements (Authentication Malformed) well is =
     inl (record { no_reply = λ sasl reads. is.0 (succeeded_here reply elements sasl well reads); no_failure = λ text fails. is.1 (failed_here reply text elements well fails) })
 unsuccessful reply elements (Authentication (Refused text)) well is = inl (record { elements = elements; well_formed = well; failed = is.0; text_is = is.1 })
-unsuccessful reply elements NoMemoryLeft well is = inr refl
+unsuccessful reply elements OutOfMemory well is = inr refl
 unsuccessful reply elements (Authentication fault) well is = absurd is
 unsuccessful reply elements kind well is = absurd is
 
 -- nor is a success without its table
-pub no_table : (reply : List ℕ) (elements : List Element) (fault : FieldFault) → IsWellFormed reply elements → Succeeded (field_of (codes "ok") elements) → Answers IsSaslTable elements (Err fault) → SaslRefused reply (kind_of_fault fault)
+pub no_table : (reply : List ℕ) (elements : List Element) (fault : FieldFault) → IsWellFormed reply elements → Succeeded (field_of (codes "ok") elements) → Answers IsSaslTable elements (Err fault) → SaslRefused reply (kind_of_field_fault fault)
 no_table reply elements Unreadable well succeeded none =
     inl (record {
       no_reply = λ sasl is. none sasl (subst (λ es. IsSaslTable es sasl) (same_elements reply is.elements elements is.well_formed well) is.table);
       no_failure = λ text is. not_both (field_of (codes "ok") elements) succeeded (failed_here reply text elements well is);
     })
-no_table reply elements OutOfMemory well succeeded none = inr refl
+no_table reply elements NoMemory well succeeded none = inr refl
 
 -- ---- the fields of the table
 

@@ -1,7 +1,10 @@
 pub mod Mechanism
 pub mod Credential
+pub mod Years
 pub mod Moment
 pub mod Rules
 pub mod Validation
 pub mod Reply
 pub mod View
+pub mod Commands
+pub mod Sent

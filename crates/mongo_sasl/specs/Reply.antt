@@ -19,9 +19,9 @@ Succeeded None = ⊤
 Succeeded (Some ok) = int_of_kind ok.kind ok.value ≡ Some (pos 1)
 
 -- `ok` is another number
-abbrev pub Failed : Option Element → Type 0
-Failed None = ⊥
-Failed (Some ok) = (number : ℤ) × (int_of_kind ok.kind ok.value ≡ Some number) × (number ≢ pos 1)
+abbrev pub IsRefusal : Option Element → Type 0
+IsRefusal None = ⊥
+IsRefusal (Some ok) = (number : ℤ) × (int_of_kind ok.kind ok.value ≡ Some number) × (number ≢ pos 1)
 
 -- what a failure says: `errmsg`, where it is a text
 abbrev pub failure_text : Option Element → List ℕ
@@ -56,7 +56,7 @@ pub record IsSaslReply (reply : List ℕ) (sasl : SaslResponse) : Type 0 where
 pub record IsSaslFailure (reply text : List ℕ) : Type 0 where
   pub elements : List Element
   pub well_formed : IsWellFormed reply elements
-  pub failed : Failed (field_of (codes "ok") elements)
+  pub failed : IsRefusal (field_of (codes "ok") elements)
   pub text_is : text ≡ failure_text (field_of (codes "errmsg") elements)
 
 -- neither: it isn't well formed, or `ok` is no number, or it succeeded and a field is absent or of another kind
@@ -88,7 +88,7 @@ IsFailureOf errmsg kind = ⊥
 
 -- why elements are no success's: `ok` is no number, or another one, or memory ran out
 abbrev pub IsUnsuccessful : List Element → ErrorKind → Type 0
-IsUnsuccessful elements (Authentication Malformed) = (Succeeded (field_of (codes "ok") elements) → ⊥) × (Failed (field_of (codes "ok") elements) → ⊥)
-IsUnsuccessful elements (Authentication (Refused text)) = Failed (field_of (codes "ok") elements) × (text ≡ failure_text (field_of (codes "errmsg") elements))
+IsUnsuccessful elements (Authentication Malformed) = (Succeeded (field_of (codes "ok") elements) → ⊥) × (IsRefusal (field_of (codes "ok") elements) → ⊥)
+IsUnsuccessful elements (Authentication (Refused text)) = IsRefusal (field_of (codes "ok") elements) × (text ≡ failure_text (field_of (codes "errmsg") elements))
 IsUnsuccessful elements OutOfMemory = ⊤
 IsUnsuccessful elements kind = ⊥

@@ -43,6 +43,6 @@ abbrev pub text_property : List ℕ → List Element → Option (List ℕ)
 text_property name properties = option_and_then text_in (field_of name properties)
 
 -- a property of this name is there, and is no array
-abbrev pub is_no_array : Option Element → Bool
-is_no_array None = false
-is_no_array (Some e) = not (e.kind == 0x04)
+abbrev pub is_other_than_array : Option Element → Bool
+is_other_than_array None = false
+is_other_than_array (Some e) = not (e.kind == 0x04)

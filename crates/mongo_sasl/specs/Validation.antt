@@ -8,7 +8,7 @@ use Rattle.mongo_sasl.specs.declared.mechanism.AuthMechanism.{AuthMechanism}
 use Rattle.mongo_sasl.specs.declared.mechanism.AuthMechanism.TheVariants.{MongoDbCr, ScramSha1, ScramSha256, MongoDbX509, Plain, MongoDbAws, MongoDbOidc}
 use Rattle.mongo_sasl.specs.declared.credential.Credential.{Credential}
 use Rattle.mongo_sasl.specs.declared.rules.Rule.{Rule}
-use Rattle.mongo_sasl.specs.Rules.{rule, first_broken, is_other_than, is_text, properties_of, has_property, text_property, is_no_array}
+use Rattle.mongo_sasl.specs.Rules.{rule, first_broken, is_other_than, is_text, properties_of, has_property, text_property, is_other_than_array}
 
 -- ---- the rules of each mechanism
 
@@ -56,7 +56,7 @@ is_unknown_environment environment = is_some environment && not (takes_resource 
 -- by what the properties say: whether there is a foreign one, the environment, whether there is a token resource, and
 -- whether the allowed hosts are there and no array
 abbrev pub oidc_table : Credential → Bool → Bool → Option (List ℕ) → Bool → Bool → List Rule
-oidc_table c callback_given foreign environment resource hosts_no_array =
+oidc_table c callback_given foreign environment resource hosts_other_than_array =
     rule OidcProperty foreign
     ∷ rule OidcCallbackWithEnvironment (is_some environment && callback_given)
     ∷ rule OidcResourceMissing (takes_resource environment && not resource)
@@ -64,7 +64,7 @@ oidc_table c callback_given foreign environment resource hosts_no_array =
     ∷ rule OidcSource (is_other_than (codes "$external") c.source)
     ∷ rule OidcPassword (is_some c.password)
     ∷ rule OidcEnvironment (is_unknown_environment environment)
-    ∷ rule OidcHostsNotArray hosts_no_array
+    ∷ rule OidcHostsNotArray hosts_other_than_array
     ∷ []
 
 abbrev pub oidc_rules : Credential → Bool → List Element → List Rule
@@ -73,7 +73,7 @@ oidc_rules c callback_given properties =
     (has_foreign_property properties)
     (text_property (codes "ENVIRONMENT") properties)
     (has_property (codes "TOKEN_RESOURCE") properties)
-    (is_no_array (field_of (codes "ALLOWED_HOSTS") properties))
+    (is_other_than_array (field_of (codes "ALLOWED_HOSTS") properties))
 
 -- ---- the answer
 

@@ -4,9 +4,9 @@ use Rattle.std.specs.Borrow.{Bor}
 use Rattle.mongo_bson.specs.declared.owned_value.OwnedValue.{OwnedValue}
 use Rattle.mongo_wire.specs.declared.auth_fault.AuthFault.TheVariants.{Malformed}
 use Rattle.mongo_wire.specs.declared.error.ErrorKind.{ErrorKind}
-use Rattle.mongo_wire.specs.declared.error.ErrorKind.TheVariants.{Authentication, OutOfMemory as NoMemoryLeft}
+use Rattle.mongo_wire.specs.declared.error.ErrorKind.TheVariants.{Authentication, OutOfMemory}
 use Rattle.mongo_command.specs.declared.field.FieldFault.{FieldFault}
-use Rattle.mongo_command.specs.declared.field.FieldFault.TheVariants.{Unreadable, OutOfMemory}
+use Rattle.mongo_command.specs.declared.field.FieldFault.TheVariants.{Unreadable, OutOfMemory as NoMemory}
 use Rattle.mongo_sasl.specs.declared.sasl_response.SaslResponse.{SaslResponse}
 use Rattle.mongo_sasl.specs.declared.sasl_view.SaslView.{SaslView}
 
@@ -22,6 +22,6 @@ read_as says (Ok value) = Ok (says value)
 read_as says (Err fault) = Err fault
 
 -- what fields that can't be read are refused as
-abbrev pub kind_of_fault : FieldFault → ErrorKind
-kind_of_fault Unreadable = Authentication Malformed
-kind_of_fault OutOfMemory = NoMemoryLeft
+abbrev pub kind_of_field_fault : FieldFault → ErrorKind
+kind_of_field_fault Unreadable = Authentication Malformed
+kind_of_field_fault NoMemory = OutOfMemory

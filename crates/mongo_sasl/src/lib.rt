@@ -8,17 +8,24 @@
 //! Want of memory may stand in place of any answer of a call that is handed an allocator.
 #![tactic(auto)]
 
+mod auth_options;
+mod command_body;
+mod commands;
 mod credential;
+mod documents;
 mod mechanism;
 mod moment;
 mod properties;
 mod rules;
+mod sasl_continue;
 mod sasl_response;
+mod sasl_start;
 mod sasl_view;
 #[cfg(test)]
 mod tests;
 mod validation;
 
+pub use auth_options::AuthOptions;
 pub use credential::Credential;
 pub use mechanism::AuthMechanism;
 pub use moment::Moment;
@@ -26,7 +33,9 @@ pub use properties::{
     ALLOWED_HOSTS_PROP_STR, AWS_SESSION_TOKEN, AZURE_ENVIRONMENT_VALUE_STR, ENVIRONMENT_PROP_STR,
     GCP_ENVIRONMENT_VALUE_STR, TOKEN_RESOURCE_PROP_STR,
 };
+pub use sasl_continue::SaslContinue;
 pub use sasl_response::SaslResponse;
+pub use sasl_start::SaslStart;
 pub use sasl_view::SaslView;
 
 // The generic subtype of a binary, BSON 1.1.

@@ -1,11 +1,12 @@
-ghost use Rattle.std.specs.Prelude.{◌≤ℤ◌, pos, negsuc};
+ghost use Rattle.std.specs.Prelude.{◌≤ℤ◌};
+ghost use Rattle.mongo_sasl.specs.Years.{earliest, latest};
 
 /// A moment of the years 0 to 9998, in milliseconds since 1970, UTC.
 #[derive(Clone, Copy, Debug, PartialEq, Eq)]
 pub struct Moment {
     ms: i64,
-    pub ghost least: { negsuc 62167219199999 ≤ℤ ms },
-    pub ghost most: { ms ≤ℤ pos 253370764799999 },
+    pub ghost least: { earliest ≤ℤ ms },
+    pub ghost most: { ms ≤ℤ latest },
 }
 
 // The first millisecond of the year 0.

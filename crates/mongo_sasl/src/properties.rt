@@ -3,7 +3,7 @@ ghost use Rattle.mongo_bson.specs.Document.{Element, IsDocument, IsReadable, max
 ghost use Rattle.mongo_bson.specs.Framed.{enclosed};
 ghost use Rattle.mongo_command.specs.Field.{field_of};
 ghost use Rattle.mongo_command.specs.Fields.{IsValueOf};
-ghost use Rattle.mongo_sasl.specs.Rules.{properties_of, text_in, is_no_array};
+ghost use Rattle.mongo_sasl.specs.Rules.{properties_of, text_in, is_other_than_array};
 ghost use Rattle.mongo_sasl.specs.Validation.{has_foreign_property, is_oidc_property};
 
 use crate::Credential;
@@ -82,8 +82,8 @@ pub(crate) fn text_of<'a>(value: Option<RawValue<'a>>) -> Option<&'a str>
 }
 
 // Whether a property is there and is no array.
-pub(crate) fn is_no_array(value: Option<RawValue<'_>>) -> bool
-    ensures { (found : Option Element) → IsValueOf found value.entry → result ≡ is_no_array found }
+pub(crate) fn is_other_than_array(value: Option<RawValue<'_>>) -> bool
+    ensures { (found : Option Element) → IsValueOf found value.entry → result ≡ is_other_than_array found }
 {
     match value {
         Some(RawValue::Array(_)) => false,

@@ -4,7 +4,7 @@ ghost use Rattle.mongo_bson.specs.Value.{IsValue};
 ghost use Rattle.mongo_command.specs.Field.{field_of, Required};
 ghost use Rattle.mongo_command.specs.Fields.{IsValueOf, Answers, AreFields, HoldsWellFormed};
 ghost use Rattle.mongo_sasl.specs.Reply.{ReadsValue, ReadsGeneric, IsSaslTable, IsSaslReply, SaslRefused, Succeeded, IsUnsuccessful, IsFailureOf};
-ghost use Rattle.mongo_sasl.specs.View.{value_of, response_of, read_as, kind_of_fault};
+ghost use Rattle.mongo_sasl.specs.View.{value_of, response_of, read_as, kind_of_field_fault};
 
 use crate::{GENERIC, SaslResponse};
 use mongo_bson::{BsonFault, Bytes, OwnedValue, RawDocument, RawValue, Text, get_int_raw};
@@ -161,7 +161,7 @@ fn generic_binary<'b>(value: RawValue<'b>) -> Result<&'b [u8], FieldFault>
 
 // What fields that can't be read are refused as.
 fn unread(fault: FieldFault) -> Error
-    ensures { result.kind ≡ kind_of_fault fault }
+    ensures { result.kind ≡ kind_of_field_fault fault }
 {
     let kind = match fault {
         FieldFault::Unreadable => ErrorKind::Authentication(AuthFault::Malformed),

@@ -1,3 +1,4 @@
+mod commands;
 mod credentials;
 mod mechanisms;
 mod replies;

@@ -6,7 +6,7 @@ ghost use Rattle.mongo_sasl.specs.Validation.{scram_rules, x509_rules, plain_rul
 use crate::properties::{
     ALLOWED_HOSTS_PROP_STR, AWS_SESSION_TOKEN, AZURE_ENVIRONMENT_VALUE_STR, ENVIRONMENT_PROP_STR,
     GCP_ENVIRONMENT_VALUE_STR, K8S_ENVIRONMENT_VALUE_STR, TOKEN_RESOURCE_PROP_STR,
-    has_foreign_property, is_no_array, properties_of, property, text_of,
+    has_foreign_property, is_other_than_array, properties_of, property, text_of,
 };
 use crate::rules::{Rule, first_broken};
 use crate::{AuthMechanism, Credential};
@@ -115,13 +115,13 @@ fn judge_oidc(
     requires { IsReadable maximum_depth properties.bytes.now }
     ensures { (elements : List Element) → IsDocument properties.entry.bytes.now elements → result ≡ first_broken (oidc_rules credential.now callback_given elements) }
 {
-    let said = OidcProperties {
+    let named = OidcProperties {
         foreign: has_foreign_property(properties),
         environment: text_of(property(properties, ENVIRONMENT_PROP_STR)),
         resource: property(properties, TOKEN_RESOURCE_PROP_STR).is_some(),
-        hosts_no_array: is_no_array(property(properties, ALLOWED_HOSTS_PROP_STR)),
+        hosts_other_than_array: is_other_than_array(property(properties, ALLOWED_HOSTS_PROP_STR)),
     };
-    judge_said(credential, callback_given, &said)
+    judge_properties(credential, callback_given, &named)
 }
 
 // What the properties of an OIDC credential say.
@@ -133,7 +133,7 @@ struct OidcProperties<'a> {
     // whether there is a token resource
     resource: bool,
     // whether the allowed hosts are there and no array
-    hosts_no_array: bool,
+    hosts_other_than_array: bool,
 }
 
 impl OidcProperties<'_> {
@@ -162,21 +162,27 @@ impl OidcProperties<'_> {
     }
 }
 
-fn judge_said(
+fn judge_properties(
     credential: &Credential,
     callback_given: bool,
-    said: &OidcProperties<'_>,
+    properties: &OidcProperties<'_>,
 ) -> Result<(), ArgumentFault>
-    ensures { result ≡ first_broken (oidc_table credential.now callback_given said.now.foreign (option_copied said.now.environment) said.now.resource said.now.hosts_no_array) }
+    ensures { result ≡ first_broken (oidc_table credential.now callback_given properties.now.foreign (option_copied properties.now.environment) properties.now.resource properties.now.hosts_other_than_array) }
 {
     first_broken(&[
-        Rule::new(ArgumentFault::OidcProperty, said.foreign),
+        Rule::new(ArgumentFault::OidcProperty, properties.foreign),
         Rule::new(
             ArgumentFault::OidcCallbackWithEnvironment,
-            said.has_environment_beside(callback_given),
+            properties.has_environment_beside(callback_given),
         ),
-        Rule::new(ArgumentFault::OidcResourceMissing, said.lacks_resource()),
-        Rule::new(ArgumentFault::OidcResourceGiven, said.has_stray_resource()),
+        Rule::new(
+            ArgumentFault::OidcResourceMissing,
+            properties.lacks_resource(),
+        ),
+        Rule::new(
+            ArgumentFault::OidcResourceGiven,
+            properties.has_stray_resource(),
+        ),
         Rule::new(
             ArgumentFault::OidcSource,
             is_other_than(EXTERNAL, &credential.source),
@@ -184,9 +190,12 @@ fn judge_said(
         Rule::new(ArgumentFault::OidcPassword, credential.password.is_some()),
         Rule::new(
             ArgumentFault::OidcEnvironment,
-            is_unknown_environment(said.environment),
+            is_unknown_environment(properties.environment),
         ),
-        Rule::new(ArgumentFault::OidcHostsNotArray, said.hosts_no_array),
+        Rule::new(
+            ArgumentFault::OidcHostsNotArray,
+            properties.hosts_other_than_array,
+        ),
     ])
 }
 

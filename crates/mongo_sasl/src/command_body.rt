@@ -1,0 +1,57 @@
+ghost use Rattle.std.specs.Prelude.{◌≡◌, IfOk, IfErr};
+ghost use Rattle.mongo_sasl.specs.Commands.{start_body, continue_body, skip_empty_exchange, IsTooLong};
+
+use crate::documents::document_of;
+use crate::{AuthMechanism, GENERIC};
+use mongo_bson::{BsonFault, Bytes, OwnedValue, RawDocument, RawDocumentBuf, RawValue};
+use std::alloc::Global;
+
+// The body of a `saslStart`.
+//
+// `TooLong` where it would pass 2147483647 bytes.
+pub(crate) fn start_body(
+    alloc: Global,
+    mechanism: AuthMechanism,
+    payload: &Bytes,
+) -> Result<RawDocumentBuf, BsonFault>
+    ensures body { IfOk result (λ body. body ≡ start_body mechanism payload.now) }
+    ensures refused { IfErr result (λ fault. IsTooLong fault (start_body mechanism payload.now)) }
+{
+    let start = ("saslStart", RawValue::Int32(1));
+    let name = ("mechanism", RawValue::Str(mechanism.as_str()));
+    let payload = ("payload", RawValue::Binary(GENERIC, payload.as_bytes()));
+    match mechanism {
+        AuthMechanism::ScramSha1 | AuthMechanism::ScramSha256 => {
+            let options = ("options", RawValue::Document(skip_empty_exchange()));
+            document_of(alloc, &[start, name, payload, options])
+        }
+        _ => document_of(alloc, &[start, name, payload]),
+    }
+}
+
+// The options of SCRAM, `{skipEmptyExchange: true}`.
+fn skip_empty_exchange() -> RawDocument<'static>
+    ensures { result.bytes.now ≡ skip_empty_exchange }
+{
+    match RawDocument::from_bytes(b"\x19\0\0\0\x08skipEmptyExchange\0\x01\0") {
+        Ok(options) => options,
+        Err(_) => unreachable!(),
+    }
+}
+
+// The body of a `saslContinue`.
+//
+// `TooLong` where it would pass 2147483647 bytes.
+pub(crate) fn continue_body<'x>(
+    alloc: Global,
+    conversation_id: &'x OwnedValue,
+    payload: &'x Bytes,
+) -> Result<RawDocumentBuf, BsonFault>
+    ensures body { IfOk result (λ body. body ≡ continue_body conversation_id.now payload.now) }
+    ensures refused { IfErr result (λ fault. IsTooLong fault (continue_body conversation_id.now payload.now)) }
+{
+    let start = ("saslContinue", RawValue::Int32(1));
+    let id = RawValue::Other(conversation_id.kind, conversation_id.bytes.as_bytes());
+    let payload = ("payload", RawValue::Binary(GENERIC, payload.as_bytes()));
+    document_of(alloc, &[start, ("conversationId", id), payload])
+}

@@ -1,0 +1,50 @@
+use crate::command_body::continue_body;
+use crate::commands::login_command;
+use mongo_bson::{Bytes, OwnedValue, Text};
+use mongo_command::{Command, ServerApi};
+use mongo_wire::Error;
+use std::alloc::Global;
+
+/// A later command of a login: the conversation's id, as the server gave it, and the client's next message.
+#[derive(Debug, Drop)]
+pub struct SaslContinue {
+    source: Text,
+    conversation_id: OwnedValue,
+    payload: Bytes,
+    server_api: Option<ServerApi>,
+}
+
+impl SaslContinue {
+    ghost use Rattle.std.specs.Prelude.{◌≡◌, IfOk, IfErr};
+    ghost use Rattle.mongo_sasl.specs.Commands.{continue_body, IsNotBuilt};
+    ghost use Rattle.mongo_sasl.specs.Sent.{continue_command};
+
+    /// The next step of a login on a database, the source of the user.
+    pub fn new(
+        source: Text,
+        conversation_id: OwnedValue,
+        payload: Bytes,
+        server_api: Option<ServerApi>,
+    ) -> SaslContinue
+        ensures { result ≡ record { source = source; conversation_id = conversation_id; payload = payload; server_api = server_api } }
+    {
+        SaslContinue {
+            source,
+            conversation_id,
+            payload,
+            server_api,
+        }
+    }
+
+    /// The command: `saslContinue: 1`, the conversation's id and the payload, a generic binary; on the source, with the
+    /// server API.
+    ///
+    /// `Bson(TooLong)` where the body would pass 2147483647 bytes.
+    pub fn into_command(self, alloc: Global) -> Result<Command, Error>
+        ensures command { IfOk result (λ command. command ≡ continue_command self) }
+        ensures refused { IfErr result (λ e. IsNotBuilt (continue_body self.conversation_id self.payload) e.kind) }
+    {
+        let body = continue_body(alloc, &self.conversation_id, &self.payload)?;
+        login_command(alloc, "saslContinue", &self.source, body, self.server_api)
+    }
+}

@@ -1,0 +1,51 @@
+use crate::AuthMechanism;
+use crate::command_body::start_body;
+use crate::commands::login_command;
+use mongo_bson::{Bytes, Text};
+use mongo_command::{Command, ServerApi};
+use mongo_wire::Error;
+use std::alloc::Global;
+
+/// The first command of a login: the mechanism and the client's first message.
+#[derive(Debug, Drop)]
+pub struct SaslStart {
+    source: Text,
+    mechanism: AuthMechanism,
+    payload: Bytes,
+    server_api: Option<ServerApi>,
+}
+
+impl SaslStart {
+    ghost use Rattle.std.specs.Prelude.{◌≡◌, IfOk, IfErr};
+    ghost use Rattle.mongo_sasl.specs.Commands.{start_body, IsNotBuilt};
+    ghost use Rattle.mongo_sasl.specs.Sent.{start_command};
+
+    /// The start of a login on a database, the source of the user.
+    pub fn new(
+        source: Text,
+        mechanism: AuthMechanism,
+        payload: Bytes,
+        server_api: Option<ServerApi>,
+    ) -> SaslStart
+        ensures { result ≡ record { source = source; mechanism = mechanism; payload = payload; server_api = server_api } }
+    {
+        SaslStart {
+            source,
+            mechanism,
+            payload,
+            server_api,
+        }
+    }
+
+    /// The command: `saslStart: 1`, the mechanism's name and the payload, a generic binary, and for SCRAM
+    /// `options: {skipEmptyExchange: true}`; on the source, with the server API.
+    ///
+    /// `Bson(TooLong)` where the body would pass 2147483647 bytes.
+    pub fn into_command(self, alloc: Global) -> Result<Command, Error>
+        ensures command { IfOk result (λ command. command ≡ start_command self) }
+        ensures refused { IfErr result (λ e. IsNotBuilt (start_body self.mechanism self.payload) e.kind) }
+    {
+        let body = start_body(alloc, self.mechanism, &self.payload)?;
+        login_command(alloc, "saslStart", &self.source, body, self.server_api)
+    }
+}
