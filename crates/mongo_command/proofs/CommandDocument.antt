@@ -1,5 +1,5 @@
 -- A document that grows by the elements of a list, some at a time.
-use Rattle.std.proofs.Common.{◌≡◌, ℕ, ◌+◌, ◌-◌, ◌^◌, ◌<◌, sym, ap, ◌∙◌, List, [], ◌∷◌, ◌++◌, length, length-append, append_assoc, arith}
+use Rattle.std.proofs.Common.{◌≡◌, ℕ, sym, ap, ◌∙◌, List, [], ◌∷◌, ◌++◌, length, length-append, append_assoc, arith}
 use Rattle.std.proofs.lemmas.List.{append-nil}
 use Rattle.std.specs.List.{flat_map}
 use Rattle.std.proofs.lemmas.Grind.{flat_map-append}
@@ -7,7 +7,7 @@ use Rattle.mongo_bson.specs.Document.{Element, spell}
 use Rattle.mongo_bson.specs.Framed.{IsFramed, body_of, enclosed}
 use Rattle.mongo_bson.specs.declared.fault.BsonFault.{BsonFault}
 use Rattle.mongo_bson.specs.declared.fault.BsonFault.TheVariants.{TooLong, OutOfMemory}
-use Rattle.mongo_bson.proofs.Enclosed.{length-enclosed, body_of-enclosed, length-body_of}
+use Rattle.mongo_bson.proofs.Enclosed.{length-enclosed, body_of-enclosed}
 use Rattle.mongo_command.specs.Arguments.{TooLongFor}
 
 -- the body after bytes were put at the end

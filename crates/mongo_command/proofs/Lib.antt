@@ -14,5 +14,9 @@ pub mod Texts
 pub mod InnerDocuments
 pub mod WellFormed
 pub mod HelloRead
+pub mod HelloShort
 pub mod OneField
 pub mod OneReply
+pub mod FrameSizes
+pub mod Tables
+pub mod OneWrite

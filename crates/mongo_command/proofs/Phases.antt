@@ -1,17 +1,17 @@
 -- What the two phases of an exchange answer, from what writing and reading a message do.
-use Rattle.std.proofs.Common.{◌≡◌, ◌≢◌, ℕ, ℤ, ◌+◌, ◌^◌, ◌<◌, ◌%◌, bit_and, IfSome, ◌∙◌, refl, ap, subst, sym, inr, None, Some, Result, Ok, Err, List, [], length, IfOk, IfErr, OnOk, unwrap_or}
-use Rattle.std.specs.List.{AllByRecursion}
-use Rattle.mongo_wire.specs.Frame.{sequence_bytes, known_flags}
+use Rattle.std.proofs.Common.{◌≡◌, ℕ, ℤ, ◌^◌, ◌<◌, ◌%◌, bit_and, IfSome, ◌∙◌, refl, ap, subst, sym, inr, None, Some, Result, Ok, Err, List, length, IfOk, IfErr, OnOk, unwrap_or}
+use Rattle.mongo_wire.specs.Frame.{known_flags}
 use Rattle.std.specs.Prelude.{⊤}
 use Rattle.mongo_wire.specs.declared.error.Error.{Error}
 use Rattle.mongo_wire.specs.declared.error.ErrorKind.{ErrorKind}
 use Rattle.mongo_wire.specs.declared.error.ErrorKind.TheVariants.{InvalidArgument, WriteFault, OutOfMemory}
 use Rattle.mongo_wire.specs.declared.fault.ArgumentFault.{ArgumentFault}
-use Rattle.mongo_wire.specs.declared.fault.ArgumentFault.TheVariants.{IdentifierHasZero, SequenceTooLong, MaximumNegative, TooLong}
+use Rattle.mongo_wire.specs.declared.fault.ArgumentFault.TheVariants.{Bson}
+use Rattle.mongo_bson.specs.declared.fault.BsonFault.TheVariants.{TooLong}
 use Rattle.mongo_wire.specs.declared.message.Message.{Message}
 use Rattle.std.specs.Io.KnownBytes.{Appends}
 use Rattle.mongo_wire.specs.Outside.{State, Unwritten, AppendsFront}
-use Rattle.mongo_wire.specs.Message.{HasNames, HasSizes, TellsChecksum, IsRead, ReadRefused, WriteCut, WriteRefused, Writes, IsFrameOf, written_frame, id_of, id_after, parts_of}
+use Rattle.mongo_wire.specs.Message.{TellsChecksum, IsRead, ReadRefused, WriteCut, WriteRefused, Writes, IsFrameOf, written_frame, id_of, id_after, parts_of}
 use Rattle.mongo_wire.specs.Buffer.{IsFrameTaken, HoldsFrame, held_bytes, held_document, document_at}
 use Rattle.mongo_wire.specs.Frame.{Frame}
 use Rattle.mongo_wire.specs.declared.fault.FrameFault.{FrameFault}
@@ -19,53 +19,51 @@ use Rattle.mongo_wire.specs.Error.{kind_of_frame_fault}
 use Rattle.mongo_wire.specs.declared.frame_buffer.FrameBuffer.{FrameBuffer}
 use Rattle.mongo_command.specs.Exchange.{Cut, Sends, SendRefused, sent_fault, Receives, ReceiveRefused}
 
-cut_of : (kind : ErrorKind) (maximum : ℤ) (m : Message) (old new : State) (before after : ℤ) → m.request_id ≡ None → new.left ≡ old.left → WriteCut maximum m old.written new.written before after → Cut kind maximum m old new before after (Some kind)
+-- nothing was read: the bytes left and both counts of reading stand
+pub record Unread (old new : State) : Type 0 where
+  pub left : new.left ≡ old.left
+  pub reads : new.read_faults ≡ old.read_faults
+  pub ends : new.ends ≡ old.ends
+
+cut_of : (kind : ErrorKind) (maximum : ℤ) (m : Message) (old new : State) (before after : ℤ) → m.request_id ≡ None → Unread old new → WriteCut maximum m old.written new.written before after → Cut kind maximum m old new before after (Some kind)
 cut_of kind maximum m old new before after none unread w = record {
   fits = w.fits;
   front = subst (λ id. AppendsFront old.written new.written (written_frame id m)) (ap (λ o. unwrap_or o before) none) w.front;
-  unread = unread;
+  unread = unread.left;
+  reads = unread.reads;
+  ends = unread.ends;
   drawn = w.drawn ∙ ap (λ o. id_after o before) none;
   kept_is = refl;
 }
 
--- a message without sequences has no identifier and no size that could be refused
-no_name : (m : Message) → m.document_sequences ≡ [] → HasNames m
-no_name m p = subst (λ s. AllByRecursion (λ q. AllByRecursion (λ b. b ≢ 0) q.identifier) s) (sym p) tt
+refused_kind : (kind : ErrorKind) (maximum : ℤ) (m : Message) (old new : State) (before after : ℤ) → m.request_id ≡ None → length m.document_payload < 2 ^ 31 → Unread old new → ((fault : ArgumentFault) → kind ≡ InvalidArgument fault → new ≡ old) → WriteRefused kind maximum m old.written new.written old.write_faults new.write_faults before after → SendRefused kind maximum m old new before after (sent_fault kind)
+refused_kind (InvalidArgument (Bson TooLong)) maximum m old new before after none short unread same w = absurd w.0
+refused_kind (InvalidArgument fault) maximum m old new before after none short unread same w = (short, w.0, record { link = same fault refl; ids = w.2; kept_is = refl })
+refused_kind WriteFault maximum m old new before after none short unread same w = (w.0, cut_of WriteFault maximum m old new before after none unread w.1)
+refused_kind OutOfMemory maximum m old new before after none short unread same w = inr (cut_of OutOfMemory maximum m old new before after none unread w)
+refused_kind kind maximum m old new before after none short unread same w = absurd w
 
-no_size : (m : Message) → m.document_sequences ≡ [] → HasSizes m
-no_size m p = subst (λ s. AllByRecursion (λ q. 4 + length (sequence_bytes q) < 2 ^ 31) s) (sym p) tt
-
-refused_kind : (kind : ErrorKind) (maximum : ℤ) (m : Message) (old new : State) (before after : ℤ) → m.request_id ≡ None → m.document_sequences ≡ [] → length m.document_payload < 2 ^ 31 → new.left ≡ old.left → ((fault : ArgumentFault) → kind ≡ InvalidArgument fault → new ≡ old) → WriteRefused kind maximum m old.written new.written old.write_faults new.write_faults before after → SendRefused kind maximum m old new before after (sent_fault kind)
-refused_kind (InvalidArgument IdentifierHasZero) maximum m old new before after none alone short unread same w = absurd (w.0 (no_name m alone))
-refused_kind (InvalidArgument SequenceTooLong) maximum m old new before after none alone short unread same w = absurd (w.0.1 (no_size m alone))
-refused_kind (InvalidArgument MaximumNegative) maximum m old new before after none alone short unread same w = (short, w.0.2, record { link = same MaximumNegative refl; ids = w.2; kept_is = refl })
-refused_kind (InvalidArgument TooLong) maximum m old new before after none alone short unread same w = (short, w.0.2, w.0.3, record { link = same TooLong refl; ids = w.2; kept_is = refl })
-refused_kind (InvalidArgument fault) maximum m old new before after none alone short unread same w = absurd w.0
-refused_kind WriteFault maximum m old new before after none alone short unread same w = (w.0, cut_of WriteFault maximum m old new before after none unread w.1)
-refused_kind OutOfMemory maximum m old new before after none alone short unread same w = inr (cut_of OutOfMemory maximum m old new before after none unread w)
-refused_kind kind maximum m old new before after none alone short unread same w = absurd w
-
-pub send_refused : {L : Type 0} (state : L → State) (l l' : L) (r : Result ⊤ Error) (maximum : ℤ) (m : Message) (before after : ℤ) → m.request_id ≡ None → m.document_sequences ≡ [] → length m.document_payload < 2 ^ 31 → (state l').left ≡ (state l).left → ((fault : ArgumentFault) → IfErr r (λ e. e.kind ≡ InvalidArgument fault → l' ≡ l)) → IfErr r (λ e. WriteRefused e.kind maximum m (state l).written (state l').written (state l).write_faults (state l').write_faults before after) → IfErr r (λ e. SendRefused e.kind maximum m (state l) (state l') before after (sent_fault e.kind))
-send_refused state l l' (Ok x) maximum m before after none alone short unread same w = tt
-send_refused state l l' (Err e) maximum m before after none alone short unread same w = refused_kind e.kind maximum m (state l) (state l') before after none alone short unread (λ fault is. ap state (same fault is)) w
+pub send_refused : {L : Type 0} (state : L → State) (l l' : L) (r : Result ⊤ Error) (maximum : ℤ) (m : Message) (before after : ℤ) → m.request_id ≡ None → length m.document_payload < 2 ^ 31 → Unread (state l) (state l') → ((fault : ArgumentFault) → IfErr r (λ e. e.kind ≡ InvalidArgument fault → l' ≡ l)) → IfErr r (λ e. WriteRefused e.kind maximum m (state l).written (state l').written (state l).write_faults (state l').write_faults before after) → IfErr r (λ e. SendRefused e.kind maximum m (state l) (state l') before after (sent_fault e.kind))
+send_refused state l l' (Ok x) maximum m before after none short unread same w = tt
+send_refused state l l' (Err e) maximum m before after none short unread same w = refused_kind e.kind maximum m (state l) (state l') before after none short unread (λ fault is. ap state (same fault is)) w
 
 tells : (m : Message) → m.checksum ≡ None → TellsChecksum m
 tells m p = subst (λ c. IfSome c (λ sum. bit_and m.flags.0 known_flags % 2 ≡ 1)) (sym p) tt
 
-pub sent : (r : Result ⊤ Error) (maximum : ℤ) (m : Message) (old new : State) (before after : ℤ) → m.request_id ≡ None → m.checksum ≡ None → new.left ≡ old.left → new.read_faults ≡ old.read_faults → new.ends ≡ old.ends → OnOk r (Writes maximum m old.written new.written new.flushed before after) → OnOk r (TellsChecksum m → IsFrameOf (id_of m before) m (written_frame (id_of m before) m)) → OnOk r (Sends maximum m old new before after)
-sent (Ok x) maximum m old new before after none unsummed unread reads ends w frame =
+pub sent : (r : Result ⊤ Error) (maximum : ℤ) (m : Message) (old new : State) (before after : ℤ) → m.request_id ≡ None → m.checksum ≡ None → Unread old new → OnOk r (Writes maximum m old.written new.written new.flushed before after) → OnOk r (TellsChecksum m → IsFrameOf (id_of m before) m (written_frame (id_of m before) m)) → OnOk r (Sends maximum m old new before after)
+sent (Ok x) maximum m old new before after none unsummed unread w frame =
     let id_is : id_of m before ≡ before = ap (λ o. unwrap_or o before) none in
     record {
       fits = w.fits;
       written = subst (λ id. Appends old.written new.written (written_frame id m)) id_is w.appended;
       frame = subst (λ id. IsFrameOf id m (written_frame id m)) id_is (frame (tells m unsummed));
       flushed = w.flushed_is;
-      unread = unread;
-      reads = reads;
-      ends = ends;
+      unread = unread.left;
+      reads = unread.reads;
+      ends = unread.ends;
       drawn = w.drawn ∙ ap (λ o. id_after o before) none;
     }
-sent (Err e) maximum m old new before after none unsummed unread reads ends w frame = tt
+sent (Err e) maximum m old new before after none unsummed unread w frame = tt
 
 pub received : (r : Result Message Error) (maximum : ℤ) (old new : State) → Unwritten old new → IfOk r (IsRead maximum old.left new.left) → IfOk r (λ m. Receives maximum old new m.document_payload)
 received (Ok m) maximum old new unwritten read = record { unwritten = unwritten; frame = read.frame; parts = parts_of read.id m; is_frame = read.is_frame; within = read.within; taken = read.taken; document_is = refl }

@@ -1,6 +1,5 @@
 -- What the writer of a command's generic arguments holds: the fields that it still has to write.
-use Rattle.std.specs.Prelude.{◌≡◌, ℕ, ◌-◌, ◌^◌, ◌<◌, Option, None, Some, List, [], ◌∷◌, length, flat_map, Contains, ⊤}
-use Rattle.std.specs.List.{AllByRecursion}
+use Rattle.std.specs.Prelude.{ℕ, ◌-◌, ◌^◌, ◌<◌, Option, None, Some, List, [], ◌∷◌, length, Contains, ⊤}
 use Rattle.std.specs.Borrow.{Bor}
 use Rattle.mongo_bson.specs.Document.{Element}
 use Rattle.mongo_bson.specs.Value.{element_of}

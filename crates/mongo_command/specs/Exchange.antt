@@ -1,9 +1,9 @@
 -- One exchange: a command's frame is written and flushed, and one frame is taken.
-use Rattle.std.specs.Prelude.{◌≡◌, ℕ, ℤ, pos, ◌-◌, ◌^◌, ◌<◌, ◌≤◌, ◌<ℤ◌, ◌≤ℤ◌, ◌⊎◌, Bool, Option, None, Some, List, [], length, if◌then◌else◌, option_map, is_some, ⊤}
+use Rattle.std.specs.Prelude.{◌≡◌, ℕ, ℤ, pos, ◌-◌, ◌^◌, ◌<◌, ◌≤◌, ◌≤ℤ◌, ◌⊎◌, Bool, Option, None, Some, List, length, if◌then◌else◌, option_map, is_some, ⊤}
 use Rattle.std.specs.Io.KnownBytes.{Appends, Consumes}
 use Rattle.mongo_wire.specs.declared.error.ErrorKind.{ErrorKind}
 use Rattle.mongo_wire.specs.declared.error.ErrorKind.TheVariants.{InvalidArgument, WriteFault, OutOfMemory}
-use Rattle.mongo_wire.specs.declared.fault.ArgumentFault.TheVariants.{Bson, MaximumNegative, TooLong as FrameTooLong}
+use Rattle.mongo_wire.specs.declared.fault.ArgumentFault.TheVariants.{Bson}
 use Rattle.mongo_wire.specs.declared.message.Message.{Message}
 use Rattle.mongo_wire.specs.Outside.{State, Unwritten, Rose, AppendsFront, IsFlushed}
 use Rattle.mongo_wire.specs.Bytes.{next_id}
@@ -11,7 +11,7 @@ use Rattle.mongo_wire.specs.Header.{maximum_of}
 use Rattle.mongo_wire.specs.declared.frame_buffer.FrameBuffer.{FrameBuffer}
 use Rattle.mongo_wire.specs.Frame.{Frame, IsFrame}
 use Rattle.mongo_wire.specs.Buffer.{HoldsFrame, IsCleared}
-use Rattle.mongo_wire.specs.Message.{ReadRefused, Fits, IsFrameOf, frame_length, written_frame}
+use Rattle.mongo_wire.specs.Message.{ReadRefused, Fits, ArgumentRow, IsFrameOf, written_frame}
 use Rattle.mongo_bson.specs.declared.fault.BsonFault.TheVariants.{TooLong}
 use Rattle.mongo_command.specs.Command.{command_document}
 use Rattle.mongo_command.specs.declared.command.Command.{Command}
@@ -23,7 +23,7 @@ exhaust_flag allowed = if allowed then 65536 else 0
 
 -- the message that a command is sent as
 abbrev pub command_message : Command → Message
-command_message command = record { document_payload = command_document command; document_sequences = []; response_to = pos 0; flags = record { 0 = exhaust_flag command.exhaust_allowed }; checksum = None; request_id = None }
+command_message command = record { document_payload = command_document command; document_sequences = command.document_sequences; response_to = pos 0; flags = record { 0 = exhaust_flag command.exhaust_allowed }; checksum = None; request_id = None }
 
 -- the greatest frame: the description's, or the first maximum before there is one
 abbrev pub frame_maximum : Option StreamDescription → ℤ
@@ -82,6 +82,8 @@ pub record Cut (kind : ErrorKind) (maximum : ℤ) (message : Message) (old new :
   pub fits : Fits maximum message
   pub front : AppendsFront old.written new.written (written_frame before message)
   pub unread : new.left ≡ old.left
+  pub reads : new.read_faults ≡ old.read_faults
+  pub ends : new.ends ≡ old.ends
   pub drawn : after ≡ next_id before
   pub kept_is : kept ≡ Some kind
 
@@ -90,11 +92,11 @@ abbrev pub sent_fault : ErrorKind → Option ErrorKind
 sent_fault (InvalidArgument fault) = None
 sent_fault kind = Some kind
 
--- why a message wasn't sent, and what that left; a document that is too long is found before the maximum is tested
+-- why a message wasn't sent, and what that left; a document that is too long is found before the rest is tested, in the
+-- order of writing
 abbrev pub SendRefused : ErrorKind → ℤ → Message → State → State → ℤ → ℤ → Option ErrorKind → Type 0
 SendRefused (InvalidArgument (Bson TooLong)) maximum message old new before after kept = (2 ^ 31 - 1 < length message.document_payload) × Unsent old new before after kept
-SendRefused (InvalidArgument MaximumNegative) maximum message old new before after kept = (length message.document_payload < 2 ^ 31) × (maximum <ℤ pos 0) × Unsent old new before after kept
-SendRefused (InvalidArgument FrameTooLong) maximum message old new before after kept = (length message.document_payload < 2 ^ 31) × (pos 0 ≤ℤ maximum) × (maximum <ℤ pos (frame_length message)) × Unsent old new before after kept
+SendRefused (InvalidArgument fault) maximum message old new before after kept = (length message.document_payload < 2 ^ 31) × ArgumentRow fault maximum message × Unsent old new before after kept
 SendRefused WriteFault maximum message old new before after kept = Rose old.write_faults new.write_faults × Cut WriteFault maximum message old new before after kept
 SendRefused OutOfMemory maximum message old new before after kept = Unsent old new before after kept ⊎ Cut OutOfMemory maximum message old new before after kept
 SendRefused kind maximum message old new before after kept = ⊥

@@ -1,0 +1,51 @@
+-- A hello is short, so that memory alone can be wanting.
+use Rattle.std.proofs.Common.{◌≡◌, ℕ, ◌+◌, ◌^◌, ◌<◌, Bool, true, false, Option, None, Some, List, [], ◌∷◌, ◌++◌, length, length-append, flat_map, refl, ap, ◌∙◌, subst, IfSome, arith}
+use Rattle.mongo_bson.specs.Document.{Element, spell}
+use Rattle.mongo_bson.specs.Framed.{body_of, enclosed}
+use Rattle.mongo_bson.specs.declared.fault.BsonFault.{BsonFault}
+use Rattle.mongo_bson.specs.declared.fault.BsonFault.TheVariants.{TooLong, OutOfMemory}
+use Rattle.mongo_bson.proofs.Enclosed.{length-enclosed}
+use Rattle.mongo_command.specs.Literal.{document_of}
+use Rattle.mongo_command.specs.Arguments.{TooLongFor}
+use Rattle.mongo_command.specs.HelloCommand.{named_elements, topology_version_elements, topology_version_document}
+use Rattle.mongo_command.specs.declared.topology_version.TopologyVersion.{TopologyVersion}
+use Rattle.mongo_command.specs.declared.awaitable_hello.AwaitableHelloOptions.{AwaitableHelloOptions}
+
+-- how many bytes elements take: a kind byte and a zero each, the key and the value
+abbrev spelled_length : List Element → ℕ
+spelled_length [] = 0
+spelled_length (e ∷ es) = 2 + length e.key + length e.value + spelled_length es
+
+length-flat_map-spell : (es : List Element) → length (flat_map spell es) ≡ spelled_length es
+length-flat_map-spell [] = refl
+length-flat_map-spell (e ∷ es) = omega (arith, length-append (spell e) (flat_map spell es), length-append e.key (0 ∷ e.value), length-flat_map-spell es)
+
+length-document_of : (es : List Element) → length (document_of es) ≡ spelled_length es + 5
+length-document_of es = omega (arith, length-enclosed (flat_map spell es), length-flat_map-spell es)
+
+pub short_version : (version : TopologyVersion) → length version.process_id.0 ≡ 12 → length (document_of (topology_version_elements version)) < 2 ^ 8
+short_version version twelve = omega (arith, twelve, length-document_of (topology_version_elements version))
+
+pub short_hello : (modern : Bool) (hello_ok : Option Bool) (awaitable : Option AwaitableHelloOptions) → IfSome awaitable (λ options. length (topology_version_document options) < 2 ^ 8) → length (document_of (named_elements modern hello_ok awaitable)) < 2 ^ 31
+short_hello true hello_ok None short = omega (arith, length-document_of (named_elements true hello_ok None))
+short_hello true hello_ok (Some options) short = omega (arith, length-document_of (named_elements true hello_ok (Some options)))
+short_hello false None None short = omega (arith, length-document_of (named_elements false None None))
+short_hello false None (Some options) short = omega (arith, length-document_of (named_elements false None (Some options)))
+short_hello false (Some truth) None short = omega (arith, length-document_of (named_elements false (Some truth) None))
+short_hello false (Some truth) (Some options) short = omega (arith, length-document_of (named_elements false (Some truth) (Some options)))
+
+-- fields that are put into an empty document are the whole
+pub first_fields : (old new : List ℕ) (fields elements : List Element) → fields ≡ elements → old ≡ enclosed [] → new ≡ enclosed (body_of old ++ flat_map spell fields) → new ≡ document_of elements
+first_fields old new fields elements same empty added =
+    added ∙ ap (λ d. enclosed (body_of d ++ flat_map spell fields)) empty ∙ ap document_of same
+
+short_fault : (fault : BsonFault) (document : List ℕ) → TooLongFor fault document → length document < 2 ^ 31 → fault ≡ OutOfMemory
+short_fault TooLong document long short = absurd (omega arith)
+short_fault OutOfMemory document long short = refl
+short_fault fault document long short = absurd long
+
+-- where the whole is short, only memory can be wanting
+pub only_memory : (fault : BsonFault) (old : List ℕ) (fields elements : List Element) → fields ≡ elements → old ≡ enclosed [] → TooLongFor fault (enclosed (body_of old ++ flat_map spell fields)) → length (document_of elements) < 2 ^ 31 → fault ≡ OutOfMemory
+only_memory fault old fields elements same empty long short =
+    let whole : enclosed (body_of old ++ flat_map spell fields) ≡ document_of elements = ap (λ d. enclosed (body_of d ++ flat_map spell fields)) empty ∙ ap document_of same in
+    short_fault fault (document_of elements) (subst (TooLongFor fault) whole long) short

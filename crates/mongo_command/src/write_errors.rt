@@ -1,0 +1,118 @@
+ghost use Rattle.std.specs.Prelude.{Option};
+ghost use Rattle.mongo_bson.specs.Document.{Element};
+ghost use Rattle.mongo_command.specs.Fields.{Answers, IsValueOf};
+ghost use Rattle.mongo_command.specs.WriteReply.{HoldsWriteErrors, TextsOrNone};
+
+use crate::error_table::text_or_empty;
+use crate::field::{FieldFault, FieldValue};
+use crate::fields::Fields;
+use crate::table::{Table, read_table};
+use mongo_bson::{RawDocument, RawValue, Texts};
+use mongo_wire::{IndexedWriteError, WriteConcernError, WriteError, WriteErrors};
+use std::alloc::Global;
+
+impl Table for IndexedWriteError {
+    ghost use Rattle.mongo_command.specs.WriteReply.{IsWriteErrorTable};
+
+    ghost table = { IsWriteErrorTable };
+
+    fn of_fields(alloc: Global, fields: &Fields<'_>) -> Result<IndexedWriteError, FieldFault> {
+        let index = fields.required("index")?;
+        let code = fields.required("code")?;
+        let code_name = fields.optional("codeName")?;
+        let message = text_or_empty(alloc, fields.value("errmsg"))?;
+        let details = fields.optional("errInfo")?;
+        let error = WriteError {
+            code,
+            code_name,
+            message,
+            details,
+        };
+        Ok(IndexedWriteError { index, error })
+    }
+}
+
+impl Table for WriteConcernError {
+    ghost use Rattle.mongo_command.specs.WriteReply.{IsConcernErrorTable};
+
+    ghost table = { IsConcernErrorTable };
+
+    fn of_fields(alloc: Global, fields: &Fields<'_>) -> Result<WriteConcernError, FieldFault> {
+        let code = fields.required("code")?;
+        let code_name = text_or_empty(alloc, fields.value("codeName"))?;
+        let message = text_or_empty(alloc, fields.value("errmsg"))?;
+        let details = fields.optional("errInfo")?;
+        let labels = texts_or_none(alloc, fields.value("errorLabels"))?;
+        Ok(WriteConcernError {
+            code,
+            code_name,
+            message,
+            details,
+            labels,
+        })
+    }
+}
+
+impl FieldValue for IndexedWriteError {
+    ghost use Rattle.mongo_command.specs.WriteReply.{ReadsWriteError};
+
+    ghost reads = { ReadsWriteError };
+
+    fn read(alloc: Global, value: RawValue<'_>) -> Result<IndexedWriteError, FieldFault> {
+        match value {
+            RawValue::Document(document) => read_table(alloc, document),
+            _ => Err(FieldFault::Unreadable),
+        }
+    }
+}
+
+impl FieldValue for WriteConcernError {
+    ghost use Rattle.mongo_command.specs.WriteReply.{ReadsConcernError};
+
+    ghost reads = { ReadsConcernError };
+
+    fn read(alloc: Global, value: RawValue<'_>) -> Result<WriteConcernError, FieldFault> {
+        match value {
+            RawValue::Document(document) => read_table(alloc, document),
+            _ => Err(FieldFault::Unreadable),
+        }
+    }
+}
+
+impl FieldValue for WriteErrors {
+    ghost use Rattle.mongo_command.specs.WriteReply.{ReadsWriteErrors};
+
+    ghost reads = { ReadsWriteErrors };
+
+    fn read(alloc: Global, value: RawValue<'_>) -> Result<WriteErrors, FieldFault> {
+        match value {
+            RawValue::Array(array) => write_errors_in(alloc, array),
+            _ => Err(FieldFault::Unreadable),
+        }
+    }
+}
+
+// The write errors of an array of write errors alone.
+fn write_errors_in(alloc: Global, array: RawDocument<'_>) -> Result<WriteErrors, FieldFault>
+    ensures { Answers HoldsWriteErrors array.entry.bytes.now result }
+{
+    let mut errors = WriteErrors::new(alloc);
+    for item in array.iter() {
+        let Ok((_index, value)) = item else {
+            return Err(FieldFault::Unreadable);
+        };
+        let error = IndexedWriteError::read(alloc, value)?;
+        errors.push(error)?;
+    }
+    Ok(errors)
+}
+
+// An array of texts, which is empty where the field is absent. Null is none.
+fn texts_or_none(alloc: Global, value: Option<RawValue<'_>>) -> Result<Texts, FieldFault>
+    ensures { (found : Option Element) → IsValueOf found value.entry → Answers TextsOrNone found result }
+{
+    match value {
+        Some(value) => Texts::read(alloc, value),
+        None => Ok(Texts::new(alloc)),
+    }
+}
