@@ -13,7 +13,7 @@ use Rattle.mongo_scram.specs.declared.scram_version.ScramVersion.TheVariants.{Sh
 use Rattle.mongo_scram.specs.declared.cache.SaltedKey.{SaltedKey}
 use Rattle.mongo_scram.specs.Version.{name_of}
 use Rattle.mongo_scram.specs.KeyOrder.{key_cmp, key_cmp-total}
-use Rattle.mongo_scram.specs.Entry.{IsSaltedEntry, salted_of}
+use Rattle.mongo_scram.specs.Entry.{IsSaltedEntry, IsUsable, salted_of}
 use Rattle.mongo_scram.specs.Cache.{Adds}
 
 -- ---- keys that compare equal are one key
@@ -117,7 +117,7 @@ found key es tag is = from_IsIn es (key, tag) (lookup-some key es tag is)
 pub not_found : (key : SaltedKey) (es : Entries) → lookup (is_at (key_cmp key)) es ≡ None → (tag : List ℕ) → Contains es (key, tag) → ⊥
 not_found key es is tag h = lookup-none key es tag is (to_IsIn es (key, tag) h)
 
-pub found_salted : (key : SaltedKey) (es : Entries) (tag : List ℕ) → All IsSaltedEntry es → lookup (is_at (key_cmp key)) es ≡ Some tag → tag ≡ salted_of key
+pub found_salted : (key : SaltedKey) (es : Entries) (tag : List ℕ) → All IsSaltedEntry es → lookup (is_at (key_cmp key)) es ≡ Some tag → IsSaltedEntry (key, tag)
 found_salted key es tag all is = All-contains IsSaltedEntry es (key, tag) all (found key es tag is)
 
 -- ---- one entry more
@@ -148,7 +148,7 @@ inserted es new k v is absent other =
 All-place : (r : Ordering) (k : SaltedKey) (v : List ℕ) (e : SaltedKey × List ℕ) (es : Entries) → (r ≡ Equal → k ≡ e.0) → All IsSaltedEntry (e ∷ es) → IsSaltedEntry (k, v) → All IsSaltedEntry (insert_entry key_cmp es k v)
     → All IsSaltedEntry (match_ordering r ((k, v) ∷ e ∷ es) ((e.0, v) ∷ es) (e ∷ insert_entry key_cmp es k v))
 All-place Less k v e es same all new rest = All-cons IsSaltedEntry (k, v) (e ∷ es) new all
-All-place Equal k v e es same all new rest = All-cons IsSaltedEntry (e.0, v) es (subst (λ key. v ≡ salted_of key) (same refl) new) (All-tail IsSaltedEntry e es all)
+All-place Equal k v e es same all new rest = All-cons IsSaltedEntry (e.0, v) es (subst (λ key. IsSaltedEntry (key, v)) (same refl) new) (All-tail IsSaltedEntry e es all)
 All-place Greater k v e es same all new rest = All-cons IsSaltedEntry e _ (All-head IsSaltedEntry e es all) rest
 
 All-insert_entry : (es : Entries) (k : SaltedKey) (v : List ℕ) → All IsSaltedEntry es → IsSaltedEntry (k, v) → All IsSaltedEntry (insert_entry key_cmp es k v)
@@ -156,7 +156,7 @@ All-insert_entry [] k v all new = All-cons IsSaltedEntry (k, v) [] new all
 All-insert_entry (e ∷ es) k v all new =
     All-place (key_cmp k e.0) k v e es (key_cmp-exact k e.0) all new (All-insert_entry es k v (All-tail IsSaltedEntry e es all) new)
 
-pub All-inserted : (es new : Entries) (k : SaltedKey) (v : List ℕ) → new ≡ insert_entry key_cmp es k v → All IsSaltedEntry es → v ≡ salted_of k → All IsSaltedEntry new
+pub All-inserted : (es new : Entries) (k : SaltedKey) (v : List ℕ) → new ≡ insert_entry key_cmp es k v → All IsSaltedEntry es → IsSaltedEntry (k, v) → All IsSaltedEntry new
 All-inserted es new k v is all salted = subst (All IsSaltedEntry) (sym is) (All-insert_entry es k v all salted)
 
 -- ---- what the map's own clauses come to
@@ -167,12 +167,16 @@ get_found (Some tag) key es is = found key es tag.now (sym is)
 
 pub get_salted : (r : Option (Bor (List ℕ))) (key : SaltedKey) (es : Entries) → All IsSaltedEntry es → option_copied r ≡ lookup (is_at (key_cmp key)) es → IfSome r (λ tag. tag.now ≡ salted_of key)
 get_salted None key es all is = tt
-get_salted (Some tag) key es all is = found_salted key es tag.now all (sym is)
+get_salted (Some tag) key es all is = (found_salted key es tag.now all (sym is)).salted_is
+
+pub get_usable : (r : Option (Bor (List ℕ))) (key : SaltedKey) (es : Entries) → All IsSaltedEntry es → option_copied r ≡ lookup (is_at (key_cmp key)) es → IfSome r (λ _. IsUsable key)
+get_usable None key es all is = tt
+get_usable (Some tag) key es all is = (found_salted key es tag.now all (sym is)).usable
 
 pub get_absent : (r : Option (Bor (List ℕ))) (key : SaltedKey) (es : Entries) → option_copied r ≡ lookup (is_at (key_cmp key)) es → IfNone r ((tag : List ℕ) → Contains es (key, tag) → ⊥)
 get_absent None key es is = not_found key es (sym is)
 get_absent (Some tag) key es is = tt
 
-pub insert_salted : {T E : Type 0} (r : Result T E) (es new : Entries) (k : SaltedKey) (v : List ℕ) → OnOk r (new ≡ insert_entry key_cmp es k v) → OnErr r (new ≡ es) → All IsSaltedEntry es → v ≡ salted_of k → All IsSaltedEntry new
+pub insert_salted : {T E : Type 0} (r : Result T E) (es new : Entries) (k : SaltedKey) (v : List ℕ) → OnOk r (new ≡ insert_entry key_cmp es k v) → OnErr r (new ≡ es) → All IsSaltedEntry es → IsSaltedEntry (k, v) → All IsSaltedEntry new
 insert_salted (Ok x) es new k v is same all salted = All-inserted es new k v is all salted
 insert_salted (Err e) es new k v is same all salted = subst (All IsSaltedEntry) (sym same) all

@@ -24,7 +24,7 @@ has_comma (byte ∷ front) rest none = has_comma front rest none.1
 pub no_cut : (text front rest : List ℕ) → HasNoComma text → text ≡ front ++ (0x2C ∷ rest) → ⊥
 no_cut text front rest none is = has_comma front rest (subst HasNoComma is none)
 
-heads : (a b : ℕ) (x y : List ℕ) → a ∷ x ≡ b ∷ y → a ≡ b
+pub heads : (a b : ℕ) (x y : List ℕ) → a ∷ x ≡ b ∷ y → a ≡ b
 heads a b x y is = cc
 
 tails : (a b : ℕ) (x y : List ℕ) → a ∷ x ≡ b ∷ y → x ≡ y

@@ -1,5 +1,13 @@
 -- What the client's messages hold.
-use Rattle.std.specs.Prelude.{ℕ, Bool, List, drop, string_bytes}
+use Rattle.std.specs.Prelude.{ℕ, ℤ, Bool, Option, None, Some, List, drop, string_bytes}
+use Rattle.mongo_wire.specs.Outside.{risen}
+use Rattle.mongo_command.specs.declared.server_api.ServerApi.{ServerApi}
+use Rattle.mongo_sasl.specs.declared.credential.Credential.{Credential}
+use Rattle.mongo_scram.specs.declared.scram_version.ScramVersion.{ScramVersion}
+use Rattle.mongo_scram.specs.declared.auth_info.ClientAuthInfo.{ClientAuthInfo}
+use Rattle.mongo_scram.specs.declared.conversation.FirstRound.{FirstRound}
+use Rattle.mongo_scram.specs.User.{User}
+use Rattle.mongo_scram.specs.Plan.{Speculated, Handed}
 use Rattle.mongo_bson.specs.declared.owned_value.OwnedValue.{OwnedValue}
 use Rattle.mongo_scram.specs.declared.messages.ClientFirst.{ClientFirst}
 use Rattle.mongo_scram.specs.declared.messages.ClientFinal.{ClientFinal}
@@ -20,6 +28,9 @@ source_of first = first.source
 abbrev pub includes_db : ClientFirst → Bool
 includes_db first = first.include_db
 
+abbrev pub server_api_of : ClientFirst → Option ServerApi
+server_api_of first = first.server_api
+
 abbrev pub final_of : ClientFinal → List ℕ
 final_of last = string_bytes last.message
 
@@ -31,3 +42,22 @@ conversation_of last = last.conversation_id
 
 abbrev pub final_source_of : ClientFinal → List ℕ
 final_source_of last = last.source
+
+abbrev pub final_api_of : ClientFinal → Option ServerApi
+final_api_of last = last.server_api
+
+abbrev pub user_of : ClientAuthInfo → User
+user_of info = record { username = info.username.now; password = info.password.now; source = info.source.now }
+
+abbrev pub speculated_of : Option FirstRound → Option Speculated
+speculated_of None = None
+speculated_of (Some round) = Some (record { message = message_of round.client_first; nonce = nonce_of round.client_first; reply = round.server_first })
+
+-- what a login is handed by these
+abbrev pub handed_to : ScramVersion → Credential → Option ServerApi → Option FirstRound → List ℕ → ℕ → ℤ → Handed
+handed_to version credential api round nonce most maximum = record { version = version; credential = credential; server_api = api; speculated = speculated_of round; nonce = nonce; most = most; maximum = maximum }
+
+-- the count of a buffer's frames after the replies of a login: one, where a first round went with the hello, or two
+abbrev pub frames_after : Option FirstRound → ℕ → ℕ
+frames_after None frames = risen (risen frames)
+frames_after (Some round) frames = risen frames

@@ -3,14 +3,10 @@ use Rattle.std.specs.Prelude.{◌≡◌, ◌≢◌, ℕ, ◌<◌, ◌≤◌, tru
 use Rattle.mongo_wire.specs.declared.error.ErrorKind.{ErrorKind}
 use Rattle.mongo_wire.specs.declared.error.ErrorKind.TheVariants.{Authentication}
 use Rattle.mongo_wire.specs.declared.auth_fault.AuthFault.TheVariants.{EndedEarly, Nonce, CountLow, CountHigh, Conversation, ServerError, Malformed, Verifier as WrongVerifier}
-use Rattle.mongo_scram.specs.declared.scram_version.ScramVersion.{ScramVersion}
+use Rattle.mongo_bson.specs.declared.owned_value.OwnedValue.{OwnedValue}
 use Rattle.mongo_scram.specs.declared.server_first.ServerFirst.{ServerFirst}
 use Rattle.mongo_scram.specs.declared.server_final.ServerFinal.{ServerFinal}
 use Rattle.mongo_scram.specs.declared.server_final.ServerFinalBody.TheVariants.{Error, Verifier}
-use Rattle.mongo_scram.specs.declared.messages.ClientFinal.{ClientFinal}
-use Rattle.mongo_scram.specs.Client.{auth_message_of, conversation_of}
-use Rattle.mongo_scram.specs.Messages.{verifier}
-use Rattle.mongo_scram.specs.Version.{digest_of}
 
 -- the nonce begins with this one
 abbrev pub BeginsWith : List ℕ → List ℕ → Type 0
@@ -35,15 +31,15 @@ FirstRow first nonce most (Authentication CountLow) = (first.done ≡ false) × 
 FirstRow first nonce most (Authentication CountHigh) = (first.done ≡ false) × BeginsWith first.nonce nonce × (least_count ≤ first.i) × (most < first.i)
 FirstRow first nonce most kind = ⊥
 
--- the server has proved that it knows the key: it answers in the conversation with the verifier, all of it
-pub record IsValidFinal (last : ServerFinal) (salted : List ℕ) (client : ClientFinal) (version : ScramVersion) : Type 0 where
-  pub conversation : last.conversation_id ≡ conversation_of client
-  pub body : last.body ≡ Verifier (Some (verifier (digest_of version) salted (auth_message_of client)))
+-- the server has proved that it knows the key: it answers in this conversation with the verifier that it owes, all of it
+pub record IsValidFinal (last : ServerFinal) (conversation : OwnedValue) (owed : List ℕ) : Type 0 where
+  pub conversation_is : last.conversation_id ≡ conversation
+  pub body : last.body ≡ Verifier (Some owed)
 
 -- why it hasn't: the first row that applies
-abbrev pub FinalRow : ServerFinal → List ℕ → ClientFinal → ScramVersion → ErrorKind → Type 0
-FinalRow last salted client version (Authentication Conversation) = last.conversation_id ≢ conversation_of client
-FinalRow last salted client version (Authentication (ServerError text)) = (last.conversation_id ≡ conversation_of client) × (last.body ≡ Error text)
-FinalRow last salted client version (Authentication Malformed) = (last.conversation_id ≡ conversation_of client) × (last.body ≡ Verifier None)
-FinalRow last salted client version (Authentication WrongVerifier) = (last.conversation_id ≡ conversation_of client) × ((bytes : List ℕ) × (last.body ≡ Verifier (Some bytes)) × (bytes ≢ verifier (digest_of version) salted (auth_message_of client)))
-FinalRow last salted client version kind = ⊥
+abbrev pub FinalRow : ServerFinal → OwnedValue → List ℕ → ErrorKind → Type 0
+FinalRow last conversation owed (Authentication Conversation) = last.conversation_id ≢ conversation
+FinalRow last conversation owed (Authentication (ServerError text)) = (last.conversation_id ≡ conversation) × (last.body ≡ Error text)
+FinalRow last conversation owed (Authentication Malformed) = (last.conversation_id ≡ conversation) × (last.body ≡ Verifier None)
+FinalRow last conversation owed (Authentication WrongVerifier) = (last.conversation_id ≡ conversation) × ((bytes : List ℕ) × (last.body ≡ Verifier (Some bytes)) × (bytes ≢ owed))
+FinalRow last conversation owed kind = ⊥

@@ -1,9 +1,11 @@
 -- What a version of SCRAM fixes: its hash function H, and its name.
-use Rattle.std.specs.Prelude.{ℕ, List, codes}
+use Rattle.std.specs.Prelude.{ℕ, List}
 use Rattle.sha1.specs.Sha1.{sha1}
 use Rattle.sha2.specs.Sha256.{sha256}
 use Rattle.mongo_scram.specs.declared.scram_version.ScramVersion.{ScramVersion}
 use Rattle.mongo_scram.specs.declared.scram_version.ScramVersion.TheVariants.{Sha1, Sha256}
+use Rattle.mongo_sasl.specs.Mechanism.{name_of as mechanism_name}
+use Rattle.mongo_scram.specs.Commands.{mechanism_of}
 
 -- H (RFC 5802, section 2.2; RFC 7677)
 abbrev pub digest_of : ScramVersion → List ℕ → List ℕ
@@ -17,5 +19,4 @@ digest_len Sha256 = 32
 
 -- the mechanism's name
 abbrev pub name_of : ScramVersion → List ℕ
-name_of Sha1 = codes "SCRAM-SHA-1"
-name_of Sha256 = codes "SCRAM-SHA-256"
+name_of version = mechanism_name (mechanism_of version)

@@ -1,9 +1,9 @@
-ghost use Rattle.std.specs.Prelude.{◌≡◌, ℕ, ◌+◌, ◌-◌, ◌^◌, [], length, min, List, All, Contains, IfOk, IfErr, IfSome, IfNone, OnOk, OnErr, IsTrue, ◌↔◌};
+ghost use Rattle.std.specs.Prelude.{◌≡◌, ℕ, ◌+◌, ◌-◌, ◌^◌, ◌<◌, [], length, min, List, All, Contains, IfOk, IfErr, IfSome, IfNone, OnOk, OnErr, IsTrue, ◌↔◌};
 ghost use Rattle.mongo_scram.specs.Entry.{IsSaltedEntry};
 ghost use Rattle.mongo_wire.specs.declared.error.ErrorKind.TheVariants.{OutOfMemory};
 
 use crate::ScramVersion;
-use mongo_bson::{Bytes, Text};
+use mongo_bson::{BsonFault, Bytes, Text};
 use mongo_mac::Tag;
 use mongo_wire::Error;
 use std::alloc::Global;
@@ -24,6 +24,24 @@ pub struct SaltedKey {
     pub salt: Bytes,
     /// The iteration count.
     pub count: u32,
+}
+
+impl SaltedKey {
+    ghost use Rattle.std.specs.Prelude.{◌≡◌, IfOk, IfErr};
+
+    /// A copy of the key. Want of memory is the only refusal.
+    pub fn try_clone(&self, alloc: Global) -> Result<SaltedKey, BsonFault>
+        ensures copied { IfOk result (λ key. key ≡ self.now) }
+        ensures refused { IfErr result (λ fault. fault ≡ BsonFault.OutOfMemory) }
+    {
+        Ok(SaltedKey {
+            version: self.version,
+            username: self.username.try_clone(alloc)?,
+            password: self.password.try_clone(alloc)?,
+            salt: self.salt.try_clone(alloc)?,
+            count: self.count,
+        })
+    }
 }
 
 // A password's text is never shown.
@@ -107,11 +125,12 @@ pub struct SaltedCache {
     entries: BTreeMap<SaltedKey, Tag>,
     rounds: u64,
     pub ghost salted: { All IsSaltedEntry entries.entries },
+    pub ghost within: { rounds < 2 ^ 64 },
 }
 
 impl SaltedCache {
     ghost use Rattle.mongo_scram.specs.Cache.{entries_of, rounds_of, Adds};
-    ghost use Rattle.mongo_scram.specs.Entry.{salted_of};
+    ghost use Rattle.mongo_scram.specs.Entry.{salted_of, IsUsable};
 
     /// A cache with no entry, whose logins have derived nothing. It takes no memory.
     pub fn new(alloc: Global) -> SaltedCache
@@ -128,6 +147,7 @@ impl SaltedCache {
     pub fn get(&self, key: &SaltedKey) -> Option<&Tag>
         ensures found { IfSome result (λ tag. Contains (entries_of self.now) (key.now, tag.now)) }
         ensures salted { IfSome result (λ tag. tag.now ≡ salted_of key.now) }
+        ensures usable { IfSome result (λ _. IsUsable key.now) }
         ensures absent { IfNone result ((tag : List ℕ) → Contains (entries_of self.now) (key.now, tag) → ⊥) }
     {
         self.entries.get(key)
@@ -156,6 +176,7 @@ impl SaltedCache {
 
     // Puts a key in that has no entry, with its salted password. Want of memory leaves the entries as they were.
     pub(crate) fn insert(&mut self, key: SaltedKey, tag: Tag) -> Result<(), Error>
+        requires usable { IsUsable key }
         requires salted { tag ≡ salted_of key }
         requires absent { (other : List ℕ) → Contains (entries_of self.old) (key, other) → ⊥ }
         ensures added { OnOk result (Adds (entries_of self.old) (entries_of self.new) (key, tag)) }

@@ -13,19 +13,27 @@
 //!
 //! [`ClientFirst`] and [`ClientFinal`] are what the client says, [`ServerFirst`] and [`ServerFinal`] what it hears.
 //! [`ScramVersion::compute_salted_password`] derives the key, and [`SaltedCache`] keeps it for the next login.
+//! [`ScramVersion::authenticate_stream`] is the whole of it, over a connection.
 //!
 //! Proved: each message is RFC 5802's equation over lists of bytes, which `specs/Messages.antt` states; a message of the
 //! server is read where it is one, and else refused by the first of its rows; the derivation takes exactly as many steps as
-//! the count says; the verifier is equal as a whole; each entry of the cache is the salted password of its whole key. Want of
-//! memory is the one refusal without a cause.
+//! the count says; the verifier is equal as a whole; each entry of the cache is the salted password of its whole key. A login
+//! is accepted exactly after the commands and replies of a SCRAM conversation, and a refused one says why, what it left and
+//! whether the key was derived; `specs/Plan.antt` states the conversation turn by turn, `specs/Script.antt` as whole lists.
+//! Want of memory is the one refusal without a cause.
 #![tactic(auto)]
 
+mod auth_info;
 mod base64_text;
 mod cache;
+mod conversation;
+mod derivation;
+mod first_round;
 mod key;
 mod messages;
 mod parse;
 mod refusal;
+mod rounds;
 mod scram_version;
 mod server_final;
 mod server_first;
@@ -33,7 +41,9 @@ mod server_first;
 mod tests;
 mod user_name;
 
+pub use auth_info::ClientAuthInfo;
 pub use cache::{SaltedCache, SaltedKey};
+pub use conversation::FirstRound;
 pub use messages::{ClientFinal, ClientFirst, nonce_text};
 pub use scram_version::ScramVersion;
 pub use server_final::{ServerFinal, ServerFinalBody};

@@ -8,10 +8,13 @@ use crate::ScramVersion;
 use crate::base64_text::encoded;
 use crate::server_first::ServerFirst;
 use crate::user_name::push_user_name;
-use mongo_bson::{OwnedValue, Text};
+use mongo_bson::{Bytes, OwnedValue, RawValue, Text};
+use mongo_command::{Command, ServerApi};
 use mongo_mac::{Tag, xor};
+use mongo_sasl::{SaslContinue, SaslStart};
 use mongo_wire::Error;
 use std::alloc::{AllocError, Global};
+use std::fmt;
 
 /// What the client says of channel binding: it has none, and names no other user (RFC 5802, section 7, `gs2-header`).
 const GS2_HEADER: &str = "n,,";
@@ -32,32 +35,44 @@ pub struct ClientFirst {
     message: String,
     nonce: Text,
     include_db: bool,
+    server_api: Option<ServerApi>,
     pub ghost opens: { take 3 (string_bytes message) ≡ codes "n,," },
 }
 
 impl ClientFirst {
     ghost use Rattle.std.specs.Prelude.{◌≡◌, codes, IfOk, IfErr};
+    ghost use Rattle.mongo_sasl.specs.Commands.{IsNotBuilt};
     ghost use Rattle.mongo_scram.specs.Base64.{base64_of};
+    ghost use Rattle.mongo_scram.specs.Client.{message_of, bare_of, nonce_of, source_of, includes_db, server_api_of};
+    ghost use Rattle.mongo_scram.specs.Commands.{first_body, first_command};
     ghost use Rattle.mongo_scram.specs.Messages.{open_message};
-    ghost use Rattle.mongo_scram.specs.Client.{message_of, bare_of, nonce_of, source_of, includes_db};
 
     /// The first message of a user: `n,,n=` the user name `,r=` the nonce in base64. With `include_db` its command names
-    /// the source's database, as one that goes with a hello does.
+    /// the source's database, as one that goes with a hello does; with a server API its command declares it.
     pub fn new(
         alloc: Global,
         source: &str,
         username: &str,
         include_db: bool,
+        server_api: Option<ServerApi>,
         nonce: &[u8; 32],
     ) -> Result<ClientFirst, Error>
         ensures message { IfOk result (λ first. message_of first ≡ open_message username.now (base64_of nonce.now)) }
         ensures nonce { IfOk result (λ first. nonce_of first ≡ base64_of nonce.now) }
         ensures source { IfOk result (λ first. source_of first ≡ source.now) }
         ensures db { IfOk result (λ first. includes_db first ≡ include_db) }
+        ensures api { IfOk result (λ first. server_api_of first ≡ server_api) }
         ensures refused { IfErr result (λ e. e.kind ≡ OutOfMemory) }
     {
         let nonce = nonce_text(alloc, nonce)?;
-        ClientFirst::with_nonce(alloc, source, username, include_db, nonce.as_str())
+        ClientFirst::with_nonce(
+            alloc,
+            source,
+            username,
+            include_db,
+            server_api,
+            nonce.as_str(),
+        )
     }
 
     /// The same with the text of a nonce. RFC 5802 has nonces of printable ASCII without a comma.
@@ -66,12 +81,14 @@ impl ClientFirst {
         source: &str,
         username: &str,
         include_db: bool,
+        server_api: Option<ServerApi>,
         nonce: &str,
     ) -> Result<ClientFirst, Error>
         ensures message { IfOk result (λ first. message_of first ≡ open_message username.now nonce.now) }
         ensures nonce { IfOk result (λ first. nonce_of first ≡ nonce.now) }
         ensures source { IfOk result (λ first. source_of first ≡ source.now) }
         ensures db { IfOk result (λ first. includes_db first ≡ include_db) }
+        ensures api { IfOk result (λ first. server_api_of first ≡ server_api) }
         ensures refused { IfErr result (λ e. e.kind ≡ OutOfMemory) }
     {
         let message = open_text(alloc, username, nonce)?;
@@ -80,6 +97,7 @@ impl ClientFirst {
             message,
             nonce: Text::from_slice(alloc, nonce)?,
             include_db,
+            server_api,
         })
     }
 
@@ -113,6 +131,44 @@ impl ClientFirst {
     {
         self.nonce.as_str()
     }
+
+    /// The `saslStart` that carries the message, of this version's mechanism; where it was asked for, `db` names the
+    /// source's database beside the message.
+    ///
+    /// `Bson(TooLong)` where the body would pass 2147483647 bytes.
+    pub fn to_command(&self, alloc: Global, version: &ScramVersion) -> Result<Command, Error>
+        ensures command { IfOk result (λ command. command ≡ first_command version.now (includes_db self.now) (source_of self.now) (message_of self.now) (server_api_of self.now)) }
+        ensures refused { IfErr result (λ e. IsNotBuilt (first_body version.now (includes_db self.now) (source_of self.now) (message_of self.now)) e.kind) }
+    {
+        let source = self.source.try_clone(alloc)?;
+        let payload = Bytes::from_slice(alloc, self.message.as_bytes())?;
+        let start = SaslStart::new(source, version.mechanism(), payload, self.server_api);
+        let mut command = start.into_command(alloc)?;
+        if self.include_db {
+            command
+                .body
+                .append("db", RawValue::Str(self.source.as_str()))?;
+        }
+        Ok(command)
+    }
+
+    /// A copy of the message. Want of memory is the only refusal.
+    pub fn try_clone(&self, alloc: Global) -> Result<ClientFirst, Error>
+        ensures message { IfOk result (λ first. message_of first ≡ message_of self.now) }
+        ensures nonce { IfOk result (λ first. nonce_of first ≡ nonce_of self.now) }
+        ensures source { IfOk result (λ first. source_of first ≡ source_of self.now) }
+        ensures db { IfOk result (λ first. includes_db first ≡ includes_db self.now) }
+        ensures api { IfOk result (λ first. server_api_of first ≡ server_api_of self.now) }
+        ensures refused { IfErr result (λ e. e.kind ≡ OutOfMemory) }
+    {
+        Ok(ClientFirst {
+            source: self.source.try_clone(alloc)?,
+            message: String::from_str(alloc, self.message.as_str())?,
+            nonce: self.nonce.try_clone(alloc)?,
+            include_db: self.include_db,
+            server_api: self.server_api,
+        })
+    }
 }
 
 // `n,,n=` the user name `,r=` the nonce.
@@ -130,22 +186,36 @@ fn open_text(alloc: Global, username: &str, nonce: &str) -> Result<String, Error
 }
 
 /// The client's last message, and what it and the server sign.
-#[derive(Debug, Drop)]
+#[derive(Drop)]
 pub struct ClientFinal {
     source: Text,
     message: String,
     auth_message: String,
     conversation_id: OwnedValue,
+    server_api: Option<ServerApi>,
+}
+
+// A proof is never shown: who knows it can try passwords against it.
+impl fmt::Debug for ClientFinal {
+    ghost use Rattle.std.specs.Prelude.{Some, codes};
+
+    ghost debug_output = { λ _. Some (codes "ClientFinal { .. }") };
+
+    fn fmt<W: fmt::Write>(&self, f: &mut fmt::Formatter<W>) -> fmt::Result {
+        f.write_str("ClientFinal { .. }")
+    }
 }
 
 impl ClientFinal {
     ghost use Rattle.std.specs.Prelude.{◌≡◌, IfOk, IfErr};
-    ghost use Rattle.mongo_scram.specs.Client.{bare_of, final_of, auth_message_of, conversation_of, final_source_of};
+    ghost use Rattle.mongo_sasl.specs.Commands.{continue_body, IsNotBuilt};
+    ghost use Rattle.mongo_scram.specs.Client.{bare_of, final_of, auth_message_of, conversation_of, final_source_of, final_api_of};
+    ghost use Rattle.mongo_scram.specs.Commands.{final_command};
     ghost use Rattle.mongo_scram.specs.Messages.{transcript, close_message};
     ghost use Rattle.mongo_scram.specs.Version.{digest_of};
 
     /// The message that proves the salted password to the server: `c=biws,r=` the server's nonce `,p=` the proof in
-    /// base64 (RFC 5802, section 3).
+    /// base64 (RFC 5802, section 3). With a server API its command declares it.
     #[tactic(auto, unfolding(crate::specs::Messages::close_message))]
     pub fn new(
         alloc: Global,
@@ -154,6 +224,7 @@ impl ClientFinal {
         client_first: &ClientFirst,
         server_first: &ServerFirst,
         version: &ScramVersion,
+        server_api: Option<ServerApi>,
     ) -> Result<ClientFinal, Error>
         ensures auth_message { IfOk result (λ last. auth_message_of last ≡
             transcript (bare_of client_first.now) server_first.now.message server_first.now.nonce) }
@@ -161,6 +232,7 @@ impl ClientFinal {
             close_message (digest_of version.now) salted.now (auth_message_of last) server_first.now.nonce) }
         ensures conversation { IfOk result (λ last. conversation_of last ≡ server_first.now.conversation_id) }
         ensures source { IfOk result (λ last. final_source_of last ≡ source.now) }
+        ensures api { IfOk result (λ last. final_api_of last ≡ server_api) }
         ensures refused { IfErr result (λ e. e.kind ≡ OutOfMemory) }
     {
         let nonce = server_first.nonce.as_str();
@@ -177,6 +249,7 @@ impl ClientFinal {
             message,
             auth_message,
             conversation_id: server_first.conversation_id.try_clone(alloc)?,
+            server_api,
         })
     }
 
@@ -199,6 +272,37 @@ impl ClientFinal {
         ensures { result.now ≡ final_of self.now }
     {
         self.message.as_bytes()
+    }
+
+    /// The `saslContinue` that carries the message, of the conversation that the server's first message named.
+    ///
+    /// `Bson(TooLong)` where the body would pass 2147483647 bytes.
+    pub fn to_command(&self, alloc: Global) -> Result<Command, Error>
+        ensures command { IfOk result (λ command. command ≡ final_command (conversation_of self.now) (final_source_of self.now) (final_of self.now) (final_api_of self.now)) }
+        ensures refused { IfErr result (λ e. IsNotBuilt (continue_body (conversation_of self.now) (final_of self.now)) e.kind) }
+    {
+        let source = self.source.try_clone(alloc)?;
+        let conversation_id = self.conversation_id.try_clone(alloc)?;
+        let payload = Bytes::from_slice(alloc, self.message.as_bytes())?;
+        SaslContinue::new(source, conversation_id, payload, self.server_api).into_command(alloc)
+    }
+
+    /// A copy of the message. Want of memory is the only refusal.
+    pub fn try_clone(&self, alloc: Global) -> Result<ClientFinal, Error>
+        ensures message { IfOk result (λ last. final_of last ≡ final_of self.now) }
+        ensures auth_message { IfOk result (λ last. auth_message_of last ≡ auth_message_of self.now) }
+        ensures conversation { IfOk result (λ last. conversation_of last ≡ conversation_of self.now) }
+        ensures source { IfOk result (λ last. final_source_of last ≡ final_source_of self.now) }
+        ensures api { IfOk result (λ last. final_api_of last ≡ final_api_of self.now) }
+        ensures refused { IfErr result (λ e. e.kind ≡ OutOfMemory) }
+    {
+        Ok(ClientFinal {
+            source: self.source.try_clone(alloc)?,
+            message: String::from_str(alloc, self.message.as_str())?,
+            auth_message: String::from_str(alloc, self.auth_message.as_str())?,
+            conversation_id: self.conversation_id.try_clone(alloc)?,
+            server_api: self.server_api,
+        })
     }
 
     /// The conversation that the server's first message named.

@@ -1,13 +1,16 @@
 // What the server says, cut at its commas (RFC 5802, sections 5.1 and 7).
 
 ghost use Rattle.std.specs.Prelude.{◌≡◌, ◌≢◌, ℕ, ◌++◌, ◌∷◌, List, MatchOption, IfOk, IfErr};
+ghost use Rattle.mongo_bson.specs.declared.fault.BsonFault.TheVariants.{OutOfMemory};
+ghost use Rattle.mongo_sasl.specs.View.{response_of};
 ghost use Rattle.mongo_scram.specs.ServerMessages.{HasNoComma, BeginsWithParts, IsBeforeComma, SaysFinal};
 ghost use Rattle.mongo_scram.specs.Parsed.{HoldsFirst, FirstRefused, FinalRefused};
 
 use crate::base64_text::decoded;
 use crate::refusal::refused;
 use crate::server_final::ServerFinalBody;
-use mongo_bson::{Bytes, Text};
+use mongo_bson::{BsonFault, Bytes, OwnedValue, Text};
+use mongo_sasl::SaslView;
 use mongo_wire::{AuthFault, Error};
 use std::alloc::Global;
 
@@ -67,6 +70,17 @@ pub fn read_server_final(alloc: Global, message: &str) -> Result<ServerFinalBody
         Some(verifier) => Ok(ServerFinalBody::Verifier(decoded(alloc, verifier)?)),
         None => Err(refused(AuthFault::Malformed)),
     }
+}
+
+/// A copy of the id of the conversation that a reply is of.
+pub fn conversation_id_of(alloc: Global, view: &SaslView<'_>) -> Result<OwnedValue, BsonFault>
+    ensures copied { IfOk result (λ id. id ≡ (response_of view.now).conversation_id) }
+    ensures refused { IfErr result (λ fault. fault ≡ OutOfMemory) }
+{
+    Ok(OwnedValue {
+        kind: view.conversation_kind,
+        bytes: Bytes::from_slice(alloc, view.conversation_bytes)?,
+    })
 }
 
 // The value of an attribute with this key, which is a letter and `=`.

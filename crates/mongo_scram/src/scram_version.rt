@@ -1,9 +1,11 @@
 ghost use Rattle.std.specs.Prelude.{◌≡◌, ◌+◌, ◌≤◌, length};
 ghost use Rattle.mongo_mac.specs.Hi.{hi_of};
 ghost use Rattle.mongo_mac.specs.Hmac.{hmac_of};
+ghost use Rattle.mongo_scram.specs.Commands.{mechanism_of};
 ghost use Rattle.mongo_scram.specs.Version.{digest_of, digest_len, name_of};
 
 use mongo_mac::{Sha1Fn, Sha256Fn, Steps, Tag, digest, hi, hmac};
+use mongo_sasl::AuthMechanism;
 use std::fmt;
 use std::sync::ledger::Ledger;
 
@@ -17,14 +19,21 @@ pub enum ScramVersion {
 }
 
 impl ScramVersion {
-    /// The name of the mechanism, `SCRAM-SHA-1` or `SCRAM-SHA-256`.
+    /// The mechanism that logs in by this version.
+    pub fn mechanism(&self) -> AuthMechanism
+        ensures { result ≡ mechanism_of self.now }
+    {
+        match self {
+            ScramVersion::Sha1 => AuthMechanism::ScramSha1,
+            ScramVersion::Sha256 => AuthMechanism::ScramSha256,
+        }
+    }
+
+    // The name of the mechanism, `SCRAM-SHA-1` or `SCRAM-SHA-256`.
     pub(crate) fn name(&self) -> &'static str
         ensures { result.now ≡ name_of self.now }
     {
-        match self {
-            ScramVersion::Sha1 => "SCRAM-SHA-1",
-            ScramVersion::Sha256 => "SCRAM-SHA-256",
-        }
+        self.mechanism().as_str()
     }
 
     // H(text).

@@ -1,12 +1,24 @@
-ghost use Rattle.std.specs.Prelude.{OnOk, IfErr};
+ghost use Rattle.std.specs.Prelude.{◌≡◌, ◌⊎◌, ℕ, List, OnOk, IfOk, IfErr};
+ghost use Rattle.mongo_bson.specs.declared.fault.BsonFault.TheVariants.{OutOfMemory as NoMemory};
+ghost use Rattle.mongo_wire.specs.declared.error.ErrorKind.TheVariants.{OutOfMemory};
+ghost use Rattle.mongo_sasl.specs.Reply.{IsSaslReply};
+ghost use Rattle.mongo_sasl.specs.View.{response_of};
+ghost use Rattle.mongo_scram.specs.Client.{auth_message_of, conversation_of};
+ghost use Rattle.mongo_scram.specs.Messages.{verifier};
+ghost use Rattle.mongo_scram.specs.Replies.{CarriesFinal, FinalReplyRow};
 ghost use Rattle.mongo_scram.specs.Validity.{IsValidFinal, FinalRow};
+ghost use Rattle.mongo_scram.specs.Version.{digest_of};
 
 use crate::ScramVersion;
 use crate::messages::{ClientFinal, server_signature};
+use crate::parse::{conversation_id_of, read_server_final};
 use crate::refusal::refused;
-use mongo_bson::{Bytes, OwnedValue, Text};
+use mongo_bson::{BsonFault, Bytes, OwnedValue, RawDocument, Text};
 use mongo_mac::{Tag, are_same_bytes};
+use mongo_sasl::SaslView;
 use mongo_wire::{AuthFault, Error};
+use std::alloc::Global;
+use std::str;
 
 /// What the server's last message says.
 #[derive(Debug, Drop)]
@@ -28,7 +40,38 @@ pub struct ServerFinal {
     pub body: ServerFinalBody,
 }
 
+impl ServerFinalBody {
+    /// A copy of it. Want of memory is the only refusal.
+    pub fn try_clone(&self, alloc: Global) -> Result<ServerFinalBody, BsonFault>
+        ensures copied { IfOk result (λ body. body ≡ self.now) }
+        ensures refused { IfErr result (λ fault. fault ≡ NoMemory) }
+    {
+        match self {
+            ServerFinalBody::Error(text) => Ok(ServerFinalBody::Error(text.try_clone(alloc)?)),
+            ServerFinalBody::Verifier(None) => Ok(ServerFinalBody::Verifier(None)),
+            ServerFinalBody::Verifier(Some(verifier)) => {
+                Ok(ServerFinalBody::Verifier(Some(verifier.try_clone(alloc)?)))
+            }
+        }
+    }
+}
+
 impl ServerFinal {
+    /// Reads the server's last message out of the reply that carries it. Of the reply it copies the conversation's id, and
+    /// the text of an error or the bytes of the verifier.
+    ///
+    /// Refusals, in this order: those of [`SaslView::parse`]; `Malformed` where the message isn't UTF-8, or begins neither
+    /// with `e=` nor with `v=`.
+    pub fn parse(alloc: Global, response: RawDocument<'_>) -> Result<ServerFinal, Error>
+        ensures read { IfOk result (CarriesFinal response.entry.bytes.now) }
+        ensures refused { IfErr result (λ e. FinalReplyRow response.entry.bytes.now e.kind ⊎ (e.kind ≡ OutOfMemory)) }
+    {
+        match SaslView::parse(alloc, response) {
+            Ok(view) => final_of(alloc, &view),
+            Err(refused) => Err(refused),
+        }
+    }
+
     /// Whether the server has proved that it knows the key: the verifier is compared as a whole, over every byte. It takes
     /// no memory.
     ///
@@ -40,8 +83,8 @@ impl ServerFinal {
         client_final: &ClientFinal,
         version: &ScramVersion,
     ) -> Result<(), Error>
-        ensures valid { OnOk result (IsValidFinal self salted.now client_final.now version.now) }
-        ensures refused { IfErr result (λ e. FinalRow self salted.now client_final.now version.now e.kind) }
+        ensures valid { OnOk result (IsValidFinal self (conversation_of client_final.now) (verifier (digest_of version.now) salted.now (auth_message_of client_final.now))) }
+        ensures refused { IfErr result (λ e. FinalRow self (conversation_of client_final.now) (verifier (digest_of version.now) salted.now (auth_message_of client_final.now)) e.kind) }
     {
         let ServerFinal {
             conversation_id,
@@ -65,4 +108,32 @@ impl ServerFinal {
             }
         }
     }
+
+    /// A copy of the message. Want of memory is the only refusal.
+    pub fn try_clone(&self, alloc: Global) -> Result<ServerFinal, BsonFault>
+        ensures copied { IfOk result (λ last. last ≡ self.now) }
+        ensures refused { IfErr result (λ fault. fault ≡ NoMemory) }
+    {
+        Ok(ServerFinal {
+            conversation_id: self.conversation_id.try_clone(alloc)?,
+            done: self.done,
+            body: self.body.try_clone(alloc)?,
+        })
+    }
+}
+
+// The server's last message, from what the reply says.
+fn final_of(alloc: Global, view: &SaslView<'_>) -> Result<ServerFinal, Error>
+    ensures read { (reply : List ℕ) → IsSaslReply reply (response_of view.now) → IfOk result (CarriesFinal reply) }
+    ensures refused { (reply : List ℕ) → IsSaslReply reply (response_of view.now) → IfErr result (λ e. FinalReplyRow reply e.kind ⊎ (e.kind ≡ OutOfMemory)) }
+{
+    let Ok(message) = str::from_utf8(view.payload) else {
+        return Err(refused(AuthFault::Malformed));
+    };
+    let body = read_server_final(alloc, message)?;
+    Ok(ServerFinal {
+        conversation_id: conversation_id_of(alloc, view)?,
+        done: view.done,
+        body,
+    })
 }

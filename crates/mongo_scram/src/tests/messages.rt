@@ -1,10 +1,9 @@
 ghost use Rattle.std.specs.Prelude.{◌≡◌, ◌<◌, ◌≤◌};
 
-use crate::parse::{read_server_final, read_server_first};
+use super::{name_of, reply};
 use crate::{ClientFinal, ClientFirst, ScramVersion, ServerFinal, ServerFirst};
-use mongo_bson::{Bytes, OwnedValue, Text};
 use mongo_mac::{Sha1Fn, Steps, Tag, hi};
-use mongo_wire::{AuthFault, Error, ErrorKind};
+use mongo_wire::Error;
 use std::alloc::Global;
 use std::marker::Brand;
 use std::sync::ledger::{Blank, Ledger};
@@ -21,8 +20,8 @@ enum Prepared {
 
 /// A whole conversation.
 #[derive(Clone, Copy)]
-struct Exchange {
-    version: ScramVersion,
+pub(super) struct Exchange {
+    pub(super) version: ScramVersion,
     prepared: Prepared,
     username: &'static str,
     password: &'static str,
@@ -34,8 +33,8 @@ struct Exchange {
 }
 
 // The conversations of RFC 5802, section 5, of RFC 7677, section 3, of SCRAM-SHA-1 in the MongoDB authentication
-// specification, and, by Python's hashlib and hmac, one whose user name is escaped.
-fn row_at(place: u8) -> Exchange {
+// specification, and, by Python's hashlib and hmac, one whose user name is escaped and one with a nonce of 32 bytes of 1.
+pub(super) fn row_at(place: u8) -> Exchange {
     match place {
         0 => Exchange {
             version: ScramVersion::Sha1,
@@ -70,7 +69,7 @@ fn row_at(place: u8) -> Exchange {
             close: "c=biws,r=fyko+d2lbbFgONRv9qkxdawLHo+Vgk7qvUOKUwuWLIWg4l/9SraGMHEE,p=MC2T8BvbmWRckDw8oWl5IVghwCY=",
             verifier: "v=UMWeI25JD1yNYZRMpZ4VHvhZ9e0=",
         },
-        _ => Exchange {
+        3 => Exchange {
             version: ScramVersion::Sha256,
             prepared: Prepared::Mechanism,
             username: "a=b,c",
@@ -81,17 +80,28 @@ fn row_at(place: u8) -> Exchange {
             close: "c=biws,r=nonceserver,p=Z1JRkER3nOOZexlGyu4OxqClSWkPose2EwBQOKDKMv8=",
             verifier: "v=AAmyEJy9Yddx+Mmy5GVpjuTBbLVFkaFfA34muj/pbpQ=",
         },
+        _ => Exchange {
+            version: ScramVersion::Sha1,
+            prepared: Prepared::Mechanism,
+            username: "user",
+            password: "pencil",
+            nonce: "AQEBAQEBAQEBAQEBAQEBAQEBAQEBAQEBAQEBAQEBAQE=",
+            open: "n,,n=user,r=AQEBAQEBAQEBAQEBAQEBAQEBAQEBAQEBAQEBAQEBAQE=",
+            server_first: "r=AQEBAQEBAQEBAQEBAQEBAQEBAQEBAQEBAQEBAQEBAQE=srv,s=W22ZaJ0SNY7soEsUEjb6gQ==,i=4096",
+            close: "c=biws,r=AQEBAQEBAQEBAQEBAQEBAQEBAQEBAQEBAQEBAQEBAQE=srv,p=BFzm0muAQtwQOjURMMJFxMR5D7Q=",
+            verifier: "v=aUCtyleaGTvV5HNlYplfkdpArKI=",
+        },
     }
 }
 
 #[test]
 fn conversations_of_the_standards(rt: HostRuntime) -> Result<(), Fail> {
-    for place in 0..4 {
+    for place in 0..5 {
         let row = row_at(place);
         let held = conversation_of::<Brand>(Blank::new(1), rt.alloc(), &row)?;
         assert_eq!(rt; held.open.message(), row.open);
         assert_eq!(rt; held.close.message(), row.close);
-        let last = server_final(rt.alloc(), row.verifier, 1)?;
+        let last = server_final(rt.alloc(), 1, row.verifier)?;
         assert!(rt;
             last.validate(&held.salted, &held.close, &row.version)
                 .is_ok()
@@ -101,7 +111,7 @@ fn conversations_of_the_standards(rt: HostRuntime) -> Result<(), Fail> {
 }
 
 // A server final message, the conversation that it names, and what the client of the first conversation answers it.
-fn final_message(place: u8) -> (&'static str, u8, &'static str) {
+fn final_message(place: u8) -> (&'static str, i32, &'static str) {
     match place {
         0 => ("v=rmF9pqV8S7suAoZWja4dJRkFsKU=", 1, "Verifier"),
         1 => ("v=rmF9", 1, "Verifier"),
@@ -118,7 +128,7 @@ fn server_final_messages(rt: HostRuntime) -> Result<(), Fail> {
     let held = conversation_of::<Brand>(Blank::new(1), rt.alloc(), &row)?;
     for place in 0..6 {
         let (message, number, fault) = final_message(place);
-        let last = server_final(rt.alloc(), message, number)?;
+        let last = server_final(rt.alloc(), number, message)?;
         let answer = last.validate(&held.salted, &held.close, &row.version);
         assert_eq!(rt; name_of(&answer), Some(fault), "{message}");
     }
@@ -168,7 +178,7 @@ fn first_message(place: u8) -> (&'static str, bool, Option<&'static str>) {
 fn server_first_messages(rt: HostRuntime) -> Result<(), Fail> {
     for place in 0..20 {
         let (message, done, fault) = first_message(place);
-        let answer = match server_first(rt.alloc(), message, done) {
+        let answer = match server_first(rt.alloc(), done, message) {
             Ok(first) => first.validate("nonce", 10_000_000),
             Err(error) => Err(error),
         };
@@ -180,70 +190,33 @@ fn server_first_messages(rt: HostRuntime) -> Result<(), Fail> {
 #[test]
 fn messages_that_are_no_final_ones(rt: HostRuntime) {
     for message in ["", "e", "v", "x=", "=v", "ve=", "i=1"] {
-        let answer = read_server_final(rt.alloc(), message).map(|_body| ());
+        let answer = server_final(rt.alloc(), 1, message).map(|_last| ());
         assert_eq!(rt; name_of(&answer), Some("Malformed"), "{message}");
     }
 }
 
-// The name of the fault that a login was refused for.
-fn name_of(answer: &Result<(), Error>) -> Option<&'static str> {
-    match answer {
-        Ok(()) => None,
-        Err(error) => match &error.kind {
-            ErrorKind::Authentication(AuthFault::Malformed) => Some("Malformed"),
-            ErrorKind::Authentication(AuthFault::CountUnreadable) => Some("CountUnreadable"),
-            ErrorKind::Authentication(AuthFault::EndedEarly) => Some("EndedEarly"),
-            ErrorKind::Authentication(AuthFault::Nonce) => Some("Nonce"),
-            ErrorKind::Authentication(AuthFault::CountLow) => Some("CountLow"),
-            ErrorKind::Authentication(AuthFault::CountHigh) => Some("CountHigh"),
-            ErrorKind::Authentication(AuthFault::Conversation) => Some("Conversation"),
-            ErrorKind::Authentication(AuthFault::ServerError(_)) => Some("ServerError"),
-            ErrorKind::Authentication(AuthFault::Verifier) => Some("Verifier"),
-            ErrorKind::Authentication(AuthFault::PasswordControl) => Some("PasswordControl"),
-            ErrorKind::PasswordNotAscii => Some("PasswordNotAscii"),
-            _ => Some("another"),
-        },
-    }
+// The server's first message, as a reply carries it.
+fn server_first(alloc: Global, done: bool, message: &str) -> Result<ServerFirst, Error> {
+    let document = reply(alloc, 1, done, message.as_bytes())?;
+    ServerFirst::parse(alloc, document.borrow())
 }
 
-// The id of a conversation, as an int32.
-fn id_of(alloc: Global, number: u8) -> Result<OwnedValue, Error> {
-    Ok(OwnedValue {
-        kind: 0x10,
-        bytes: Bytes::from_slice(alloc, &[number, 0, 0, 0])?,
-    })
-}
-
-fn server_first(alloc: Global, message: &str, done: bool) -> Result<ServerFirst, Error> {
-    let read = read_server_first(alloc, message)?;
-    Ok(ServerFirst {
-        conversation_id: id_of(alloc, 1)?,
-        done,
-        message: Text::from_slice(alloc, message)?,
-        nonce: Text::from_slice(alloc, read.nonce)?,
-        salt: read.salt,
-        i: read.i,
-    })
-}
-
-fn server_final(alloc: Global, message: &str, number: u8) -> Result<ServerFinal, Error> {
-    Ok(ServerFinal {
-        conversation_id: id_of(alloc, number)?,
-        done: true,
-        body: read_server_final(alloc, message)?,
-    })
+// The server's last message, as a reply of the conversation of this number carries it.
+fn server_final(alloc: Global, number: i32, message: &str) -> Result<ServerFinal, Error> {
+    let document = reply(alloc, number, true, message.as_bytes())?;
+    ServerFinal::parse(alloc, document.borrow())
 }
 
 /// What a client has when it has said all.
 #[derive(Drop)]
-struct Conversation {
-    open: ClientFirst,
+pub(super) struct Conversation {
+    pub(super) open: ClientFirst,
     salted: Tag,
-    close: ClientFinal,
+    pub(super) close: ClientFinal,
 }
 
 // A row's conversation up to the client's last message, with a counter of its own, of the ledger that `blank` opens.
-fn conversation_of<G: Ledger>(
+pub(super) fn conversation_of<G: Ledger>(
     blank: Blank,
     alloc: Global,
     row: &Exchange,
@@ -253,11 +226,11 @@ fn conversation_of<G: Ledger>(
     requires has_a_part { 0 < G.parts }
 {
     let mut steps = Steps::<G>::new(blank);
-    let open = ClientFirst::with_nonce(alloc, "admin", row.username, false, row.nonce)?;
-    let first = server_first(alloc, row.server_first, false)?;
+    let open = ClientFirst::with_nonce(alloc, "admin", row.username, false, None, row.nonce)?;
+    let first = server_first(alloc, false, row.server_first)?;
     first.validate(open.nonce(), 10_000)?;
     let salted = salted_password(row, &first, &mut steps)?;
-    let close = ClientFinal::new(alloc, "admin", &salted, &open, &first, &row.version)?;
+    let close = ClientFinal::new(alloc, "admin", &salted, &open, &first, &row.version, None)?;
     Ok(Conversation {
         open,
         salted,

@@ -1,0 +1,77 @@
+-- What a login's last round shows of its closing.
+use Rattle.std.proofs.Common.{◌≡◌, ℕ, ℤ, ap, sym, ◌∙◌, subst, List, drop, Result, Ok, Err, IfErr, OnOk}
+use Rattle.mongo_wire.specs.declared.error.Error.{Error}
+use Rattle.mongo_wire.specs.declared.error.ErrorKind.{ErrorKind}
+use Rattle.mongo_wire.specs.Outside.{State}
+use Rattle.mongo_command.specs.Conversation.{Said, HasNone, Reached, Stopped}
+use Rattle.mongo_bson.specs.declared.owned_value.OwnedValue.{OwnedValue}
+use Rattle.mongo_scram.specs.declared.messages.ClientFirst.{ClientFirst}
+use Rattle.mongo_scram.specs.declared.messages.ClientFinal.{ClientFinal}
+use Rattle.mongo_scram.specs.Client.{bare_of, message_of, final_of, auth_message_of, conversation_of, final_source_of, final_api_of}
+use Rattle.mongo_scram.specs.Commands.{final_command}
+use Rattle.mongo_command.specs.Command.{command_document}
+use Rattle.mongo_command.specs.declared.server_api.ServerApi.{ServerApi}
+use Rattle.mongo_scram.specs.Costs.{EndsLogin}
+use Rattle.mongo_scram.specs.Messages.{transcript, close_message, verifier}
+use Rattle.mongo_scram.specs.Plan.{Handed, Challenge, message_by, salted_by, auth_message_by, close_by, verifier_by, close_said, LastRow, closing}
+use Rattle.mongo_scram.specs.Rounds.{final_said, RoundRow, last_round, IsTaken}
+use Rattle.mongo_scram.specs.Version.{digest_of}
+
+-- the client's last message in answer to a challenge, by its salted password
+pub record IsFinal (handed : Handed) (c : Challenge) (tag : List ℕ) (final : ClientFinal) : Type 0 where
+  pub tag_is : tag ≡ salted_by handed c
+  pub auth_message : auth_message_of final ≡ auth_message_by handed c
+  pub message : final_of final ≡ close_by handed c
+  pub conversation : conversation_of final ≡ c.first.conversation_id
+  pub source : final_source_of final ≡ c.user.source
+  pub api : final_api_of final ≡ handed.server_api
+
+-- by what it was made of
+pub final_by : (handed : Handed) (c : Challenge) (tag : List ℕ) (first : ClientFirst) (final : ClientFinal) → tag ≡ salted_by handed c → message_of first ≡ message_by handed c.user → auth_message_of final ≡ transcript (bare_of first) c.first.message c.first.nonce → final_of final ≡ close_message (digest_of handed.version) tag (auth_message_of final) c.first.nonce
+    → conversation_of final ≡ c.first.conversation_id → final_source_of final ≡ c.user.source → final_api_of final ≡ handed.server_api → IsFinal handed c tag final
+final_by handed c tag first final tag_is message auth_message message_is conversation source api =
+    let auth : auth_message_of final ≡ auth_message_by handed c = auth_message ∙ ap (λ m. transcript (drop 3 m) c.first.message c.first.nonce) message in
+    record {
+      tag_is = tag_is;
+      auth_message = auth;
+      message = message_is ∙ (λ i. close_message (digest_of handed.version) (tag_is i) (auth i) c.first.nonce);
+      conversation = conversation;
+      source = source;
+      api = api;
+    }
+
+same_said : (handed : Handed) (c : Challenge) (tag : List ℕ) (final : ClientFinal) (maximum : ℤ) → maximum ≡ handed.maximum → IsFinal handed c tag final → final_said final maximum ≡ close_said handed c
+same_said handed c tag final maximum same is =
+    let conversation = is.conversation in
+    let source = is.source in
+    let message = is.message in
+    let api = is.api in
+    λ i. let said : Said = record { maximum = same i; document = command_document (final_command (conversation i) (source i) (message i) (api i)) } in said
+
+same_owed : (handed : Handed) (c : Challenge) (tag : List ℕ) (final : ClientFinal) → IsFinal handed c tag final → verifier (digest_of handed.version) tag (auth_message_of final) ≡ verifier_by handed c
+same_owed handed c tag final is =
+    let salted = is.tag_is in
+    let auth = is.auth_message in
+    λ i. verifier (digest_of handed.version) (salted i) (auth i)
+
+pub closing_reached : (handed : Handed) (c : Challenge) (tag : List ℕ) (final : ClientFinal) (maximum : ℤ) (old new : State) (before after : ℤ) → maximum ≡ handed.maximum → IsFinal handed c tag final
+    → Reached (last_round (final_said final maximum) (conversation_of final) (verifier (digest_of handed.version) tag (auth_message_of final)) c) c old new before after → Reached (closing handed c) c old new before after
+closing_reached handed c tag final maximum old new before after same is r =
+    subst (λ owed. Reached (last_round (close_said handed c) c.first.conversation_id owed c) c old new before after) (same_owed handed c tag final is)
+    (subst (λ id. Reached (last_round (close_said handed c) id (verifier (digest_of handed.version) tag (auth_message_of final)) c) c old new before after) is.conversation
+    (subst (λ said. Reached (last_round said (conversation_of final) (verifier (digest_of handed.version) tag (auth_message_of final)) c) c old new before after) (same_said handed c tag final maximum same is) r))
+
+pub closing_stopped : (handed : Handed) (c : Challenge) (tag : List ℕ) (final : ClientFinal) (maximum : ℤ) (kind : ErrorKind) (old new : State) (before after : ℤ) → maximum ≡ handed.maximum → IsFinal handed c tag final
+    → Stopped (last_round (final_said final maximum) (conversation_of final) (verifier (digest_of handed.version) tag (auth_message_of final)) c) kind old new before after → Stopped (closing handed c) kind old new before after
+closing_stopped handed c tag final maximum kind old new before after same is r =
+    subst (λ owed. Stopped (last_round (close_said handed c) c.first.conversation_id owed c) kind old new before after) (same_owed handed c tag final is)
+    (subst (λ id. Stopped (last_round (close_said handed c) id (verifier (digest_of handed.version) tag (auth_message_of final)) c) kind old new before after) is.conversation
+    (subst (λ said. Stopped (last_round said (conversation_of final) (verifier (digest_of handed.version) tag (auth_message_of final)) c) kind old new before after) (same_said handed c tag final maximum same is) r))
+
+-- the last reply ends the login
+pub ends_login : (handed : Handed) (c : Challenge) (tag : List ℕ) (final : ClientFinal) (document : List ℕ) → IsFinal handed c tag final → IsTaken (conversation_of final) (verifier (digest_of handed.version) tag (auth_message_of final)) document → EndsLogin handed c document
+ends_login handed c tag final document is taken =
+    let row : HasNone (LastRow handed c taken.last) =
+    subst (λ owed. HasNone (RoundRow c.first.conversation_id owed taken.last)) (same_owed handed c tag final is)
+    (subst (λ id. HasNone (RoundRow id (verifier (digest_of handed.version) tag (auth_message_of final)) taken.last)) is.conversation taken.taken) in
+    record { last = taken.last; carries = taken.carries; taken = row }

@@ -1,0 +1,118 @@
+-- The first round of a login is a step of its plan.
+use Rattle.std.proofs.Common.{◌≡◌, ◌⊎◌, ℕ, ℤ, ◌≤◌, Bool, false, refl, ap, sym, ◌∙◌, subst, inl, inr, arith, Option, None, Some, Result, Ok, Err, List, [], ◌++◌, IfOk, IfErr, flat_map}
+use Rattle.mongo_bson.specs.Document.{spell}
+use Rattle.mongo_bson.proofs.Enclosed.{length-enclosed}
+use Rattle.mongo_wire.specs.declared.error.Error.{Error}
+use Rattle.mongo_wire.specs.declared.error.ErrorKind.{ErrorKind}
+use Rattle.mongo_wire.specs.declared.error.ErrorKind.TheVariants.{OutOfMemory}
+use Rattle.mongo_wire.specs.Outside.{State}
+use Rattle.mongo_command.specs.declared.command.Command.{Command}
+use Rattle.mongo_command.specs.Exchange.{command_message, CountsStay, Exchanges, ExchangeRefused}
+use Rattle.mongo_command.specs.Conversation.{Said, plain_message, saying, Stopped}
+use Rattle.mongo_command.proofs.Steps.{stopped_memory, stopped_row, stopped_saying, stopped_later}
+use Rattle.mongo_sasl.specs.Commands.{start_elements, IsNotBuilt}
+use Rattle.mongo_scram.specs.declared.messages.ClientFirst.{ClientFirst}
+use Rattle.mongo_scram.specs.declared.conversation.FirstRound.{FirstRound}
+use Rattle.mongo_scram.specs.declared.rounds.Login.{Login}
+use Rattle.mongo_scram.specs.declared.rounds.Opened.{Opened}
+use Rattle.mongo_scram.specs.Client.{message_of, nonce_of, source_of, includes_db, server_api_of, speculated_of}
+use Rattle.mongo_scram.specs.Commands.{mechanism_of, first_body, first_command}
+use Rattle.mongo_scram.specs.User.{User}
+use Rattle.mongo_scram.specs.Plan.{Handed, Challenge, message_by, nonce_by, start_said, challenged, opened}
+use Rattle.mongo_scram.specs.Replies.{CarriesFirst, FirstReplyRow}
+use Rattle.mongo_scram.specs.Rounds.{handed_by, Replies, Opens}
+use Rattle.mongo_scram.proofs.Unsent.{unbuilt_stopped}
+
+-- the command of the first message, as the plan has it
+abbrev start_command : Handed → User → Command
+start_command handed user = first_command handed.version false user.source (message_by handed user) handed.server_api
+
+-- a first message as the plan has it
+pub record IsStart (handed : Handed) (user : User) (first : ClientFirst) : Type 0 where
+  pub db : includes_db first ≡ false
+  pub source : source_of first ≡ user.source
+  pub message : message_of first ≡ message_by handed user
+  pub api : server_api_of first ≡ handed.server_api
+
+same_command : (handed : Handed) (user : User) (first : ClientFirst) → IsStart handed user first → first_command handed.version (includes_db first) (source_of first) (message_of first) (server_api_of first) ≡ start_command handed user
+same_command handed user first is =
+    let db = is.db in
+    let source = is.source in
+    let message = is.message in
+    let api = is.api in
+    λ i. first_command handed.version (db i) (source i) (message i) (api i)
+
+same_body : (handed : Handed) (user : User) (first : ClientFirst) → IsStart handed user first → first_body handed.version (includes_db first) (source_of first) (message_of first) ≡ first_body handed.version false user.source (message_by handed user)
+same_body handed user first is =
+    let db = is.db in
+    let source = is.source in
+    let message = is.message in
+    λ i. first_body handed.version (db i) (source i) (message i)
+
+-- ---- its command
+
+pub start_unbuilt : (handed : Handed) (user : User) (first : ClientFirst) (kind : ErrorKind) (old : State) (before : ℤ) → IsStart handed user first → IsNotBuilt (first_body handed.version (includes_db first) (source_of first) (message_of first)) kind → Stopped (saying (start_said handed user) (challenged handed user)) kind old old before before
+start_unbuilt handed user first kind old before is unbuilt =
+    unbuilt_stopped (start_said handed user) (challenged handed user) (start_command handed user) kind old before refl
+    (omega (arith, length-enclosed (flat_map spell (start_elements (mechanism_of handed.version) (message_by handed user) ++ []))))
+    (subst (λ body. IsNotBuilt body kind) (same_body handed user first is) unbuilt)
+
+pub start_unanswered : (handed : Handed) (user : User) (first : ClientFirst) (command : Command) (kind : ErrorKind) (old new : State) (before after : ℤ) (kept : Option ErrorKind) → IsStart handed user first → command ≡ first_command handed.version (includes_db first) (source_of first) (message_of first) (server_api_of first) → CountsStay old new
+    → ExchangeRefused kind handed.maximum (command_message command) old new before after kept → Stopped (saying (start_said handed user) (challenged handed user)) kind old new before after
+start_unanswered handed user first command kind old new before after kept start is counts refused =
+    stopped_saying (start_said handed user) (challenged handed user) kind old new before after kept (subst (λ x. ExchangeRefused kind handed.maximum (command_message x) old new before after kept) (is ∙ same_command handed user first start) refused) counts
+
+-- the exchange was that of the command
+pub start_exchanged : (handed : Handed) (user : User) (first : ClientFirst) (command : Command) (old new : State) (before after : ℤ) (reply : List ℕ) → IsStart handed user first → command ≡ first_command handed.version (includes_db first) (source_of first) (message_of first) (server_api_of first)
+    → Exchanges handed.maximum (command_message command) old new before after reply → Exchanges handed.maximum (plain_message (start_said handed user).document) old new before after reply
+start_exchanged handed user first command old new before after reply start is e =
+    subst (λ x. Exchanges handed.maximum (command_message x) old new before after reply) (is ∙ same_command handed user first start) e
+
+-- ---- its reply
+
+pub reply_stopped : (handed : Handed) (user : User) (reply : List ℕ) (kind : ErrorKind) (new : State) (after : ℤ) → FirstReplyRow reply kind ⊎ (kind ≡ OutOfMemory) → Stopped (challenged handed user reply) kind new new after after
+reply_stopped handed user reply kind new after (inl row) = stopped_row (FirstReplyRow reply) _ kind new after row
+reply_stopped handed user reply kind new after (inr memory) = stopped_memory (challenged handed user reply) kind new after memory
+
+pub start_refused : (handed : Handed) (user : User) (reply held : List ℕ) (kind : ErrorKind) (old new : State) (before after : ℤ) → reply ≡ held → Exchanges handed.maximum (plain_message (start_said handed user).document) old new before after held → CountsStay old new → FirstReplyRow reply kind ⊎ (kind ≡ OutOfMemory)
+    → Stopped (saying (start_said handed user) (challenged handed user)) kind old new before after
+start_refused handed user reply held kind old new before after same e counts row =
+    stopped_later (start_said handed user) (challenged handed user) held kind old new new before after after e counts
+    (reply_stopped handed user held kind new after (subst (λ r. FirstReplyRow r kind ⊎ (kind ≡ OutOfMemory)) same row))
+
+pub start_opens : (handed : Handed) (user : User) (opened : Opened) (reply held : List ℕ) (old new : State) (before after : ℤ) → handed.speculated ≡ None → IsStart handed user opened.client_first → nonce_of opened.client_first ≡ nonce_by handed → reply ≡ held
+    → Exchanges handed.maximum (plain_message (start_said handed user).document) old new before after held → CountsStay old new → CarriesFirst reply opened.server_first → Opens handed user opened old new before after
+start_opens handed user opened reply held old new before after none start nonce same e counts carries = record {
+  message = start.message;
+  nonce = nonce;
+  reply = held;
+  replied = subst (λ s. Replies s (start_said handed user) held old new before after) (sym none) (e, counts);
+  carries = subst (λ r. CarriesFirst r opened.server_first) same carries;
+}
+
+-- ---- with a round that went with the hello, or without
+
+pub round_stopped : {T : Type 0} (r : Result T Error) (login : Login) (found : Option FirstRound) (round : FirstRound) (maximum : ℤ) (user : User) (new : State) (after : ℤ) → found ≡ Some round → IfErr r (λ e. FirstReplyRow round.server_first e.kind ⊎ (e.kind ≡ OutOfMemory))
+    → IfErr r (λ e. Stopped (opened (speculated_of found) (handed_by login found maximum) user) e.kind new new after after)
+round_stopped (Ok x) login found round maximum user new after is h = tt
+round_stopped (Err x) login found round maximum user new after is h =
+    subst (λ f. Stopped (opened (speculated_of f) (handed_by login f maximum) user) x.kind new new after after) (sym is) (reply_stopped (handed_by login (Some round) maximum) user round.server_first x.kind new after h)
+
+pub start_stopped : {T : Type 0} (r : Result T Error) (login : Login) (found : Option FirstRound) (maximum : ℤ) (user : User) (old new : State) (before after : ℤ) → found ≡ None → IfErr r (λ e. Stopped (opened None (handed_by login None maximum) user) e.kind old new before after)
+    → IfErr r (λ e. Stopped (opened (speculated_of found) (handed_by login found maximum) user) e.kind old new before after)
+start_stopped (Ok x) login found maximum user old new before after is h = tt
+start_stopped (Err x) login found maximum user old new before after is h =
+    subst (λ f. Stopped (opened (speculated_of f) (handed_by login f maximum) user) x.kind old new before after) (sym is) h
+
+-- the same over a connection that keeps a fault
+pub round_answers : {T : Type 0} (r : Result T Error) (kind : ErrorKind) (login : Login) (found : Option FirstRound) (round : FirstRound) (maximum : ℤ) (user : User) (new : State) (after : ℤ) → found ≡ Some round → IfErr r (λ e. FirstReplyRow round.server_first e.kind ⊎ (e.kind ≡ OutOfMemory))
+    → IfErr r (λ e. (e.kind ≡ kind) ⊎ Stopped (opened (speculated_of found) (handed_by login found maximum) user) e.kind new new after after)
+round_answers (Ok x) kind login found round maximum user new after is h = tt
+round_answers (Err x) kind login found round maximum user new after is h =
+    inr (subst (λ f. Stopped (opened (speculated_of f) (handed_by login f maximum) user) x.kind new new after after) (sym is) (reply_stopped (handed_by login (Some round) maximum) user round.server_first x.kind new after h))
+
+pub start_answers : {T : Type 0} (r : Result T Error) (kind : ErrorKind) (login : Login) (found : Option FirstRound) (maximum : ℤ) (user : User) (old : State) (before : ℤ) → found ≡ None → IfErr r (λ e. (e.kind ≡ kind) ⊎ Stopped (opened None (handed_by login None maximum) user) e.kind old old before before)
+    → IfErr r (λ e. (e.kind ≡ kind) ⊎ Stopped (opened (speculated_of found) (handed_by login found maximum) user) e.kind old old before before)
+start_answers (Ok x) kind login found maximum user old before is h = tt
+start_answers (Err x) kind login found maximum user old before is h =
+    subst (λ f. (x.kind ≡ kind) ⊎ Stopped (opened (speculated_of f) (handed_by login f maximum) user) x.kind old old before before) (sym is) h

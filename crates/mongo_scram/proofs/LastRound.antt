@@ -1,0 +1,64 @@
+-- The last round of a login is a step of its plan, and ends it.
+use Rattle.std.proofs.Common.{◌≡◌, ◌⊎◌, ℕ, ℤ, ◌+◌, ◌≤◌, refl, ap, sym, subst, inl, inr, arith, Option, Result, Ok, Err, List, length, IfErr, OnOk, flat_map}
+use Rattle.mongo_bson.specs.Document.{spell}
+use Rattle.mongo_bson.specs.declared.owned_value.OwnedValue.{OwnedValue}
+use Rattle.mongo_bson.proofs.Enclosed.{length-enclosed}
+use Rattle.mongo_wire.specs.declared.error.Error.{Error}
+use Rattle.mongo_wire.specs.declared.error.ErrorKind.{ErrorKind}
+use Rattle.mongo_wire.specs.declared.error.ErrorKind.TheVariants.{OutOfMemory}
+use Rattle.mongo_wire.specs.Outside.{State}
+use Rattle.mongo_command.specs.declared.command.Command.{Command}
+use Rattle.mongo_command.specs.Exchange.{command_message, CountsStay, Exchanges, ExchangeRefused}
+use Rattle.mongo_command.specs.Conversation.{Said, Plan, plain_message, Reached, Stopped, ending, unless, reading}
+use Rattle.mongo_command.proofs.Steps.{reached_ending, reached_unless, reached_reading, reached_saying, stopped_memory, stopped_row, stopped_unless, stopped_reading, stopped_saying, stopped_later}
+use Rattle.mongo_sasl.specs.Commands.{continue_elements, continue_body, IsNotBuilt}
+use Rattle.mongo_scram.specs.declared.messages.ClientFinal.{ClientFinal}
+use Rattle.mongo_scram.specs.declared.server_final.ServerFinal.{ServerFinal}
+use Rattle.mongo_scram.specs.Client.{final_of, conversation_of, final_source_of, final_api_of}
+use Rattle.mongo_scram.specs.Commands.{final_command}
+use Rattle.mongo_scram.specs.Plan.{Challenge}
+use Rattle.mongo_scram.specs.Replies.{CarriesFinal, FinalReplyRow}
+use Rattle.mongo_scram.specs.Rounds.{final_said, RoundRow, last_heard, last_round, IsTaken, LastRefusal}
+use Rattle.mongo_scram.proofs.OneMessage.{no_final_row}
+use Rattle.mongo_scram.proofs.Unsent.{unbuilt_stopped}
+
+-- ---- the command
+
+pub final_unbuilt : (final : ClientFinal) (maximum : ℤ) (conversation : OwnedValue) (owed : List ℕ) (c : Challenge) (kind : ErrorKind) (old : State) (before : ℤ) → IsNotBuilt (continue_body (conversation_of final) (final_of final)) kind → Stopped (last_round (final_said final maximum) conversation owed c) kind old old before before
+final_unbuilt final maximum conversation owed c kind old before unbuilt =
+    unbuilt_stopped (final_said final maximum) (last_heard conversation owed c) (final_command (conversation_of final) (final_source_of final) (final_of final) (final_api_of final)) kind old before refl
+    (omega (arith, length-enclosed (flat_map spell (continue_elements (conversation_of final) (final_of final))))) unbuilt
+
+pub final_unanswered : (final : ClientFinal) (command : Command) (maximum : ℤ) (conversation : OwnedValue) (owed : List ℕ) (c : Challenge) (kind : ErrorKind) (old new : State) (before after : ℤ) (kept : Option ErrorKind) → command ≡ final_command (conversation_of final) (final_source_of final) (final_of final) (final_api_of final) → CountsStay old new
+    → ExchangeRefused kind maximum (command_message command) old new before after kept → Stopped (last_round (final_said final maximum) conversation owed c) kind old new before after
+final_unanswered final command maximum conversation owed c kind old new before after kept is counts refused =
+    stopped_saying (final_said final maximum) (last_heard conversation owed c) kind old new before after kept (subst (λ x. ExchangeRefused kind maximum (command_message x) old new before after kept) is refused) counts
+
+-- the exchange was that of the command
+pub final_exchanged : (final : ClientFinal) (command : Command) (maximum : ℤ) (old new : State) (before after : ℤ) (held reply : List ℕ) → command ≡ final_command (conversation_of final) (final_source_of final) (final_of final) (final_api_of final) → reply ≡ held
+    → Exchanges maximum (command_message command) old new before after held → Exchanges maximum (plain_message (final_said final maximum).document) old new before after reply
+final_exchanged final command maximum old new before after held reply is same e =
+    subst (Exchanges maximum (plain_message (final_said final maximum).document) old new before after) (sym same) (subst (λ x. Exchanges maximum (command_message x) old new before after held) is e)
+
+-- ---- the reply
+
+pub taken_reached : {T : Type 0} (r : Result T Error) (said : Said) (conversation : OwnedValue) (owed : List ℕ) (c : Challenge) (reply : List ℕ) (old new : State) (before after : ℤ) → Exchanges said.maximum (plain_message said.document) old new before after reply → CountsStay old new → OnOk r (IsTaken conversation owed reply) → OnOk r (Reached (last_round said conversation owed c) c old new before after)
+taken_reached (Ok x) said conversation owed c reply old new before after e counts is =
+    reached_saying said (last_heard conversation owed c) reply c old new new before after after e counts
+    (reached_unless _ _ c new new after after (no_final_row reply is.last is.carries)
+    (reached_reading _ _ is.last c new new after after is.carries
+    (reached_unless (RoundRow conversation owed is.last) _ c new new after after is.taken (reached_ending c new after))))
+taken_reached (Err x) said conversation owed c reply old new before after e counts is = tt
+
+heard_stopped : (conversation : OwnedValue) (owed : List ℕ) (c : Challenge) (reply : List ℕ) (kind : ErrorKind) (new : State) (after : ℤ) → LastRefusal conversation owed reply kind ⊎ (kind ≡ OutOfMemory) → Stopped (last_heard conversation owed c reply) kind new new after after
+heard_stopped conversation owed c reply kind new after (inl (inl row)) = stopped_row (FinalReplyRow reply) _ kind new after row
+heard_stopped conversation owed c reply kind new after (inl (inr is)) =
+    stopped_unless _ _ kind new new after after (no_final_row reply is.0 is.1)
+    (stopped_reading _ _ is.0 kind new new after after is.1 (stopped_row (RoundRow conversation owed is.0) (ending c) kind new after is.2))
+heard_stopped conversation owed c reply kind new after (inr memory) = stopped_memory (last_heard conversation owed c reply) kind new after memory
+
+pub refused_stopped : {T : Type 0} (r : Result T Error) (said : Said) (conversation : OwnedValue) (owed : List ℕ) (c : Challenge) (reply : List ℕ) (old new : State) (before after : ℤ) → Exchanges said.maximum (plain_message said.document) old new before after reply → CountsStay old new
+    → IfErr r (λ e. LastRefusal conversation owed reply e.kind ⊎ (e.kind ≡ OutOfMemory)) → IfErr r (λ e. Stopped (last_round said conversation owed c) e.kind old new before after)
+refused_stopped (Ok x) said conversation owed c reply old new before after e counts h = tt
+refused_stopped (Err x) said conversation owed c reply old new before after e counts h =
+    stopped_later said (last_heard conversation owed c) reply x.kind old new new before after after e counts (heard_stopped conversation owed c reply x.kind new after h)

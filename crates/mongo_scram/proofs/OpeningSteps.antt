@@ -1,0 +1,84 @@
+-- What a login's first round and its derivation show of its opening.
+use Rattle.std.proofs.Common.{◌≡◌, ◌⊎◌, ℕ, ℤ, refl, ap, sym, ◌∙◌, subst, inl, inr, Option, None, Some, Result, Ok, Err, List, IfErr, OnOk, OnErr}
+use Rattle.mongo_wire.specs.declared.error.Error.{Error}
+use Rattle.mongo_wire.specs.declared.error.ErrorKind.{ErrorKind}
+use Rattle.mongo_wire.specs.declared.error.ErrorKind.TheVariants.{OutOfMemory}
+use Rattle.mongo_wire.specs.Outside.{State}
+use Rattle.mongo_command.specs.Conversation.{Said, HasNone, ending, reading, unless, Reached, Stopped, ReachedGiven}
+use Rattle.mongo_command.proofs.Steps.{reached_ending, reached_unless, reached_reading, reached_saying, stopped_memory, stopped_row, stopped_unless, stopped_reading, stopped_later}
+use Rattle.mongo_scram.specs.declared.cache.SaltedCache.{SaltedCache}
+use Rattle.mongo_scram.specs.declared.cache.SaltedKey.{SaltedKey}
+use Rattle.mongo_scram.specs.declared.messages.ClientFinal.{ClientFinal}
+use Rattle.mongo_scram.specs.declared.rounds.Opened.{Opened}
+use Rattle.mongo_scram.specs.declared.scram_version.ScramVersion.{ScramVersion}
+use Rattle.mongo_scram.specs.declared.server_final.ServerFinal.{ServerFinal}
+use Rattle.mongo_scram.specs.declared.server_first.ServerFirst.{ServerFirst}
+use Rattle.mongo_bson.specs.declared.owned_value.OwnedValue.{OwnedValue}
+use Rattle.mongo_scram.specs.Cache.{entries_of, rounds_of, Adds}
+use Rattle.mongo_scram.specs.Client.{nonce_of, bare_of, message_of, final_of, auth_message_of, conversation_of, final_source_of, final_api_of}
+use Rattle.mongo_scram.specs.Costs.{Ledgers, ledgers, key_by, HasEntry, Counts, Derives, SameEntries, CostsNothing, Accepted, StoppedClosing, StoppedLogin, EndsLogin}
+use Rattle.mongo_scram.specs.Entry.{salted_of, IsUsable}
+use Rattle.mongo_scram.specs.Key.{PasswordRow}
+use Rattle.mongo_scram.specs.Messages.{transcript, close_message, verifier}
+use Rattle.mongo_scram.specs.Plan.{Speculated, Handed, Challenge, message_by, nonce_by, salted_by, auth_message_by, close_by, verifier_by, start_said, close_said, ChallengeRow, challenged, opened, opening, closing}
+use Rattle.mongo_scram.specs.Replies.{CarriesFirst, FirstReplyRow}
+use Rattle.mongo_scram.specs.Rounds.{Replies, Opens, key_for, IsAnswered, AnswerRow, final_said, RoundRow, last_round, IsTaken}
+use Rattle.mongo_scram.specs.User.{User, IsUser, CredentialRow}
+use Rattle.mongo_scram.specs.Validity.{IsValidFirst, FirstRow}
+use Rattle.mongo_scram.specs.Version.{digest_of}
+use Rattle.mongo_scram.proofs.NoRows.{none_else, valid_first_row}
+use Rattle.mongo_scram.proofs.OneMessage.{no_first_row}
+use Rattle.mongo_scram.proofs.OneRow.{no_credential_row}
+use Rattle.mongo_scram.proofs.ScramPlan.{challenge_of}
+
+-- ---- the opening
+
+opened_reached : (speculated : Option Speculated) (handed : Handed) (user : User) (reply : List ℕ) (c : Challenge) (old new : State) (before after : ℤ) → Replies speculated (start_said handed user) reply old new before after → Reached (challenged handed user reply) c new new after after → Reached (opened speculated handed user) c old new before after
+opened_reached None handed user reply c old new before after replied r = reached_saying (start_said handed user) (challenged handed user) reply c old new new before after after replied.0 replied.1 r
+opened_reached (Some speculated) handed user reply c old new before after replied r =
+    subst (λ id. Reached (challenged handed user speculated.reply) c old new id after) replied.2
+    (subst (λ state. Reached (challenged handed user speculated.reply) c state new after after) replied.1
+    (subst (λ x. Reached (challenged handed user x) c new new after after) replied.0 r))
+
+opened_stopped : (speculated : Option Speculated) (handed : Handed) (user : User) (reply : List ℕ) (kind : ErrorKind) (old new : State) (before after : ℤ) → Replies speculated (start_said handed user) reply old new before after → Stopped (challenged handed user reply) kind new new after after → Stopped (opened speculated handed user) kind old new before after
+opened_stopped None handed user reply kind old new before after replied r = stopped_later (start_said handed user) (challenged handed user) reply kind old new new before after after replied.0 replied.1 r
+opened_stopped (Some speculated) handed user reply kind old new before after replied r =
+    subst (λ id. Stopped (challenged handed user speculated.reply) kind old new id after) replied.2
+    (subst (λ state. Stopped (challenged handed user speculated.reply) kind state new after after) replied.1
+    (subst (λ x. Stopped (challenged handed user x) kind new new after after) replied.0 r))
+
+-- a stop by the credential's tests, and one after them
+pub credential_stopped : (handed : Handed) (kind : ErrorKind) (old : State) (before : ℤ) → CredentialRow handed.credential kind → Stopped (opening handed) kind old old before before
+credential_stopped handed kind old before row = stopped_row (CredentialRow handed.credential) (reading (IsUser handed.credential) (opened handed.speculated handed)) kind old before row
+
+pub user_stopped : (handed : Handed) (user : User) (kind : ErrorKind) (old new : State) (before after : ℤ) → IsUser handed.credential user → Stopped (opened handed.speculated handed user) kind old new before after → Stopped (opening handed) kind old new before after
+user_stopped handed user kind old new before after is r =
+    stopped_unless (CredentialRow handed.credential) _ kind old new before after (no_credential_row handed.credential user is) (stopped_reading (IsUser handed.credential) (opened handed.speculated handed) user kind old new before after is r)
+
+challenge_none : (handed : Handed) (user : User) (first : ServerFirst) → IsValidFirst first (nonce_by handed) handed.most → HasNone (PasswordRow handed.version user.password) → HasNone (ChallengeRow handed (challenge_of user first))
+challenge_none handed user first valid usable = none_else (FirstRow first (nonce_by handed) handed.most) (PasswordRow handed.version user.password) (valid_first_row first (nonce_by handed) handed.most valid) usable
+
+pub opening_reached : (handed : Handed) (user : User) (o : Opened) (old new : State) (before after : ℤ) → IsUser handed.credential user → Opens handed user o old new before after → IsValidFirst o.server_first (nonce_of o.client_first) handed.most → HasNone (PasswordRow handed.version user.password) → Reached (opening handed) (challenge_of user o.server_first) old new before after
+opening_reached handed user o old new before after is opens valid usable =
+    let c = challenge_of user o.server_first in
+    let none = challenge_none handed user o.server_first (subst (λ nonce. IsValidFirst o.server_first nonce handed.most) opens.nonce valid) usable in
+    reached_unless (CredentialRow handed.credential) _ c old new before after (no_credential_row handed.credential user is)
+    (reached_reading (IsUser handed.credential) (opened handed.speculated handed) user c old new before after is
+    (opened_reached handed.speculated handed user opens.reply c old new before after opens.replied
+    (reached_unless (FirstReplyRow opens.reply) _ c new new after after (no_first_row opens.reply o.server_first opens.carries)
+    (reached_reading (CarriesFirst opens.reply) _ o.server_first c new new after after opens.carries
+    (reached_unless (ChallengeRow handed c) (ending c) c new new after after none (reached_ending c new after))))))
+
+answer_row : (handed : Handed) (user : User) (first : ServerFirst) (kind : ErrorKind) (new : State) (after : ℤ) → AnswerRow first (nonce_by handed) handed.most handed.version user.password kind ⊎ (kind ≡ OutOfMemory)
+    → let c = challenge_of user first in Stopped {A = Challenge} (unless (ChallengeRow handed c) (ending c)) kind new new after after
+answer_row handed user first kind new after (inl row) = stopped_row (ChallengeRow handed (challenge_of user first)) (ending (challenge_of user first)) kind new after row
+answer_row handed user first kind new after (inr memory) = stopped_memory _ kind new after memory
+
+-- a stop before anything was derived
+pub answer_stopped : (handed : Handed) (user : User) (o : Opened) (nonce : List ℕ) (kind : ErrorKind) (old new : State) (before after : ℤ) → IsUser handed.credential user → Opens handed user o old new before after → nonce ≡ nonce_of o.client_first → AnswerRow o.server_first nonce handed.most handed.version user.password kind ⊎ (kind ≡ OutOfMemory) → Stopped (opening handed) kind old new before after
+answer_stopped handed user o nonce kind old new before after is opens same row =
+    let here = answer_row handed user o.server_first kind new after (subst (λ n. AnswerRow o.server_first n handed.most handed.version user.password kind ⊎ (kind ≡ OutOfMemory)) (same ∙ opens.nonce) row) in
+    user_stopped handed user kind old new before after is
+    (opened_stopped handed.speculated handed user opens.reply kind old new before after opens.replied
+    (stopped_unless (FirstReplyRow opens.reply) _ kind new new after after (no_first_row opens.reply o.server_first opens.carries)
+    (stopped_reading (CarriesFirst opens.reply) _ o.server_first kind new new after after opens.carries here)))

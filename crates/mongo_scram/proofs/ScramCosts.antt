@@ -1,0 +1,19 @@
+-- What a login that was accepted or stopped shows of its whole plan.
+use Rattle.std.proofs.Common.{ℕ, ℤ, inl, inr, List}
+use Rattle.mongo_wire.specs.declared.error.ErrorKind.{ErrorKind}
+use Rattle.mongo_wire.specs.Outside.{State}
+use Rattle.mongo_command.specs.Conversation.{Reached, Stopped}
+use Rattle.mongo_command.proofs.FollowedBy.{reached_both, stopped_first, stopped_second}
+use Rattle.mongo_scram.specs.Plan.{Handed, Challenge, opening, closing, scram_plan}
+use Rattle.mongo_scram.specs.Costs.{Ledgers, Accepted, StoppedLogin}
+
+pub accepted_reached : (handed : Handed) (document : List ℕ) (old new : State) (before after : ℤ) (first last : Ledgers) → (is : Accepted handed document old new before after first last) → Reached (scram_plan handed) is.challenge old new before after
+accepted_reached handed document old new before after first last is =
+    reached_both (opening handed) (closing handed) is.challenge is.challenge old is.middle new before is.between after is.opened is.closed
+
+pub stopped_whole : (handed : Handed) (kind : ErrorKind) (old new : State) (before after : ℤ) (first last : Ledgers) → StoppedLogin handed kind old new before after first last → Stopped (scram_plan handed) kind old new before after
+stopped_whole handed kind old new before after first last is =
+    elim is [
+      | inl early ↦ stopped_first (opening handed) (closing handed) kind old new before after early.0
+      | inr late ↦ stopped_second (opening handed) (closing handed) late.challenge kind old late.middle new before late.between after late.opened late.stopped
+    ]

@@ -1,0 +1,69 @@
+use Rattle.std.proofs.Common.{None, refl, ◌∙◌, inl, inr}
+use Rattle.mongo_command.specs.Exchange.{frame_maximum}
+use Rattle.mongo_command.proofs.Steps.{stopped_memory}
+use Rattle.mongo_scram.specs.declared.messages.ClientFirst.{ClientFirst}
+use Rattle.mongo_scram.specs.Client.{user_of}
+use Rattle.mongo_scram.specs.Rounds.{handed_by}
+use Rattle.mongo_scram.proofs.FirstRounds.{IsStart, start_unbuilt, start_unanswered, start_exchanged, start_refused, start_opens}
+use Rattle.mongo_scram.proofs.Unsent.{handed_stopped, answered_fault, not_replied, handed_kept}
+use Rattle.mongo_scram.proofs.rounds.Login.say_first.Goals as goal
+
+pub returns-in_err-client_first-clause-refused : goal.returns-in_err-client_first-clause-refused
+returns-in_err-client_first-clause-refused g c faultless =
+    handed_stopped c.from_residual.result c.in_err-client_first.field-0.0 _ _ _ _ _ c.from_residual.ensures.1 (stopped_memory _ _ _ _ c.in_err-client_first.ensures.refused)
+
+pub returns-in_err-command-clause-refused : goal.returns-in_err-command-clause-refused
+returns-in_err-command-clause-refused g c faultless =
+    let made = c.in_ok-client_first.ensures in
+    let handed = handed_by c.args.self None (frame_maximum c.args.connection.now.stream_description) in
+    let user = user_of c.args.user.now in
+    let start : IsStart handed user c.in_ok-client_first.client_first = record { db = made.db; source = made.source; message = made.message; api = made.api ∙ c.copied.ensures } in
+    handed_stopped c.from_residual-in_err-command.result c.in_err-command.field-0.0 _ _ _ _ _ c.from_residual-in_err-command.ensures.1 (start_unbuilt handed user c.in_ok-client_first.client_first _ _ _ start c.in_err-command.ensures.refused)
+
+pub returns-in_err-exchange_into-clause-refused : goal.returns-in_err-exchange_into-clause-refused
+returns-in_err-exchange_into-clause-refused g c faultless =
+    let made = c.in_ok-client_first.ensures in
+    let handed = handed_by c.args.self None (frame_maximum c.args.connection.now.stream_description) in
+    let user = user_of c.args.user.now in
+    let start : IsStart handed user c.in_ok-client_first.client_first = record { db = made.db; source = made.source; message = made.message; api = made.api ∙ c.copied.ensures } in
+    let exchanged = c.in_err-exchange_into.ensures in
+    handed_stopped c.from_residual-in_err-exchange_into.result c.in_err-exchange_into.field-0.0 _ _ _ _ _ c.from_residual-in_err-exchange_into.ensures.1
+    (start_unanswered handed user c.in_ok-client_first.client_first c.in_ok-command.command _ _ _ _ _ _ start c.in_ok-command.ensures.command exchanged.counts (exchanged.refused faultless))
+
+pub returns-in_err-server_first-clause-refused : goal.returns-in_err-server_first-clause-refused
+returns-in_err-server_first-clause-refused g c faultless =
+    let made = c.in_ok-client_first.ensures in
+    let handed = handed_by c.args.self None (frame_maximum c.args.connection.now.stream_description) in
+    let user = user_of c.args.user.now in
+    let start : IsStart handed user c.in_ok-client_first.client_first = record { db = made.db; source = made.source; message = made.message; api = made.api ∙ c.copied.ensures } in
+    let exchanged = c.in_ok-exchange_into.ensures in
+    handed_stopped c.from_residual-in_err-server_first.result c.in_err-server_first.field-0.0 _ _ _ _ _ c.from_residual-in_err-server_first.ensures.1
+    (start_refused handed user _ _ _ _ _ _ _ c.held_reply.ensures (start_exchanged handed user c.in_ok-client_first.client_first c.in_ok-command.command _ _ _ _ _ start c.in_ok-command.ensures.command exchanged.exchanged) exchanged.counts c.in_err-server_first.ensures.refused)
+
+pub returns-clause-opened : goal.returns-clause-opened
+returns-clause-opened g c =
+    let made = c.in_ok-client_first.ensures in
+    let handed = handed_by c.args.self None (frame_maximum c.args.connection.now.stream_description) in
+    let user = user_of c.args.user.now in
+    let start : IsStart handed user c.in_ok-client_first.client_first = record { db = made.db; source = made.source; message = made.message; api = made.api ∙ c.copied.ensures } in
+    let exchanged = c.in_ok-exchange_into.ensures in
+    start_opens handed user _ _ _ _ _ _ _ refl start made.nonce c.held_reply.ensures (start_exchanged handed user c.in_ok-client_first.client_first c.in_ok-command.command _ _ _ _ _ start c.in_ok-command.ensures.command exchanged.exchanged) exchanged.counts c.in_ok-server_first.ensures.read
+
+pub returns-in_err-client_first-clause-answers : goal.returns-in_err-client_first-clause-answers
+returns-in_err-client_first-clause-answers g c kind kept =
+    handed_kept c.from_residual.result c.in_err-client_first.field-0.0 _ _ _ _ c.from_residual.ensures.1 (inr (stopped_memory _ _ _ _ c.in_err-client_first.ensures.refused))
+
+pub returns-in_err-command-clause-answers : goal.returns-in_err-command-clause-answers
+returns-in_err-command-clause-answers g c kind kept =
+    let made = c.in_ok-client_first.ensures in
+    let handed = handed_by c.args.self None (frame_maximum c.args.connection.now.stream_description) in
+    let user = user_of c.args.user.now in
+    let start : IsStart handed user c.in_ok-client_first.client_first = record { db = made.db; source = made.source; message = made.message; api = made.api ∙ c.copied.ensures } in
+    handed_kept c.from_residual-in_err-command.result c.in_err-command.field-0.0 _ _ _ _ c.from_residual-in_err-command.ensures.1 (inr (start_unbuilt handed user c.in_ok-client_first.client_first _ _ _ start c.in_err-command.ensures.refused))
+
+pub returns-in_err-exchange_into-clause-answers : goal.returns-in_err-exchange_into-clause-answers
+returns-in_err-exchange_into-clause-answers g c kind kept =
+    handed_kept c.from_residual-in_err-exchange_into.result c.in_err-exchange_into.field-0.0 _ _ _ _ c.from_residual-in_err-exchange_into.ensures.1 (inl (answered_fault c.in_err-exchange_into.field-0.0 kind (c.in_err-exchange_into.ensures.kept kind kept).0))
+
+pub returns-in_err-server_first-clause-answers : goal.returns-in_err-server_first-clause-answers
+returns-in_err-server_first-clause-answers g c kind kept = not_replied _ kind _ (c.in_ok-exchange_into.ensures.kept kind kept).0

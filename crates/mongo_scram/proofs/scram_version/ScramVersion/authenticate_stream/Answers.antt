@@ -1,0 +1,166 @@
+use Rattle.std.proofs.Common.{option_copied, refl, ap, ◌∙◌, inl, inr}
+use Rattle.mongo_command.specs.Exchange.{frame_maximum}
+use Rattle.mongo_command.proofs.Steps.{stopped_memory}
+use Rattle.mongo_scram.specs.Base64.{base64_of}
+use Rattle.mongo_scram.specs.Client.{handed_to, user_of}
+use Rattle.mongo_scram.specs.Costs.{ledgers}
+use Rattle.mongo_scram.specs.Plan.{closing}
+use Rattle.mongo_scram.proofs.ScramPlan.{challenge_of}
+use Rattle.mongo_scram.proofs.Derived.{costs_nothing}
+use Rattle.mongo_scram.proofs.OpeningSteps.{credential_stopped, user_stopped, answer_stopped}
+use Rattle.mongo_scram.proofs.ClosingSteps.{final_by, closing_reached, closing_stopped, ends_login}
+use Rattle.mongo_scram.proofs.LoginSteps.{stopped_early, between_by, between_tag, stopped_late, stopped_last, accepted_by, frames_both, not_accepted, kept_stopped, fault_answered}
+use Rattle.mongo_scram.proofs.scram_version.ScramVersion.authenticate_stream.Goals as goal
+
+pub returns-in_err-user-clause-refused : goal.returns-in_err-user-clause-refused
+returns-in_err-user-clause-refused g c faultless =
+    let handed = handed_to c.args.self.now c.args.credential.now (option_copied c.args.server_api) c.args.first_round (base64_of c.args.nonce.now) c.args.most (frame_maximum c.args.connection.now.stream_description) in
+    stopped_early handed c.in_err-user.field-0.0 c.from_residual.result _ _ _ _ _ _ c.from_residual.ensures.1 (credential_stopped handed _ _ _ c.in_err-user.ensures.refused) (costs_nothing c.args.steps.now c.args.salted.now)
+
+pub returns-in_err-opened-clause-refused : goal.returns-in_err-opened-clause-refused
+returns-in_err-opened-clause-refused g c faultless =
+    let handed = handed_to c.args.self.now c.args.credential.now (option_copied c.args.server_api) c.args.first_round (base64_of c.args.nonce.now) c.args.most (frame_maximum c.args.connection.now.stream_description) in
+    let user = user_of c.in_ok-user.user in
+    stopped_early handed c.in_err-opened.field-0.0 c.from_residual-in_err-opened.result _ _ _ _ _ _ c.from_residual-in_err-opened.ensures.1 (user_stopped handed user _ _ _ _ _ c.in_ok-user.ensures.user (c.in_err-opened.ensures.refused faultless)) (costs_nothing c.args.steps.now c.args.salted.now)
+
+pub returns-in_err-derived-clause-refused : goal.returns-in_err-derived-clause-refused
+returns-in_err-derived-clause-refused g c faultless =
+    let handed = handed_to c.args.self.now c.args.credential.now (option_copied c.args.server_api) c.args.first_round (base64_of c.args.nonce.now) c.args.most (frame_maximum c.args.connection.now.stream_description) in
+    let user = user_of c.in_ok-user.user in
+    stopped_early handed c.in_err-derived.field-0.0 c.from_residual-in_err-derived.result _ _ _ _ _ _ c.from_residual-in_err-derived.ensures.1
+    (answer_stopped handed user c.in_ok-opened.opened c.nonce.result.now _ _ _ _ _ c.in_ok-user.ensures.user c.in_ok-opened.ensures.opened c.nonce.ensures c.in_err-derived.ensures.refused) c.in_err-derived.ensures.no_cost
+
+pub returns-in_err-client_final-clause-refused : goal.returns-in_err-client_final-clause-refused
+returns-in_err-client_final-clause-refused g c faultless =
+    let handed = handed_to c.args.self.now c.args.credential.now (option_copied c.args.server_api) c.args.first_round (base64_of c.args.nonce.now) c.args.most (frame_maximum c.args.connection.now.stream_description) in
+    let user = user_of c.in_ok-user.user in
+    let o = c.in_ok-opened.opened in
+    let derived = c.in_ok-derived.derived in
+    let between = between_by handed user o derived.key derived.tag c.nonce.result.now _ _ _ _ (ledgers c.args.steps.now c.args.salted.now) (ledgers c.answer.new.steps c.answer.new.cache) c.in_ok-user.ensures.user c.in_ok-opened.ensures.opened c.nonce.ensures c.in_ok-derived.ensures.key c.in_ok-derived.ensures.answered in
+    stopped_late handed user o derived.key derived.tag c.in_err-client_final.field-0.0 c.from_residual-in_err-client_final.result _ _ _ _ _ _ _ _ c.from_residual-in_err-client_final.ensures.1 between
+    (stopped_memory (closing handed (challenge_of user o.server_first)) _ _ _ c.in_err-client_final.ensures.refused)
+
+pub returns-in_err-close-clause-refused : goal.returns-in_err-close-clause-refused
+returns-in_err-close-clause-refused g c faultless =
+    let handed = handed_to c.args.self.now c.args.credential.now (option_copied c.args.server_api) c.args.first_round (base64_of c.args.nonce.now) c.args.most (frame_maximum c.args.connection.now.stream_description) in
+    let user = user_of c.in_ok-user.user in
+    let o = c.in_ok-opened.opened in
+    let derived = c.in_ok-derived.derived in
+    let between = between_by handed user o derived.key derived.tag c.nonce.result.now _ _ _ _ (ledgers c.args.steps.now c.args.salted.now) (ledgers c.answer.new.steps c.answer.new.cache) c.in_ok-user.ensures.user c.in_ok-opened.ensures.opened c.nonce.ensures c.in_ok-derived.ensures.key c.in_ok-derived.ensures.answered in
+    let challenge = challenge_of user o.server_first in
+    let made = c.in_ok-client_final.ensures in
+    let final = c.in_ok-client_final.client_final in
+    let is = final_by handed challenge derived.tag o.client_first final (between_tag handed user o derived.key derived.tag _ _ _ _ _ _ between) c.in_ok-opened.ensures.opened.message made.auth_message made.message made.conversation made.source (made.api ∙ c.copied.ensures) in
+    let same = ap frame_maximum c.in_ok-opened.ensures.connection.description in
+    stopped_late handed user o derived.key derived.tag c.in_err-close.field-0.0 c.from_residual-in_err-close.result _ _ _ _ _ _ _ _ c.from_residual-in_err-close.ensures.1 between
+    (closing_stopped handed challenge derived.tag final _ _ _ _ _ _ same is (c.in_err-close.ensures.refused challenge (c.in_ok-opened.ensures.faultless faultless)))
+
+pub returns-in_err-close-clause-kept : goal.returns-in_err-close-clause-kept
+returns-in_err-close-clause-kept g c kind kept =
+    let opened = c.in_ok-opened.ensures.kept kind kept in
+    let closed = c.in_err-close.ensures.kept kind opened.2 in
+    (not_accepted c.from_residual-in_err-close.result c.in_err-close.field-0.0 c.from_residual-in_err-close.ensures.1, closed.1 ∙ opened.0, closed.2 ∙ opened.1, closed.3)
+
+pub returns-clause-accepted : goal.returns-clause-accepted
+returns-clause-accepted g c =
+    let handed = handed_to c.args.self.now c.args.credential.now (option_copied c.args.server_api) c.args.first_round (base64_of c.args.nonce.now) c.args.most (frame_maximum c.args.connection.now.stream_description) in
+    let user = user_of c.in_ok-user.user in
+    let o = c.in_ok-opened.opened in
+    let derived = c.in_ok-derived.derived in
+    let between = between_by handed user o derived.key derived.tag c.nonce.result.now _ _ _ _ (ledgers c.args.steps.now c.args.salted.now) (ledgers c.answer.new.steps c.answer.new.cache) c.in_ok-user.ensures.user c.in_ok-opened.ensures.opened c.nonce.ensures c.in_ok-derived.ensures.key c.in_ok-derived.ensures.answered in
+    let challenge = challenge_of user o.server_first in
+    let made = c.in_ok-client_final.ensures in
+    let final = c.in_ok-client_final.client_final in
+    let is = final_by handed challenge derived.tag o.client_first final (between_tag handed user o derived.key derived.tag _ _ _ _ _ _ between) c.in_ok-opened.ensures.opened.message made.auth_message made.message made.conversation made.source (made.api ∙ c.copied.ensures) in
+    let same = ap frame_maximum c.in_ok-opened.ensures.connection.description in
+    let closed = closing_reached handed challenge derived.tag final _ _ _ _ _ same is (c.in_ok-close.ensures.closed challenge) in
+    accepted_by c.keep.result handed user o derived.key derived.tag _ _ _ _ _ _ _ _ c.answer.new.steps c.answer.new.cache c.keep.new.cache between closed
+    (ends_login handed challenge derived.tag final _ is c.in_ok-close.ensures.taken) c.keep.ensures.rounds c.keep.ensures.kept
+
+pub returns-clause-refused : goal.returns-clause-refused
+returns-clause-refused g c faultless =
+    let handed = handed_to c.args.self.now c.args.credential.now (option_copied c.args.server_api) c.args.first_round (base64_of c.args.nonce.now) c.args.most (frame_maximum c.args.connection.now.stream_description) in
+    let user = user_of c.in_ok-user.user in
+    let o = c.in_ok-opened.opened in
+    let derived = c.in_ok-derived.derived in
+    let between = between_by handed user o derived.key derived.tag c.nonce.result.now _ _ _ _ (ledgers c.args.steps.now c.args.salted.now) (ledgers c.answer.new.steps c.answer.new.cache) c.in_ok-user.ensures.user c.in_ok-opened.ensures.opened c.nonce.ensures c.in_ok-derived.ensures.key c.in_ok-derived.ensures.answered in
+    let challenge = challenge_of user o.server_first in
+    let made = c.in_ok-client_final.ensures in
+    let final = c.in_ok-client_final.client_final in
+    let is = final_by handed challenge derived.tag o.client_first final (between_tag handed user o derived.key derived.tag _ _ _ _ _ _ between) c.in_ok-opened.ensures.opened.message made.auth_message made.message made.conversation made.source (made.api ∙ c.copied.ensures) in
+    let same = ap frame_maximum c.in_ok-opened.ensures.connection.description in
+    let closed = closing_reached handed challenge derived.tag final _ _ _ _ _ same is (c.in_ok-close.ensures.closed challenge) in
+    stopped_last c.keep.result handed user o derived.key derived.tag _ _ _ _ _ _ _ c.answer.new.steps c.answer.new.cache c.keep.new.cache between closed c.keep.ensures.rounds c.keep.ensures.unchanged c.keep.ensures.refused
+
+pub returns-clause-frames : goal.returns-clause-frames
+returns-clause-frames g c =
+    frames_both c.keep.result c.args.first_round _ _ _ c.in_ok-opened.ensures.frames c.in_ok-close.ensures.frames
+
+pub returns-clause-kept : goal.returns-clause-kept
+returns-clause-kept g c kind kept =
+    absurd (c.in_ok-close.ensures.kept kind (c.in_ok-opened.ensures.kept kind kept).2).0
+
+pub returns-in_err-user-clause-answers : goal.returns-in_err-user-clause-answers
+returns-in_err-user-clause-answers g c kind kept =
+    let handed = handed_to c.args.self.now c.args.credential.now (option_copied c.args.server_api) c.args.first_round (base64_of c.args.nonce.now) c.args.most (frame_maximum c.args.connection.now.stream_description) in
+    kept_stopped c.from_residual.result handed kind _ _ _ _ _ _ refl refl
+    (stopped_early handed c.in_err-user.field-0.0 c.from_residual.result _ _ _ _ _ _ c.from_residual.ensures.1 (credential_stopped handed _ _ _ c.in_err-user.ensures.refused) (costs_nothing c.args.steps.now c.args.salted.now))
+
+pub returns-in_err-opened-clause-answers : goal.returns-in_err-opened-clause-answers
+returns-in_err-opened-clause-answers g c kind kept =
+    let handed = handed_to c.args.self.now c.args.credential.now (option_copied c.args.server_api) c.args.first_round (base64_of c.args.nonce.now) c.args.most (frame_maximum c.args.connection.now.stream_description) in
+    let user = user_of c.in_ok-user.user in
+    let r = c.from_residual-in_err-opened.result in
+    let e = c.in_err-opened.field-0.0 in
+    let handed_on = c.from_residual-in_err-opened.ensures.1 in
+    elim (c.in_err-opened.ensures.answers kind kept) [
+      | inl same ↦ fault_answered r e handed kind _ _ _ _ handed_on same
+      | inr stopped ↦ kept_stopped r handed kind _ _ _ _ _ _ refl refl (stopped_early handed e r _ _ _ _ _ _ handed_on (user_stopped handed user _ _ _ _ _ c.in_ok-user.ensures.user stopped) (costs_nothing c.args.steps.now c.args.salted.now))
+    ]
+
+pub returns-in_err-derived-clause-answers : goal.returns-in_err-derived-clause-answers
+returns-in_err-derived-clause-answers g c kind kept =
+    let handed = handed_to c.args.self.now c.args.credential.now (option_copied c.args.server_api) c.args.first_round (base64_of c.args.nonce.now) c.args.most (frame_maximum c.args.connection.now.stream_description) in
+    let user = user_of c.in_ok-user.user in
+    let still = c.in_ok-opened.ensures.kept kind kept in
+    kept_stopped c.from_residual-in_err-derived.result handed kind _ _ _ _ _ _ (ap g.L.Outside.state still.0) still.1
+    (stopped_early handed c.in_err-derived.field-0.0 c.from_residual-in_err-derived.result _ _ _ _ _ _ c.from_residual-in_err-derived.ensures.1
+    (answer_stopped handed user c.in_ok-opened.opened c.nonce.result.now _ _ _ _ _ c.in_ok-user.ensures.user c.in_ok-opened.ensures.opened c.nonce.ensures c.in_err-derived.ensures.refused) c.in_err-derived.ensures.no_cost)
+
+pub returns-in_err-client_final-clause-answers : goal.returns-in_err-client_final-clause-answers
+returns-in_err-client_final-clause-answers g c kind kept =
+    let handed = handed_to c.args.self.now c.args.credential.now (option_copied c.args.server_api) c.args.first_round (base64_of c.args.nonce.now) c.args.most (frame_maximum c.args.connection.now.stream_description) in
+    let user = user_of c.in_ok-user.user in
+    let o = c.in_ok-opened.opened in
+    let derived = c.in_ok-derived.derived in
+    let between = between_by handed user o derived.key derived.tag c.nonce.result.now _ _ _ _ (ledgers c.args.steps.now c.args.salted.now) (ledgers c.answer.new.steps c.answer.new.cache) c.in_ok-user.ensures.user c.in_ok-opened.ensures.opened c.nonce.ensures c.in_ok-derived.ensures.key c.in_ok-derived.ensures.answered in
+    let still = c.in_ok-opened.ensures.kept kind kept in
+    kept_stopped c.from_residual-in_err-client_final.result handed kind _ _ _ _ _ _ (ap g.L.Outside.state still.0) still.1
+    (stopped_late handed user o derived.key derived.tag c.in_err-client_final.field-0.0 c.from_residual-in_err-client_final.result _ _ _ _ _ _ _ _ c.from_residual-in_err-client_final.ensures.1 between
+    (stopped_memory (closing handed (challenge_of user o.server_first)) _ _ _ c.in_err-client_final.ensures.refused))
+
+pub returns-in_err-close-clause-answers : goal.returns-in_err-close-clause-answers
+returns-in_err-close-clause-answers g c kind kept =
+    let handed = handed_to c.args.self.now c.args.credential.now (option_copied c.args.server_api) c.args.first_round (base64_of c.args.nonce.now) c.args.most (frame_maximum c.args.connection.now.stream_description) in
+    let user = user_of c.in_ok-user.user in
+    let o = c.in_ok-opened.opened in
+    let derived = c.in_ok-derived.derived in
+    let between = between_by handed user o derived.key derived.tag c.nonce.result.now _ _ _ _ (ledgers c.args.steps.now c.args.salted.now) (ledgers c.answer.new.steps c.answer.new.cache) c.in_ok-user.ensures.user c.in_ok-opened.ensures.opened c.nonce.ensures c.in_ok-derived.ensures.key c.in_ok-derived.ensures.answered in
+    let challenge = challenge_of user o.server_first in
+    let made = c.in_ok-client_final.ensures in
+    let final = c.in_ok-client_final.client_final in
+    let is = final_by handed challenge derived.tag o.client_first final (between_tag handed user o derived.key derived.tag _ _ _ _ _ _ between) c.in_ok-opened.ensures.opened.message made.auth_message made.message made.conversation made.source (made.api ∙ c.copied.ensures) in
+    let same = ap frame_maximum c.in_ok-opened.ensures.connection.description in
+    let still = c.in_ok-opened.ensures.kept kind kept in
+    let r = c.from_residual-in_err-close.result in
+    let e = c.in_err-close.field-0.0 in
+    let handed_on = c.from_residual-in_err-close.ensures.1 in
+    elim (c.in_err-close.ensures.answers challenge kind still.2) [
+      | inl fault ↦ fault_answered r e handed kind _ _ _ _ handed_on fault
+      | inr stopped ↦ kept_stopped r handed kind _ _ _ _ _ _ (ap g.L.Outside.state still.0) still.1
+          (stopped_late handed user o derived.key derived.tag e r _ _ _ _ _ _ _ _ handed_on between (closing_stopped handed challenge derived.tag final _ _ _ _ _ _ same is stopped))
+    ]
+
+pub returns-clause-answers : goal.returns-clause-answers
+returns-clause-answers g c kind kept =
+    absurd (c.in_ok-close.ensures.kept kind (c.in_ok-opened.ensures.kept kind kept).2).0

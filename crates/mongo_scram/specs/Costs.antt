@@ -1,0 +1,81 @@
+-- What a login takes of the counter and of the cache: it derives where its key has no entry, and its key is put in once
+-- it was accepted.
+use Rattle.std.specs.Prelude.{◌≡◌, ℕ, ℤ, ◌+◌, ◌-◌, ◌^◌, ◌⊎◌, min, List, Contains}
+use Rattle.mongo_wire.specs.declared.error.ErrorKind.{ErrorKind}
+use Rattle.mongo_wire.specs.declared.error.ErrorKind.TheVariants.{OutOfMemory}
+use Rattle.mongo_wire.specs.Outside.{State}
+use Rattle.mongo_command.specs.Conversation.{HasNone, Reached, Stopped}
+use Rattle.mongo_scram.specs.declared.cache.SaltedCache.{SaltedCache}
+use Rattle.mongo_scram.specs.declared.cache.SaltedKey.{SaltedKey}
+use Rattle.mongo_scram.specs.Cache.{entries_of, rounds_of, Adds}
+use Rattle.mongo_scram.specs.Entry.{salted_of}
+use Rattle.mongo_scram.specs.declared.server_final.ServerFinal.{ServerFinal}
+use Rattle.mongo_scram.specs.Replies.{CarriesFinal}
+use Rattle.mongo_scram.specs.Plan.{Handed, Challenge, LastRow, opening, closing}
+
+-- the key that a challenge asks for
+abbrev pub key_by : Handed → Challenge → SaltedKey
+key_by handed c = record { version = handed.version; username = c.user.username; password = c.user.password; salt = c.first.salt; count = c.first.i }
+
+-- the key has an entry
+abbrev pub HasEntry : SaltedCache → SaltedKey → Type 0
+HasEntry cache key = (tag : List ℕ) × Contains (entries_of cache) (key, tag)
+
+-- a counter and a cache
+pub record Ledgers : Type 0 where
+  pub steps : ℕ
+  pub cache : SaltedCache
+
+abbrev pub ledgers : ℕ → SaltedCache → Ledgers
+ledgers steps cache = record { steps = steps; cache = cache }
+
+-- so many rounds were derived and counted
+pub record Counts (rounds : ℕ) (old new : Ledgers) : Type 0 where
+  pub steps : new.steps ≡ old.steps + rounds
+  pub rounds_are : rounds_of new.cache ≡ min (rounds_of old.cache + rounds) (2 ^ 64 - 1)
+
+abbrev pub SameEntries : Ledgers → Ledgers → Type 0
+SameEntries old new = entries_of new.cache ≡ entries_of old.cache
+
+-- the key was derived exactly where it has no entry
+abbrev pub Derives : SaltedKey → Ledgers → Ledgers → Type 0
+Derives key old new = (HasEntry old.cache key × Counts 0 old new) ⊎ ((HasEntry old.cache key → ⊥) × Counts key.count old new)
+
+-- nothing was derived, and the entries are as they were
+pub record CostsNothing (old new : Ledgers) : Type 0 where
+  pub counts : Counts 0 old new
+  pub entries : SameEntries old new
+
+-- the document carries the server's last message, by which a login ends
+pub record EndsLogin (handed : Handed) (c : Challenge) (document : List ℕ) : Type 0 where
+  pub last : ServerFinal
+  pub carries : CarriesFinal document last
+  pub taken : HasNone (LastRow handed c last)
+
+-- The opening was followed to its end and then the closing, of which this document is the last reply; the key was derived
+-- where it had no entry, and has one now.
+pub record Accepted (handed : Handed) (document : List ℕ) (old new : State) (before after : ℤ) (first last : Ledgers) : Type 0 where
+  pub challenge : Challenge
+  pub middle : State
+  pub between : ℤ
+  pub opened : Reached (opening handed) challenge old middle before between
+  pub closed : Reached (closing handed challenge) challenge middle new between after
+  pub ends : EndsLogin handed challenge document
+  pub derived : Derives (key_by handed challenge) first last
+  pub kept : (HasEntry first.cache (key_by handed challenge) × SameEntries first last) ⊎ Adds (entries_of first.cache) (entries_of last.cache) (key_by handed challenge, salted_of (key_by handed challenge))
+
+-- the opening was followed to its end, and the closing was stopped
+pub record StoppedClosing (handed : Handed) (kind : ErrorKind) (old new : State) (before after : ℤ) (first last : Ledgers) : Type 0 where
+  pub challenge : Challenge
+  pub middle : State
+  pub between : ℤ
+  pub opened : Reached (opening handed) challenge old middle before between
+  pub stopped : Stopped (closing handed challenge) kind middle new between after
+  -- memory may have run out before the key was derived
+  pub derived : Derives (key_by handed challenge) first last ⊎ ((kind ≡ OutOfMemory) × Counts 0 first last)
+  pub entries : SameEntries first last
+
+-- Where a login was stopped: in the opening, before anything was derived, or in the closing.
+abbrev pub StoppedLogin : Handed → ErrorKind → State → State → ℤ → ℤ → Ledgers → Ledgers → Type 0
+StoppedLogin handed kind old new before after first last =
+    (Stopped (opening handed) kind old new before after × CostsNothing first last) ⊎ StoppedClosing handed kind old new before after first last

@@ -1,0 +1,98 @@
+-- The two rounds of a login, and the derivation between them.
+use Rattle.std.specs.Prelude.{◌≡◌, ℕ, ℤ, ◌⊎◌, Option, None, Some, option_copied, List}
+use Rattle.mongo_bson.specs.declared.owned_value.OwnedValue.{OwnedValue}
+use Rattle.mongo_wire.specs.declared.error.ErrorKind.{ErrorKind}
+use Rattle.mongo_wire.specs.Outside.{State, risen}
+use Rattle.mongo_command.specs.Command.{command_document}
+use Rattle.mongo_command.specs.Exchange.{Exchanges, CountsStay}
+use Rattle.mongo_command.specs.Conversation.{Said, Plan, HasNone, or_else, ending, unless, reading, saying, plain_message}
+use Rattle.mongo_scram.specs.declared.scram_version.ScramVersion.{ScramVersion}
+use Rattle.mongo_scram.specs.declared.cache.SaltedKey.{SaltedKey}
+use Rattle.mongo_scram.specs.declared.conversation.FirstRound.{FirstRound}
+use Rattle.mongo_scram.specs.declared.messages.ClientFinal.{ClientFinal}
+use Rattle.mongo_scram.specs.declared.rounds.Login.{Login}
+use Rattle.mongo_scram.specs.declared.rounds.Opened.{Opened}
+use Rattle.mongo_scram.specs.declared.server_first.ServerFirst.{ServerFirst}
+use Rattle.mongo_scram.specs.declared.server_final.ServerFinal.{ServerFinal}
+use Rattle.mongo_scram.specs.Base64.{base64_of}
+use Rattle.mongo_scram.specs.Client.{message_of, nonce_of, handed_to, final_of, conversation_of, final_source_of, final_api_of}
+use Rattle.mongo_scram.specs.Commands.{final_command}
+use Rattle.mongo_scram.specs.Costs.{Ledgers, Derives, SameEntries}
+use Rattle.mongo_scram.specs.Entry.{salted_of, IsUsable}
+use Rattle.mongo_scram.specs.Key.{PasswordRow}
+use Rattle.mongo_scram.specs.Plan.{Speculated, Handed, Challenge, message_by, nonce_by, start_said, NotCompletedRow}
+use Rattle.mongo_scram.specs.Replies.{CarriesFirst, CarriesFinal, FinalReplyRow}
+use Rattle.mongo_scram.specs.User.{User}
+use Rattle.mongo_scram.specs.Validity.{IsValidFirst, FirstRow, FinalRow}
+
+-- what a login is handed, with a first round or without, over a link of this maximum
+abbrev pub handed_by : Login → Option FirstRound → ℤ → Handed
+handed_by login round maximum = handed_to login.version login.credential.now (option_copied login.server_api) round (base64_of login.nonce.now) login.most maximum
+
+-- ---- the first round
+
+-- the reply to the client's first message: that of a first round that went with the hello, or that of an exchange
+abbrev pub Replies : Option Speculated → Said → List ℕ → State → State → ℤ → ℤ → Type 0
+Replies None said reply old new before after = Exchanges said.maximum (plain_message said.document) old new before after reply × CountsStay old new
+Replies (Some speculated) said reply old new before after = (reply ≡ speculated.reply) × (new ≡ old) × (after ≡ before)
+
+-- the client's first message was answered by the server's
+pub record Opens (handed : Handed) (user : User) (opened : Opened) (old new : State) (before after : ℤ) : Type 0 where
+  pub message : message_of opened.client_first ≡ message_by handed user
+  pub nonce : nonce_of opened.client_first ≡ nonce_by handed
+  pub reply : List ℕ
+  pub replied : Replies handed.speculated (start_said handed user) reply old new before after
+  pub carries : CarriesFirst reply opened.server_first
+
+-- the count of a buffer's frames after it
+abbrev pub frames_opened : Option FirstRound → ℕ → ℕ
+frames_opened None frames = risen frames
+frames_opened (Some round) frames = frames
+
+-- ---- the derivation
+
+-- the key that a server's first message asks of a user
+abbrev pub key_for : ScramVersion → User → ServerFirst → SaltedKey
+key_for version user first = record { version = version; username = user.username; password = user.password; salt = first.salt; count = first.i }
+
+-- A client of this nonce and ceiling goes on from the message, by the salted password of its key, which was derived where
+-- it had no entry.
+pub record IsAnswered (first : ServerFirst) (nonce : List ℕ) (most : ℕ) (key : SaltedKey) (tag : List ℕ) (old new : Ledgers) : Type 0 where
+  pub valid : IsValidFirst first nonce most
+  pub usable : IsUsable key
+  pub tag_is : tag ≡ salted_of key
+  pub derived : Derives key old new
+  pub entries : SameEntries old new
+
+-- why it doesn't: a row of the message, and then one of the password
+abbrev pub AnswerRow : ServerFirst → List ℕ → ℕ → ScramVersion → List ℕ → ErrorKind → Type 0
+AnswerRow first nonce most version password = or_else (FirstRow first nonce most) (PasswordRow version password)
+
+-- ---- the last round
+
+-- the command of the client's last message
+abbrev pub final_said : ClientFinal → ℤ → Said
+final_said final maximum = record { maximum = maximum; document = command_document (final_command (conversation_of final) (final_source_of final) (final_of final) (final_api_of final)) }
+
+-- why the server's last message isn't taken in this conversation, by the verifier that is owed
+abbrev pub RoundRow : OwnedValue → List ℕ → ServerFinal → ErrorKind → Type 0
+RoundRow conversation owed last = or_else (FinalRow last conversation owed) (NotCompletedRow last)
+
+-- after the reply with it
+abbrev pub last_heard : OwnedValue → List ℕ → Challenge → List ℕ → Plan Challenge
+last_heard conversation owed c reply =
+    unless (FinalReplyRow reply) (reading (CarriesFinal reply) (λ last. unless (RoundRow conversation owed last) (ending c)))
+
+-- what is left of a login by this challenge, once the client's last message is made
+abbrev pub last_round : Said → OwnedValue → List ℕ → Challenge → Plan Challenge
+last_round said conversation owed c = saying said (last_heard conversation owed c)
+
+-- the document carries a last message of the server that is taken
+pub record IsTaken (conversation : OwnedValue) (owed document : List ℕ) : Type 0 where
+  pub last : ServerFinal
+  pub carries : CarriesFinal document last
+  pub taken : HasNone (RoundRow conversation owed last)
+
+-- why it carries none that is: the row of the reply, else that of the message
+abbrev pub LastRefusal : OwnedValue → List ℕ → List ℕ → ErrorKind → Type 0
+LastRefusal conversation owed document kind = FinalReplyRow document kind ⊎ ((last : ServerFinal) × CarriesFinal document last × RoundRow conversation owed last kind)

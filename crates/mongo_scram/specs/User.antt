@@ -1,0 +1,26 @@
+-- Who logs in by SCRAM, as a credential says it (RFC 5802, section 5, and MongoDB's authentication specification).
+use Rattle.std.specs.Prelude.{◌≡◌, ℕ, None, Some, IsSome, unwrap_or, List, codes}
+use Rattle.mongo_wire.specs.declared.error.ErrorKind.{ErrorKind}
+use Rattle.mongo_wire.specs.declared.error.ErrorKind.TheVariants.{Authentication}
+use Rattle.mongo_wire.specs.declared.auth_fault.AuthFault.TheVariants.{NoUsername, NoPassword, PropertiesGiven}
+use Rattle.mongo_sasl.specs.declared.credential.Credential.{Credential}
+
+-- a user, by name and password, and the database that the user belongs to
+pub record User : Type 0 where
+  pub username : List ℕ
+  pub password : List ℕ
+  pub source : List ℕ
+
+-- the user of a credential; one that names no database belongs to `admin`
+pub record IsUser (credential : Credential) (user : User) : Type 0 where
+  pub username : credential.username ≡ Some user.username
+  pub password : credential.password ≡ Some user.password
+  pub properties : credential.mechanism_properties ≡ None
+  pub source : user.source ≡ unwrap_or credential.source (codes "admin")
+
+-- why a credential has no login by SCRAM: the first row that applies
+abbrev pub CredentialRow : Credential → ErrorKind → Type 0
+CredentialRow credential (Authentication NoUsername) = credential.username ≡ None
+CredentialRow credential (Authentication NoPassword) = IsSome credential.username × (credential.password ≡ None)
+CredentialRow credential (Authentication PropertiesGiven) = IsSome credential.username × IsSome credential.password × IsSome credential.mechanism_properties
+CredentialRow credential kind = ⊥

@@ -1,0 +1,21 @@
+ghost use Rattle.std.specs.Prelude.{◌≡◌, Some, IfOk, IfErr};
+ghost use Rattle.mongo_wire.specs.declared.error.ErrorKind.TheVariants.{OutOfMemory};
+
+use crate::FirstRound;
+use mongo_wire::Error;
+use std::alloc::Global;
+
+impl FirstRound {
+    ghost use Rattle.mongo_scram.specs.Client.{speculated_of};
+
+    /// A copy of the round. Want of memory is the only refusal.
+    pub fn try_clone(&self, alloc: Global) -> Result<FirstRound, Error>
+        ensures said { IfOk result (λ round. speculated_of (Some round) ≡ speculated_of (Some self.now)) }
+        ensures refused { IfErr result (λ e. e.kind ≡ OutOfMemory) }
+    {
+        Ok(FirstRound {
+            client_first: self.client_first.try_clone(alloc)?,
+            server_first: self.server_first.try_clone(alloc)?,
+        })
+    }
+}

@@ -1,0 +1,214 @@
+// The two rounds of a login: each a command of the client and the server's reply to it.
+
+ghost use Rattle.std.specs.Prelude.{◌≡◌, ◌⊎◌, None, Some, IfOk, IfErr, OnOk};
+ghost use Rattle.mongo_wire.specs.declared.error.ErrorKind.{ErrorKind};
+ghost use Rattle.mongo_wire.specs.declared.error.ErrorKind.TheVariants.{OutOfMemory};
+ghost use Rattle.mongo_wire.specs.Outside.{risen};
+ghost use Rattle.mongo_wire.specs.Buffer.{frames_taken, held_document};
+ghost use Rattle.mongo_command.specs.Connection.{kept_fault, KeepsRest};
+ghost use Rattle.mongo_command.specs.Conversation.{Reached, Stopped};
+ghost use Rattle.mongo_command.specs.Exchange.{frame_maximum, HoldsReply, CountsStay};
+ghost use Rattle.mongo_scram.specs.Client.{auth_message_of, conversation_of};
+ghost use Rattle.mongo_scram.specs.Messages.{verifier};
+ghost use Rattle.mongo_scram.specs.Plan.{Challenge};
+ghost use Rattle.mongo_scram.specs.Replies.{CarriesFirst, FirstReplyRow};
+ghost use Rattle.mongo_scram.specs.Rounds.{final_said, last_round, IsTaken, LastRefusal};
+ghost use Rattle.mongo_scram.specs.Version.{digest_of};
+
+use crate::auth_info::ClientAuthInfo;
+use crate::conversation::FirstRound;
+use crate::messages::{ClientFinal, ClientFirst};
+use crate::refusal::refused;
+use crate::scram_version::ScramVersion;
+use crate::server_final::ServerFinal;
+use crate::server_first::ServerFirst;
+use mongo_bson::RawDocument;
+use mongo_command::{Connection, ServerApi};
+use mongo_mac::Tag;
+use mongo_sasl::Credential;
+use mongo_wire::{AuthFault, Error, FrameBuffer, Link, RequestIds};
+use std::alloc::Global;
+
+/// What a login is handed, beside its connection.
+#[derive(Clone, Copy)]
+pub struct Login<'a> {
+    /// The version of SCRAM.
+    pub version: ScramVersion,
+    /// Who logs in.
+    pub credential: &'a Credential,
+    /// The server API that each command declares, if any.
+    pub server_api: Option<&'a ServerApi>,
+    /// The nonce of a first message of its own.
+    pub nonce: &'a [u8; 32],
+    /// The most iterations that it derives by.
+    pub most: u32,
+}
+
+/// The first messages of both sides.
+#[derive(Drop)]
+pub struct Opened {
+    /// The client's.
+    pub client_first: ClientFirst,
+    /// The server's.
+    pub server_first: ServerFirst,
+}
+
+impl<'a> Login<'a> {
+    ghost use Rattle.std.specs.Prelude.{◌≡◌, ◌⊎◌, ℕ, None, Some, IfOk, IfErr, OnOk};
+    ghost use Rattle.mongo_wire.specs.declared.error.ErrorKind.{ErrorKind};
+    ghost use Rattle.mongo_wire.specs.Outside.{risen};
+    ghost use Rattle.mongo_wire.specs.Buffer.{frames_taken};
+    ghost use Rattle.mongo_command.specs.Connection.{kept_fault, KeepsRest};
+    ghost use Rattle.mongo_command.specs.Conversation.{Stopped};
+    ghost use Rattle.mongo_command.specs.Exchange.{frame_maximum, CountsStay};
+    ghost use Rattle.mongo_scram.specs.Client.{speculated_of, user_of};
+    ghost use Rattle.mongo_scram.specs.Plan.{opened};
+    ghost use Rattle.mongo_scram.specs.Rounds.{handed_by, Opens, frames_opened};
+
+    /// The first round: that which went with the hello, or one of its own, by the nonce.
+    pub fn open<L: Link>(
+        self,
+        alloc: Global,
+        connection: &mut Connection,
+        link: &mut L,
+        ids: &mut RequestIds,
+        buffer: &mut FrameBuffer,
+        user: &ClientAuthInfo<'_>,
+        first_round: Option<FirstRound>,
+    ) -> Result<Opened, Error>
+        ensures opened { IfOk result (λ o. Opens (handed_by self.entry first_round (frame_maximum connection.old.stream_description)) (user_of user.now) o
+            (L.state link.old) (L.state link.new) ids.old ids.new) }
+        ensures refused { kept_fault connection.old ≡ None → IfErr result (λ e. Stopped (opened (speculated_of first_round) (handed_by self.entry first_round (frame_maximum connection.old.stream_description)) (user_of user.now)) e.kind
+            (L.state link.old) (L.state link.new) ids.old ids.new) }
+        ensures frames { OnOk result (frames_taken buffer.new ≡ frames_opened first_round (frames_taken buffer.old)) }
+        ensures connection { KeepsRest connection.old connection.new }
+        ensures faultless { kept_fault connection.old ≡ None → OnOk result (kept_fault connection.new ≡ None) }
+        ensures kept { (kind : ErrorKind) → kept_fault connection.old ≡ Some kind → (link.new ≡ link.old) × (ids.new ≡ ids.old) × (kept_fault connection.new ≡ Some kind) }
+        ensures answers { (kind : ErrorKind) → kept_fault connection.old ≡ Some kind → IfErr result (λ e. (e.kind ≡ kind) ⊎ Stopped (opened (speculated_of first_round) (handed_by self.entry first_round (frame_maximum connection.old.stream_description)) (user_of user.now)) e.kind
+            (L.state link.old) (L.state link.old) ids.old ids.old) }
+        ensures counts { CountsStay (L.state link.old) (L.state link.new) }
+    {
+        match first_round {
+            Some(round) => go_on(alloc, round),
+            None => self.say_first(alloc, connection, link, ids, buffer, user),
+        }
+    }
+
+    // Says the client's first message, and takes the server's.
+    fn say_first<L: Link>(
+        self,
+        alloc: Global,
+        connection: &mut Connection,
+        link: &mut L,
+        ids: &mut RequestIds,
+        buffer: &mut FrameBuffer,
+        user: &ClientAuthInfo<'_>,
+    ) -> Result<Opened, Error>
+        ensures opened { IfOk result (λ o. Opens (handed_by self.entry None (frame_maximum connection.old.stream_description)) (user_of user.now) o
+            (L.state link.old) (L.state link.new) ids.old ids.new) }
+        ensures refused { kept_fault connection.old ≡ None → IfErr result (λ e. Stopped (opened None (handed_by self.entry None (frame_maximum connection.old.stream_description)) (user_of user.now)) e.kind
+            (L.state link.old) (L.state link.new) ids.old ids.new) }
+        ensures frames { OnOk result (frames_taken buffer.new ≡ risen (frames_taken buffer.old)) }
+        ensures connection { KeepsRest connection.old connection.new }
+        ensures faultless { OnOk result (kept_fault connection.new ≡ None) }
+        ensures kept { (kind : ErrorKind) → kept_fault connection.old ≡ Some kind → OnOk result ⊥ × (link.new ≡ link.old) × (ids.new ≡ ids.old) × (kept_fault connection.new ≡ Some kind) }
+        ensures answers { (kind : ErrorKind) → kept_fault connection.old ≡ Some kind → IfErr result (λ e. (e.kind ≡ kind) ⊎ Stopped (opened None (handed_by self.entry None (frame_maximum connection.old.stream_description)) (user_of user.now)) e.kind
+            (L.state link.old) (L.state link.old) ids.old ids.old) }
+        ensures counts { CountsStay (L.state link.old) (L.state link.new) }
+    {
+        let client_first = ClientFirst::new(
+            alloc,
+            user.source,
+            user.username,
+            false,
+            self.server_api.copied(),
+            self.nonce,
+        )?;
+        let command = client_first.to_command(alloc, &self.version)?;
+        connection.exchange_into(alloc, link, ids, command, buffer)?;
+        let server_first = ServerFirst::parse(alloc, held_reply(buffer))?;
+        Ok(Opened {
+            client_first,
+            server_first,
+        })
+    }
+}
+
+// The first messages of a round that went with the hello.
+fn go_on(alloc: Global, round: FirstRound) -> Result<Opened, Error>
+    ensures client { IfOk result (λ o. o.client_first ≡ round.client_first) }
+    ensures server { IfOk result (λ o. CarriesFirst round.server_first o.server_first) }
+    ensures refused { IfErr result (λ e. FirstReplyRow round.server_first e.kind ⊎ (e.kind ≡ OutOfMemory)) }
+{
+    let FirstRound {
+        client_first,
+        server_first,
+    } = round;
+    let server_first = ServerFirst::parse(alloc, server_first.borrow())?;
+    Ok(Opened {
+        client_first,
+        server_first,
+    })
+}
+
+// The document of the frame that the buffer holds.
+fn held_reply(buffer: &FrameBuffer) -> RawDocument<'_>
+    requires { HoldsReply buffer.now }
+    ensures { result.bytes.now ≡ held_document buffer.now }
+{
+    match buffer.message() {
+        Some(message) => message.document_payload,
+        None => unreachable!(),
+    }
+}
+
+/// The last round: says the client's last message, and takes the server's, by the salted password. It ends the login.
+pub fn close<L: Link>(
+    alloc: Global,
+    connection: &mut Connection,
+    link: &mut L,
+    ids: &mut RequestIds,
+    buffer: &mut FrameBuffer,
+    version: ScramVersion,
+    salted: &Tag,
+    client_final: &ClientFinal,
+) -> Result<(), Error>
+    ensures closed { (c : Challenge) → OnOk result (Reached (last_round (final_said client_final.now (frame_maximum connection.old.stream_description)) (conversation_of client_final.now) (verifier (digest_of version) salted.now (auth_message_of client_final.now)) c) c
+        (L.state link.old) (L.state link.new) ids.old ids.new) }
+    ensures refused { (c : Challenge) → kept_fault connection.old ≡ None → IfErr result (λ e. Stopped (last_round (final_said client_final.now (frame_maximum connection.old.stream_description)) (conversation_of client_final.now) (verifier (digest_of version) salted.now (auth_message_of client_final.now)) c) e.kind
+        (L.state link.old) (L.state link.new) ids.old ids.new) }
+    ensures taken { OnOk result (IsTaken (conversation_of client_final.now) (verifier (digest_of version) salted.now (auth_message_of client_final.now)) (held_document buffer.new)) }
+    ensures frames { OnOk result (frames_taken buffer.new ≡ risen (frames_taken buffer.old)) }
+    ensures holds { OnOk result (HoldsReply buffer.new) }
+    ensures connection { KeepsRest connection.old connection.new }
+    ensures faultless { OnOk result (kept_fault connection.new ≡ None) }
+    ensures kept { (kind : ErrorKind) → kept_fault connection.old ≡ Some kind → OnOk result ⊥ × (link.new ≡ link.old) × (ids.new ≡ ids.old) × (kept_fault connection.new ≡ Some kind) }
+    ensures answers { (c : Challenge) (kind : ErrorKind) → kept_fault connection.old ≡ Some kind → IfErr result (λ e. (e.kind ≡ kind) ⊎ Stopped (last_round (final_said client_final.now (frame_maximum connection.old.stream_description)) (conversation_of client_final.now) (verifier (digest_of version) salted.now (auth_message_of client_final.now)) c) e.kind
+        (L.state link.old) (L.state link.old) ids.old ids.old) }
+    ensures counts { CountsStay (L.state link.old) (L.state link.new) }
+{
+    let command = client_final.to_command(alloc)?;
+    connection.exchange_into(alloc, link, ids, command, buffer)?;
+    take_last(alloc, held_reply(buffer), version, salted, client_final)
+}
+
+// Takes the server's last message where it proves that the server knows the key, and ends the conversation.
+fn take_last(
+    alloc: Global,
+    reply: RawDocument<'_>,
+    version: ScramVersion,
+    salted: &Tag,
+    client_final: &ClientFinal,
+) -> Result<(), Error>
+    ensures taken { OnOk result (IsTaken (conversation_of client_final.now) (verifier (digest_of version) salted.now (auth_message_of client_final.now)) reply.entry.bytes.now) }
+    ensures refused { IfErr result (λ e. LastRefusal (conversation_of client_final.now) (verifier (digest_of version) salted.now (auth_message_of client_final.now)) reply.entry.bytes.now e.kind ⊎ (e.kind ≡ OutOfMemory)) }
+{
+    let last = ServerFinal::parse(alloc, reply)?;
+    let done = last.done;
+    last.validate(salted, client_final, &version)?;
+    if done {
+        Ok(())
+    } else {
+        Err(refused(AuthFault::NotCompleted))
+    }
+}
