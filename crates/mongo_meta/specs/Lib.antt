@@ -1,0 +1,5 @@
+pub mod Variables
+pub mod Providers
+pub mod Metadata
+pub mod Client
+pub mod Options

@@ -1,0 +1,51 @@
+ghost use Rattle.std.specs.Prelude.{◌≡◌, IfOk, IfErr};
+
+use crate::copies::text_copy;
+use crate::{DriverInfo, Environment, OsMetadata};
+use mongo_bson::{BsonFault, Text};
+use mongo_command::ServerApi;
+use std::alloc::Global;
+
+/// What a client is made of, as far as a connection needs it.
+#[derive(Debug, Drop, PartialEq)]
+pub struct ClientOptions {
+    /// The application's name.
+    pub app_name: Option<Text>,
+    /// A library that stands on the driver.
+    pub driver_info: Option<DriverInfo>,
+    /// The stable API that commands declare.
+    pub server_api: Option<ServerApi>,
+    /// Whether the servers stand behind a load balancer.
+    pub load_balanced: bool,
+    /// The operating system.
+    pub os: OsMetadata,
+    /// What the driver runs on.
+    pub platform: Text,
+    /// The same in short, for metadata that have to be short.
+    pub platform_short: Text,
+    /// The variables and the files by which a provider and a container are found.
+    pub environment: Environment,
+}
+
+impl ClientOptions {
+    /// A copy. Want of memory is the only refusal.
+    pub fn try_clone(&self, alloc: Global) -> Result<ClientOptions, BsonFault>
+        ensures copied { IfOk result (λ options. options ≡ self.now) }
+        ensures refused { IfErr result (λ fault. fault ≡ BsonFault.OutOfMemory) }
+    {
+        let driver_info = match &self.driver_info {
+            Some(info) => Some(info.try_clone(alloc)?),
+            None => None,
+        };
+        Ok(ClientOptions {
+            app_name: text_copy(alloc, &self.app_name)?,
+            driver_info,
+            server_api: self.server_api,
+            load_balanced: self.load_balanced,
+            os: self.os.try_clone(alloc)?,
+            platform: self.platform.try_clone(alloc)?,
+            platform_short: self.platform_short.try_clone(alloc)?,
+            environment: self.environment.try_clone(alloc)?,
+        })
+    }
+}

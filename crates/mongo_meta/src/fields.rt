@@ -1,0 +1,110 @@
+ghost use Rattle.std.specs.Prelude.{◌≡◌, ◌++◌, ◌^◌, ◌<◌, Some, option_map, flat_map, length, codes, Contains, IfOk, IfErr, OnOk};
+ghost use Rattle.std.specs.List.{AllByRecursion};
+ghost use Rattle.mongo_bson.specs.Framed.{IsFramed, body_of, enclosed};
+ghost use Rattle.mongo_bson.specs.Document.{spell};
+ghost use Rattle.mongo_command.specs.Literal.{text_element, document_element, int32_element, document_of};
+ghost use Rattle.mongo_command.specs.Command.{given};
+ghost use Rattle.mongo_command.specs.Arguments.{field_elements, IsNamed, TooLongFor};
+
+use mongo_bson::{BsonFault, RawDocumentBuf, RawValue, Text};
+use std::alloc::Global;
+
+// A field of a document that may be there: its key and its value.
+pub(crate) type Field<'a> = Option<(&'static str, RawValue<'a>)>;
+
+// The document of the fields that are there, in their order.
+pub(crate) fn document_of(alloc: Global, fields: &[Field<'_>]) -> Result<RawDocumentBuf, BsonFault>
+    requires { AllByRecursion IsNamed fields.now }
+    ensures document { IfOk result (λ document. document ≡ document_of (flat_map field_elements fields.now)) }
+    ensures refused { IfErr result (λ fault. TooLongFor fault (document_of (flat_map field_elements fields.now))) }
+{
+    let mut document = RawDocumentBuf::new(alloc)?;
+    append_fields(&mut document, fields)?;
+    Ok(document)
+}
+
+// Puts the fields that are there at the end of a document.
+fn append_fields(document: &mut RawDocumentBuf, fields: &[Field<'_>]) -> Result<(), BsonFault>
+    requires framed { IsFramed document.old }
+    requires sealed { document.old ≡ enclosed (body_of document.old) }
+    requires named { AllByRecursion IsNamed fields.now }
+    ensures added { OnOk result (document.new ≡ enclosed (body_of document.old ++ flat_map spell (flat_map field_elements fields.now))) }
+    ensures refused { IfErr result (λ fault. TooLongFor fault (enclosed (body_of document.old ++ flat_map spell (flat_map field_elements fields.now)))) }
+{
+    for field in fields {
+        append_field(document, *field)?;
+    }
+    Ok(())
+}
+
+// Puts a field at the end of a document, where it is there.
+fn append_field(document: &mut RawDocumentBuf, field: Field<'_>) -> Result<(), BsonFault>
+    requires framed { IsFramed document.old }
+    requires sealed { document.old ≡ enclosed (body_of document.old) }
+    requires named { IsNamed field }
+    ensures added { OnOk result (document.new ≡ enclosed (body_of document.old ++ flat_map spell (field_elements field.entry))) }
+    ensures framed { OnOk result (IsFramed document.new) }
+    ensures refused { IfErr result (λ fault. TooLongFor fault (enclosed (body_of document.old ++ flat_map spell (field_elements field.entry)))) }
+{
+    match field {
+        Some((key, value)) => document.append(key, value),
+        None => Ok(()),
+    }
+}
+
+// A text.
+pub(crate) fn text_field<'a>(key: &'static str, text: &'a Text) -> Field<'a>
+    requires { ¬ Contains key.now 0 }
+    ensures elements { field_elements result ≡ given (text_element key.now) (Some text.now) }
+    ensures named { IsNamed result }
+{
+    Some((key, RawValue::Str(text.as_str())))
+}
+
+// A text that may be there.
+pub(crate) fn optional_text_field<'a>(key: &'static str, text: &'a Option<Text>) -> Field<'a>
+    requires { ¬ Contains key.now 0 }
+    ensures elements { field_elements result ≡ given (text_element key.now) text.now }
+    ensures named { IsNamed result }
+{
+    match text {
+        Some(text) => text_field(key, text),
+        None => None,
+    }
+}
+
+// A document.
+pub(crate) fn document_field<'a>(key: &'static str, document: &'a RawDocumentBuf) -> Field<'a>
+    requires { ¬ Contains key.now 0 }
+    ensures elements { field_elements result ≡ given (document_element key.now) (Some document.now) }
+    ensures named { IsNamed result }
+{
+    Some((key, RawValue::Document(document.borrow())))
+}
+
+// A document that may be there.
+pub(crate) fn optional_document_field<'a>(
+    key: &'static str,
+    document: &'a Option<RawDocumentBuf>,
+) -> Field<'a>
+    requires { ¬ Contains key.now 0 }
+    ensures elements { field_elements result ≡ given (document_element key.now) document.now }
+    ensures named { IsNamed result }
+{
+    match document {
+        Some(document) => document_field(key, document),
+        None => None,
+    }
+}
+
+// A 32-bit number that may be there.
+pub(crate) fn optional_int32_field(key: &'static str, number: Option<i32>) -> Field<'static>
+    requires { ¬ Contains key.now 0 }
+    ensures elements { field_elements result ≡ given (int32_element key.now) number }
+    ensures named { IsNamed result }
+{
+    match number {
+        Some(number) => Some((key, RawValue::Int32(number))),
+        None => None,
+    }
+}

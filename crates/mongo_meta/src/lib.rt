@@ -1,0 +1,36 @@
+//! What a client tells a server of itself, by the handshake specification: the client's metadata, which a hello carries.
+//!
+//! A [`ClientMetadata`] is made once of [`ClientOptions`], which hold all that it says: the application's name, the operating
+//! system, the platform, and the variables by which the provider of a function ([`FaasEnvironmentName`]) and a container
+//! are found. Libraries that stand on the driver add themselves ([`ClientMetadata::append`]).
+//!
+//! A server takes a hello's metadata up to a length of 512 bytes, so a hello carries the first of five forms that fits
+//! ([`ClientMetadata::client_document`]): the whole; `env` with its name alone; `os` with its type alone too; no `env`; and
+//! with all that the short text of the platform.
+//!
+//! Nothing here asks the outside: variables and the rest are handed in. Want of memory may stand in place of any answer of
+//! a call that is handed an allocator, and of [`ClientMetadata::append`].
+#![tactic(auto)]
+
+mod client_document;
+mod client_metadata;
+mod client_options;
+mod container;
+mod copies;
+mod driver_info;
+mod environment;
+mod faas;
+mod fields;
+mod form;
+mod os_metadata;
+mod runtime_environment;
+#[cfg(test)]
+mod tests;
+
+pub use client_metadata::{AppMetadata, ClientMetadata, DriverMetadata};
+pub use client_options::ClientOptions;
+pub use driver_info::{DriverInfo, DriverInfos};
+pub use environment::{Environment, Variable, Variables};
+pub use faas::FaasEnvironmentName;
+pub use os_metadata::OsMetadata;
+pub use runtime_environment::RuntimeEnvironment;

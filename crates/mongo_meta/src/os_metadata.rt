@@ -1,0 +1,62 @@
+ghost use Rattle.std.specs.Prelude.{◌≡◌, IfOk, IfErr, OnOk};
+ghost use Rattle.mongo_command.specs.Arguments.{TooLongFor};
+
+use crate::copies::text_copy;
+use crate::fields::{document_of, optional_text_field, text_field};
+use mongo_bson::{BsonFault, RawDocumentBuf, Text};
+use std::alloc::Global;
+
+/// The operating system that the client runs on.
+#[derive(Debug, Drop, PartialEq)]
+pub struct OsMetadata {
+    /// Its family (`type`), as `linux`.
+    pub os_type: Text,
+    /// Its name.
+    pub name: Option<Text>,
+    /// The machine's architecture.
+    pub architecture: Option<Text>,
+    /// Its version.
+    pub version: Option<Text>,
+}
+
+impl OsMetadata {
+    ghost use Rattle.mongo_meta.specs.Metadata.{os_document};
+    ghost use Rattle.mongo_meta.specs.Client.{type_alone};
+
+    /// A copy. Want of memory is the only refusal.
+    pub fn try_clone(&self, alloc: Global) -> Result<OsMetadata, BsonFault>
+        ensures copied { IfOk result (λ os. os ≡ self.now) }
+        ensures refused { IfErr result (λ fault. fault ≡ BsonFault.OutOfMemory) }
+    {
+        Ok(OsMetadata {
+            os_type: self.os_type.try_clone(alloc)?,
+            name: text_copy(alloc, &self.name)?,
+            architecture: text_copy(alloc, &self.architecture)?,
+            version: text_copy(alloc, &self.version)?,
+        })
+    }
+
+    // The document of what is there.
+    pub(crate) fn document(&self, alloc: Global) -> Result<RawDocumentBuf, BsonFault>
+        ensures document { IfOk result (λ document. document ≡ os_document self.now) }
+        ensures refused { IfErr result (λ fault. TooLongFor fault (os_document self.now)) }
+    {
+        document_of(
+            alloc,
+            &[
+                text_field("type", &self.os_type),
+                optional_text_field("name", &self.name),
+                optional_text_field("architecture", &self.architecture),
+                optional_text_field("version", &self.version),
+            ],
+        )
+    }
+
+    // The document of the type alone.
+    pub(crate) fn type_document(&self, alloc: Global) -> Result<RawDocumentBuf, BsonFault>
+        ensures document { IfOk result (λ document. document ≡ os_document (type_alone self.now)) }
+        ensures refused { IfErr result (λ fault. TooLongFor fault (os_document (type_alone self.now))) }
+    {
+        document_of(alloc, &[text_field("type", &self.os_type)])
+    }
+}

@@ -1,0 +1,167 @@
+ghost use Rattle.std.specs.Prelude.{◌≡◌, option_map, codes, IfOk, IfErr};
+ghost use Rattle.mongo_command.specs.Literal.{text_element};
+ghost use Rattle.mongo_command.specs.Command.{given};
+ghost use Rattle.mongo_command.specs.Arguments.{field_elements, IsNamed, TooLongFor};
+ghost use Rattle.mongo_meta.specs.Providers.{name_text, provider, taken_of};
+ghost use Rattle.mongo_wire.specs.declared.error.ErrorKind.TheVariants.{OutOfMemory};
+
+use crate::container::container_in;
+use crate::copies::text_copy;
+use crate::fields::{
+    Field, document_of, optional_document_field, optional_int32_field, optional_text_field,
+};
+use crate::{Environment, FaasEnvironmentName};
+use mongo_bson::{BsonFault, RawDocumentBuf, RawValue, Text};
+use mongo_wire::Error;
+use std::alloc::Global;
+
+/// Where the client runs, as far as it can be seen: the provider that runs it as a function, and its container.
+#[derive(Debug, Drop, PartialEq)]
+pub struct RuntimeEnvironment {
+    /// The provider.
+    pub name: Option<FaasEnvironmentName>,
+    /// What the provider runs functions on.
+    pub runtime: Option<Text>,
+    /// How long a function may run, in seconds.
+    pub timeout_sec: Option<i32>,
+    /// The memory that a function has, in megabytes.
+    pub memory_mb: Option<i32>,
+    /// Where the function runs.
+    pub region: Option<Text>,
+    /// The container: what runs it (`runtime`) and what manages it (`orchestrator`).
+    pub container: Option<RawDocumentBuf>,
+}
+
+impl RuntimeEnvironment {
+    ghost use Rattle.mongo_meta.specs.Providers.{runtime_environment_in};
+    ghost use Rattle.mongo_meta.specs.Metadata.{environment_document};
+    ghost use Rattle.mongo_meta.specs.Client.{name_alone};
+
+    /// The environment of which nothing is known.
+    pub const UNSET: RuntimeEnvironment = RuntimeEnvironment {
+        name: None,
+        runtime: None,
+        timeout_sec: None,
+        memory_mb: None,
+        region: None,
+        container: None,
+    };
+
+    /// What an environment shows, or None where it shows nothing. Of a provider those of its variables are taken that are
+    /// there, even empty; a variable that has to be a number and isn't an `int32` in decimal counts as absent. Want of
+    /// memory is the only refusal.
+    #[tactic(auto, unfolding(crate::specs::Providers::runtime_environment_in))]
+    pub fn from_environment(
+        alloc: Global,
+        env: &Environment,
+    ) -> Result<Option<RuntimeEnvironment>, Error>
+        ensures environment { IfOk result (λ environment. environment ≡ runtime_environment_in env.now) }
+        ensures refused { IfErr result (λ e. e.kind ≡ OutOfMemory) }
+    {
+        let container = container_in(alloc, env)?;
+        match FaasEnvironmentName::from_environment(env) {
+            Some(name) => {
+                let taken = taken_of(alloc, name, env)?;
+                Ok(Some(RuntimeEnvironment { container, ..taken }))
+            }
+            None if container.is_some() => Ok(Some(RuntimeEnvironment {
+                container,
+                ..RuntimeEnvironment::UNSET
+            })),
+            None => Ok(None),
+        }
+    }
+
+    /// A copy. Want of memory is the only refusal.
+    pub fn try_clone(&self, alloc: Global) -> Result<RuntimeEnvironment, BsonFault>
+        ensures copied { IfOk result (λ environment. environment ≡ self.now) }
+        ensures refused { IfErr result (λ fault. fault ≡ BsonFault.OutOfMemory) }
+    {
+        let container = match &self.container {
+            Some(container) => Some(container.try_clone(alloc)?),
+            None => None,
+        };
+        Ok(RuntimeEnvironment {
+            name: self.name,
+            runtime: text_copy(alloc, &self.runtime)?,
+            timeout_sec: self.timeout_sec,
+            memory_mb: self.memory_mb,
+            region: text_copy(alloc, &self.region)?,
+            container,
+        })
+    }
+
+    // The document of what is there.
+    pub(crate) fn document(&self, alloc: Global) -> Result<RawDocumentBuf, BsonFault>
+        ensures document { IfOk result (λ document. document ≡ environment_document self.now) }
+        ensures refused { IfErr result (λ fault. TooLongFor fault (environment_document self.now)) }
+    {
+        document_of(
+            alloc,
+            &[
+                name_field(self.name),
+                optional_text_field("runtime", &self.runtime),
+                optional_int32_field("timeout_sec", self.timeout_sec),
+                optional_int32_field("memory_mb", self.memory_mb),
+                optional_text_field("region", &self.region),
+                optional_document_field("container", &self.container),
+            ],
+        )
+    }
+
+    // The document of the name alone, which is empty where there is none.
+    pub(crate) fn name_document(&self, alloc: Global) -> Result<RawDocumentBuf, BsonFault>
+        ensures document { IfOk result (λ document. document ≡ environment_document (name_alone self.now)) }
+        ensures refused { IfErr result (λ fault. TooLongFor fault (environment_document (name_alone self.now))) }
+    {
+        document_of(alloc, &[name_field(self.name)])
+    }
+}
+
+// What is taken of a provider's variables.
+fn taken_of(
+    alloc: Global,
+    name: FaasEnvironmentName,
+    env: &Environment,
+) -> Result<RuntimeEnvironment, BsonFault>
+    ensures taken { IfOk result (λ taken. taken ≡ taken_of name (provider name env.now)) }
+    ensures refused { IfErr result (λ fault. fault ≡ BsonFault.OutOfMemory) }
+{
+    match name {
+        FaasEnvironmentName::AwsLambda => Ok(RuntimeEnvironment {
+            name: Some(name),
+            runtime: env.text(alloc, "AWS_EXECUTION_ENV")?,
+            memory_mb: env.number("AWS_LAMBDA_FUNCTION_MEMORY_SIZE"),
+            region: env.text(alloc, "AWS_REGION")?,
+            ..RuntimeEnvironment::UNSET
+        }),
+        FaasEnvironmentName::Vercel => Ok(RuntimeEnvironment {
+            name: Some(name),
+            region: env.text(alloc, "VERCEL_REGION")?,
+            ..RuntimeEnvironment::UNSET
+        }),
+        FaasEnvironmentName::AzureFunc => Ok(RuntimeEnvironment {
+            name: Some(name),
+            runtime: env.text(alloc, "FUNCTIONS_WORKER_RUNTIME")?,
+            ..RuntimeEnvironment::UNSET
+        }),
+        FaasEnvironmentName::GcpFunc => Ok(RuntimeEnvironment {
+            name: Some(name),
+            timeout_sec: env.number("FUNCTION_TIMEOUT_SEC"),
+            memory_mb: env.number("FUNCTION_MEMORY_MB"),
+            region: env.text(alloc, "FUNCTION_REGION")?,
+            ..RuntimeEnvironment::UNSET
+        }),
+    }
+}
+
+// The provider's name.
+fn name_field(name: Option<FaasEnvironmentName>) -> Field<'static>
+    ensures elements { field_elements result ≡ given (text_element (codes "name")) (option_map name_text name) }
+    ensures named { IsNamed result }
+{
+    match name {
+        Some(name) => Some(("name", RawValue::Str(name.name()))),
+        None => None,
+    }
+}
