@@ -1,19 +1,27 @@
--- The hello's plan has one turn, and its end is a script.
-use Rattle.std.proofs.Common.{◌≡◌, ℕ, ℤ, ◌∙◌, refl, ap, subst, sym, inr, Option, List, [], ◌∷◌}
+-- The hello's plan has one turn, and what it says of its events where it ended.
+use Rattle.std.proofs.Common.{◌≡◌, ℕ, ℤ, ◌∙◌, refl, ap, subst, sym, inr, Option, None, Some, List, [], ◌∷◌}
 use Rattle.mongo_wire.specs.declared.error.ErrorKind.{ErrorKind}
 use Rattle.mongo_wire.specs.declared.error.ErrorKind.TheVariants.{InvalidResponse, Command}
 use Rattle.mongo_wire.specs.declared.fault.ResponseFault.TheVariants.{Hello as HelloFault, SessionTimeout}
 use Rattle.mongo_command.specs.declared.hello.HelloCommandResponse.{HelloCommandResponse}
 use Rattle.mongo_command.specs.declared.server_address.ServerAddress.{ServerAddress}
 use Rattle.mongo_command.specs.declared.stream_description.StreamDescription.{StreamDescription}
-use Rattle.mongo_command.specs.Conversation.{Event, exchanged, IsOne, HasOneTurn, ending, reading, IsSendable}
+use Rattle.mongo_command.specs.Conversation.{Event, exchanged, IsOne, HasNone, HasOneTurn, ending, reading, saying, IsSendable}
 use Rattle.mongo_command.specs.Hello.{IsHelloResponse, TimeoutFits, description_of}
 use Rattle.mongo_command.proofs.OneReply.{one_hello_response, one_command_error}
 use Rattle.mongo_command.proofs.Ends.{Ends, ends_ending, ends_unless, ends_reading, ends_saying}
-use Rattle.mongo_command.proofs.Plans.{one_ending, one_unless, one_reading, one_saying}
+use Rattle.mongo_command.proofs.Plans.{one_is, one_ending, one_unless, one_reading, one_saying}
+use Rattle.mongo_sasl.specs.declared.credential.Credential.{Credential}
+use Rattle.mongo_sasl.specs.declared.mechanism.AuthMechanism.{AuthMechanism}
+use Rattle.mongo_sasl.specs.declared.mechanism.AuthMechanism.TheVariants.{MongoDbCr, ScramSha1, ScramSha256}
+use Rattle.mongo_scram.proofs.OneRow.{one_credential_row}
+use Rattle.mongo_establish.specs.Asked.{Asked}
 use Rattle.mongo_establish.specs.Greeting.{Greeting, Greets}
-use Rattle.mongo_establish.specs.Plan.{hello_said, after_hello, hello_to}
+use Rattle.mongo_establish.specs.Plan.{hello_said, after_hello, hello_plan}
 use Rattle.mongo_establish.specs.Refusal.{DocumentRow}
+use Rattle.mongo_establish.specs.Speculation.{mechanism_before, MechanismRow, HelloRow}
+
+-- ---- the reply
 
 -- a hello reply's document calls for no refusal
 pub no_row : (document : List ℕ) (kind : ErrorKind) (response : HelloCommandResponse) (time : Option (List ℕ)) → IsHelloResponse document response time → TimeoutFits response → DocumentRow document kind → ⊥
@@ -38,41 +46,64 @@ one_document_row document (InvalidResponse HelloFault) also p q = absurd q
 one_document_row document (InvalidResponse SessionTimeout) also p q = absurd q
 one_document_row document kind also p q = absurd p
 
-greeting_of : StreamDescription → Option (List ℕ) → Option ℤ → Greeting
-greeting_of d x n = record { description = d; speculative = x; connection_id = n }
+greeting_of : List ℕ → StreamDescription → Option (List ℕ) → Option ℤ → Greeting
+greeting_of document d x n = record { document = document; description = d; speculative = x; connection_id = n }
 
 pub one_greeting : (address : ServerAddress) (reply : List ℕ) → IsOne (Greets address reply)
 unfolding greeting_of
 one_greeting address reply a b p q =
-    let response = (one_hello_response reply p.response q.response p.time q.time p.reads q.reads).0 in
-    ap (λ d. greeting_of d a.speculative a.connection_id) (p.description_is ∙ ap (description_of address) response ∙ sym q.description_is)
-    ∙ ap (λ x. greeting_of b.description x a.connection_id) (p.speculative_is ∙ ap (λ r. r.speculative_authenticate) response ∙ sym q.speculative_is)
-    ∙ ap (λ n. greeting_of b.description b.speculative n) (p.connection_id_is ∙ ap (λ r. r.connection_id) response ∙ sym q.connection_id_is)
+    let r = p.1 in
+    let s = q.1 in
+    let response = (one_hello_response reply r.response s.response r.time s.time r.reads s.reads).0 in
+    ap (λ document. greeting_of document a.description a.speculative a.connection_id) (p.0 ∙ sym q.0)
+    ∙ ap (λ d. greeting_of b.document d a.speculative a.connection_id) (r.description_is ∙ ap (description_of address) response ∙ sym s.description_is)
+    ∙ ap (λ x. greeting_of b.document b.description x a.connection_id) (r.speculative_is ∙ ap (λ h. h.speculative_authenticate) response ∙ sym s.speculative_is)
+    ∙ ap (λ n. greeting_of b.document b.description b.speculative n) (r.connection_id_is ∙ ap (λ h. h.connection_id) response ∙ sym s.connection_id_is)
 
-pub one_hello : (address : ServerAddress) → HasOneTurn (hello_to address)
-one_hello address = one_saying hello_said (after_hello address) (λ reply. one_unless _ _ (one_document_row reply) (one_reading _ _ (one_greeting address reply) one_ending))
+-- ---- the hello
 
--- where the hello's plan ended, the hello was said and its reply greets
-pub record IsGreeted (address : ServerAddress) (events : List Event) (greeting : Greeting) : Type 0 where
+-- a credential has one reason why no hello is made for it
+one_mechanism_row : (mechanism : AuthMechanism) (credential : Credential) → IsOne (MechanismRow mechanism credential)
+one_mechanism_row ScramSha1 credential = one_credential_row credential
+one_mechanism_row ScramSha256 credential = one_credential_row credential
+one_mechanism_row MongoDbCr credential = one_is _
+one_mechanism_row mechanism credential = λ a b p q. absurd p
+
+pub one_hello_row : (credential : Option Credential) → IsOne (HelloRow credential)
+one_hello_row None = λ a b p q. absurd p
+one_hello_row (Some credential) = one_mechanism_row (mechanism_before credential.mechanism) credential
+
+one_after_hello : (address : ServerAddress) (reply : List ℕ) → HasOneTurn (after_hello address reply)
+one_after_hello address reply = one_unless _ _ (one_document_row reply) (one_reading _ _ (one_greeting address reply) one_ending)
+
+pub one_hello : (asked : Asked) → HasOneTurn (hello_plan asked)
+one_hello asked = one_unless _ _ (one_hello_row asked.credential) (one_saying (hello_said asked) (after_hello asked.pending.address) (one_after_hello asked.pending.address))
+
+-- where the hello's plan ended, the hello could be made, it was said, and its reply greets
+pub record IsGreeted (asked : Asked) (events : List Event) (greeting : Greeting) : Type 0 where
+  pub made : HasNone (HelloRow asked.credential)
   pub reply : List ℕ
-  pub events_are : events ≡ exchanged hello_said reply ∷ []
-  pub greets : Greets address reply greeting
+  pub events_are : events ≡ exchanged (hello_said asked) reply ∷ []
+  pub greets : Greets asked.pending.address reply greeting
 
-pub greeted : (address : ServerAddress) (events : List Event) (greeting : Greeting) → Ends (hello_to address) events greeting → IsGreeted address events greeting
-greeted address events greeting ended =
-    let first = ends_saying hello_said (after_hello address) events greeting ended in
+pub greeted : (asked : Asked) (events : List Event) (greeting : Greeting) → Ends (hello_plan asked) events greeting → IsGreeted asked events greeting
+greeted asked events greeting ended =
+    let address = asked.pending.address in
+    let made = ends_unless (HelloRow asked.credential) (saying (hello_said asked) (after_hello address)) events greeting ended in
+    let first = ends_saying (hello_said asked) (after_hello address) events greeting made.1 in
     let judged = ends_unless (DocumentRow first.reply) (reading (Greets address first.reply) ending) first.more greeting first.rest in
     let read = ends_reading (Greets address first.reply) ending first.more greeting (one_greeting address first.reply) judged.1 in
     let last = ends_ending read.0 first.more greeting read.2 in
     record {
+      made = made.0;
       reply = first.reply;
-      events_are = first.events_are ∙ ap (λ x. exchanged hello_said first.reply ∷ x) last.0;
+      events_are = first.events_are ∙ ap (λ x. exchanged (hello_said asked) first.reply ∷ x) last.0;
       greets = subst (Greets address first.reply) (sym last.1) read.1;
     }
 
--- a hello that was said, and a reply that greets, are an end of it
-pub greeting_ends : (address : ServerAddress) (reply : List ℕ) (greeting : Greeting) → IsSendable hello_said → Greets address reply greeting → Ends (hello_to address) (exchanged hello_said reply ∷ []) greeting
-greeting_ends address reply greeting sendable greets = record {
-  follows = (refl, sendable, tt);
-  answer_is = inr (λ kind. no_row reply kind greets.response greets.time greets.reads greets.timeout_fits, (greeting, greets, refl));
+-- a hello that could be made and was said, and a reply that greets, are an end of it
+pub greeting_ends : (asked : Asked) (reply : List ℕ) (greeting : Greeting) → HasNone (HelloRow asked.credential) → IsSendable (hello_said asked) → Greets asked.pending.address reply greeting → Ends (hello_plan asked) (exchanged (hello_said asked) reply ∷ []) greeting
+greeting_ends asked reply greeting made sendable greets = record {
+  follows = (inr (made, refl), sendable, tt);
+  answer_is = inr (made, inr (λ kind. no_row reply kind greets.1.response greets.1.time greets.1.reads greets.1.timeout_fits, (greeting, greets, refl)));
 }

@@ -1,12 +1,27 @@
 -- What a caller hands to one establishment.
-use Rattle.std.specs.Prelude.{ℤ}
+use Rattle.std.specs.Prelude.{ℤ, Option}
+use Rattle.mongo_command.specs.declared.connection.Connection.{Connection}
+use Rattle.mongo_sasl.specs.declared.credential.Credential.{Credential}
 use Rattle.mongo_establish.specs.declared.establisher.PendingConnection.{PendingConnection}
+use Rattle.mongo_establish.specs.declared.generation.PoolGeneration.TheVariants.{Normal}
+use Rattle.mongo_establish.specs.declared.options.HandshakerOptions.{HandshakerOptions}
+use Rattle.mongo_establish.specs.declared.login_state.Nonces.{Nonces}
 
 -- all of it: the definitions of an establishment speak of nothing else
 pub record Asked : Type 0 where
   pub pending : PendingConnection
+  -- what the establisher was made of
+  pub options : HandshakerOptions
+  -- who logs in, if anyone
+  pub credential : Option Credential
+  -- the first goes with the hello, the second into a first message after it
+  pub nonces : Nonces
   -- the id of the first command
   pub first_id : ℤ
 
-abbrev pub asked_for : PendingConnection → ℤ → Asked
-asked_for pending first_id = record { pending = pending; first_id = first_id }
+abbrev pub asked_for : PendingConnection → HandshakerOptions → Option Credential → Nonces → ℤ → Asked
+asked_for pending options credential nonces first_id = record { pending = pending; options = options; credential = credential; nonces = nonces; first_id = first_id }
+
+-- a handshake over this connection asks the same, and knows no pool
+abbrev pub asked_over : Connection → HandshakerOptions → Option Credential → Nonces → ℤ → Asked
+asked_over connection options credential nonces first_id = asked_for (record { id = connection.id; address = connection.address; generation = Normal 0 }) options credential nonces first_id

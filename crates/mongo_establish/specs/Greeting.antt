@@ -1,15 +1,16 @@
 -- What a hello reply says.
-use Rattle.std.specs.Prelude.{ℕ, ℤ, Option, List}
+use Rattle.std.specs.Prelude.{◌≡◌, ℕ, ℤ, Option, List}
 use Rattle.mongo_command.specs.declared.server_address.ServerAddress.{ServerAddress}
 use Rattle.mongo_command.specs.declared.stream_description.StreamDescription.{StreamDescription}
 use Rattle.mongo_command.specs.Hello.{IsHelloReply}
 
--- of the server, to the speculative document, and the connection's number
+-- its document, and what that says of the server, to the speculative document, and of the connection's number
 pub record Greeting : Type 0 where
+  pub document : List ℕ
   pub description : StreamDescription
   pub speculative : Option (List ℕ)
   pub connection_id : Option ℤ
 
 -- the reply of a server at this address says so
 abbrev pub Greets : ServerAddress → List ℕ → Greeting → Type 0
-Greets address reply greeting = IsHelloReply address reply greeting.description greeting.speculative greeting.connection_id
+Greets address reply greeting = (greeting.document ≡ reply) × IsHelloReply address reply greeting.description greeting.speculative greeting.connection_id

@@ -1,6 +1,8 @@
 ghost use Rattle.std.specs.Prelude.{◌≡◌, List, []};
+ghost use Rattle.mongo_establish.specs.Generation.{number_of};
 
 use mongo_bson::ObjectId;
+use mongo_command::StreamDescription;
 use std::alloc::Global;
 use std::marker::Model;
 
@@ -37,6 +39,24 @@ impl Generations {
             entries: Vec::new(alloc),
         }
     }
+
+    /// The number of a service; None where it has none.
+    pub fn get(&self, service_id: ObjectId) -> Option<u32>
+        ensures { result ≡ number_of service_id self.now }
+    {
+        number_of(&self.entries, service_id)
+    }
+}
+
+fn number_of(entries: &[ServiceGeneration], service_id: ObjectId) -> Option<u32>
+    ensures { result ≡ number_of service_id entries.now }
+{
+    for entry in entries {
+        if entry.service_id == service_id {
+            return Some(entry.generation);
+        }
+    }
+    None
 }
 
 /// The generation of a pool's connections: a number, or one for each service behind a load balancer.
@@ -63,18 +83,32 @@ pub enum ConnectionGeneration {
 }
 
 impl PoolGeneration {
-    ghost use Rattle.std.specs.Prelude.{◌≡◌};
-    ghost use Rattle.mongo_command.specs.declared.stream_description.StreamDescription.{StreamDescription};
-    ghost use Rattle.mongo_establish.specs.Generation.{IsNormal, generation_of};
+    ghost use Rattle.std.specs.Prelude.{◌≡◌, ◌↔◌, IsTrue};
+    ghost use Rattle.mongo_establish.specs.Generation.{NamesService, generation_of};
 
-    // The generation of a connection to a server that no load balancer hides.
-    pub(crate) fn of_connection(self) -> ConnectionGeneration
-        requires { IsNormal self }
-        ensures { (description : StreamDescription) → result ≡ generation_of self description }
+    // The generation of a connection to the server that is described so.
+    pub(crate) fn of_connection(&self, description: &StreamDescription) -> ConnectionGeneration
+        ensures { result ≡ generation_of self.now description.now }
+    {
+        match (self, description.service_id) {
+            (PoolGeneration::Normal(number), _) => ConnectionGeneration::Normal(*number),
+            (PoolGeneration::LoadBalanced(_), None) => ConnectionGeneration::Normal(0),
+            (PoolGeneration::LoadBalanced(generations), Some(service_id)) => {
+                ConnectionGeneration::LoadBalanced {
+                    generation: generations.get(service_id).unwrap_or(0),
+                    service_id,
+                }
+            }
+        }
+    }
+
+    // Whether the server names its service, where a load balancer stands before it.
+    pub(crate) fn names_service(&self, description: &StreamDescription) -> bool
+        ensures { IsTrue result ↔ NamesService self.now description.now }
     {
         match self {
-            PoolGeneration::Normal(number) => ConnectionGeneration::Normal(number),
-            PoolGeneration::LoadBalanced(_) => unreachable!(),
+            PoolGeneration::Normal(_) => true,
+            PoolGeneration::LoadBalanced(_) => description.service_id.is_some(),
         }
     }
 }

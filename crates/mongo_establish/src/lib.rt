@@ -7,22 +7,33 @@
 //! refused. Want of memory may come in place of any answer that is a `Result`.
 #![tactic(auto)]
 
-mod client;
+mod client_first;
 mod establisher;
 mod generation;
+mod handshaker;
+mod hello;
+mod login_state;
+mod options;
 
+pub use client_first::{ClientFirst, build_speculative_client_first};
 pub use establisher::{
     ConnectionEstablisher, EstablishError, HandshakePhase, PendingConnection, PooledConnection,
 };
 pub use generation::{ConnectionGeneration, Generations, PoolGeneration, ServiceGeneration};
+pub use handshaker::Handshaker;
+pub use login_state::{LoginInputs, LoginState, Nonces};
 pub use mongo_bson::{BsonFault, Bytes, ObjectId, Text, Texts};
-pub use mongo_command::{Connection, ServerAddress, ServerType, StreamDescription};
+pub use mongo_command::{Connection, HelloReply, ServerAddress, ServerType, StreamDescription};
+pub use mongo_meta::{ClientMetadata, ClientOptions};
+pub use mongo_sasl::{AuthMechanism, AuthOptions, Credential, Moment};
+pub use mongo_scram::{SaltedCache, ScramVersion};
 pub use mongo_wire::{
     ArgumentFault, AuthFault, CommandError, Error, ErrorKind, Failed, FailingLink,
     IndexedWriteError, InsertManyError, Link, MemoryLink, RequestIds, ResponseFault, Sink,
     SinkError, Source, StdLink, StdSink, StdSource, WriteConcernError, WriteError, WriteErrors,
     WriteFailure, WriteFailureCause,
 };
+pub use options::{EstablisherOptions, HandshakerOptions, TopologySpec, auth_options_from_options};
 
 #[cfg(test)]
 mod tests;

@@ -1,9 +1,13 @@
+ghost use Rattle.std.specs.Prelude.{◌≡◌, ◌<◌};
+
 use super::frames::{HELLO, STANDALONE};
 use super::{establish, is_before_hello};
-use crate::{ErrorKind, RequestIds, Sink, Source};
+use crate::{ErrorKind, Sink, Source};
 use mongo_bson::Bytes;
 use mongo_wire::{Error, FailingLink};
 use std::alloc::Global;
+use std::marker::Brand;
+use std::sync::ledger::{Blank, Ledger};
 use std::test::Fail;
 
 // A link that gives the standalone server's reply and moves one byte a call, of which just this one fails.
@@ -26,20 +30,27 @@ enum Told {
     Other,
 }
 
-// Whose failure an establishment over the link told, always before a description.
-fn told_of(alloc: Global, link: &mut FailingLink, ids: &mut RequestIds) -> Result<Told, Error> {
-    let refused = match establish(alloc, link, ids)? {
-        Ok(_) => return Ok(Told::Nothing),
-        Err(refused) => refused,
+// Whose failure an establishment over the link told, always before a description, and the id of the next command.
+fn told_of<G: Ledger>(
+    blank: Blank,
+    alloc: Global,
+    link: &mut FailingLink,
+) -> Result<(Told, i32), Error>
+    requires name { blank.name ≡ G.name }
+    requires parts { blank.parts ≡ G.parts }
+    requires has_a_part { 0 < G.parts }
+{
+    let ended = establish::<_, G>(blank, alloc, link, 0)?;
+    let told = match &ended.answer {
+        Ok(_) => Told::Nothing,
+        Err(refused) if !is_before_hello(&refused.handshake_phase) => Told::Other,
+        Err(refused) => match refused.cause.kind {
+            ErrorKind::ReadFault => Told::ReadFault,
+            ErrorKind::WriteFault => Told::WriteFault,
+            _ => Told::Other,
+        },
     };
-    if !is_before_hello(&refused.handshake_phase) {
-        return Ok(Told::Other);
-    }
-    Ok(match refused.cause.kind {
-        ErrorKind::ReadFault => Told::ReadFault,
-        ErrorKind::WriteFault => Told::WriteFault,
-        _ => Told::Other,
-    })
+    Ok((told, ended.next_id))
 }
 
 #[test]
@@ -52,16 +63,15 @@ fn a_call_that_fails_is_told_wherever_it_stands(rt: HostRuntime) -> Result<(), F
             237..323 => Told::ReadFault,
             _ => Told::Nothing,
         };
-        let mut ids = RequestIds::new(0);
         let mut link = failing_at(alloc, call)?;
-        assert_eq!(rt; told_of(alloc, &mut link, &mut ids)?, wanted, "at {call}");
+        let told = told_of::<Brand>(Blank::new(1), alloc, &mut link)?;
+        assert_eq!(rt; told, (wanted, 1), "at {call}");
         assert_eq!(rt; link.written(), &HELLO[..call.min(236)], "at {call}");
         assert_eq!(rt;
             link.left(),
             &STANDALONE[call.clamp(237, 323) - 237..],
             "at {call}"
         );
-        assert_eq!(rt; ids.next(), 1, "at {call}");
         assert_eq!(rt;
             link.write_faults() == 1,
             wanted == Told::WriteFault,

@@ -1,8 +1,12 @@
+ghost use Rattle.std.specs.Prelude.{◌≡◌, ◌<◌};
+
 use super::frames::{COMMAND_ERROR, HELLO, OK_TWICE, STANDALONE, TIMEOUT_TOO_GREAT};
 use super::{establish, is_before_hello, link_of};
-use crate::{ArgumentFault, ErrorKind, RequestIds, ResponseFault};
+use crate::{ArgumentFault, ErrorKind, ResponseFault};
 use mongo_wire::Error;
 use std::alloc::Global;
+use std::marker::Brand;
+use std::sync::ledger::{Blank, Ledger};
 use std::test::Fail;
 
 // The row of the table of refusals that a cause is.
@@ -28,27 +32,31 @@ fn row_of(kind: &ErrorKind) -> Row {
 
 // How an establishment ended, and how many bytes of the reply it took.
 #[derive(Clone, Copy, Debug, PartialEq)]
-struct Ended {
+struct End {
     row: Row,
     taken: usize,
     // just the hello was written, one id was drawn, and the pool's generation was handed back
     hello_alone: bool,
 }
 
-fn ended_on(alloc: Global, reply: &[u8]) -> Result<Ended, Error> {
-    let mut ids = RequestIds::new(0);
+fn ended_on<G: Ledger>(blank: Blank, alloc: Global, reply: &[u8]) -> Result<End, Error>
+    requires name { blank.name ≡ G.name }
+    requires parts { blank.parts ≡ G.parts }
+    requires has_a_part { 0 < G.parts }
+{
     let mut link = link_of(alloc, reply)?;
-    let (row, before_hello) = match establish(alloc, &mut link, &mut ids)? {
+    let ended = establish::<_, G>(blank, alloc, &mut link, 0)?;
+    let (row, before_hello) = match &ended.answer {
         Ok(_) => (Row::Described, false),
         Err(refused) => (
             row_of(&refused.cause.kind),
             is_before_hello(&refused.handshake_phase),
         ),
     };
-    Ok(Ended {
+    Ok(End {
         row,
         taken: reply.len().saturating_sub(link.left().len()),
-        hello_alone: before_hello && ids.next() == 1 && link.written() == HELLO.as_slice(),
+        hello_alone: before_hello && ended.next_id == 1 && link.written() == HELLO.as_slice(),
     })
 }
 
@@ -179,12 +187,15 @@ fn a_frame_is_refused_by_its_first_row(rt: HostRuntime) -> Result<(), Fail> {
         ),
     ] {
         let reply = reply_with(alloc, length, op_code, kind)?;
-        let wanted = Ended {
+        let wanted = End {
             row,
             taken,
             hello_alone: true,
         };
-        assert_eq!(rt; ended_on(alloc, reply.as_slice())?, wanted);
+        assert_eq!(rt;
+            ended_on::<Brand>(Blank::new(1), alloc, reply.as_slice())?,
+            wanted
+        );
     }
     Ok(())
 }
@@ -193,12 +204,15 @@ fn a_frame_is_refused_by_its_first_row(rt: HostRuntime) -> Result<(), Fail> {
 fn a_reply_that_ends_early_is_told(rt: HostRuntime) -> Result<(), Fail> {
     let alloc = rt.alloc();
     for length in [0, 15, 16, 85] {
-        let wanted = Ended {
+        let wanted = End {
             row: Row::EndOfInput,
             taken: length,
             hello_alone: true,
         };
-        assert_eq!(rt; ended_on(alloc, &STANDALONE[..length])?, wanted);
+        assert_eq!(rt;
+            ended_on::<Brand>(Blank::new(1), alloc, &STANDALONE[..length])?,
+            wanted
+        );
     }
     Ok(())
 }
@@ -214,12 +228,12 @@ fn a_document_is_refused_by_its_first_row(rt: HostRuntime) -> Result<(), Fail> {
             Row::Response(ResponseFault::SessionTimeout),
         ),
     ] {
-        let wanted = Ended {
+        let wanted = End {
             row,
             taken: reply.len(),
             hello_alone: true,
         };
-        assert_eq!(rt; ended_on(alloc, reply)?, wanted);
+        assert_eq!(rt; ended_on::<Brand>(Blank::new(1), alloc, reply)?, wanted);
     }
     Ok(())
 }
@@ -227,10 +241,9 @@ fn a_document_is_refused_by_its_first_row(rt: HostRuntime) -> Result<(), Fail> {
 #[test]
 fn a_command_error_is_carried(rt: HostRuntime) -> Result<(), Fail> {
     let alloc = rt.alloc();
-    let mut ids = RequestIds::new(0);
     let mut link = link_of(alloc, &COMMAND_ERROR)?;
-    let ended = establish(alloc, &mut link, &mut ids)?;
-    match &ended {
+    let ended = establish::<_, Brand>(Blank::new(1), alloc, &mut link, 0)?;
+    match &ended.answer {
         Err(refused) => match &refused.cause.kind {
             ErrorKind::Command(error) => {
                 assert_eq!(rt; error.message.as_str(), "no");

@@ -1,0 +1,121 @@
+-- An establishment that was followed to its end is a script, and a script's replies lead there.
+use Rattle.std.proofs.Common.{◌≡◌, ℕ, ℤ, ◌∙◌, append-nil, append_assoc, refl, subst, sym, List, [], ◌∷◌, ◌++◌, ap}
+use Rattle.mongo_wire.specs.Outside.{State}
+use Rattle.mongo_wire.specs.Bytes.{IsSent, IsWhole, next_id}
+use Rattle.mongo_command.specs.Conversation.{Said, Event, exchanged, ends, Plan, said_in, given_in, id_after_said, IsSaid, IsHeard, IsFlushedAfter, Reached, Leads}
+use Rattle.mongo_command.proofs.Ends.{Ends}
+use Rattle.mongo_command.proofs.Leads.{told_taken}
+use Rattle.mongo_command.proofs.OneSaid.{framed_sendable}
+use Rattle.mongo_scram.proofs.ScramEnds.{replies_in, documents_in}
+use Rattle.mongo_establish.specs.declared.establisher.PooledConnection.{PooledConnection}
+use Rattle.mongo_establish.specs.Asked.{Asked}
+use Rattle.mongo_establish.specs.Client.{hello_document}
+use Rattle.mongo_establish.specs.Established.{Established, IsDescribed}
+use Rattle.mongo_establish.specs.Generation.{generation_of}
+use Rattle.mongo_establish.specs.Greeting.{Greeting}
+use Rattle.mongo_establish.specs.Plan.{hello_said, hello_plan, establishment_plan}
+use Rattle.mongo_establish.specs.Script.{Script, IsScript, HasScript}
+use Rattle.mongo_establish.proofs.LoginBytes.{within_sent, sent_within, within_heard, heard_within, within_ids, within_given, said_sendable}
+use Rattle.mongo_establish.proofs.LoginEnds.{maximum_of}
+use Rattle.mongo_establish.proofs.EstablishmentPlan.{IsEstablished, establishment_ended, script_ends}
+
+-- ---- what was made
+
+-- the script of an end
+script_of : (asked : Asked) (events : List Event) (greeting : Greeting) → IsEstablished asked events greeting → Script
+script_of asked events greeting e = record { commands = hello_document asked ∷ documents_in e.more; replies = e.reply ∷ replies_in e.more; greeting = greeting }
+
+is_script : (asked : Asked) (events : List Event) (greeting : Greeting) (e : IsEstablished asked events greeting) → IsScript asked (script_of asked events greeting e)
+unfolding script_of
+is_script asked events greeting e = record {
+  made = e.made;
+  later_commands = documents_in e.more;
+  commands_are = refl;
+  first_reply = e.reply;
+  later_replies = replies_in e.more;
+  replies_are = refl;
+  greets = e.greets;
+  login = e.login;
+  service = e.service;
+}
+
+script_sent : (asked : Asked) (events : List Event) (greeting : Greeting) (e : IsEstablished asked events greeting) (bytes : List ℕ) → IsSaid (said_in events) asked.first_id bytes → IsSent (hello_document asked ∷ documents_in e.more) asked.first_id (maximum_of greeting) bytes
+script_sent asked events greeting e bytes said =
+    let first : IsSaid (hello_said asked ∷ said_in e.more) asked.first_id bytes = subst (λ x. IsSaid (said_in x) asked.first_id bytes) e.events_are said in
+    (first.0, first.1, first.2, first.3, first.4, within_sent (maximum_of greeting) e.more (next_id asked.first_id) first.1 e.within first.5)
+
+script_heard : (asked : Asked) (events : List Event) (greeting : Greeting) (e : IsEstablished asked events greeting) (bytes : List ℕ) → IsHeard events bytes → IsWhole (e.reply ∷ replies_in e.more) (maximum_of greeting) bytes
+script_heard asked events greeting e bytes heard =
+    let first : IsHeard (exchanged (hello_said asked) e.reply ∷ e.more) bytes = subst (λ x. IsHeard x bytes) e.events_are heard in
+    (first.0, first.1, first.2, first.3, first.4, first.5, first.6, within_heard (maximum_of greeting) e.more first.1 e.within first.7)
+
+pub established_by : (asked : Asked) (greeting : Greeting) (old new : State) (after : ℤ) (pooled : PooledConnection) → Reached (establishment_plan asked) greeting old new asked.first_id after → IsDescribed asked pooled.connection greeting → pooled.generation ≡ generation_of asked.pending.generation greeting.description → Established asked old new after pooled
+unfolding script_of
+established_by asked greeting old new after pooled r described generation =
+    let t = r.talked in
+    let e = establishment_ended asked r.events greeting (record { follows = t.follows; answer_is = r.answer_is }) in
+    record {
+      script = script_of asked r.events greeting e;
+      is_script = is_script asked r.events greeting e;
+      sent = t.sent;
+      is_written = script_sent asked r.events greeting e t.sent t.sent_is;
+      written = t.written;
+      flushed = subst (λ events. IsFlushedAfter (said_in events) old new) e.events_are t.flushed;
+      drawn = t.drawn ∙ ap (λ events. id_after_said (said_in events) asked.first_id) e.events_are ∙ within_ids e.more (next_id asked.first_id);
+      taken = λ bytes is.
+          let told = told_taken bytes t.heard old.left new.left is t.consumed in
+          record { taken = t.heard; rest = told.0; joined = told.1; is_taken = script_heard asked r.events greeting e t.heard t.heard_is; left_is = told.2 };
+      connection = described;
+      generation = generation;
+    }
+
+-- ---- what bytes lead to
+
+-- an end of a plan that asks nothing, over bytes that begin with its replies
+ended_leads : (plan : Plan Greeting) (events : List Event) (greeting : Greeting) (bytes heard rest : List ℕ) → Ends plan events greeting → [] ≡ given_in events → IsHeard events heard → bytes ≡ heard ++ rest → Leads plan bytes (ends greeting) (said_in events) heard rest
+ended_leads plan events greeting bytes heard rest ended given is joined = record {
+  events = events;
+  follows = ended.follows;
+  given_is = given;
+  heard = heard;
+  heard_is = is;
+  turn = ends greeting;
+  turn_is = ended.answer_is;
+  unanswered = [];
+  last = [];
+  comes_to = (refl, refl, refl);
+  commands_are = sym (append-nil (said_in events));
+  taken_is = sym (append-nil heard);
+  joined = joined;
+}
+
+-- a script's replies lead the hello and the establishment to their ends, the latter by the script's commands
+pub record ScriptLeads (asked : Asked) (bytes : List ℕ) (h : HasScript asked bytes) : Type 0 where
+  pub first : List ℕ
+  pub later : List ℕ
+  pub hello : Leads (hello_plan asked) bytes (ends h.script.greeting) (hello_said asked ∷ []) first later
+  pub commands : List Said
+  pub whole : Leads (establishment_plan asked) bytes (ends h.script.greeting) commands h.taken h.rest
+  pub said : IsSaid commands asked.first_id h.sent
+
+pub script_leads : (asked : Asked) (bytes : List ℕ) (h : HasScript asked bytes) → ScriptLeads asked bytes h
+script_leads asked bytes h =
+    let script = h.script in
+    let s = h.is_script in
+    let greeting = script.greeting in
+    let e = script_ends asked script s in
+    let sent : IsSent (hello_document asked ∷ documents_in e.more) asked.first_id (maximum_of greeting) h.sent = subst (λ x. IsSent x asked.first_id (maximum_of greeting) h.sent) (s.commands_are ∙ ap (λ x. hello_document asked ∷ x) e.commands_are) h.is_written in
+    let taken : IsWhole (s.first_reply ∷ replies_in e.more) (maximum_of greeting) h.taken = subst (λ x. IsWhole x (maximum_of greeting) h.taken) (s.replies_are ∙ ap (λ x. s.first_reply ∷ x) e.replies_are) h.is_taken in
+    let later_said = sent_within (maximum_of greeting) e.more (next_id asked.first_id) sent.1 e.within sent.5 in
+    let later_heard = heard_within (maximum_of greeting) e.more taken.1 e.within taken.7 in
+    let sendable = framed_sendable (hello_said asked) sent.0 asked.first_id sent.3 sent.4 in
+    let heard_first : IsHeard (exchanged (hello_said asked) s.first_reply ∷ []) taken.0 = (taken.0, [], taken.2, sym (append-nil taken.0), taken.4, taken.5, taken.6, refl) in
+    let heard_all : IsHeard (exchanged (hello_said asked) s.first_reply ∷ e.more) h.taken = (taken.0, taken.1, taken.2, taken.3, taken.4, taken.5, taken.6, later_heard) in
+    record {
+      first = taken.0;
+      later = taken.1 ++ h.rest;
+      hello = ended_leads (hello_plan asked) _ greeting bytes taken.0 (taken.1 ++ h.rest) (e.hello sendable) refl heard_first (h.joined ∙ ap (λ x. x ++ h.rest) taken.3 ∙ append_assoc taken.0 taken.1 h.rest);
+      commands = hello_said asked ∷ said_in e.more;
+      whole = ended_leads (establishment_plan asked) _ greeting bytes h.taken h.rest (e.whole sendable (said_sendable (said_in e.more) (next_id asked.first_id) sent.1 later_said)) (within_given (maximum_of greeting) e.more e.within) heard_all h.joined;
+      said = (sent.0, sent.1, sent.2, sent.3, sent.4, later_said);
+    }

@@ -1,0 +1,123 @@
+-- The plan of an establishment has one turn; an end of it is a script, and the other way round.
+use Rattle.std.proofs.Common.{◌≡◌, ℕ, ◌∙◌, refl, subst, sym, inr, Option, None, Some, List, [], ◌∷◌, ◌++◌, append-nil, ap, IsSome}
+use Rattle.mongo_wire.specs.declared.error.ErrorKind.TheVariants.{IncompatibleServer}
+use Rattle.mongo_command.specs.declared.stream_description.StreamDescription.{StreamDescription}
+use Rattle.mongo_command.specs.Conversation.{Event, exchanged, IsOne, HasNone, HasOneTurn, IsSendable, said_in}
+use Rattle.mongo_command.proofs.Plans.{one_ending, one_unless, one_followed}
+use Rattle.mongo_command.proofs.Ends.{Ends, ends_ending, ends_unless, ends_followed, ends_both}
+use Rattle.mongo_scram.proofs.ScramEnds.{replies_in, documents_in, AreSendable}
+use Rattle.mongo_establish.specs.declared.generation.PoolGeneration.{PoolGeneration}
+use Rattle.mongo_establish.specs.declared.generation.PoolGeneration.TheVariants.{Normal, LoadBalanced}
+use Rattle.mongo_establish.specs.Asked.{Asked}
+use Rattle.mongo_establish.specs.Generation.{NamesService}
+use Rattle.mongo_establish.specs.Greeting.{Greeting, Greets}
+use Rattle.mongo_establish.specs.Plan.{hello_said, hello_plan, login_plan, handshake_plan, service_plan, establishment_plan}
+use Rattle.mongo_establish.specs.Refusal.{NoService}
+use Rattle.mongo_establish.specs.Script.{Script, IsScript, IsLogin}
+use Rattle.mongo_establish.specs.Speculation.{HelloRow}
+use Rattle.mongo_establish.proofs.HelloPlan.{one_hello, greeted, greeting_ends}
+use Rattle.mongo_establish.proofs.LoginBytes.{AreWithin}
+use Rattle.mongo_establish.proofs.LoginPlan.{one_login}
+use Rattle.mongo_establish.proofs.LoginEnds.{maximum_of, login_ended, login_ends}
+
+-- ---- one turn
+
+one_no_service : (pool : PoolGeneration) (d : StreamDescription) → IsOne (NoService pool d)
+one_no_service pool d a b p q = p.0 ∙ sym q.0
+
+pub one_handshake : (asked : Asked) → HasOneTurn (handshake_plan asked)
+one_handshake asked = one_followed (hello_plan asked) (login_plan asked) (one_hello asked) (one_login asked)
+
+one_service : (asked : Asked) (greeting : Greeting) → HasOneTurn (service_plan asked greeting)
+one_service asked greeting = one_unless _ _ (one_no_service asked.pending.generation greeting.description) (one_ending greeting)
+
+pub one_establishment : (asked : Asked) → HasOneTurn (establishment_plan asked)
+one_establishment asked = one_followed (handshake_plan asked) (service_plan asked) (one_handshake asked) (one_service asked)
+
+-- ---- the service
+
+pub named_service : (pool : PoolGeneration) (d : StreamDescription) → NamesService pool d → HasNone (NoService pool d)
+named_service pool d named kind row = row.1 named
+
+is_there : {X : Type 0} (o : Option X) → ((IsSome o → ⊥) → ⊥) → IsSome o
+is_there (Some x) h = refl
+is_there None h = absurd (h (λ is. let no : ⊥ = cc in absurd no))
+
+names_service : (pool : PoolGeneration) (d : StreamDescription) → HasNone (NoService pool d) → NamesService pool d
+names_service (Normal n) d none = tt
+names_service (LoadBalanced entries) d none = is_there d.service_id (λ unnamed. none IncompatibleServer (refl, unnamed))
+
+service_ended : (asked : Asked) (greeting answer : Greeting) (events : List Event) → Ends (service_plan asked greeting) events answer → NamesService asked.pending.generation greeting.description × (events ≡ []) × (answer ≡ greeting)
+service_ended asked greeting answer events ended =
+    let named = ends_unless _ _ events answer ended in
+    let last = ends_ending greeting events answer named.1 in
+    (names_service asked.pending.generation greeting.description named.0, last.0, last.1)
+
+-- ---- an end is a script
+
+-- what an end's events are: a hello that could be made and whose reply greets, a login, and a service that is named
+pub record IsEstablished (asked : Asked) (events : List Event) (greeting : Greeting) : Type 0 where
+  pub made : HasNone (HelloRow asked.credential)
+  pub reply : List ℕ
+  pub more : List Event
+  pub events_are : events ≡ exchanged (hello_said asked) reply ∷ more
+  pub greets : Greets asked.pending.address reply greeting
+  pub login : IsLogin asked greeting (documents_in more) (replies_in more)
+  pub within : AreWithin (maximum_of greeting) more
+  pub service : NamesService asked.pending.generation greeting.description
+
+handshake_ended : (asked : Asked) (events : List Event) (greeting : Greeting) → Ends (handshake_plan asked) events greeting → NamesService asked.pending.generation greeting.description → IsEstablished asked events greeting
+handshake_ended asked events greeting ended service =
+    let both = ends_followed (hello_plan asked) (login_plan asked) events greeting (one_hello asked) ended in
+    let hello = greeted asked both.front both.answer both.first in
+    let login = login_ended asked both.answer greeting both.more both.second in
+    let same = sym login.0 in
+    record {
+      made = hello.made;
+      reply = hello.reply;
+      more = both.more;
+      events_are = both.events_are ∙ ap (λ x. x ++ both.more) hello.events_are;
+      greets = subst (Greets asked.pending.address hello.reply) same hello.greets;
+      login = subst (λ g. IsLogin asked g (documents_in both.more) (replies_in both.more)) same login.1;
+      within = subst (λ g. AreWithin (maximum_of g) both.more) same login.2;
+      service = service;
+    }
+
+pub establishment_ended : (asked : Asked) (events : List Event) (greeting : Greeting) → Ends (establishment_plan asked) events greeting → IsEstablished asked events greeting
+establishment_ended asked events greeting ended =
+    let both = ends_followed (handshake_plan asked) (service_plan asked) events greeting (one_handshake asked) ended in
+    let service = service_ended asked both.answer greeting both.more both.second in
+    let same : both.front ≡ events = sym (both.events_are ∙ ap (λ x. both.front ++ x) service.1 ∙ append-nil both.front) in
+    let handshake = handshake_ended asked both.front both.answer both.first service.0 in
+    subst (λ x. IsEstablished asked x greeting) same (subst (IsEstablished asked both.front) (sym service.2) handshake)
+
+-- ---- and a script is an end
+
+-- the events of a script
+pub record ScriptEnds (asked : Asked) (script : Script) (s : IsScript asked script) : Type 0 where
+  pub more : List Event
+  pub commands_are : s.later_commands ≡ documents_in more
+  pub replies_are : s.later_replies ≡ replies_in more
+  pub within : AreWithin (maximum_of script.greeting) more
+  pub hello : IsSendable (hello_said asked) → Ends (hello_plan asked) (exchanged (hello_said asked) s.first_reply ∷ []) script.greeting
+  pub whole : IsSendable (hello_said asked) → AreSendable (said_in more) → Ends (establishment_plan asked) (exchanged (hello_said asked) s.first_reply ∷ more) script.greeting
+
+established_ends : (asked : Asked) (greeting : Greeting) (first more : List Event) → Ends (hello_plan asked) first greeting → Ends (login_plan asked greeting) more greeting → NamesService asked.pending.generation greeting.description → Ends (establishment_plan asked) (first ++ more) greeting
+established_ends asked greeting first more hello login service =
+    let named = named_service asked.pending.generation greeting.description service in
+    let handshake : Ends (handshake_plan asked) (first ++ more) greeting = ends_both (hello_plan asked) (login_plan asked) first more greeting greeting hello login in
+    let both : Ends (establishment_plan asked) ((first ++ more) ++ []) greeting = ends_both (handshake_plan asked) (service_plan asked) (first ++ more) [] greeting greeting handshake (record { follows = tt; answer_is = inr (named, refl) }) in
+    subst (λ x. Ends (establishment_plan asked) x greeting) (append-nil (first ++ more)) both
+
+pub script_ends : (asked : Asked) (script : Script) (s : IsScript asked script) → ScriptEnds asked script s
+script_ends asked script s =
+    let greeting = script.greeting in
+    let login = login_ends asked greeting s.later_commands s.later_replies s.login in
+    record {
+      more = login.events;
+      commands_are = login.commands_are;
+      replies_are = login.replies_are;
+      within = login.within;
+      hello = λ sendable. greeting_ends asked s.first_reply greeting s.made sendable s.greets;
+      whole = λ sendable later. established_ends asked greeting (exchanged (hello_said asked) s.first_reply ∷ []) login.events (greeting_ends asked s.first_reply greeting s.made sendable s.greets) (login.ends later) s.service;
+    }

@@ -1,0 +1,85 @@
+ghost use Rattle.std.specs.Prelude.{◌≡◌, ◌⊎◌, IfOk, IfErr, OnOk};
+ghost use Rattle.mongo_wire.specs.declared.error.ErrorKind.TheVariants.{OutOfMemory};
+ghost use Rattle.mongo_establish.specs.Speculation.{MechanismRow};
+ghost use Rattle.mongo_scram.specs.User.{CredentialRow};
+ghost use Rattle.mongo_establish.specs.First.{IsFirstOf, IsScramFirst};
+
+use mongo_bson::RawDocumentBuf;
+use mongo_command::ServerAddress;
+use mongo_sasl::{AuthMechanism, Credential};
+use mongo_scram::ScramVersion;
+use mongo_wire::{AuthFault, Error, ErrorKind};
+use std::alloc::Global;
+
+/// The client's first message of a login that goes with a hello.
+#[derive(Debug, Drop)]
+pub enum ClientFirst {
+    /// That of SCRAM.
+    Scram(ScramVersion, mongo_scram::ClientFirst),
+}
+
+impl ClientFirst {
+    ghost use Rattle.std.specs.Prelude.{◌≡◌, IfOk, IfErr};
+    ghost use Rattle.mongo_sasl.specs.Commands.{IsNotBuilt};
+    ghost use Rattle.mongo_establish.specs.First.{first_document};
+
+    /// The document that carries it in a hello: the body of the command that would say it.
+    ///
+    /// `Bson(TooLong)` where it would pass 2147483647 bytes.
+    pub fn to_document(&self, alloc: Global) -> Result<RawDocumentBuf, Error>
+        ensures document { IfOk result (λ document. document ≡ first_document self.now) }
+        ensures refused { IfErr result (λ e. IsNotBuilt (first_document self.now) e.kind) }
+    {
+        match self {
+            ClientFirst::Scram(version, first) => Ok(first.to_command(alloc, version)?.body),
+        }
+    }
+}
+
+/// The first message of a login by this mechanism that goes with a hello to the address.
+///
+/// In this order, for SCRAM: `NoUsername`, `NoPassword`, `PropertiesGiven` where the credential has no login by SCRAM. For
+/// MONGODB-CR, which isn't spoken here, `MongoDbCr`. None for a mechanism that sends none.
+pub fn build_speculative_client_first(
+    alloc: Global,
+    mechanism: &AuthMechanism,
+    credential: &Credential,
+    _address: &ServerAddress,
+    nonce: &[u8; 32],
+) -> Result<Option<ClientFirst>, Error>
+    ensures first { IfOk result (IsFirstOf mechanism.now credential.now nonce.now) }
+    ensures made { OnOk result ((kind : ErrorKind) → MechanismRow mechanism.now credential.now kind → ⊥) }
+    ensures refused { IfErr result (λ e. MechanismRow mechanism.now credential.now e.kind ⊎ (e.kind ≡ OutOfMemory)) }
+{
+    match mechanism {
+        AuthMechanism::ScramSha1 => scram_first(alloc, ScramVersion::Sha1, credential, nonce),
+        AuthMechanism::ScramSha256 => scram_first(alloc, ScramVersion::Sha256, credential, nonce),
+        AuthMechanism::MongoDbCr => Err(Error {
+            kind: ErrorKind::Authentication(AuthFault::MongoDbCr),
+        }),
+        _ => Ok(None),
+    }
+}
+
+// The first message of a SCRAM login, whose command names the user's database.
+fn scram_first(
+    alloc: Global,
+    version: ScramVersion,
+    credential: &Credential,
+    nonce: &[u8; 32],
+) -> Result<Option<ClientFirst>, Error>
+    ensures first { IfOk result (IsScramFirst version credential.now nonce.now) }
+    ensures made { OnOk result ((kind : ErrorKind) → CredentialRow credential.now kind → ⊥) }
+    ensures refused { IfErr result (λ e. CredentialRow credential.now e.kind ⊎ (e.kind ≡ OutOfMemory)) }
+{
+    let info = version.client_auth_info(credential)?;
+    let first = mongo_scram::ClientFirst::new(
+        alloc,
+        info.source,
+        info.username,
+        true,
+        None,
+        nonce,
+    )?;
+    Ok(Some(ClientFirst::Scram(version, first)))
+}

@@ -1,0 +1,76 @@
+ghost use Rattle.std.specs.Prelude.{◌≡◌, IfOk, IfErr};
+ghost use Rattle.mongo_wire.specs.declared.error.ErrorKind.TheVariants.{OutOfMemory};
+
+use mongo_command::ServerApi;
+use mongo_meta::{ClientMetadata, ClientOptions};
+use mongo_sasl::AuthOptions;
+use mongo_wire::Error;
+use std::alloc::Global;
+
+/// What a client is made of: its options, and the metadata that they come to.
+#[derive(Debug, Drop)]
+pub struct TopologySpec {
+    /// The client's options.
+    pub options: ClientOptions,
+    /// What the client says of itself.
+    pub metadata: ClientMetadata,
+    /// The most iterations by which a SCRAM login derives its key.
+    pub max_iterations: u32,
+}
+
+/// What the handshakes of a client are made of.
+#[derive(Debug, Drop)]
+pub struct HandshakerOptions {
+    /// The stable API that the hello asks for.
+    pub server_api: Option<ServerApi>,
+    /// Whether a load balancer stands before the servers.
+    pub load_balanced: bool,
+    /// What the commands of a login carry.
+    pub auth_options: AuthOptions,
+    /// What the client says of itself.
+    pub metadata: ClientMetadata,
+    /// The most iterations by which a SCRAM login derives its key.
+    pub max_iterations: u32,
+}
+
+/// What an establisher is made of.
+#[derive(Debug, Drop)]
+pub struct EstablisherOptions {
+    /// The options of its handshakes.
+    pub handshake_options: HandshakerOptions,
+}
+
+impl EstablisherOptions {
+    ghost use Rattle.std.specs.Prelude.{◌≡◌, IfOk, IfErr};
+    ghost use Rattle.mongo_establish.specs.Options.{options_of};
+
+    /// The options of a client's establishers. Want of memory is the only refusal.
+    pub fn from_spec(alloc: Global, spec: &TopologySpec) -> Result<EstablisherOptions, Error>
+        ensures options { IfOk result (λ options. options.handshake_options ≡ options_of spec.now) }
+        ensures refused { IfErr result (λ e. e.kind ≡ OutOfMemory) }
+    {
+        let auth_options = auth_options_from_options(alloc, &spec.options)?;
+        Ok(EstablisherOptions {
+            handshake_options: HandshakerOptions {
+                server_api: spec.options.server_api,
+                load_balanced: spec.options.load_balanced,
+                auth_options,
+                metadata: spec.metadata.try_clone(alloc)?,
+                max_iterations: spec.max_iterations,
+            },
+        })
+    }
+}
+
+/// What a client's options say of every login: the stable API. It takes no memory today.
+pub fn auth_options_from_options(
+    _alloc: Global,
+    options: &ClientOptions,
+) -> Result<AuthOptions, Error>
+    ensures options { IfOk result (λ auth. auth.server_api ≡ options.now.server_api) }
+    ensures refused { IfErr result (λ e. e.kind ≡ OutOfMemory) }
+{
+    Ok(AuthOptions {
+        server_api: options.server_api,
+    })
+}
