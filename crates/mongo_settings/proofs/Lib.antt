@@ -1,6 +1,14 @@
+mod Elements
 mod Frames
+mod Grown
 mod Json
+mod Judgement
+mod Mechanisms
+mod Twos
+mod Parts
+mod PlainKeys
 mod Sent
 mod Spaced
+mod Spoken
 mod Rehearsing
 pub mod OneReport

@@ -11,7 +11,7 @@ use Rattle.mongo_settings.specs.declared.settings.Settings.{Settings}
 use Rattle.mongo_settings.specs.declared.rehearsal.Rehearsal.{Rehearsal}
 use Rattle.mongo_settings.specs.declared.rehearsal.RehearsalStatus.TheVariants.{Accepted, Refused}
 use Rattle.mongo_settings.specs.Report.{CountsItself, frame_length, sent_lines, read_line, accepted_lines, refused_lines}
-use Rattle.mongo_settings.specs.Outcome.{asked_of, first_id, Acceptance, IsAcceptance, Outcome, accepted, refused, IsOutcome, Writes, taken_by, status_of, IsAccepted, IsRefused}
+use Rattle.mongo_settings.specs.Outcome.{asked_of, Acceptance, IsAcceptance, Outcome, accepted, refused, IsOutcome, Writes, taken_by, status_of, IsAccepted, IsRefused}
 use Rattle.mongo_settings.specs.Rehearsal.{outcome_lines, IsReport, IsRehearsal}
 use Rattle.mongo_settings.proofs.Frames.{no_frames, next_frame, frame_length-front}
 
@@ -48,7 +48,7 @@ same_outcome settings (refused r) (refused s) bytes more p q w v =
     record {
       lines = ap (λ phase. refused_lines phase r.kind) same.0 ∙ ap (λ kind. refused_lines s.phase kind) same.1.kind;
       count = ap length same.1.taken;
-      sent = one_said s.commands first_id bytes more (subst (λ commands. IsSaid commands first_id bytes) same.1.commands w) v;
+      sent = one_said s.commands (asked_of settings).first_id bytes more (subst (λ commands. IsSaid commands (asked_of settings).first_id bytes) same.1.commands w) v;
     }
 
 pub one_report : (settings : Settings) (text other : List ℕ) → IsReport settings text → IsReport settings other → text ≡ other

@@ -1,6 +1,5 @@
 -- The keys of settings: those of the format, and whether each is read yet.
-use Rattle.std.specs.Prelude.{ℕ, ◌&&◌, Bool, true, false, Option, None, Some, is_some, if◌then◌else◌, List, [], ◌∷◌, codes, bytes_eq}
-use Rattle.serde_json.specs.Data.{Members, no_members, member}
+use Rattle.std.specs.Prelude.{ℕ, Bool, true, false, Option, None, Some, is_some, if◌then◌else◌, List, [], ◌∷◌, codes, bytes_eq}
 use Rattle.mongo_settings.specs.declared.settings.keys.Reading.{Reading}
 use Rattle.mongo_settings.specs.declared.settings.keys.Reading.TheVariants.{Built, Later}
 
@@ -21,9 +20,9 @@ later name = key_row name Later
 abbrev pub keys : List Key
 keys =
     built (codes "host") ∷ built (codes "replies") ∷ later (codes "port") ∷ later (codes "unix") ∷ later (codes "id") ∷ later (codes "generation")
-    ∷ later (codes "load_balanced") ∷ later (codes "generations") ∷ later (codes "app_name") ∷ later (codes "driver_info") ∷ later (codes "server_api")
-    ∷ later (codes "os") ∷ later (codes "platform") ∷ later (codes "platform_short") ∷ later (codes "environment") ∷ later (codes "dockerenv")
-    ∷ later (codes "credential") ∷ later (codes "nonces") ∷ later (codes "moment") ∷ later (codes "first_id") ∷ later (codes "max_iterations")
+    ∷ later (codes "load_balanced") ∷ later (codes "generations") ∷ built (codes "app_name") ∷ built (codes "driver_info") ∷ built (codes "server_api")
+    ∷ built (codes "os") ∷ built (codes "platform") ∷ built (codes "platform_short") ∷ built (codes "environment") ∷ built (codes "dockerenv")
+    ∷ built (codes "credential") ∷ built (codes "nonces") ∷ later (codes "moment") ∷ built (codes "first_id") ∷ built (codes "max_iterations")
     ∷ later (codes "callback") ∷ later (codes "tokens") ∷ later (codes "aws") ∷ []
 
 -- whether a key of these names is read; none where it isn't among them
@@ -44,8 +43,3 @@ is_read (Some Built) = true
 
 abbrev pub is_built : List ℕ → Bool
 is_built name = is_read (reading_of name)
-
--- the test holds of each key of the object
-unfoldable pub each_key : (List ℕ → Bool) → Members → Bool
-each_key test no_members = true
-each_key test (member key d others) = test key && each_key test others

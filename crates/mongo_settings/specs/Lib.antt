@@ -1,4 +1,9 @@
 pub mod Keys
+pub mod Kinds
+pub mod Properties
+pub mod Credential
+pub mod Options
+pub mod Meaning
 pub mod Settings
 pub mod Line
 pub mod Names

@@ -1,12 +1,15 @@
 -- How the establishment that settings ask for comes out over their reply bytes.
-use Rattle.std.specs.Prelude.{◌≡◌, ℕ, ℤ, pos, None, List, ◌++◌}
+use Rattle.std.specs.Prelude.{◌≡◌, ℕ, None, List, ◌++◌}
 use Rattle.mongo_command.specs.declared.server_address.ServerAddress.TheVariants.{Tcp}
 use Rattle.mongo_command.specs.Conversation.{IsSaid}
 use Rattle.mongo_establish.specs.declared.establisher.PendingConnection.{PendingConnection}
 use Rattle.mongo_establish.specs.declared.generation.PoolGeneration.TheVariants.{Normal}
+use Rattle.mongo_establish.specs.declared.options.TopologySpec.{TopologySpec}
 use Rattle.mongo_establish.specs.Asked.{Asked, asked_for}
+use Rattle.mongo_establish.specs.Options.{options_of}
 use Rattle.mongo_establish.specs.Script.{Script, IsScript, IsWritten, IsTaken, HasScript}
 use Rattle.mongo_establish.specs.Stopped.{Refusal, IsRefusal}
+use Rattle.mongo_meta.specs.Options.{metadata_of}
 use Rattle.mongo_settings.specs.declared.settings.Settings.{Settings}
 use Rattle.mongo_settings.specs.declared.rehearsal.RehearsalStatus.{RehearsalStatus}
 use Rattle.mongo_settings.specs.declared.rehearsal.RehearsalStatus.TheVariants.{Accepted, Refused}
@@ -15,13 +18,13 @@ use Rattle.mongo_settings.specs.declared.rehearsal.RehearsalStatus.TheVariants.{
 abbrev pub pending_to : List ℕ → PendingConnection
 pending_to host = record { id = 1; address = Tcp host None; generation = Normal 0 }
 
--- the id of the first command
-abbrev pub first_id : ℤ
-first_id = pos 0
+-- what the establisher is made of
+abbrev pub spec_of : Settings → TopologySpec
+spec_of settings = record { options = settings.options; metadata = metadata_of settings.options; max_iterations = settings.max_iterations }
 
 -- what settings ask for
-abbrev pub asked_of : Settings → Asked
-asked_of settings = asked_for (pending_to settings.host) first_id
+unfoldable pub asked_of : Settings → Asked
+asked_of settings = asked_for (pending_to settings.host) (options_of (spec_of settings)) settings.credential settings.nonces settings.first_id
 
 -- a script, and of the reply bytes what is taken and unread
 pub record Acceptance : Type 0 where
@@ -47,7 +50,7 @@ IsOutcome settings (refused refusal) = IsRefusal (asked_of settings) settings.re
 -- the frames of its commands, joined
 abbrev pub Writes : Settings → Outcome → List ℕ → Type 0
 Writes settings (accepted acceptance) bytes = IsWritten (asked_of settings) acceptance.script bytes
-Writes settings (refused refusal) bytes = IsSaid refusal.commands first_id bytes
+Writes settings (refused refusal) bytes = IsSaid refusal.commands (asked_of settings).first_id bytes
 
 -- the reply bytes that it takes
 abbrev pub taken_by : Outcome → List ℕ

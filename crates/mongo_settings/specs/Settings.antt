@@ -1,13 +1,15 @@
 -- Settings: the text of one JSON object, in UTF-8, without a float, whose keys are those of the format.
-use Rattle.std.specs.Prelude.{◌≡◌, ℕ, ◌++◌, not, Bool, nat_le, if◌then◌else◌, Option, None, Some, option_map, option_and_then, unwrap_or, Result, Ok, Err, List, [], length, codes, ⊤}
-use Rattle.std.specs.Result.{result_ok}
+use Rattle.std.specs.Prelude.{◌≡◌, ℕ, not, Bool, nat_le, if◌then◌else◌, Option, None, Some, Result, Ok, Err, List, length, ⊤}
 use Rattle.std.specs.Str.{is_utf8}
-use Rattle.hex.specs.Hex.{decode_of}
-use Rattle.serde_json.specs.Data.{Data, Items, no_items, item, Members}
+use Rattle.serde_json.specs.Data.{Data, Members}
 use Rattle.serde_json.specs.Read.{read}
-use Rattle.serde_json.specs.Find.{get, as_str, as_array, as_object}
+use Rattle.serde_json.specs.Find.{as_object}
 use Rattle.serde_json.specs.Written.{has_float}
-use Rattle.mongo_settings.specs.Keys.{is_known, is_built, each_key}
+use Rattle.mongo_sasl.specs.declared.mechanism.AuthMechanism.{AuthMechanism}
+use Rattle.mongo_settings.specs.Keys.{is_known, is_built as is_built_key}
+use Rattle.mongo_settings.specs.Kinds.{each_key}
+use Rattle.mongo_settings.specs.Credential.{named_mechanism, is_built}
+use Rattle.mongo_settings.specs.Meaning.{settings_in}
 use Rattle.mongo_settings.specs.declared.settings.Settings.{Settings}
 use Rattle.mongo_settings.specs.declared.settings.SettingsError.{SettingsError}
 use Rattle.mongo_settings.specs.declared.settings.SettingsError.TheVariants.{BadSettings, NotBuilt, OutOfMemory}
@@ -37,41 +39,24 @@ json_of text = if is_utf8 text then needed (read text) else Err BadSettings
 -- Keys of the format alone; one that isn't read yet is found after an unknown one.
 abbrev pub members_judged : Members → Result ⊤ SettingsError
 members_judged members =
-    if each_key is_known members then (if each_key is_built members then Ok tt else Err NotBuilt) else Err BadSettings
+    if each_key is_known members then (if each_key is_built_key members then Ok tt else Err NotBuilt) else Err BadSettings
 
 unfoldable pub keys_judged : Data → Result ⊤ SettingsError
 keys_judged d = do
   members ← needed (as_object d)
   members_judged members
 
--- What a key's value means; none where the object hasn't the key. A value without a meaning is no settings.
-abbrev pub given_in : {A : Type 0} → (Data → Option A) → Option Data → Result (Option A) SettingsError
-given_in meaning None = Ok None
-given_in meaning (Some value) = needed (option_map Some (meaning value))
+-- a login by the mechanism is built, or there is none
+abbrev pub mechanism_judged : Option AuthMechanism → Result ⊤ SettingsError
+mechanism_judged None = Ok tt
+mechanism_judged (Some mechanism) = if is_built mechanism then Ok tt else Err NotBuilt
 
-abbrev pub given : {A : Type 0} → List ℕ → (Data → Option A) → Data → Result (Option A) SettingsError
-given key meaning d = given_in meaning (get key d)
-
--- the bytes of a hex text, whose digits are an even number of either case
-abbrev pub hex_bytes : Data → Option (List ℕ)
-hex_bytes d = option_and_then (λ text. result_ok (decode_of text)) (as_str d)
-
--- the bytes of an array of hex texts, joined
-unfoldable pub joined_hex : Items → Option (List ℕ)
-joined_hex no_items = Some []
-joined_hex (item d others) = option_and_then (λ bytes. option_map (λ more. bytes ++ more) (joined_hex others)) (hex_bytes d)
-
-abbrev pub joined_hex_in : Data → Option (List ℕ)
-joined_hex_in d = option_and_then joined_hex (as_array d)
-
--- The settings that an object is: each key as it is read, `host` needed and `replies` empty where it is absent.
+-- The settings that a value is. What isn't built yet is found before a value of another kind.
 unfoldable pub settings_of : Data → Result Settings SettingsError
 settings_of d = do
   keys ← keys_judged d
-  host ← given (codes "host") as_str d
-  replies ← given (codes "replies") joined_hex_in d
-  name ← needed host
-  Ok (record { host = name; replies = unwrap_or replies [] })
+  login ← mechanism_judged (named_mechanism d)
+  needed (settings_in d)
 
 -- The settings that a text is, or why it is none, judged in this order.
 unfoldable pub judged : List ℕ → Result Settings SettingsError

@@ -1,8 +1,12 @@
 //! One establishment over reply bytes in memory, and the report of it.
-ghost use Rattle.std.specs.Prelude.{◌≡◌, ◌++◌, ◌-◌, ℕ, List, Some, length, IsSome, IfOk, OnOk};
+ghost use Rattle.std.specs.Prelude.{◌≡◌, ◌++◌, ◌-◌, ◌≤◌, ℕ, List, Some, length, IsSome, IfOk, OnOk};
 ghost use Rattle.std.specs.List.{AllByRecursion, concat};
 ghost use Rattle.mongo_wire.specs.Memory.{bytes_left, bytes_written};
 ghost use Rattle.mongo_command.specs.declared.stream_description.StreamDescription.{StreamDescription};
+ghost use Rattle.mongo_meta.specs.Options.{metadata_of};
+ghost use Rattle.mongo_establish.specs.Establisher.{options_of_establisher};
+ghost use Rattle.mongo_establish.specs.Options.{options_of};
+ghost use Rattle.mongo_establish.specs.Speculation.{SpeaksFor};
 ghost use Rattle.mongo_settings.specs.Report.{CountsItself, sent_lines, read_line, accepted_lines, refused_lines};
 ghost use Rattle.mongo_settings.specs.Outcome.{pending_to};
 ghost use Rattle.mongo_settings.specs.Rehearsal.{IsRehearsal, IsReport, IsReported};
@@ -13,10 +17,13 @@ use crate::report::sent::{push_read, push_sent};
 use crate::settings::Settings;
 use mongo_bson::Text;
 use mongo_establish::{
-    ConnectionEstablisher, ErrorKind, EstablishError, MemoryLink, PendingConnection,
-    PoolGeneration, PooledConnection, RequestIds, ServerAddress,
+    ClientMetadata, ClientOptions, ConnectionEstablisher, Error, ErrorKind, EstablishError,
+    EstablisherOptions, LoginInputs, LoginState, MemoryLink, Moment, Nonces, PendingConnection,
+    PoolGeneration, PooledConnection, RequestIds, SaltedCache, ServerAddress, TopologySpec,
 };
+use mongo_mac::Steps;
 use std::alloc::{AllocError, Global};
+use std::sync::ledger::Ledger;
 
 /// How a rehearsal came out.
 #[derive(Clone, Copy, Debug, PartialEq, Eq)]
@@ -36,23 +43,74 @@ pub struct Rehearsal {
     pub report: Vec<u8>,
 }
 
-/// Says hello to the reply bytes of the settings, and reports what was sent, what was taken, and how it ended.
-pub fn rehearse(alloc: Global, settings: Settings) -> Result<Rehearsal, AllocError>
+/// Makes a connection over the reply bytes of the settings, and reports what was sent, what was taken, and how it ended.
+pub fn rehearse<G: Ledger>(
+    alloc: Global,
+    settings: Settings,
+    steps: &mut Steps<G>,
+) -> Result<Rehearsal, AllocError>
+    requires spoken { SpeaksFor settings.credential }
     ensures rehearsed { IfOk result (IsRehearsal settings) }
     // Settings have no other report.
     ensures only { IfOk result (λ rehearsal. (text : List ℕ) → IsReport settings text → text ≡ rehearsal.report.items) }
+    ensures steps { steps.old ≤ steps.new }
 {
-    let Ok(establisher) = ConnectionEstablisher::with_defaults(alloc) else {
+    let Settings {
+        host,
+        replies,
+        credential,
+        nonces,
+        first_id,
+        options,
+        max_iterations,
+    } = settings;
+    let Ok(establisher) = establisher(alloc, options, max_iterations) else {
         return Err(AllocError);
     };
-    let Settings { host, replies } = settings;
     let total = replies.as_bytes().len();
     let mut link = MemoryLink::new(alloc, replies);
-    let mut ids = RequestIds::new(0);
-    match establisher.establish_connection(alloc, pending(host), &mut link, &mut ids) {
+    let ids = RequestIds::new(first_id);
+    let salted = SaltedCache::new(alloc);
+    let mut state = LoginState { salted, ids };
+    match establisher.establish_connection(
+        alloc,
+        pending(host),
+        &mut link,
+        credential.as_ref(),
+        &mut state,
+        &inputs(nonces),
+        steps,
+    ) {
         Ok(pooled) => accepted(alloc, &link, total, &pooled),
         Err(refusal) => refused(alloc, &link, total, &refusal),
     }
+}
+
+// The establisher of a client with these options. Want of memory is the only refusal.
+fn establisher(
+    alloc: Global,
+    options: ClientOptions,
+    max_iterations: u32,
+) -> Result<ConnectionEstablisher, Error>
+    ensures options { IfOk result (λ establisher. options_of_establisher establisher ≡ options_of (record { options = options; metadata = metadata_of options; max_iterations = max_iterations })) }
+{
+    let metadata = ClientMetadata::from_options(alloc, &options)?;
+    let spec = TopologySpec {
+        options,
+        metadata,
+        max_iterations,
+    };
+    ConnectionEstablisher::new(alloc, EstablisherOptions::from_spec(alloc, &spec)?)
+}
+
+// What is drawn for the login: its nonces. No mechanism that is spoken asks for the time.
+fn inputs(nonces: Nonces) -> LoginInputs
+    ensures { result.nonces ≡ nonces }
+{
+    let Some(moment) = Moment::new(0) else {
+        unreachable!()
+    };
+    LoginInputs { nonces, moment }
 }
 
 // The connection that is asked for.

@@ -1,18 +1,30 @@
 //! Settings: the text of one JSON object.
-ghost use Rattle.std.specs.Prelude.{◌≡◌};
+ghost use Rattle.std.specs.Prelude.{◌≡◌, IfOk};
 ghost use Rattle.serde_json.specs.View.{view};
+ghost use Rattle.mongo_establish.specs.Speculation.{SpeaksFor};
 ghost use Rattle.mongo_settings.specs.Settings.{rule, json_of, judged, settings_of, Gives};
 
+mod credential;
+mod environment;
 mod floats;
 mod keys;
+mod kinds;
+mod mechanism;
+mod members;
+mod options;
+mod properties;
 mod reading;
 #[cfg(test)]
 mod tests;
 
 use floats::holds_float;
 use keys::judge_keys;
-use mongo_bson::{Bytes, Text};
-use reading::given;
+use mechanism::judge_mechanism;
+use mongo_bson::{BsonFault, Bytes, Text};
+use mongo_establish::Nonces;
+use mongo_meta::ClientOptions;
+use mongo_sasl::Credential;
+use reading::SettingValue;
 use serde_json::{Category, Value};
 use std::alloc::{AllocError, Global};
 
@@ -26,6 +38,16 @@ pub struct Settings {
     pub host: Text,
     /// The bytes that the server answers.
     pub replies: Bytes,
+    /// Who logs in, if anyone.
+    pub credential: Option<Credential>,
+    /// The nonces of the login.
+    pub nonces: Nonces,
+    /// The id of the first command.
+    pub first_id: i32,
+    /// What the client is made of.
+    pub options: ClientOptions,
+    /// The most iterations by which a SCRAM login derives its key.
+    pub max_iterations: u32,
 }
 
 /// Why a text is no settings.
@@ -33,7 +55,7 @@ pub struct Settings {
 pub enum SettingsError {
     /// The text is no settings.
     BadSettings,
-    /// A key isn't read yet.
+    /// A key, or the mechanism of a credential, isn't built yet.
     NotBuilt,
     /// Memory ran out.
     OutOfMemory,
@@ -49,13 +71,28 @@ impl From<AllocError> for SettingsError {
     }
 }
 
+/// A fault of BSON but want of memory is that of a value that no document can hold.
+impl From<BsonFault> for SettingsError {
+    ghost use Rattle.mongo_settings.specs.Kinds.{error_of};
+
+    ghost from_gives = { λ fault error. error ≡ error_of fault };
+
+    fn from(fault: BsonFault) -> SettingsError {
+        match fault {
+            BsonFault::OutOfMemory => SettingsError::OutOfMemory,
+            _ => SettingsError::BadSettings,
+        }
+    }
+}
+
 /// Reads settings: the text of one JSON object in UTF-8.
 ///
 /// Refusals, in this order: `BadSettings` where the text is longer than 4194304 bytes, isn't JSON or holds a float; those
 /// of [`settings_of`].
 #[tactic(auto, unfolding(crate::specs::Settings::judged))]
 pub fn read(alloc: Global, text: &[u8]) -> Result<Settings, SettingsError>
-    ensures { Gives (λ s. s) result (judged text.now) }
+    ensures settings { Gives (λ s. s) result (judged text.now) }
+    ensures spoken { IfOk result (λ s. SpeaksFor s.credential) }
 {
     check(text.len() <= LIMIT)?;
     let value = json_of(alloc, text)?;
@@ -66,21 +103,17 @@ pub fn read(alloc: Global, text: &[u8]) -> Result<Settings, SettingsError>
 /// The settings that a JSON value is.
 ///
 /// Refusals, in this order: `BadSettings` where it is no object or has a key that the format hasn't; `NotBuilt` where it
-/// has a key that isn't read yet; `BadSettings` where a key's value is of another kind, or `host` isn't there.
+/// has a key that isn't read yet, or its credential names a mechanism that isn't spoken yet; `BadSettings` where a key's
+/// value is of another kind, or `host` isn't there.
 #[tactic(auto, unfolding(crate::specs::Settings::settings_of))]
 pub fn settings_of(alloc: Global, value: &Value) -> Result<Settings, SettingsError>
-    ensures { Gives (λ s. s) result (settings_of (view value.now)) }
+    ensures settings { Gives (λ s. s) result (settings_of (view value.now)) }
+    // A credential's mechanism is one that is spoken.
+    ensures spoken { IfOk result (λ s. SpeaksFor s.credential) }
 {
     judge_keys(value)?;
-    let host = given::<Text>(alloc, value, "host")?;
-    let replies = given::<Bytes>(alloc, value, "replies")?;
-    match host {
-        Some(host) => Ok(Settings {
-            host,
-            replies: replies.unwrap_or(Bytes::new(alloc)),
-        }),
-        None => Err(SettingsError::BadSettings),
-    }
+    judge_mechanism(value)?;
+    Settings::read(alloc, value)
 }
 
 // a rule of settings

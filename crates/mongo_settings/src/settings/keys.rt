@@ -26,19 +26,19 @@ const KEYS: [(&str, Reading); 24] = [
     ("generation", Reading::Later),
     ("load_balanced", Reading::Later),
     ("generations", Reading::Later),
-    ("app_name", Reading::Later),
-    ("driver_info", Reading::Later),
-    ("server_api", Reading::Later),
-    ("os", Reading::Later),
-    ("platform", Reading::Later),
-    ("platform_short", Reading::Later),
-    ("environment", Reading::Later),
-    ("dockerenv", Reading::Later),
-    ("credential", Reading::Later),
-    ("nonces", Reading::Later),
+    ("app_name", Reading::Built),
+    ("driver_info", Reading::Built),
+    ("server_api", Reading::Built),
+    ("os", Reading::Built),
+    ("platform", Reading::Built),
+    ("platform_short", Reading::Built),
+    ("environment", Reading::Built),
+    ("dockerenv", Reading::Built),
+    ("credential", Reading::Built),
+    ("nonces", Reading::Built),
     ("moment", Reading::Later),
-    ("first_id", Reading::Later),
-    ("max_iterations", Reading::Later),
+    ("first_id", Reading::Built),
+    ("max_iterations", Reading::Built),
     ("callback", Reading::Later),
     ("tokens", Reading::Later),
     ("aws", Reading::Later),
@@ -56,7 +56,7 @@ pub fn judge_keys(value: &Value) -> Result<(), SettingsError>
     }
 }
 
-#[tactic(auto, unfolding(crate::specs::Keys::each_key))]
+#[tactic(auto, unfolding(crate::specs::Kinds::each_key))]
 fn judge_members(members: &Map<String, Value>) -> Result<(), SettingsError>
     ensures { result ≡ members_judged (members_view members.now.entries) }
 {

@@ -1,13 +1,11 @@
 //! How the value of a key is read.
-ghost use Rattle.std.specs.Prelude.{◌≡◌, Option};
+ghost use Rattle.std.specs.Prelude.{◌≡◌, ℕ, List, Option, map};
 ghost use Rattle.serde_json.specs.Data.{Data};
-ghost use Rattle.serde_json.specs.View.{view, items_view};
-ghost use Rattle.mongo_settings.specs.Settings.{needed, given, hex_bytes, joined_hex, Gives};
+ghost use Rattle.serde_json.specs.View.{view, items_view, members_view};
+ghost use Rattle.mongo_settings.specs.Kinds.{optional, required, object_of, each_key, is_among, two_in, two_of, Means};
 
 use crate::settings::SettingsError;
-use hex::FromHexError;
-use mongo_bson::{Bytes, Text};
-use serde_json::Value;
+use serde_json::{Map, Value};
 use std::alloc::Global;
 
 /// A kind of value that a key of settings can have.
@@ -17,17 +15,17 @@ pub trait SettingValue {
 
     /// What a value means. `BadSettings` exactly where it is of another kind.
     fn read(alloc: Global, value: &Value) -> Result<Self, SettingsError>
-        ensures { Gives (λ v. v) result (needed (meaning (view value.now))) };
+        ensures { Means (λ v. v) result (meaning (view value.now)) };
 }
 
 /// What the value of a key means; None where the object hasn't the key. `BadSettings` exactly where it has the key with
 /// a value of another kind.
-pub fn given<T: SettingValue>(
+pub fn optional<T: SettingValue>(
     alloc: Global,
     object: &Value,
     key: &str,
 ) -> Result<Option<T>, SettingsError>
-    ensures { Gives (λ v. v) result (given key.now T.meaning (view object.now)) }
+    ensures { Means (λ v. v) result (optional key.now T.meaning (view object.now)) }
 {
     match object.get(key) {
         Some(value) => match T::read(alloc, value) {
@@ -38,59 +36,70 @@ pub fn given<T: SettingValue>(
     }
 }
 
-/// A text.
-impl SettingValue for Text {
-    ghost use Rattle.serde_json.specs.Find.{as_str};
+/// What the value of a key means that has to be there. `BadSettings` exactly where the object hasn't the key, or has it
+/// with a value of another kind.
+pub fn required<T: SettingValue>(
+    alloc: Global,
+    object: &Value,
+    key: &str,
+) -> Result<T, SettingsError>
+    ensures { Means (λ v. v) result (required key.now T.meaning (view object.now)) }
+{
+    match object.get(key) {
+        Some(value) => T::read(alloc, value),
+        None => Err(SettingsError::BadSettings),
+    }
+}
 
-    ghost meaning = { as_str };
+/// Judges the keys of an object: `BadSettings` exactly where the value is no object, or has a key that isn't among these.
+pub fn judge_object(value: &Value, names: &[&str]) -> Result<(), SettingsError>
+    ensures { Means (λ u. u) result (object_of (map (λ name. name.now) names.now) (view value.now)) }
+{
+    match value.as_object() {
+        Some(members) if has_only(members, names) => Ok(()),
+        _ => Err(SettingsError::BadSettings),
+    }
+}
 
-    fn read(alloc: Global, value: &Value) -> Result<Text, SettingsError> {
-        let Some(text) = value.as_str() else {
-            return Err(SettingsError::BadSettings);
-        };
-        match Text::from_slice(alloc, text) {
-            Ok(text) => Ok(text),
-            Err(_) => Err(SettingsError::OutOfMemory),
+#[tactic(auto, unfolding(crate::specs::Kinds::each_key))]
+fn has_only(members: &Map<String, Value>, names: &[&str]) -> bool
+    ensures { result ≡ each_key (is_among (map (λ name. name.now) names.now)) (members_view members.now.entries) }
+{
+    for (key, _member) in members.iter() {
+        if !is_among(names, key.as_str()) {
+            return false;
         }
     }
+    true
 }
 
-/// An array of hex texts, whose bytes are joined.
-impl SettingValue for Bytes {
-    ghost use Rattle.mongo_settings.specs.Settings.{joined_hex_in};
-
-    ghost meaning = { joined_hex_in };
-
-    fn read(alloc: Global, value: &Value) -> Result<Bytes, SettingsError> {
-        match value.as_array() {
-            Some(items) => joined_hex(alloc, items.as_slice()),
-            None => Err(SettingsError::BadSettings),
+#[tactic(auto, unfolding(crate::specs::Kinds::is_among))]
+fn is_among(names: &[&str], name: &str) -> bool
+    ensures { result ≡ is_among (map (λ one. one.now) names.now) name.now }
+{
+    for one in names {
+        if *one == name {
+            return true;
         }
     }
+    false
 }
 
-#[tactic(auto, unfolding(crate::specs::Settings::joined_hex))]
-fn joined_hex(alloc: Global, items: &[Value]) -> Result<Bytes, SettingsError>
-    ensures { Gives (λ b. b) result (needed (joined_hex (items_view items.now))) }
+/// The two values of an array. `BadSettings` exactly where the value is no array, or has another number of them.
+pub fn two_in(value: &Value) -> Result<(&Value, &Value), SettingsError>
+    ensures { Means (λ two. (view two.0.now, view two.1.now)) result (two_in (view value.now)) }
 {
-    let mut joined = Vec::new(alloc);
-    for item in items {
-        let bytes = hex_bytes(alloc, item)?;
-        joined.extend_from_slice(bytes.as_slice())?;
+    match value.as_array() {
+        Some(items) => two_of(items.as_slice()),
+        None => Err(SettingsError::BadSettings),
     }
-    Ok(Bytes::from_vec(joined))
 }
 
-// the bytes of a hex text, whose digits are an even number of either case
-fn hex_bytes(alloc: Global, value: &Value) -> Result<Vec<u8>, SettingsError>
-    ensures { Gives (λ v. v.items) result (needed (hex_bytes (view value.now))) }
+fn two_of(items: &[Value]) -> Result<(&Value, &Value), SettingsError>
+    ensures { Means (λ two. (view two.0.now, view two.1.now)) result (two_of (items_view items.now)) }
 {
-    let Some(text) = value.as_str() else {
-        return Err(SettingsError::BadSettings);
-    };
-    match hex::decode(alloc, text) {
-        Ok(bytes) => Ok(bytes),
-        Err(FromHexError::OutOfMemory) => Err(SettingsError::OutOfMemory),
-        Err(_) => Err(SettingsError::BadSettings),
+    match items {
+        [first, second] => Ok((first, second)),
+        _ => Err(SettingsError::BadSettings),
     }
 }

@@ -1,5 +1,15 @@
 use super::{SettingsError, read};
+use mongo_bson::Text;
+use mongo_sasl::AuthMechanism;
 use std::test::Fail;
+
+// Every key that is built, each with another value than that of its absence. The nonces are 64 digits.
+const WHOLE: &[u8] =
+    b"{\"host\":\"h\",\"replies\":[\"05\"],\"first_id\":-2147483648,\"max_iterations\":4096,\"nonces\":[\"0202020202020202020202020202020202020202020202020202020202020202\",\"0303030303030303030303030303030303030303030303030303030303030303\"],\"credential\":{\"username\":\"u\",\"source\":\"s\",\"password\":\"p\",\"mechanism\":\"SCRAM-SHA-1\",\"properties\":{\"b\":\"x\",\"a\":[-1,\"y\"]}}}";
+
+// The document {a: [-1, \"y\"], b: \"x\"} of BSON 1.1, whose number is an int64.
+const PROPERTIES: &[u8] =
+    b"\x2a\0\0\0\x04a\0\x19\0\0\0\x120\0\xff\xff\xff\xff\xff\xff\xff\xff\x021\0\x02\0\0\0y\0\0\x02b\0\x02\0\0\0x\0\0";
 
 #[test]
 fn host_and_joined_replies_are_read(rt: HostRuntime) -> Result<(), Fail> {
@@ -10,6 +20,79 @@ fn host_and_joined_replies_are_read(rt: HostRuntime) -> Result<(), Fail> {
     assert_eq!(rt; settings.host.as_str(), "localhost");
     assert_eq!(rt; settings.replies.as_bytes(), [0, 255, 171].as_slice());
     Ok(())
+}
+
+#[test]
+fn every_key_is_read(rt: HostRuntime) -> Result<(), Fail> {
+    let Ok(settings) = read(rt.alloc(), WHOLE) else {
+        return Err(Fail::from("settings"));
+    };
+    let Some(credential) = &settings.credential else {
+        return Err(Fail::from("credential"));
+    };
+    for (part, text) in [
+        (&credential.username, "u"),
+        (&credential.source, "s"),
+        (&credential.password, "p"),
+    ] {
+        assert_eq!(rt; part.as_ref().map(Text::as_str), Some(text));
+    }
+    assert_eq!(rt; credential.mechanism, Some(AuthMechanism::ScramSha1));
+    let Some(properties) = &credential.mechanism_properties else {
+        return Err(Fail::from("properties"));
+    };
+    assert_eq!(rt; properties.as_bytes(), PROPERTIES);
+    assert_eq!(rt; settings.nonces.first, [2; 32]);
+    assert_eq!(rt; settings.nonces.second, [3; 32]);
+    assert_eq!(rt; settings.first_id, i32::MIN);
+    assert_eq!(rt; settings.max_iterations, 4096);
+    Ok(())
+}
+
+#[test]
+fn absent_keys_have_their_defaults(rt: HostRuntime) -> Result<(), Fail> {
+    let Ok(settings) = read(rt.alloc(), b"{\"host\":\"h\"}") else {
+        return Err(Fail::from("settings"));
+    };
+    assert!(rt; settings.credential.is_none());
+    assert!(rt; settings.replies.as_bytes().is_empty());
+    assert_eq!(rt; settings.nonces.first, [0; 32]);
+    assert_eq!(rt; settings.nonces.second, [1; 32]);
+    assert_eq!(rt; settings.first_id, 0);
+    assert_eq!(rt; settings.max_iterations, 10_000_000);
+    Ok(())
+}
+
+#[test]
+fn another_kind_of_a_key_is_no_settings(rt: HostRuntime) {
+    for rest in [
+        "\"credential\":1}",
+        "\"credential\":{\"username\":1}}",
+        "\"credential\":{\"user\":\"u\"}}",
+        "\"credential\":{\"mechanism\":\"GSSAPI\"}}",
+        "\"credential\":{\"mechanism\":\"scram-sha-1\"}}",
+        "\"credential\":{\"properties\":[]}}",
+        "\"credential\":{\"properties\":{\"a\":true}}}",
+        "\"credential\":{\"properties\":{\"a\":[[]]}}}",
+        "\"credential\":{\"properties\":{\"a\":9223372036854775808}}}",
+        "\"credential\":{\"properties\":{\"a\\u0000\":\"b\"}}}",
+        "\"nonces\":[]}",
+        "\"nonces\":[\"00\",\"00\"]}",
+        "\"first_id\":2147483648}",
+        "\"first_id\":-2147483649}",
+        "\"first_id\":null}",
+        "\"max_iterations\":4095}",
+        "\"max_iterations\":4294967296}",
+    ] {
+        let Ok(text) = format!(in rt.alloc(); "{{\"host\":\"a\",{rest}") else {
+            return;
+        };
+        assert_eq!(rt;
+            read(rt.alloc(), text.as_bytes()).err(),
+            Some(SettingsError::BadSettings),
+            "at {rest}"
+        );
+    }
 }
 
 #[test]
@@ -32,6 +115,14 @@ fn each_refusal_has_its_cause(rt: HostRuntime) {
         (
             "{\"host\":1,\"credential\":{\"mechanism\":\"PLAIN\"}}",
             SettingsError::NotBuilt,
+        ),
+        (
+            "{\"first_id\":\"0\",\"credential\":{\"mechanism\":\"MONGODB-OIDC\",\"user\":1}}",
+            SettingsError::NotBuilt,
+        ),
+        (
+            "{\"hosts\":\"a\",\"credential\":{\"mechanism\":\"PLAIN\"}}",
+            SettingsError::BadSettings,
         ),
         ("{\"host\":\"a\",\"port\":1.5}", SettingsError::BadSettings),
         (

@@ -1,6 +1,7 @@
 use Rattle.std.proofs.Common.{◌≡◌, ◌&&◌}
 use Rattle.serde_json.specs.View.{members_view}
-use Rattle.mongo_settings.specs.Keys.{each_key, is_known, is_built}
+use Rattle.mongo_settings.specs.Keys.{is_known, is_built}
+use Rattle.mongo_settings.specs.Kinds.{each_key}
 use Rattle.mongo_settings.proofs.settings.keys.judge_members.Given as goal
 
 -- the keys that are left decide

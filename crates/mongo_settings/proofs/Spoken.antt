@@ -1,0 +1,131 @@
+-- Settings hold no credential whose mechanism isn't spoken.
+use Rattle.std.proofs.Common.{◌≡◌, ℕ, ℤ, List, [], ◌∷◌, Option, None, Some, option_map, Result, Ok, Err, IfOk, codes, refl, sym, ap, ◌∙◌, subst}
+use Rattle.std.specs.Prelude.{⊤, unwrap_or}
+use Rattle.serde_json.specs.Data.{Data}
+use Rattle.serde_json.specs.Find.{get, as_str}
+use Rattle.mongo_sasl.specs.declared.credential.Credential.{Credential}
+use Rattle.mongo_sasl.specs.declared.mechanism.AuthMechanism.{AuthMechanism}
+use Rattle.mongo_sasl.specs.declared.mechanism.AuthMechanism.TheVariants.{MongoDbCr, ScramSha1, ScramSha256, MongoDbX509, Plain, MongoDbAws, MongoDbOidc}
+use Rattle.mongo_meta.specs.declared.client_options.ClientOptions.{ClientOptions}
+use Rattle.mongo_establish.specs.declared.login_state.Nonces.{Nonces}
+use Rattle.mongo_establish.specs.Speculation.{mechanism_before, IsSpoken, SpeaksFor}
+use Rattle.mongo_settings.specs.Kinds.{◌>>=◌, optional, optional_in, required, object_of, joined_hex_in, nonces_in, int32_in, iterations_in}
+use Rattle.mongo_settings.specs.Credential.{mechanism_in, credential_in}
+use Rattle.mongo_settings.specs.Meaning.{default_nonces, default_first_id, default_iterations, settings_in}
+use Rattle.mongo_settings.specs.Options.{options_in}
+use Rattle.mongo_settings.specs.Properties.{properties_in}
+use Rattle.mongo_settings.specs.Settings.{mechanism_judged, settings_of, Gives}
+use Rattle.mongo_settings.specs.declared.settings.Settings.{Settings}
+use Rattle.mongo_settings.specs.declared.settings.SettingsError.{SettingsError}
+use Rattle.mongo_settings.proofs.Judgement.{settings_of-ok}
+
+-- ---- mechanisms
+
+built_spoken : (mechanism : AuthMechanism) → mechanism_judged (Some mechanism) ≡ Ok tt → IsSpoken mechanism
+built_spoken MongoDbCr is = tt
+built_spoken ScramSha1 is = tt
+built_spoken ScramSha256 is = tt
+built_spoken MongoDbX509 is = cc
+built_spoken Plain is = cc
+built_spoken MongoDbAws is = cc
+built_spoken MongoDbOidc is = cc
+
+judged_spoken : (found mechanism : Option AuthMechanism) → option_map Some found ≡ Some mechanism → mechanism_judged found ≡ Ok tt → IsSpoken (mechanism_before mechanism)
+judged_spoken None mechanism is judged = let no : ⊥ = cc in absurd no
+judged_spoken (Some one) None is judged = tt
+judged_spoken (Some one) (Some other) is judged = let same : one ≡ other = cc in subst IsSpoken same (built_spoken one judged)
+
+given_spoken : (given : Option Data) (mechanism : Option AuthMechanism) → optional_in mechanism_in given ≡ Some mechanism → mechanism_judged (given >>= mechanism_in) ≡ Ok tt → IsSpoken (mechanism_before mechanism)
+given_spoken None None is judged = tt
+given_spoken None (Some mechanism) is judged = let no : ⊥ = cc in absurd no
+given_spoken (Some name) mechanism is judged = judged_spoken (mechanism_in name) mechanism is judged
+
+-- ---- credentials
+
+-- a credential of its parts
+abbrev credential_of_parts : Option ⊤ → Option (Option (List ℕ)) → Option (Option (List ℕ)) → Option (Option (List ℕ)) → Option (Option AuthMechanism) → Option (Option (List ℕ)) → Option Credential
+credential_of_parts object username source password mechanism properties = do
+  o ← object
+  u ← username
+  s ← source
+  p ← password
+  m ← mechanism
+  x ← properties
+  Some (record { username = u; source = s; password = p; mechanism = m; mechanism_properties = x })
+
+its_mechanism : (object : Option ⊤) (username source password : Option (Option (List ℕ))) (mechanism : Option (Option AuthMechanism)) (properties : Option (Option (List ℕ))) (credential : Credential)
+    → credential_of_parts object username source password mechanism properties ≡ Some credential → mechanism ≡ Some credential.mechanism
+its_mechanism (Some o) (Some u) (Some s) (Some p) (Some m) (Some x) credential is = ap (option_map (λ (c : Credential). c.mechanism)) is
+its_mechanism None u s p m x credential is = cc
+its_mechanism (Some o) None s p m x credential is = cc
+its_mechanism (Some o) (Some u) None p m x credential is = cc
+its_mechanism (Some o) (Some u) (Some s) None m x credential is = cc
+its_mechanism (Some o) (Some u) (Some s) (Some p) None x credential is = cc
+its_mechanism (Some o) (Some u) (Some s) (Some p) (Some m) None credential is = cc
+
+mechanism_of : (d : Data) (credential : Credential) → credential_in d ≡ Some credential → optional (codes "mechanism") mechanism_in d ≡ Some credential.mechanism
+unfolding credential_in
+mechanism_of d credential is =
+    its_mechanism (object_of (codes "username" ∷ codes "source" ∷ codes "password" ∷ codes "mechanism" ∷ codes "properties" ∷ []) d)
+    (optional (codes "username") as_str d) (optional (codes "source") as_str d) (optional (codes "password") as_str d) (optional (codes "mechanism") mechanism_in d) (optional (codes "properties") properties_in d) credential is
+
+credential_spoken : (found credential : Option Credential) (d : Data) → found ≡ credential_in d → option_map Some found ≡ Some credential → mechanism_judged (get (codes "mechanism") d >>= mechanism_in) ≡ Ok tt → SpeaksFor credential
+credential_spoken None credential d at is judged = let no : ⊥ = cc in absurd no
+credential_spoken (Some one) None d at is judged = tt
+credential_spoken (Some one) (Some other) d at is judged =
+    let same : credential_in d ≡ Some other = sym at ∙ cc in
+    given_spoken (get (codes "mechanism") d) other.mechanism (mechanism_of d other same) judged
+
+optional_spoken : (given : Option Data) (credential : Option Credential) → optional_in credential_in given ≡ Some credential → mechanism_judged (given >>= (λ c. get (codes "mechanism") c >>= mechanism_in)) ≡ Ok tt → SpeaksFor credential
+optional_spoken None None is judged = tt
+optional_spoken None (Some credential) is judged = let no : ⊥ = cc in absurd no
+optional_spoken (Some d) credential is judged = credential_spoken (credential_in d) credential d refl is judged
+
+-- ---- settings
+
+-- settings of their parts
+abbrev settings_of_parts : Option (List ℕ) → Option (Option (List ℕ)) → Option (Option Credential) → Option (Option Nonces) → Option (Option ℤ) → Option ClientOptions → Option (Option ℕ) → Option Settings
+settings_of_parts host replies credential nonces first_id options iterations = do
+  h ← host
+  r ← replies
+  c ← credential
+  n ← nonces
+  f ← first_id
+  o ← options
+  i ← iterations
+  Some (record {
+    host = h;
+    replies = unwrap_or r [];
+    credential = c;
+    nonces = unwrap_or n default_nonces;
+    first_id = unwrap_or f default_first_id;
+    options = o;
+    max_iterations = unwrap_or i default_iterations;
+  })
+
+their_credential : (host : Option (List ℕ)) (replies : Option (Option (List ℕ))) (credential : Option (Option Credential)) (nonces : Option (Option Nonces)) (first_id : Option (Option ℤ)) (options : Option ClientOptions) (iterations : Option (Option ℕ)) (s : Settings)
+    → settings_of_parts host replies credential nonces first_id options iterations ≡ Some s → credential ≡ Some s.credential
+their_credential (Some h) (Some r) (Some c) (Some n) (Some f) (Some o) (Some i) s is = ap (option_map (λ (x : Settings). x.credential)) is
+their_credential None r c n f o i s is = cc
+their_credential (Some h) None c n f o i s is = cc
+their_credential (Some h) (Some r) None n f o i s is = cc
+their_credential (Some h) (Some r) (Some c) None f o i s is = cc
+their_credential (Some h) (Some r) (Some c) (Some n) None o i s is = cc
+their_credential (Some h) (Some r) (Some c) (Some n) (Some f) None i s is = cc
+their_credential (Some h) (Some r) (Some c) (Some n) (Some f) (Some o) None s is = cc
+
+credential_of : (d : Data) (s : Settings) → settings_in d ≡ Some s → optional (codes "credential") credential_in d ≡ Some s.credential
+unfolding settings_in
+credential_of d s is =
+    their_credential (required (codes "host") as_str d) (optional (codes "replies") joined_hex_in d) (optional (codes "credential") credential_in d) (optional (codes "nonces") nonces_in d)
+    (optional (codes "first_id") int32_in d) (options_in d) (optional (codes "max_iterations") iterations_in d) s is
+
+settings_spoken : (d : Data) (s : Settings) → settings_of d ≡ Ok s → SpeaksFor s.credential
+settings_spoken d s is =
+    let known = settings_of-ok d s is in
+    optional_spoken (get (codes "credential") d) s.credential (credential_of d s known.1) known.0
+
+-- what is read as settings
+pub spoken : (d : Data) (r : Result Settings SettingsError) → Gives (λ s. s) r (settings_of d) → IfOk r (λ s. SpeaksFor s.credential)
+spoken d (Ok s) gives = settings_spoken d s gives
+spoken d (Err e) gives = tt

@@ -1,0 +1,48 @@
+-- Credentials as settings have them.
+use Rattle.std.specs.Prelude.{ℕ, Bool, true, false, Option, None, Some, option_and_then, List, [], ◌∷◌, codes, bytes_eq}
+use Rattle.std.specs.List.{find}
+use Rattle.serde_json.specs.Data.{Data}
+use Rattle.serde_json.specs.Find.{get, as_str}
+use Rattle.mongo_sasl.specs.declared.credential.Credential.{Credential}
+use Rattle.mongo_sasl.specs.declared.mechanism.AuthMechanism.{AuthMechanism}
+use Rattle.mongo_sasl.specs.declared.mechanism.AuthMechanism.TheVariants.{MongoDbCr, ScramSha1, ScramSha256, MongoDbX509, Plain, MongoDbAws, MongoDbOidc}
+use Rattle.mongo_sasl.specs.Mechanism.{name_of}
+use Rattle.mongo_settings.specs.Kinds.{◌>>=◌, optional, object_of}
+use Rattle.mongo_settings.specs.Properties.{properties_in}
+
+abbrev pub mechanisms : List AuthMechanism
+mechanisms = MongoDbCr ∷ ScramSha1 ∷ ScramSha256 ∷ MongoDbX509 ∷ Plain ∷ MongoDbAws ∷ MongoDbOidc ∷ []
+
+-- the mechanism that a text is the name of
+unfoldable pub mechanism_named : List ℕ → Option AuthMechanism
+mechanism_named text = find (λ mechanism. bytes_eq text (name_of mechanism)) mechanisms
+
+abbrev pub mechanism_in : Data → Option AuthMechanism
+mechanism_in d = option_and_then mechanism_named (as_str d)
+
+-- the mechanism that the credential of an object names
+abbrev pub named_mechanism : Data → Option AuthMechanism
+named_mechanism d = do
+  credential ← get (codes "credential") d
+  name ← get (codes "mechanism") credential
+  mechanism_in name
+
+-- a login by it is made, or is refused with its reason
+abbrev pub is_built : AuthMechanism → Bool
+is_built MongoDbCr = true
+is_built ScramSha1 = true
+is_built ScramSha256 = true
+is_built MongoDbX509 = false
+is_built Plain = false
+is_built MongoDbAws = false
+is_built MongoDbOidc = false
+
+unfoldable pub credential_in : Data → Option Credential
+credential_in d = do
+  object ← object_of (codes "username" ∷ codes "source" ∷ codes "password" ∷ codes "mechanism" ∷ codes "properties" ∷ []) d
+  username ← optional (codes "username") as_str d
+  source ← optional (codes "source") as_str d
+  password ← optional (codes "password") as_str d
+  mechanism ← optional (codes "mechanism") mechanism_in d
+  properties ← optional (codes "properties") properties_in d
+  Some (record { username = username; source = source; password = password; mechanism = mechanism; mechanism_properties = properties })

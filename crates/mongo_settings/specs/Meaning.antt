@@ -1,0 +1,42 @@
+-- What the keys of settings mean together.
+use Rattle.std.specs.Prelude.{◌≡◌, ℕ, ℤ, pos, Option, None, Some, unwrap_or, List, [], codes, replicate}
+use Rattle.serde_json.specs.Data.{Data}
+use Rattle.serde_json.specs.Find.{as_str}
+use Rattle.mongo_establish.specs.declared.login_state.Nonces.{Nonces}
+use Rattle.mongo_settings.specs.Kinds.{◌>>=◌, optional, required, joined_hex_in, nonces_in, int32_in, iterations_in}
+use Rattle.mongo_settings.specs.Credential.{credential_in}
+use Rattle.mongo_settings.specs.Options.{options_in}
+use Rattle.mongo_settings.specs.declared.settings.Settings.{Settings}
+
+-- ---- what holds where a key is absent
+
+abbrev pub default_nonces : Nonces
+default_nonces = record { first = replicate 32 0; second = replicate 32 1 }
+
+abbrev pub default_first_id : ℤ
+default_first_id = pos 0
+
+abbrev pub default_iterations : ℕ
+default_iterations = 10000000
+
+-- ----
+
+-- The settings that an object is: `host` is needed.
+unfoldable pub settings_in : Data → Option Settings
+settings_in d = do
+  host ← required (codes "host") as_str d
+  replies ← optional (codes "replies") joined_hex_in d
+  credential ← optional (codes "credential") credential_in d
+  nonces ← optional (codes "nonces") nonces_in d
+  first_id ← optional (codes "first_id") int32_in d
+  options ← options_in d
+  iterations ← optional (codes "max_iterations") iterations_in d
+  Some (record {
+    host = host;
+    replies = unwrap_or replies [];
+    credential = credential;
+    nonces = unwrap_or nonces default_nonces;
+    first_id = unwrap_or first_id default_first_id;
+    options = options;
+    max_iterations = unwrap_or iterations default_iterations;
+  })

@@ -1,0 +1,101 @@
+-- What settings say of the client: its options.
+use Rattle.std.specs.Prelude.{◌≡◌, ℕ, Bool, false, if◌then◌else◌, Option, None, Some, option_map, option_and_then, unwrap_or, List, [], ◌∷◌, codes, bytes_eq}
+use Rattle.serde_json.specs.Data.{Data, Items, no_items, item}
+use Rattle.serde_json.specs.Find.{as_str, as_bool, as_array}
+use Rattle.mongo_command.specs.declared.server_api.ServerApi.{ServerApi}
+use Rattle.mongo_command.specs.declared.server_api.ServerApiVersion.{ServerApiVersion}
+use Rattle.mongo_command.specs.declared.server_api.ServerApiVersion.TheVariants.{V1}
+use Rattle.mongo_meta.specs.declared.client_options.ClientOptions.{ClientOptions}
+use Rattle.mongo_meta.specs.declared.driver_info.DriverInfo.{DriverInfo}
+use Rattle.mongo_meta.specs.declared.environment.Environment.{Environment}
+use Rattle.mongo_meta.specs.declared.environment.Variable.{Variable}
+use Rattle.mongo_meta.specs.declared.os_metadata.OsMetadata.{OsMetadata}
+use Rattle.mongo_settings.specs.Kinds.{◌>>=◌, optional, required, or_absent, object_of, two_in}
+
+-- ---- what holds where a key is absent
+
+abbrev pub default_os : OsMetadata
+default_os = record { os_type = codes "linux"; name = None; architecture = Some (codes "x86_64"); version = None }
+
+abbrev pub default_platform : List ℕ
+default_platform = codes "rattle / sync"
+
+abbrev pub default_platform_short : List ℕ
+default_platform_short = codes "rattle"
+
+-- ---- the values of keys
+
+unfoldable pub driver_info_in : Data → Option DriverInfo
+driver_info_in d = do
+  object ← object_of (codes "name" ∷ codes "version" ∷ codes "platform" ∷ []) d
+  name ← required (codes "name") as_str d
+  version ← optional (codes "version") as_str d
+  platform ← optional (codes "platform") as_str d
+  Some (record { name = name; version = version; platform = platform })
+
+unfoldable pub os_in : Data → Option OsMetadata
+os_in d = do
+  object ← object_of (codes "type" ∷ codes "name" ∷ codes "architecture" ∷ codes "version" ∷ []) d
+  os_type ← required (codes "type") as_str d
+  name ← optional (codes "name") as_str d
+  architecture ← optional (codes "architecture") as_str d
+  version ← optional (codes "version") as_str d
+  Some (record { os_type = os_type; name = name; architecture = architecture; version = version })
+
+-- the one version that there is
+abbrev pub version_in : Data → Option ServerApiVersion
+version_in d = option_and_then (λ text. if bytes_eq text (codes "1") then Some V1 else None) (as_str d)
+
+unfoldable pub server_api_in : Data → Option ServerApi
+server_api_in d = do
+  object ← object_of (codes "version" ∷ codes "strict" ∷ codes "deprecation_errors" ∷ []) d
+  version ← required (codes "version") version_in d
+  strict ← optional (codes "strict") as_bool d
+  deprecation_errors ← optional (codes "deprecation_errors") as_bool d
+  Some (record { version = version; strict = strict; deprecation_errors = deprecation_errors })
+
+-- a variable: its name and its value
+abbrev pub variable_in : Data → Option Variable
+variable_in d = do
+  two ← two_in d
+  name ← as_str two.0
+  value ← as_str two.1
+  Some (record { name = name; value = value })
+
+unfoldable pub variables_of : Items → Option (List Variable)
+variables_of no_items = Some []
+variables_of (item d others) = do
+  variable ← variable_in d
+  variables ← variables_of others
+  Some (variable ∷ variables)
+
+abbrev pub variables_in : Data → Option (List Variable)
+variables_in d = option_and_then variables_of (as_array d)
+
+-- ---- the keys together
+
+unfoldable pub environment_in : Data → Option Environment
+environment_in d = do
+  variables ← optional (codes "environment") variables_in d
+  dockerenv ← optional (codes "dockerenv") as_bool d
+  Some (record { variables = unwrap_or variables []; dockerenv = unwrap_or dockerenv false })
+
+unfoldable pub options_in : Data → Option ClientOptions
+options_in d = do
+  app_name ← optional (codes "app_name") as_str d
+  driver_info ← optional (codes "driver_info") driver_info_in d
+  server_api ← optional (codes "server_api") server_api_in d
+  os ← or_absent default_os (optional (codes "os") os_in d)
+  platform ← or_absent default_platform (optional (codes "platform") as_str d)
+  platform_short ← or_absent default_platform_short (optional (codes "platform_short") as_str d)
+  environment ← environment_in d
+  Some (record {
+    app_name = app_name;
+    driver_info = driver_info;
+    server_api = server_api;
+    load_balanced = false;
+    os = os;
+    platform = platform;
+    platform_short = platform_short;
+    environment = environment;
+  })

@@ -1,0 +1,179 @@
+//! The plain kinds of values.
+ghost use Rattle.std.specs.Prelude.{◌≡◌, ◌≤◌, ◌-◌, ◌^◌, ℕ, List, IfSome};
+ghost use Rattle.serde_json.specs.View.{view, items_view};
+ghost use Rattle.mongo_settings.specs.Kinds.{number_from, hex_bytes, joined_hex, nonce_in, Means};
+
+use crate::settings::SettingsError;
+use crate::settings::reading::{SettingValue, two_in};
+use hex::{FromHex, FromHexError};
+use mongo_bson::{Bytes, Text};
+use mongo_establish::Nonces;
+use serde_json::Value;
+use std::alloc::Global;
+use std::marker::Model;
+
+// The fewest iterations that RFC 7677 asks for.
+const LEAST_ITERATIONS: u64 = 4096;
+
+/// A text.
+impl SettingValue for Text {
+    ghost use Rattle.serde_json.specs.Find.{as_str};
+
+    ghost meaning = { as_str };
+
+    fn read(alloc: Global, value: &Value) -> Result<Text, SettingsError> {
+        let Some(text) = value.as_str() else {
+            return Err(SettingsError::BadSettings);
+        };
+        match Text::from_slice(alloc, text) {
+            Ok(text) => Ok(text),
+            Err(_) => Err(SettingsError::OutOfMemory),
+        }
+    }
+}
+
+/// A truth.
+impl SettingValue for bool {
+    ghost use Rattle.serde_json.specs.Find.{as_bool};
+
+    ghost meaning = { as_bool };
+
+    fn read(_alloc: Global, value: &Value) -> Result<bool, SettingsError> {
+        match value.as_bool() {
+            Some(truth) => Ok(truth),
+            None => Err(SettingsError::BadSettings),
+        }
+    }
+}
+
+/// A whole number that an int32 holds.
+impl SettingValue for i32 {
+    ghost use Rattle.mongo_settings.specs.Kinds.{int32_in};
+
+    ghost meaning = { int32_in };
+
+    fn read(_alloc: Global, value: &Value) -> Result<i32, SettingsError> {
+        match value.as_i64() {
+            Some(number) => match i32::try_from(number) {
+                Ok(number) => Ok(number),
+                Err(_) => Err(SettingsError::BadSettings),
+            },
+            None => Err(SettingsError::BadSettings),
+        }
+    }
+}
+
+/// The most iterations of a login: from 4096 to 4294967295. Contracts see the number.
+#[derive(Debug, Drop)]
+pub struct Iterations {
+    count: u32,
+}
+
+impl Model for Iterations {
+    ghost Value = { ℕ };
+
+    ghost view = { λ i. i.count };
+}
+
+impl Iterations {
+    /// How many there are.
+    pub fn count(&self) -> u32
+        ensures { result ≡ self.now }
+    {
+        self.count
+    }
+}
+
+/// A whole number from 4096 to 4294967295.
+impl SettingValue for Iterations {
+    ghost use Rattle.mongo_settings.specs.Kinds.{iterations_in};
+
+    ghost meaning = { iterations_in };
+
+    fn read(_alloc: Global, value: &Value) -> Result<Iterations, SettingsError> {
+        match number_from(value, LEAST_ITERATIONS, u32::MAX as u64) {
+            Some(count) => Ok(Iterations {
+                count: count as u32,
+            }),
+            None => Err(SettingsError::BadSettings),
+        }
+    }
+}
+
+// The whole number from the least to the greatest that a value is.
+fn number_from(value: &Value, least: u64, greatest: u64) -> Option<u64>
+    ensures number { result ≡ number_from least greatest (view value.now) }
+    ensures within { IfSome result (λ number. number ≤ greatest) }
+{
+    match value.as_u64() {
+        Some(number) if least <= number && number <= greatest => Some(number),
+        _ => None,
+    }
+}
+
+/// An array of hex texts, whose bytes are joined.
+impl SettingValue for Bytes {
+    ghost use Rattle.mongo_settings.specs.Kinds.{joined_hex_in};
+
+    ghost meaning = { joined_hex_in };
+
+    fn read(alloc: Global, value: &Value) -> Result<Bytes, SettingsError> {
+        match value.as_array() {
+            Some(items) => joined_hex(alloc, items.as_slice()),
+            None => Err(SettingsError::BadSettings),
+        }
+    }
+}
+
+#[tactic(auto, unfolding(crate::specs::Kinds::joined_hex))]
+fn joined_hex(alloc: Global, items: &[Value]) -> Result<Bytes, SettingsError>
+    ensures { Means (λ b. b) result (joined_hex (items_view items.now)) }
+{
+    let mut joined = Vec::new(alloc);
+    for item in items {
+        let bytes = hex_bytes(alloc, item)?;
+        joined.extend_from_slice(bytes.as_slice())?;
+    }
+    Ok(Bytes::from_vec(joined))
+}
+
+// the bytes of a hex text, whose digits are an even number of either case
+fn hex_bytes(alloc: Global, value: &Value) -> Result<Vec<u8>, SettingsError>
+    ensures { Means (λ v. v.items) result (hex_bytes (view value.now)) }
+{
+    let Some(text) = value.as_str() else {
+        return Err(SettingsError::BadSettings);
+    };
+    match hex::decode(alloc, text) {
+        Ok(bytes) => Ok(bytes),
+        Err(FromHexError::OutOfMemory) => Err(SettingsError::OutOfMemory),
+        Err(_) => Err(SettingsError::BadSettings),
+    }
+}
+
+/// An array of two nonces, each 32 bytes by 64 hex digits.
+impl SettingValue for Nonces {
+    ghost use Rattle.mongo_settings.specs.Kinds.{nonces_in};
+
+    ghost meaning = { nonces_in };
+
+    fn read(_alloc: Global, value: &Value) -> Result<Nonces, SettingsError> {
+        let (first, second) = two_in(value)?;
+        Ok(Nonces {
+            first: nonce(first)?,
+            second: nonce(second)?,
+        })
+    }
+}
+
+fn nonce(value: &Value) -> Result<[u8; 32], SettingsError>
+    ensures { Means (λ n. n) result (nonce_in (view value.now)) }
+{
+    let Some(text) = value.as_str() else {
+        return Err(SettingsError::BadSettings);
+    };
+    match <[u8; 32] as FromHex>::from_hex(text) {
+        Ok(nonce) => Ok(nonce),
+        Err(_) => Err(SettingsError::BadSettings),
+    }
+}

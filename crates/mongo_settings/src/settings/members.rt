@@ -1,0 +1,61 @@
+ghost use Rattle.std.specs.Prelude.{◌≡◌, unwrap_or};
+ghost use Rattle.mongo_settings.specs.Meaning.{default_nonces, default_iterations};
+
+use crate::settings::kinds::Iterations;
+use crate::settings::reading::{SettingValue, optional, required};
+use crate::settings::{Settings, SettingsError};
+use mongo_bson::{Bytes, Text};
+use mongo_establish::Nonces;
+use mongo_meta::ClientOptions;
+use mongo_sasl::Credential;
+use serde_json::Value;
+use std::alloc::Global;
+
+// The most iterations where settings name no number.
+const DEFAULT_ITERATIONS: u32 = 10_000_000;
+
+/// The keys of an object of settings together.
+impl SettingValue for Settings {
+    ghost use Rattle.mongo_settings.specs.Meaning.{settings_in};
+
+    ghost meaning = { settings_in };
+
+    #[tactic(auto, unfolding(crate::specs::Meaning::settings_in))]
+    fn read(alloc: Global, value: &Value) -> Result<Settings, SettingsError> {
+        let host = required::<Text>(alloc, value, "host")?;
+        let replies = optional::<Bytes>(alloc, value, "replies")?;
+        let credential = optional::<Credential>(alloc, value, "credential")?;
+        let nonces = optional::<Nonces>(alloc, value, "nonces")?;
+        let first_id = optional::<i32>(alloc, value, "first_id")?;
+        let options = ClientOptions::read(alloc, value)?;
+        let iterations = optional::<Iterations>(alloc, value, "max_iterations")?;
+        Ok(Settings {
+            host,
+            replies: replies.unwrap_or(Bytes::new(alloc)),
+            credential,
+            nonces: nonces.unwrap_or(default_nonces()),
+            first_id: first_id.unwrap_or(0),
+            options,
+            max_iterations: iterations_or_default(iterations),
+        })
+    }
+}
+
+// The nonces where settings name none: 32 bytes 0, and 32 bytes 1.
+fn default_nonces() -> Nonces
+    ensures { result ≡ default_nonces }
+{
+    Nonces {
+        first: [0; 32],
+        second: [1; 32],
+    }
+}
+
+fn iterations_or_default(iterations: Option<Iterations>) -> u32
+    ensures { result ≡ unwrap_or iterations default_iterations }
+{
+    match iterations {
+        Some(iterations) => iterations.count(),
+        None => DEFAULT_ITERATIONS,
+    }
+}

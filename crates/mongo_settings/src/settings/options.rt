@@ -1,0 +1,150 @@
+//! What settings say of the client.
+ghost use Rattle.std.specs.Prelude.{Some, codes};
+ghost use Rattle.serde_json.specs.View.{view};
+ghost use Rattle.serde_json.specs.Find.{as_str};
+ghost use Rattle.mongo_settings.specs.Kinds.{optional, or_absent, Means};
+ghost use Rattle.mongo_settings.specs.Options.{default_os, os_in};
+
+use crate::settings::SettingsError;
+use crate::settings::reading::{SettingValue, judge_object, optional, required};
+use mongo_bson::Text;
+use mongo_command::{ServerApi, ServerApiVersion};
+use mongo_meta::{ClientOptions, DriverInfo, Environment, OsMetadata};
+use serde_json::Value;
+use std::alloc::Global;
+
+/// The keys of an object of settings that speak of the client, together.
+impl SettingValue for ClientOptions {
+    ghost use Rattle.mongo_settings.specs.Options.{options_in};
+
+    ghost meaning = { options_in };
+
+    #[tactic(auto, unfolding(crate::specs::Options::options_in))]
+    fn read(alloc: Global, value: &Value) -> Result<ClientOptions, SettingsError> {
+        let app_name = optional::<Text>(alloc, value, "app_name")?;
+        let driver_info = optional::<DriverInfo>(alloc, value, "driver_info")?;
+        let server_api = optional::<ServerApi>(alloc, value, "server_api")?;
+        let os = os_or_default(alloc, value)?;
+        let platform = text_or(alloc, value, "platform", "rattle / sync")?;
+        let platform_short = text_or(alloc, value, "platform_short", "rattle")?;
+        let environment = Environment::read(alloc, value)?;
+        Ok(ClientOptions {
+            app_name,
+            driver_info,
+            server_api,
+            load_balanced: false,
+            os,
+            platform,
+            platform_short,
+            environment,
+        })
+    }
+}
+
+// The text of a key, or this one where the object hasn't the key.
+fn text_or(alloc: Global, object: &Value, key: &str, default: &str) -> Result<Text, SettingsError>
+    ensures { Means (λ t. t) result (or_absent default.now (optional key.now as_str (view object.now))) }
+{
+    match optional::<Text>(alloc, object, key)? {
+        Some(text) => Ok(text),
+        None => Ok(Text::from_slice(alloc, default)?),
+    }
+}
+
+fn os_or_default(alloc: Global, object: &Value) -> Result<OsMetadata, SettingsError>
+    ensures { Means (λ os. os) result (or_absent default_os (optional (codes "os") os_in (view object.now))) }
+{
+    match optional::<OsMetadata>(alloc, object, "os")? {
+        Some(os) => Ok(os),
+        None => default_os(alloc),
+    }
+}
+
+// The operating system and the machine where settings name none.
+fn default_os(alloc: Global) -> Result<OsMetadata, SettingsError>
+    ensures { Means (λ os. os) result (Some default_os) }
+{
+    Ok(OsMetadata {
+        os_type: Text::from_slice(alloc, "linux")?,
+        name: None,
+        architecture: Some(Text::from_slice(alloc, "x86_64")?),
+        version: None,
+    })
+}
+
+/// An object with what a library says of itself: its name, and its version and platform, which are optional.
+impl SettingValue for DriverInfo {
+    ghost use Rattle.mongo_settings.specs.Options.{driver_info_in};
+
+    ghost meaning = { driver_info_in };
+
+    #[tactic(auto, unfolding(crate::specs::Options::driver_info_in))]
+    fn read(alloc: Global, value: &Value) -> Result<DriverInfo, SettingsError> {
+        judge_object(value, &["name", "version", "platform"])?;
+        let name = required::<Text>(alloc, value, "name")?;
+        let version = optional::<Text>(alloc, value, "version")?;
+        let platform = optional::<Text>(alloc, value, "platform")?;
+        Ok(DriverInfo {
+            name,
+            version,
+            platform,
+        })
+    }
+}
+
+/// An object with what there is to say of an operating system: its type, and its name, architecture and version, which
+/// are optional.
+impl SettingValue for OsMetadata {
+    ghost use Rattle.mongo_settings.specs.Options.{os_in};
+
+    ghost meaning = { os_in };
+
+    #[tactic(auto, unfolding(crate::specs::Options::os_in))]
+    fn read(alloc: Global, value: &Value) -> Result<OsMetadata, SettingsError> {
+        judge_object(value, &["type", "name", "architecture", "version"])?;
+        let os_type = required::<Text>(alloc, value, "type")?;
+        let name = optional::<Text>(alloc, value, "name")?;
+        let architecture = optional::<Text>(alloc, value, "architecture")?;
+        let version = optional::<Text>(alloc, value, "version")?;
+        Ok(OsMetadata {
+            os_type,
+            name,
+            architecture,
+            version,
+        })
+    }
+}
+
+/// An object with the stable API: its version, and the two optional truths.
+impl SettingValue for ServerApi {
+    ghost use Rattle.mongo_settings.specs.Options.{server_api_in};
+
+    ghost meaning = { server_api_in };
+
+    #[tactic(auto, unfolding(crate::specs::Options::server_api_in))]
+    fn read(alloc: Global, value: &Value) -> Result<ServerApi, SettingsError> {
+        judge_object(value, &["version", "strict", "deprecation_errors"])?;
+        let version = required::<ServerApiVersion>(alloc, value, "version")?;
+        let strict = optional::<bool>(alloc, value, "strict")?;
+        let deprecation_errors = optional::<bool>(alloc, value, "deprecation_errors")?;
+        Ok(ServerApi {
+            version,
+            strict,
+            deprecation_errors,
+        })
+    }
+}
+
+/// The text of the version.
+impl SettingValue for ServerApiVersion {
+    ghost use Rattle.mongo_settings.specs.Options.{version_in};
+
+    ghost meaning = { version_in };
+
+    fn read(_alloc: Global, value: &Value) -> Result<ServerApiVersion, SettingsError> {
+        match value.as_str() {
+            Some(text) if text == "1" => Ok(ServerApiVersion::V1),
+            _ => Err(SettingsError::BadSettings),
+        }
+    }
+}
