@@ -162,3 +162,14 @@ TextDecides (Err OutOfMemory) result = ⊤
 -- Where nothing fails, the words and the text decide; want of memory may stand in its place.
 abbrev pub IsDecided : {S K : Type 0} → (S → State) → (K → State) → List (List ℕ) → Run S K → Status → Type 0
 IsDecided source sink words run result = IsRehearse words → Unfailed source sink run → GaveInput (source run.source) (λ input. TextDecides (judged input) result)
+
+-- a run counts steps only where it makes a connection
+abbrev pub StepsAfter : Status → ℕ → ℕ → Type 0
+StepsAfter BadSettings before after = after ≡ before
+StepsAfter Usage before after = after ≡ before
+StepsAfter SourceFault before after = after ≡ before
+StepsAfter NotBuilt before after = after ≡ before
+StepsAfter Done before after = before ≤ after
+StepsAfter Refused before after = before ≤ after
+StepsAfter SinkFault before after = before ≤ after
+StepsAfter NoMemory before after = before ≤ after

@@ -6,35 +6,35 @@ use Rattle.mongo_login.specs.Run.{run_of, RehearseEnds}
 use Rattle.mongo_login.proofs.Ends.{ends_unbuilt, ends_reported, ends_sink, ends_unwritten}
 use Rattle.mongo_login.proofs.run.rehearse_from.Goals as goal
 
-pub returns-in-Err-NotBuilt : goal.returns-in-Err-NotBuilt
-returns-in-Err-NotBuilt g c =
+pub returns-in-Err-NotBuilt-clause-ends : goal.returns-in-Err-NotBuilt-clause-ends
+returns-in-Err-NotBuilt-clause-ends g c =
     let run = run_of c.args.source.now c.read_input.new.source c.args.sink.now c.args.sink.now in
     ends_unbuilt g.S.Outside.state g.K.Outside.state run c.in-Ok.text.items
     (record { reads = c.in-Ok.ensures.read; alike = c.in-Ok.ensures.judged_alike; ended = c.in-Ok.ensures.ended; at_most = c.read_input.ensures.at_most })
-    (ap judged (sym c.as_slice.ensures.value) ∙ (rw c.in-Err-NotBuilt.field-0-is at c.in-Err-NotBuilt.ensures)) refl
+    (ap judged (sym c.as_slice.ensures.value) ∙ (rw c.in-Err-NotBuilt.field-0-is at c.in-Err-NotBuilt.ensures.settings)) refl
 
-pub returns-in-Ok-write_report : goal.returns-in-Ok-write_report
-returns-in-Ok-write_report g c =
+pub returns-in-Ok-write_report-clause-ends : goal.returns-in-Ok-write_report-clause-ends
+returns-in-Ok-write_report-clause-ends g c =
     let run = run_of c.args.source.now c.read_input.new.source c.args.sink.now c.write_report.new.sink in
     subst (RehearseEnds g.S.Outside.state g.K.Outside.state run) (sym c.after.ensures)
     (ends_reported g.S.Outside.state g.K.Outside.state run c.in-Ok.text.items c.in-Ok-read.settings c.in-Ok-rehearse.rehearsal
     (record { reads = c.in-Ok.ensures.read; alike = c.in-Ok.ensures.judged_alike; ended = c.in-Ok.ensures.ended; at_most = c.read_input.ensures.at_most })
-    (ap judged (sym c.as_slice.ensures.value) ∙ c.in-Ok-read.ensures) c.in-Ok-rehearse.ensures.rehearsed
+    (ap judged (sym c.as_slice.ensures.value) ∙ c.in-Ok-read.ensures.settings) c.in-Ok-rehearse.ensures.rehearsed
     (subst (Appends _ _) c.as_slice-2.ensures.value c.in-Ok-write_report.ensures.written) c.in-Ok-write_report.ensures.flushed)
 
-pub returns-in-Err-Fault-write_report : goal.returns-in-Err-Fault-write_report
-returns-in-Err-Fault-write_report g c =
+pub returns-in-Err-Fault-write_report-clause-ends : goal.returns-in-Err-Fault-write_report-clause-ends
+returns-in-Err-Fault-write_report-clause-ends g c =
     let run = run_of c.args.source.now c.read_input.new.source c.args.sink.now c.write_report.new.sink in
     ends_sink g.S.Outside.state g.K.Outside.state run c.in-Ok.text.items c.in-Ok-read.settings c.in-Ok-rehearse.rehearsal.report.items
     (record { reads = c.in-Ok.ensures.read; alike = c.in-Ok.ensures.judged_alike; ended = c.in-Ok.ensures.ended; at_most = c.read_input.ensures.at_most })
-    (ap judged (sym c.as_slice.ensures.value) ∙ c.in-Ok-read.ensures) c.in-Ok-rehearse.ensures.rehearsed.report
+    (ap judged (sym c.as_slice.ensures.value) ∙ c.in-Ok-read.ensures.settings) c.in-Ok-rehearse.ensures.rehearsed.report
     (subst (AppendsFront _ _) c.as_slice-2.ensures.value c.in-Err-Fault-write_report.ensures.refused)
     ((rw c.in-Err-Fault-write_report.field-0-is at c.in-Err-Fault-write_report.ensures.failed) refl)
 
-pub returns : goal.returns
-returns g c =
+pub returns-clause-ends : goal.returns-clause-ends
+returns-clause-ends g c =
     let run = run_of c.args.source.now c.read_input.new.source c.args.sink.now c.write_report.new.sink in
     ends_unwritten g.S.Outside.state g.K.Outside.state run c.in-Ok.text.items c.in-Ok-read.settings c.in-Ok-rehearse.rehearsal.report.items
     (record { reads = c.in-Ok.ensures.read; alike = c.in-Ok.ensures.judged_alike; ended = c.in-Ok.ensures.ended; at_most = c.read_input.ensures.at_most })
-    (ap judged (sym c.as_slice.ensures.value) ∙ c.in-Ok-read.ensures) c.in-Ok-rehearse.ensures.rehearsed.report
+    (ap judged (sym c.as_slice.ensures.value) ∙ c.in-Ok-read.ensures.settings) c.in-Ok-rehearse.ensures.rehearsed.report
     (subst (AppendsFront _ _) c.as_slice-2.ensures.value c.in-Err-OutOfMemory-write_report.ensures.refused)
