@@ -14,7 +14,7 @@ use Rattle.mongo_bench.specs.declared.task.Direction.TheVariants.{Write, Read, R
 use Rattle.mongo_bench.specs.declared.task.FrameSize.{FrameSize}
 use Rattle.mongo_bench.specs.declared.task.FrameSize.TheVariants.{Small, Middle, Large}
 use Rattle.mongo_bench.specs.declared.task.Task.{Task}
-use Rattle.mongo_bench.specs.declared.task.Task.TheVariants.{Derive, Walk, Document, Frames}
+use Rattle.mongo_bench.specs.declared.task.Task.TheVariants.{Derive, Walk, Document, Frames, Insert}
 use Rattle.mongo_bench.specs.Task.{Asks, name_of_hash, name_of_pass, name_of_shape, name_of_direction, name_of_size}
 
 one_hash : (h k : Hash) → name_of_hash h ≡ name_of_hash k → h ≡ k
@@ -67,6 +67,11 @@ pub no_hash : (h : Hash) → name_of_hash h ≡ codes "document" → ⊥
 no_hash Sha1 same = cc
 no_hash Sha256 same = cc
 
+-- nor as the one that builds inserts
+pub no_hash_inserts : (h : Hash) → name_of_hash h ≡ codes "insert" → ⊥
+no_hash_inserts Sha1 same = cc
+no_hash_inserts Sha256 same = cc
+
 pub two_same : (a b c d : List ℕ) → a ∷ b ∷ [] ≡ c ∷ d ∷ [] → (a ≡ c) × (b ≡ d)
 two_same a b c d same = ((cc), (cc))
 
@@ -75,6 +80,10 @@ three_same a b c d e f same = ((cc), (cc), (cc))
 
 pub not_two : {P : Type 0} (a b c d e : List ℕ) → a ∷ b ∷ [] ≡ c ∷ d ∷ e ∷ [] → P
 not_two a b c d e same = cc
+
+-- the two tasks of two words that are no derivation
+inserts_nothing : {P : Type 0} (a b : List ℕ) → codes "insert" ∷ a ∷ [] ≡ codes "document" ∷ b ∷ [] → P
+inserts_nothing a b same = cc
 
 four_same : (a b c d e f g h : List ℕ) → a ∷ b ∷ c ∷ d ∷ [] ≡ e ∷ f ∷ g ∷ h ∷ [] → (b ≡ f) × (c ≡ g) × (d ≡ h)
 four_same a b c d e f g h same = ((cc), (cc), (cc))
@@ -114,3 +123,12 @@ one_task words (Frames d s n) (Walk p r m) t u = three_not_four (name_of_pass p)
 one_task words (Derive h m) (Frames d s n) t u = two_not_four (name_of_hash h) (decimal m) (codes "frames") (name_of_direction d) (name_of_size s) (decimal n) (sym t.0 ∙ u.0)
 one_task words (Document r) (Frames d s n) t u = two_not_four (codes "document") (name_of_shape r) (codes "frames") (name_of_direction d) (name_of_size s) (decimal n) (sym t.0 ∙ u.0)
 one_task words (Walk p r m) (Frames d s n) t u = three_not_four (name_of_pass p) (name_of_shape r) (decimal m) (codes "frames") (name_of_direction d) (name_of_size s) (decimal n) (sym t.0 ∙ u.0)
+one_task words (Insert n) (Insert m) t u = ap Insert (same_count n m t.2 u.2 (two_same (codes "insert") (decimal n) (codes "insert") (decimal m) (sym t.0 ∙ u.0)).1)
+one_task words (Insert n) (Derive h m) t u = absurd (no_hash_inserts h (two_same (name_of_hash h) (decimal m) (codes "insert") (decimal n) (sym u.0 ∙ t.0)).0)
+one_task words (Derive h m) (Insert n) t u = absurd (no_hash_inserts h (two_same (name_of_hash h) (decimal m) (codes "insert") (decimal n) (sym t.0 ∙ u.0)).0)
+one_task words (Insert n) (Document s) t u = inserts_nothing (decimal n) (name_of_shape s) (sym t.0 ∙ u.0)
+one_task words (Document s) (Insert n) t u = inserts_nothing (decimal n) (name_of_shape s) (sym u.0 ∙ t.0)
+one_task words (Insert n) (Walk p s m) t u = not_two (codes "insert") (decimal n) (name_of_pass p) (name_of_shape s) (decimal m) (sym t.0 ∙ u.0)
+one_task words (Walk p s m) (Insert n) t u = not_two (codes "insert") (decimal n) (name_of_pass p) (name_of_shape s) (decimal m) (sym u.0 ∙ t.0)
+one_task words (Insert n) (Frames d s m) t u = two_not_four (codes "insert") (decimal n) (codes "frames") (name_of_direction d) (name_of_size s) (decimal m) (sym t.0 ∙ u.0)
+one_task words (Frames d s m) (Insert n) t u = two_not_four (codes "insert") (decimal n) (codes "frames") (name_of_direction d) (name_of_size s) (decimal m) (sym u.0 ∙ t.0)

@@ -18,7 +18,7 @@ use Rattle.mongo_bench.specs.declared.task.Direction.TheVariants.{Write, Read, R
 use Rattle.mongo_bench.specs.declared.task.FrameSize.{FrameSize}
 use Rattle.mongo_bench.specs.declared.task.FrameSize.TheVariants.{Small, Middle, Large}
 use Rattle.mongo_bench.specs.declared.task.Task.{Task}
-use Rattle.mongo_bench.specs.declared.task.Task.TheVariants.{Derive, Walk, Document, Frames}
+use Rattle.mongo_bench.specs.declared.task.Task.TheVariants.{Derive, Walk, Document, Frames, Insert}
 
 -- the password and the salt of each derivation, those of RFC 5802, section 5
 abbrev pub password : List ℕ
@@ -68,6 +68,7 @@ count_of (Derive hash count) = count
 count_of (Walk pass shape count) = count
 count_of (Document shape) = 1
 count_of (Frames direction size count) = count
+count_of (Insert count) = count
 
 -- the words that ask for a task
 abbrev pub words_of : Task → List (List ℕ)
@@ -75,6 +76,7 @@ words_of (Derive hash count) = name_of_hash hash ∷ decimal count ∷ []
 words_of (Walk pass shape count) = name_of_pass pass ∷ name_of_shape shape ∷ decimal count ∷ []
 words_of (Document shape) = codes "document" ∷ name_of_shape shape ∷ []
 words_of (Frames direction size count) = codes "frames" ∷ name_of_direction direction ∷ name_of_size size ∷ decimal count ∷ []
+words_of (Insert count) = codes "insert" ∷ decimal count ∷ []
 
 abbrev pub Asks : List (List ℕ) → Task → Type 0
 Asks words task = (words ≡ words_of task) × (1 ≤ count_of task) × (count_of task < 2 ^ 32)
@@ -107,13 +109,14 @@ Tells Readable document text =
 abbrev pub Told : Pass → List ℕ → Option (List ℕ) → Option (List ℕ) → Type 0
 Told pass document old new = (text : List ℕ) × Tells pass document text × Appends old new text
 
--- what a task prints: a derivation its line, a walk what its pass tells of a document, a document its bytes, and frames a
--- number
+-- what a task prints: a derivation its line, a walk what its pass tells of a document, a document its bytes, and frames
+-- and commands a number
 abbrev pub Prints : Task → List ℕ → Type 0
 Prints (Derive hash count) text = text ≡ line_of hash count
 Prints (Walk pass shape count) text = (document : List ℕ) × IsFramed document × Tells pass document text
 Prints (Document shape) text = IsFramed text
 Prints (Frames direction size count) text = (length : ℕ) × (text ≡ decimal length ++ codes "\n")
+Prints (Insert count) text = (length : ℕ) × (text ≡ decimal length ++ codes "\n")
 
 -- what was written grew by what the task prints
 abbrev pub Printed : Task → Option (List ℕ) → Option (List ℕ) → Type 0

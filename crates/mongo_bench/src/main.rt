@@ -7,10 +7,13 @@
 //!   `bench/iterate` measures the first two.
 //! - `frames write|read|read-owned 100|10000|16777216 COUNT` writes or reads COUNT frames of that size over memory and
 //!   prints how many bytes the last one had. `bench/frames` measures them.
+//! - `insert COUNT` builds COUNT times the command of an insert of 1,000 documents with every argument that a command can
+//!   carry, and prints how many bytes its document has. `bench/command` measures it.
 #![tactic(auto)]
 
 mod documents;
 mod frames;
+mod insert;
 mod run;
 mod task;
 #[cfg(test)]

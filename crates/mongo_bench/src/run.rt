@@ -6,6 +6,7 @@ ghost use Rattle.mongo_bench.specs.Task.{Asks, AsksNothing, Printed, steps_of, d
 ghost use Rattle.mongo_bench.specs.Work.{nothing_done, work_of};
 
 use crate::frames::run_frames;
+use crate::insert::run_inserts;
 use crate::task::{Hash, PASSWORD, SALT, Task, task_of};
 use crate::walking::{run_document, run_walk};
 use crate::work::Work;
@@ -110,6 +111,7 @@ pub fn run<W: Write, G: Ledger>(
         Task::Walk(pass, shape, count) => run_walk(alloc, pass, shape, count, out),
         Task::Document(shape) => run_document(alloc, shape, out),
         Task::Frames(direction, size, count) => run_frames(alloc, direction, size, count, out),
+        Task::Insert(count) => run_inserts(alloc, count, out),
     }
 }
 

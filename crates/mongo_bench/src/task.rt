@@ -84,6 +84,8 @@ pub enum Task {
     Document(Shape),
     /// So many frames of a size, written or read.
     Frames(Direction, FrameSize, u32),
+    /// So many times the command of an insert.
+    Insert(u32),
 }
 
 /// The task that `words` ask for: its name, the shape of its document or the direction and size of its frames where it
@@ -105,12 +107,15 @@ pub fn task_of(words: &[String]) -> Option<Task>
     }
 }
 
-// The task of two words: a derivation, or a document's bytes.
+// The task of two words: a derivation, a document's bytes, or the command of an insert.
 fn task_of_two(name: &str, word: &str) -> Option<Task>
     ensures { MatchOption result (AsksNothing (name.now ∷ word.now ∷ [])) (Asks (name.now ∷ word.now ∷ [])) }
 {
     if name == "document" {
         return Some(Task::Document(shape_of(word)?));
+    }
+    if name == "insert" {
+        return Some(Task::Insert(count_of(word)?));
     }
     let hash = hash_of(name)?;
     Some(Task::Derive(hash, count_of(word)?))

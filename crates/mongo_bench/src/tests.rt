@@ -5,8 +5,9 @@ use std::sync::ledger::Blank;
 use std::test::Fail;
 
 // SHA-1: the salted password of the exchange in RFC 5802, section 5. SHA-256: Python's `hashlib`. The document that is too
-// deep has 101 levels and one element on each but the last; 100 levels are readable.
-const LINES: [(&[&str], &str); 9] = [
+// deep has 101 levels and one element on each but the last; 100 levels are readable. The insert: pymongo's encoding of the
+// same values.
+const LINES: [(&[&str], &str); 10] = [
     (
         &["hi-sha1", "4096"],
         "1d96ee3a529b5a5f9e47c01f229a2cb8a6e15f7d\n",
@@ -22,6 +23,7 @@ const LINES: [(&[&str], &str); 9] = [
     (&["frames", "write", "10000", "2"], "10000\n"),
     (&["frames", "read", "10000", "3"], "10000\n"),
     (&["frames", "read-owned", "10000", "3"], "10000\n"),
+    (&["insert", "2"], "98307\n"),
 ];
 
 #[test]
@@ -90,7 +92,7 @@ fn documents_are_printed_whole(rt: HostRuntime) -> Result<(), Fail> {
 
 #[test]
 fn usage_for_other_words(rt: HostRuntime) -> Result<(), Fail> {
-    let others: [&[&str]; 16] = [
+    let others: [&[&str]; 17] = [
         &["hi-sha1", "0"],
         &["hi-sha1", "01"],
         &["hi-sha1", "+1"],
@@ -99,6 +101,7 @@ fn usage_for_other_words(rt: HostRuntime) -> Result<(), Fail> {
         &["hi-sha256", "4294967296"],
         &["hi-md5", "1"],
         &["document"],
+        &["insert", "0"],
         &["document", "round"],
         &["iterate", "nested"],
         &["iterate", "round", "1"],

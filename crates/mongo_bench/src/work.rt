@@ -1,7 +1,8 @@
 ghost use Rattle.std.specs.Prelude.{◌≡◌, ◌+◌, ◌-◌, ◌^◌, ◌<◌, ◌≤◌, ◌↔◌, IsTrue, OnOk, IfOk};
 ghost use Rattle.mongo_bson.specs.Document.{IsReadable, maximum_depth};
-ghost use Rattle.mongo_bench.specs.Work.{nothing_done, only_iterated, only_judged, only_read, only_read_owned, only_written};
+ghost use Rattle.mongo_bench.specs.Work.{nothing_done, only_built, only_iterated, only_judged, only_read, only_read_owned, only_written};
 
+use crate::insert::insert_document;
 use crate::walking::elements_in;
 use mongo_bson::RawDocument;
 use mongo_wire::{Error, FrameBuffer, Message, RequestIds, StdSink, StdSource, read_frame};
@@ -21,6 +22,8 @@ pub struct Work {
     read: u32,
     /// Frames read into a message that owns its parts.
     read_owned: u32,
+    /// Commands of an insert built.
+    built: u32,
 }
 
 /// What the last of many passes gave, and what was done in all.
@@ -99,6 +102,18 @@ pub fn read_owned(alloc: Global, frame: &[u8], count: u32) -> Result<Passed<usiz
     Ok(Passed { last, work })
 }
 
+/// Builds the command of an insert so often, and gives how many bytes the last one had.
+pub fn build(alloc: Global, count: u32) -> Result<Passed<usize>, Error>
+    ensures { IfOk result (λ passed. passed.work ≡ only_built count) }
+{
+    let mut last = 0;
+    let mut work = Work::nothing();
+    'passes: while work.built < count {
+        last = work.build(alloc)?;
+    }
+    Ok(Passed { last, work })
+}
+
 impl Work {
     /// Nothing yet.
     pub fn nothing() -> Work
@@ -110,6 +125,7 @@ impl Work {
             written: 0,
             read: 0,
             read_owned: 0,
+            built: 0,
         }
     }
 
@@ -178,6 +194,16 @@ impl Work {
         let document = message.document_payload.as_bytes().len();
         self.read_owned += 1;
         Ok(document.wrapping_add(HEADER_AND_FLAGS + 1))
+    }
+
+    // One command of an insert: how many bytes its document has.
+    fn build(&mut self, alloc: Global) -> Result<usize, Error>
+        requires { self.old.built < 2 ^ 32 - 1 }
+        ensures { OnOk result (self.new ≡ record self.old { built = self.old.built + 1 }) }
+    {
+        let document = insert_document(alloc)?;
+        self.built += 1;
+        Ok(document.as_bytes().len())
     }
 }
 

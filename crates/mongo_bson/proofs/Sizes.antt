@@ -1,7 +1,7 @@
 -- How long a value is, by the int32 at its front.
-use Rattle.std.proofs.Common.{◌≡◌, ℕ, ◌+◌, ◌^◌, ◌<◌, ◌≤◌, Bool, false, IsTrue, List, [], ◌∷◌, ◌++◌, length, take, refl, sym, ap, ◌∙◌, subst, arith}
+use Rattle.std.proofs.Common.{◌≡◌, ℕ, ◌+◌, ◌^◌, ◌<◌, ◌≤◌, Bool, false, IsTrue, List, [], ◌∷◌, ◌++◌, length, take, drop, refl, sym, ap, ◌∙◌, subst, arith}
 use Rattle.std.specs.Int.{from_le_bytes, w32}
-use Rattle.std.proofs.lemmas.List.{take_at, length-append}
+use Rattle.std.proofs.lemmas.List.{take_at, length-append, length-take-le, take-append-drop}
 use Rattle.std.proofs.lemmas.Bool.{false≢true}
 use Rattle.mongo_bson.specs.Framed.{IsFramed}
 use Rattle.mongo_bson.specs.Document.{IsString, IsBinary, IsCodeWithScope, Holds, code_with_scope}
@@ -9,7 +9,7 @@ use Rattle.mongo_bson.specs.Reading.{NoneAtFront, IsCounted, IsNotCounted}
 
 -- the int32 at the front of bytes and `more` count this front
 pub record IsSized (front bytes : List ℕ) (more : ℕ) : Type 0 where
-  pub four : 4 ≤ length front
+  pub least : 5 ≤ length front
   pub most : from_le_bytes w32 bytes < 2 ^ 31
   pub size : length front ≡ from_le_bytes w32 bytes + more
 
@@ -26,27 +26,27 @@ number_at_front (a ∷ b ∷ c ∷ []) rest h = absurd (omega arith)
 number_at_front (a ∷ b ∷ c ∷ d ∷ more) rest h = refl
 
 -- a front that counts itself is counted in the bytes that it stands in
-sized_in : (front rest bytes : List ℕ) (more : ℕ) → bytes ≡ front ++ rest → 4 ≤ length front → from_le_bytes w32 front < 2 ^ 31 → length front ≡ from_le_bytes w32 front + more → IsSized front bytes more
-sized_in front rest bytes more e four most size =
-    let number = ap (from_le_bytes w32) e ∙ number_at_front front rest four in
-    record { four = four; most = omega (arith, number); size = omega (arith, number) }
+sized_in : (front rest bytes : List ℕ) (more : ℕ) → bytes ≡ front ++ rest → 5 ≤ length front → from_le_bytes w32 front < 2 ^ 31 → length front ≡ from_le_bytes w32 front + more → IsSized front bytes more
+sized_in front rest bytes more e least most size =
+    let number = ap (from_le_bytes w32) e ∙ number_at_front front rest (omega arith) in
+    record { least = least; most = omega (arith, number); size = omega (arith, number) }
 
 pub string_size : (bytes : List ℕ) → HasSize IsString bytes 4
-string_size bytes front rest is e = sized_in front rest bytes 4 e (omega (arith, is.least)) is.most (sym is.counted)
+string_size bytes front rest is e = sized_in front rest bytes 4 e is.least is.most (sym is.counted)
 
 pub document_size : (bytes : List ℕ) → HasSize IsFramed bytes 0
-document_size bytes front rest is e = sized_in front rest bytes 0 e (omega (arith, is.least)) (omega (arith, is.counted, is.most)) (omega (arith, is.counted))
+document_size bytes front rest is e = sized_in front rest bytes 0 e is.least (omega (arith, is.counted, is.most)) (omega (arith, is.counted))
 
 pub binary_size : (bytes : List ℕ) → HasSize IsBinary bytes 5
-binary_size bytes front rest is e = sized_in front rest bytes 5 e (omega (arith, is.least)) is.most (sym is.counted)
+binary_size bytes front rest is e = sized_in front rest bytes 5 e is.least is.most (sym is.counted)
 
 -- a code with scope is longer than its length field
-least : (v code scope : List ℕ) → IsCodeWithScope v code scope → 4 ≤ length v
+least : (v code scope : List ℕ) → IsCodeWithScope v code scope → 5 ≤ length v
 least [] code scope is = absurd (omega (arith, ap length is.spelled, length-append code scope, is.string.least))
 least (a ∷ []) code scope is = absurd (omega (arith, ap length is.spelled, length-append code scope, is.string.least))
 least (a ∷ b ∷ []) code scope is = absurd (omega (arith, ap length is.spelled, length-append code scope, is.string.least))
 least (a ∷ b ∷ c ∷ []) code scope is = absurd (omega (arith, ap length is.spelled, length-append code scope, is.string.least))
-least (a ∷ b ∷ c ∷ d ∷ more) code scope is = omega arith
+least (a ∷ b ∷ c ∷ d ∷ more) code scope is = omega (arith, ap length is.spelled, length-append code scope, is.string.least)
 
 pub code_with_scope_size : (bytes : List ℕ) → HasSize (Holds code_with_scope) bytes 0
 code_with_scope_size bytes front rest (code, scope, is) e = sized_in front rest bytes 0 e (least front code scope is) (omega (arith, is.counted, is.most)) (omega (arith, is.counted))
@@ -67,4 +67,11 @@ pub none_as_short : (P : List ℕ → Type 0) (bytes : List ℕ) (more : ℕ) �
 none_as_short P bytes more sized not_counted front rest holds e =
     let is = sized front rest holds e in
     let whole = ap length e ∙ length-append front rest in
-    not_counted (omega (arith, is.four, whole)) is.most (omega (arith, is.size, whole))
+    not_counted is.most (omega (arith, is.least, is.size)) (omega (arith, is.size, whole))
+
+-- the counted bytes count themselves
+pub counts_itself : (bytes : List ℕ) (more n : ℕ) → IsCounted bytes more n → IsCounted (take n bytes) more (length (take n bytes))
+counts_itself bytes more n counted =
+    let size : length (take n bytes) ≡ n = length-take-le n bytes counted.within in
+    let number : from_le_bytes w32 bytes ≡ from_le_bytes w32 (take n bytes) = ap (from_le_bytes w32) (sym (take-append-drop n bytes)) ∙ number_at_front (take n bytes) (drop n bytes) (omega (arith, size, counted.least)) in
+    record { least = omega (arith, size, counted.least); most = omega (arith, number, counted.most); count = omega (arith, size, number, counted.count); within = omega arith }

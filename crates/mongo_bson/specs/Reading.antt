@@ -45,15 +45,16 @@ pub record BeginsWithElement (bytes : List ℕ) (e : Element) (rest : List ℕ) 
 abbrev pub NoElementAtFront : List ℕ → Type 0
 NoElementAtFront bytes = (e : Element) (rest : List ℕ) → IsElement e → bytes ≡ spell e ++ rest → ⊥
 
--- the int32 at the front and so many more count bytes that are there
+-- The int32 at the front and so many more count bytes that are there. They are at least five, as those of every value
+-- that has a length.
 pub record IsCounted (bytes : List ℕ) (more n : ℕ) : Type 0 where
-  pub four : 4 ≤ length bytes
+  pub least : 5 ≤ n
   pub most : from_le_bytes w32 bytes < 2 ^ 31
   pub count : n ≡ from_le_bytes w32 bytes + more
   pub within : n ≤ length bytes
 
 abbrev pub IsNotCounted : List ℕ → ℕ → Type 0
-IsNotCounted bytes more = 4 ≤ length bytes → from_le_bytes w32 bytes < 2 ^ 31 → from_le_bytes w32 bytes + more ≤ length bytes → ⊥
+IsNotCounted bytes more = from_le_bytes w32 bytes < 2 ^ 31 → 5 ≤ from_le_bytes w32 bytes + more → from_le_bytes w32 bytes + more ≤ length bytes → ⊥
 
 -- a string and a document
 abbrev pub IsCodeAndScope : List ℕ → Type 0

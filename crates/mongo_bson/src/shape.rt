@@ -98,7 +98,7 @@ fn document_len(bytes: &[u8]) -> Option<usize>
     ensures { MatchOption result (NoneAtFront IsFramed bytes.now) (IsAtFront IsFramed bytes.now) }
 {
     let size = counted_len(bytes, 0)?;
-    if is_framed(&bytes[..size]) {
+    if is_document(&bytes[..size]) {
         Some(size)
     } else {
         None
@@ -145,7 +145,8 @@ fn code_with_scope_len(bytes: &[u8]) -> Option<usize>
     }
 }
 
-// What the int32 at the front counts and `more`, where the int32 isn't negative and so many bytes are there.
+// What the int32 at the front counts and `more`, where the int32 isn't negative and so many bytes are there. That is at
+// least five: no value with a length has fewer.
 pub(crate) fn counted_len(bytes: &[u8], more: usize) -> Option<usize>
     requires { more < 6 }
     ensures { MatchOption result (IsNotCounted bytes.now more) (IsCounted bytes.now more) }
@@ -153,8 +154,9 @@ pub(crate) fn counted_len(bytes: &[u8], more: usize) -> Option<usize>
     match bytes {
         [a, b, c, d, ..] => {
             let count = u32::from_le_bytes([*a, *b, *c, *d]) as usize;
-            if count < 0x8000_0000 && count + more <= bytes.len() {
-                Some(count + more)
+            let size = count + more;
+            if count < 0x8000_0000 && 5 <= size && size <= bytes.len() {
+                Some(size)
             } else {
                 None
             }
@@ -163,31 +165,35 @@ pub(crate) fn counted_len(bytes: &[u8], more: usize) -> Option<usize>
     }
 }
 
-// Whether the bytes are a string.
-fn is_string(bytes: &[u8]) -> bool
-    ensures { IsTrue result ↔ IsString bytes.now }
+// Whether bytes that their int32 counts are a string.
+fn is_string(counted: &[u8]) -> bool
+    requires { IsCounted counted.now 4 (length counted.now) }
+    ensures { IsTrue result ↔ IsString counted.now }
 {
-    match bytes {
-        [a, b, c, d, text @ .., last] => {
-            let count = u32::from_le_bytes([*a, *b, *c, *d]) as usize;
-            count < 0x8000_0000
-                && count + 4 == bytes.len()
-                && *last == 0
-                && str::from_utf8(text).is_ok()
-        }
+    match counted {
+        [_, _, _, _, text @ .., last] => *last == 0 && str::from_utf8(text).is_ok(),
         _ => false,
     }
 }
 
-// Whether the bytes are a code with scope.
-fn is_code_with_scope(bytes: &[u8]) -> bool
-    ensures { IsTrue result ↔ Holds code_with_scope bytes.now }
+// Whether bytes that their int32 counts are a document.
+fn is_document(counted: &[u8]) -> bool
+    requires { IsCounted counted.now 0 (length counted.now) }
+    ensures { IsTrue result ↔ IsFramed counted.now }
 {
-    match bytes {
-        [a, b, c, d, rest @ ..] => {
-            let count = u32::from_le_bytes([*a, *b, *c, *d]) as usize;
-            count < 0x8000_0000 && count == bytes.len() && is_code_and_scope(rest)
-        }
+    match counted {
+        [.., last] => *last == 0,
+        _ => false,
+    }
+}
+
+// Whether bytes that their int32 counts are a code with scope.
+fn is_code_with_scope(counted: &[u8]) -> bool
+    requires { IsCounted counted.now 0 (length counted.now) }
+    ensures { IsTrue result ↔ Holds code_with_scope counted.now }
+{
+    match counted {
+        [_, _, _, _, parts @ ..] => is_code_and_scope(parts),
         _ => false,
     }
 }

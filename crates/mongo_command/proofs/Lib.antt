@@ -20,3 +20,4 @@ pub mod OneReply
 pub mod FrameSizes
 pub mod Tables
 pub mod OneWrite
+pub mod Kept

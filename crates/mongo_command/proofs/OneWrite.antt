@@ -19,7 +19,7 @@ use Rattle.mongo_command.proofs.OneReply.{◌·◌}
 -- ---- one value of each kind
 
 unsigned32_one : ReadsOne ReadsUnsigned32
-unsigned32_one = record { one = λ e a b p q. minutes_one.one e a b p.0 q.0; not_null = λ e a p null. minutes_one.not_null e a p.0 null }
+unsigned32_one = record { one = λ e a b p q. minutes_one.one e a b p.0 q.0 }
 
 one_held : {A : Type 0} (Table : List Element → A → Type 0) → ((elements : List Element) (a b : A) → Table elements a → Table elements b → a ≡ b) → (document : List ℕ) (a b : A) → HoldsTable Table document a → HoldsTable Table document b → a ≡ b
 one_held Table only document a b p q =
@@ -40,7 +40,7 @@ one_write_error elements a b p q =
     · optional_one _ document_one _ _ _ p.details q.details
 
 write_error_one : ReadsOne ReadsWriteError
-write_error_one = record { one = λ e a b p q. one_held IsWriteErrorTable one_write_error e.value a b p.1 q.1; not_null = λ e a p null. omega (arith, p.0, null) }
+write_error_one = record { one = λ e a b p q. one_held IsWriteErrorTable one_write_error e.value a b p.1 q.1 }
 
 one_each : {A : Type 0} (Reads : Element → A → Type 0) → ReadsOne Reads → (es : List Element) (xs ys : List A) → EachReads Reads es xs → EachReads Reads es ys → xs ≡ ys
 one_each Reads only [] [] [] p q = refl
@@ -55,7 +55,7 @@ one_errors document a b p q =
     one_each ReadsWriteError write_error_one q.items a b (subst (λ items. EachReads ReadsWriteError items a) (one_document document p.items q.items p.filled q.filled) p.each) q.each
 
 write_errors_one : ReadsOne ReadsWriteErrors
-write_errors_one = record { one = λ e a b p q. one_errors e.value a b p.1 q.1; not_null = λ e a p null. omega (arith, p.0, null) }
+write_errors_one = record { one = λ e a b p q. one_errors e.value a b p.1 q.1 }
 
 one_texts : (found : Option Element) (a b : List (List ℕ)) → TextsOrNone found a → TextsOrNone found b → a ≡ b
 one_texts None a b p q = p ∙ sym q
@@ -76,7 +76,7 @@ one_concern_error elements a b p q =
     · one_texts (field_of (codes "errorLabels") elements) a.labels b.labels p.labels q.labels
 
 concern_error_one : ReadsOne ReadsConcernError
-concern_error_one = record { one = λ e a b p q. one_held IsConcernErrorTable one_concern_error e.value a b p.1 q.1; not_null = λ e a p null. omega (arith, p.0, null) }
+concern_error_one = record { one = λ e a b p q. one_held IsConcernErrorTable one_concern_error e.value a b p.1 q.1 }
 
 -- ---- one reply
 

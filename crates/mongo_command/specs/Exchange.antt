@@ -67,10 +67,6 @@ pub record Exchanges (maximum : ℤ) (message : Message) (old new : State) (befo
 abbrev pub HoldsReply : FrameBuffer → Type 0
 HoldsReply buffer = (frame : List ℕ) × (parts : Frame) × HoldsFrame frame parts buffer
 
--- what a refusal leaves of a buffer: what it was, or nothing, and nothing counted
-abbrev pub IsKeptOrCleared : FrameBuffer → FrameBuffer → Type 0
-IsKeptOrCleared old new = (new ≡ old) ⊎ IsCleared old new
-
 -- nothing was done
 pub record Unsent (old new : State) (before after : ℤ) (kept : Option ErrorKind) : Type 0 where
   pub link : new ≡ old
@@ -116,6 +112,13 @@ pub record Unanswered (kind : ErrorKind) (maximum : ℤ) (message : Message) (ol
 -- Why an exchange was refused, and what it left in the link, the ids and the connection.
 abbrev pub ExchangeRefused : ErrorKind → ℤ → Message → State → State → ℤ → ℤ → Option ErrorKind → Type 0
 ExchangeRefused kind maximum message old new before after kept = SendRefused kind maximum message old new before after kept ⊎ Unanswered kind maximum message old new before after kept
+
+-- What a refused exchange leaves of a buffer: what it was where the message wasn't sent, and nothing where it was sent and
+-- no frame was received.
+abbrev pub BufferRefused : ErrorKind → ℤ → Message → State → State → ℤ → ℤ → Option ErrorKind → FrameBuffer → FrameBuffer → Type 0
+BufferRefused kind maximum message old new before after kept buffer_old buffer_new =
+    (SendRefused kind maximum message old new before after kept × (buffer_new ≡ buffer_old))
+    ⊎ (Unanswered kind maximum message old new before after kept × IsCleared buffer_old buffer_new)
 
 -- what every exchange keeps: whether the bytes are told, the counts from falling, and what was flushed
 pub record CountsStay (old new : State) : Type 0 where

@@ -1,6 +1,6 @@
 -- One field of a document: the first element of its key, and what it reads as. A table of fields says for each key which
 -- reading it has, and whether it has to be there.
-use Rattle.std.specs.Prelude.{◌≡◌, ℕ, ℤ, pos, ◌==◌, Bool, Option, None, Some, List, [], ◌∷◌, map, bytes_eq, FitsSigned, if◌then◌else◌, ⊤}
+use Rattle.std.specs.Prelude.{◌≡◌, ◌≢◌, ℕ, ℤ, pos, ◌==◌, Bool, Option, None, Some, List, [], ◌∷◌, map, bytes_eq, FitsSigned, if◌then◌else◌, ⊤}
 use Rattle.std.specs.List.{AllByRecursion}
 use Rattle.std.specs.Int.{from_le_bytes, from_bool, cast_signed, w32, w64}
 use Rattle.mongo_bson.specs.Document.{Element, IsDocument, text_of}
@@ -18,12 +18,12 @@ unfoldable pub Required : {A : Type 0} → (Element → A → Type 0) → Option
 Required Reads None value = ⊥
 Required Reads (Some e) value = Reads e value
 
--- a field that may be absent; null counts as absent
+-- a field that may be absent; null counts as absent, whatever the reading
 unfoldable pub Optional : {A : Type 0} → (Element → A → Type 0) → Option Element → Option A → Type 0
 Optional Reads None None = ⊤
 Optional Reads None (Some value) = ⊥
 Optional Reads (Some e) None = e.kind ≡ 0x0A
-Optional Reads (Some e) (Some value) = Reads e value
+Optional Reads (Some e) (Some value) = (e.kind ≢ 0x0A) × Reads e value
 
 -- ---- what an element reads as, kind by kind
 

@@ -1,4 +1,4 @@
-ghost use Rattle.std.specs.Prelude.{◌≡◌, ◌++◌, flat_map, codes, Contains, option_map, IfErr, OnOk};
+ghost use Rattle.std.specs.Prelude.{◌≡◌, ◌++◌, ◌∷◌, flat_map, codes, Contains, option_map, IfOk, IfErr, OnOk};
 ghost use Rattle.std.specs.List.{AllByRecursion};
 ghost use Rattle.mongo_bson.specs.Framed.{IsFramed, body_of, enclosed};
 ghost use Rattle.mongo_bson.specs.Document.{spell};
@@ -8,13 +8,77 @@ ghost use Rattle.mongo_command.specs.Command.{given, timestamp_element, sent_con
 ghost use Rattle.mongo_command.specs.Arguments.{field_elements, IsNamed, TooLongFor};
 
 use crate::ServerApi;
-use mongo_bson::{BsonFault, RawDocumentBuf, RawValue, Text};
+use mongo_bson::{BsonFault, Bytes, RawDocumentBuf, RawValue, Text};
+use std::alloc::Global;
 
 // The length of a document without elements.
 const EMPTY_DOCUMENT: usize = 5;
 
 // A field of a command that may be there: its key and its value.
 pub(crate) type ArgumentField<'a> = Option<(&'static str, RawValue<'a>)>;
+
+// A copy of a document with memory for so many bytes more.
+pub(crate) fn copy_with_room(
+    alloc: Global,
+    document: &RawDocumentBuf,
+    room: usize,
+) -> Result<RawDocumentBuf, BsonFault>
+    ensures copied { IfOk result (λ copy. copy ≡ document.now) }
+    ensures refused { IfErr result (λ fault. fault ≡ BsonFault.OutOfMemory) }
+{
+    let bytes = document.as_bytes();
+    let mut copy = Vec::with_capacity(alloc, bytes.len().saturating_add(room))?;
+    copy.extend_from_slice(bytes)?;
+    match RawDocumentBuf::from_bytes(Bytes::from_vec(copy)) {
+        Ok(copy) => Ok(copy),
+        Err(_) => unreachable!(),
+    }
+}
+
+// How many bytes fields take in a document: as many as are taken ahead.
+pub(crate) fn size_of_fields(fields: &[ArgumentField<'_>]) -> usize {
+    let mut size: usize = 0;
+    for field in fields {
+        size = size.saturating_add(size_of_field(field));
+    }
+    size
+}
+
+// How many bytes a field takes in a document: its kind, its key, a zero and its value.
+pub(crate) fn size_of_field(field: &Option<(&str, RawValue<'_>)>) -> usize {
+    match field {
+        Some((key, value)) => size_of_value(*value)
+            .saturating_add(key.len())
+            .saturating_add(2),
+        None => 0,
+    }
+}
+
+// How many bytes an argument's value takes.
+fn size_of_value(value: RawValue<'_>) -> usize {
+    match value {
+        RawValue::Str(text) => text.len().saturating_add(5),
+        RawValue::Document(document) => document.as_bytes().len(),
+        RawValue::Other(_, content) => content.len(),
+        RawValue::Bool(_) => 1,
+        _ => 8,
+    }
+}
+
+// Puts `$db` and the fields that are there at the end of a document.
+pub(crate) fn append_arguments(
+    document: &mut RawDocumentBuf,
+    target_db: &str,
+    fields: &[ArgumentField<'_>],
+) -> Result<(), BsonFault>
+    requires named { AllByRecursion IsNamed fields.now }
+    ensures added { OnOk result (document.new ≡ enclosed (body_of document.old ++ flat_map spell (text_element (codes "$db") target_db.now ∷ flat_map field_elements fields.now))) }
+    ensures framed { OnOk result (IsFramed document.new) }
+    ensures refused { IfErr result (λ fault. TooLongFor fault (enclosed (body_of document.old ++ flat_map spell (text_element (codes "$db") target_db.now ∷ flat_map field_elements fields.now)))) }
+{
+    document.append("$db", RawValue::Str(target_db))?;
+    append_fields(document, fields)
+}
 
 // Puts the fields that are there at the end of a document.
 pub(crate) fn append_fields(

@@ -7,9 +7,10 @@ ghost use Rattle.mongo_command.specs.Arguments.{field_elements, IsNamed, TooLong
 
 use crate::ServerApi;
 use crate::arguments::{
-    ArgumentField, append_fields, document_field, int64_field, truth_field, version_field,
-    write_concern_field,
+    ArgumentField, append_arguments, copy_with_room, document_field, int64_field, size_of_field,
+    size_of_fields, truth_field, version_field, write_concern_field,
 };
+use crate::copies::copy_of;
 use crate::read_concern::ReadConcern;
 use mongo_bson::{BsonFault, RawDocumentBuf, RawValue};
 use std::alloc::Global;
@@ -40,21 +41,25 @@ pub(crate) struct GenericArguments {
 }
 
 impl GenericArguments {
-    // Puts `$db` and the arguments that are there at the end of a document.
-    pub(crate) fn append_to(
+    // The document of a command: the elements of its body, `$db` and the arguments that are there. Its memory is taken at
+    // once.
+    pub(crate) fn document_with(
         &self,
         alloc: Global,
         target_db: &str,
-        document: &mut RawDocumentBuf,
-    ) -> Result<(), BsonFault>
-        ensures added { OnOk result (document.new ≡ enclosed (body_of document.old ++ flat_map spell (argument_elements target_db.now self.now))) }
-        ensures framed { OnOk result (IsFramed document.new) }
-        ensures refused { IfErr result (λ fault. TooLongFor fault (enclosed (body_of document.old ++ flat_map spell (argument_elements target_db.now self.now)))) }
+        body: &RawDocumentBuf,
+    ) -> Result<RawDocumentBuf, BsonFault>
+        ensures document { IfOk result (λ document. document ≡ enclosed (body_of body.now ++ flat_map spell (argument_elements target_db.now self.now))) }
+        ensures framed { IfOk result (λ document. IsFramed document) }
+        ensures refused { IfErr result (λ fault. TooLongFor fault (enclosed (body_of body.now ++ flat_map spell (argument_elements target_db.now self.now)))) }
     {
         let read_concern = self.read_concern_document(alloc)?;
         let fields = self.fields(&read_concern);
-        document.append("$db", RawValue::Str(target_db))?;
-        append_fields(document, &fields)
+        let db = ("$db", RawValue::Str(target_db));
+        let room = size_of_field(&Some(db)).saturating_add(size_of_fields(&fields));
+        let mut document = copy_with_room(alloc, body, room)?;
+        append_arguments(&mut document, target_db, &fields)?;
+        Ok(document)
     }
 
     // The arguments but `$db`, in their order.
@@ -106,31 +111,17 @@ impl GenericArguments {
             None => None,
         };
         Ok(GenericArguments {
-            lsid: document_copy(alloc, &self.lsid)?,
-            cluster_time: document_copy(alloc, &self.cluster_time)?,
+            lsid: copy_of(alloc, &self.lsid)?,
+            cluster_time: copy_of(alloc, &self.cluster_time)?,
             server_api: self.server_api,
-            read_preference: document_copy(alloc, &self.read_preference)?,
+            read_preference: copy_of(alloc, &self.read_preference)?,
             txn_number: self.txn_number,
             start_transaction: self.start_transaction,
             autocommit: self.autocommit,
             read_concern,
-            write_concern: document_copy(alloc, &self.write_concern)?,
-            recovery_token: document_copy(alloc, &self.recovery_token)?,
+            write_concern: copy_of(alloc, &self.write_concern)?,
+            recovery_token: copy_of(alloc, &self.recovery_token)?,
         })
-    }
-}
-
-// A copy of a document that may be there.
-pub(crate) fn document_copy(
-    alloc: Global,
-    document: &Option<RawDocumentBuf>,
-) -> Result<Option<RawDocumentBuf>, BsonFault>
-    ensures copied { IfOk result (λ copy. copy ≡ document.now) }
-    ensures refused { IfErr result (λ fault. fault ≡ BsonFault.OutOfMemory) }
-{
-    match document {
-        Some(document) => Ok(Some(document.try_clone(alloc)?)),
-        None => Ok(None),
     }
 }
 

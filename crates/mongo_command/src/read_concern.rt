@@ -4,6 +4,7 @@ ghost use Rattle.mongo_command.specs.Command.{read_concern_elements, read_concer
 ghost use Rattle.mongo_command.specs.Arguments.{field_elements, IsNamed, TooLongFor};
 
 use crate::arguments::{ArgumentField, append_fields, text_field, timestamp_field};
+use crate::copies::copy_of;
 use mongo_bson::{BsonFault, RawDocumentBuf, Text};
 use std::alloc::Global;
 
@@ -55,12 +56,8 @@ impl ReadConcern {
         ensures copied { IfOk result (λ concern. concern ≡ self.now) }
         ensures refused { IfErr result (λ fault. fault ≡ BsonFault.OutOfMemory) }
     {
-        let level = match &self.level {
-            Some(level) => Some(level.try_clone(alloc)?),
-            None => None,
-        };
         Ok(ReadConcern {
-            level,
+            level: copy_of(alloc, &self.level)?,
             at_cluster_time: self.at_cluster_time,
             after_cluster_time: self.after_cluster_time,
         })

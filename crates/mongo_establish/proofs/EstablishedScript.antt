@@ -6,7 +6,7 @@ use Rattle.mongo_command.specs.Conversation.{Said, Event, exchanged, ends, Plan,
 use Rattle.mongo_command.proofs.Ends.{Ends}
 use Rattle.mongo_command.proofs.Leads.{told_taken}
 use Rattle.mongo_command.proofs.OneSaid.{framed_sendable}
-use Rattle.mongo_scram.proofs.ScramEnds.{replies_in, documents_in}
+use Rattle.mongo_sasl.proofs.LoginEvents.{replies_in, documents_in, within_sent, sent_within, within_heard, heard_within, within_given, said_sendable}
 use Rattle.mongo_establish.specs.declared.establisher.PooledConnection.{PooledConnection}
 use Rattle.mongo_establish.specs.Asked.{Asked}
 use Rattle.mongo_establish.specs.Client.{hello_document}
@@ -15,7 +15,7 @@ use Rattle.mongo_establish.specs.Generation.{generation_of}
 use Rattle.mongo_establish.specs.Greeting.{Greeting}
 use Rattle.mongo_establish.specs.Plan.{hello_said, hello_plan, establishment_plan}
 use Rattle.mongo_establish.specs.Script.{Script, IsScript, HasScript}
-use Rattle.mongo_establish.proofs.LoginBytes.{within_sent, sent_within, within_heard, heard_within, within_ids, within_given, said_sendable}
+use Rattle.mongo_establish.proofs.LoginBytes.{within_ids}
 use Rattle.mongo_establish.proofs.LoginEnds.{maximum_of}
 use Rattle.mongo_establish.proofs.EstablishmentPlan.{IsEstablished, establishment_ended, script_ends}
 

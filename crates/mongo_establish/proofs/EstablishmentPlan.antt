@@ -5,7 +5,7 @@ use Rattle.mongo_command.specs.declared.stream_description.StreamDescription.{St
 use Rattle.mongo_command.specs.Conversation.{Event, exchanged, IsOne, HasNone, HasOneTurn, IsSendable, said_in}
 use Rattle.mongo_command.proofs.Plans.{one_ending, one_unless, one_followed}
 use Rattle.mongo_command.proofs.Ends.{Ends, ends_ending, ends_unless, ends_followed, ends_both}
-use Rattle.mongo_scram.proofs.ScramEnds.{replies_in, documents_in, AreSendable}
+use Rattle.mongo_sasl.proofs.LoginEvents.{replies_in, documents_in, AreSendable, AreWithin}
 use Rattle.mongo_establish.specs.declared.generation.PoolGeneration.{PoolGeneration}
 use Rattle.mongo_establish.specs.declared.generation.PoolGeneration.TheVariants.{Normal, LoadBalanced}
 use Rattle.mongo_establish.specs.Asked.{Asked}
@@ -16,7 +16,6 @@ use Rattle.mongo_establish.specs.Refusal.{NoService}
 use Rattle.mongo_establish.specs.Script.{Script, IsScript, IsLogin}
 use Rattle.mongo_establish.specs.Speculation.{HelloRow}
 use Rattle.mongo_establish.proofs.HelloPlan.{one_hello, greeted, greeting_ends}
-use Rattle.mongo_establish.proofs.LoginBytes.{AreWithin}
 use Rattle.mongo_establish.proofs.LoginPlan.{one_login}
 use Rattle.mongo_establish.proofs.LoginEnds.{maximum_of, login_ended, login_ends}
 

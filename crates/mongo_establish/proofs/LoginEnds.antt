@@ -12,14 +12,14 @@ use Rattle.mongo_scram.specs.declared.scram_version.ScramVersion.TheVariants.{Sh
 use Rattle.mongo_scram.specs.Plan.{Speculated, Handed, Challenge, scram_plan}
 use Rattle.mongo_scram.specs.Script.{IsScramLogin}
 use Rattle.mongo_scram.proofs.ScramPlan.{one_scram}
-use Rattle.mongo_scram.proofs.ScramEnds.{replies_in, documents_in, AreSendable, login_events, scram_ended, scram_ends, IsLogin as IsScramEnd}
+use Rattle.mongo_sasl.proofs.LoginEvents.{replies_in, documents_in, AreSendable, AreWithin}
+use Rattle.mongo_scram.proofs.ScramEnds.{login_events, scram_ended, scram_ends, IsLogin as IsScramEnd}
 use Rattle.mongo_scram.proofs.ScramScript.{login_scram, scram_login as scram_script}
 use Rattle.mongo_establish.specs.Asked.{Asked}
 use Rattle.mongo_establish.specs.Greeting.{Greeting}
 use Rattle.mongo_establish.specs.Login.{logging_in, speculative_reply, IsMechanism, InvalidRow, handed_by}
 use Rattle.mongo_establish.specs.Plan.{scram_login, mechanism_plan, login_by, login_plan}
 use Rattle.mongo_establish.specs.Script.{IsLoginBy, IsLoginOf, IsLogin}
-use Rattle.mongo_establish.proofs.LoginBytes.{AreWithin}
 use Rattle.mongo_establish.proofs.LoginPlan.{one_mechanism, no_invalid_row}
 
 -- the server's maximum

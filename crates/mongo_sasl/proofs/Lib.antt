@@ -1,4 +1,12 @@
 pub mod OneReply
+pub mod NotBuilt
+pub mod Unsent
+pub mod LoginEvents
+pub mod OneExchange
+pub mod PlainPlan
+pub mod PlainSteps
+pub mod X509Plan
+pub mod X509Steps
 mod FirstOfKey
 mod Foreign
 mod SaslRead

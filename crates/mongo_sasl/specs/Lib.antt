@@ -8,3 +8,6 @@ pub mod Reply
 pub mod View
 pub mod Commands
 pub mod Sent
+pub mod Login
+pub mod Plain
+pub mod X509

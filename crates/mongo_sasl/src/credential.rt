@@ -112,9 +112,9 @@ impl Credential {
         ensures refused { IfErr result (λ fault. fault ≡ BsonFault.OutOfMemory) }
     {
         Ok(Credential {
-            username: copy_of(alloc, &self.username)?,
-            source: copy_of(alloc, &self.source)?,
-            password: copy_of(alloc, &self.password)?,
+            username: copy_of_text(alloc, &self.username)?,
+            source: copy_of_text(alloc, &self.source)?,
+            password: copy_of_text(alloc, &self.password)?,
             mechanism: self.mechanism,
             mechanism_properties: match &self.mechanism_properties {
                 Some(properties) => Some(properties.try_clone(alloc)?),
@@ -146,7 +146,7 @@ fn user_of_admin(alloc: Global, username: &Text) -> Result<Text, Error>
 }
 
 // A copy of a text that may be absent.
-fn copy_of(alloc: Global, text: &Option<Text>) -> Result<Option<Text>, BsonFault>
+fn copy_of_text(alloc: Global, text: &Option<Text>) -> Result<Option<Text>, BsonFault>
     ensures copied { IfOk result (λ copy. copy ≡ text.now) }
     ensures refused { IfErr result (λ fault. fault ≡ BsonFault.OutOfMemory) }
 {

@@ -2,20 +2,27 @@
 //!
 //! A login goes so: `saslStart` carries the mechanism's name and the client's first message, and `saslContinue` each
 //! later one, with the id of the conversation that the server's replies name. Each reply carries the server's message
-//! and whether the conversation is done. Every mechanism speaks through these two commands and this one reply; what
+//! and whether the conversation is done. Every mechanism but X.509 speaks through these two commands and this one reply; what
 //! the messages say is the mechanism's own.
+//!
+//! Two mechanisms are one command and one reply, and stand here whole: [`plain`] and [`x509`]. Proved: a login by them is
+//! accepted exactly after that command and a reply that ends it, and a refused one says why and what it left;
+//! `specs/Plain.antt` and `specs/X509.antt` state the conversations turn by turn and as whole lists.
 //!
 //! Want of memory may stand in place of any answer of a call that is handed an allocator.
 #![tactic(auto)]
 
 mod auth_options;
+mod buffered_reply;
 mod command_body;
 mod commands;
 mod credential;
 mod documents;
 mod mechanism;
 mod moment;
+pub mod plain;
 mod properties;
+mod refusal;
 mod rules;
 mod sasl_continue;
 mod sasl_response;
@@ -24,8 +31,10 @@ mod sasl_view;
 #[cfg(test)]
 mod tests;
 mod validation;
+pub mod x509;
 
 pub use auth_options::AuthOptions;
+pub use buffered_reply::held_reply;
 pub use credential::Credential;
 pub use mechanism::AuthMechanism;
 pub use moment::Moment;
@@ -33,10 +42,14 @@ pub use properties::{
     ALLOWED_HOSTS_PROP_STR, AWS_SESSION_TOKEN, AZURE_ENVIRONMENT_VALUE_STR, ENVIRONMENT_PROP_STR,
     GCP_ENVIRONMENT_VALUE_STR, TOKEN_RESOURCE_PROP_STR,
 };
+pub use refusal::refused;
 pub use sasl_continue::SaslContinue;
 pub use sasl_response::SaslResponse;
 pub use sasl_start::SaslStart;
 pub use sasl_view::SaslView;
+
+// The database of users that are known elsewhere.
+pub(crate) const EXTERNAL: &str = "$external";
 
 // The generic subtype of a binary, BSON 1.1.
 pub(crate) const GENERIC: u8 = 0;

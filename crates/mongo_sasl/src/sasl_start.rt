@@ -46,6 +46,12 @@ impl SaslStart {
         ensures refused { IfErr result (λ e. IsNotBuilt (start_body self.mechanism self.payload) e.kind) }
     {
         let body = start_body(alloc, self.mechanism, &self.payload)?;
-        login_command(alloc, "saslStart", &self.source, body, self.server_api)
+        login_command(
+            alloc,
+            "saslStart",
+            self.source.as_str(),
+            body,
+            self.server_api,
+        )
     }
 }

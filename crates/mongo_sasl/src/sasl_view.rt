@@ -160,7 +160,7 @@ fn generic_binary<'b>(value: RawValue<'b>) -> Result<&'b [u8], FieldFault>
 }
 
 // What fields that can't be read are refused as.
-fn unread(fault: FieldFault) -> Error
+pub(crate) fn unread(fault: FieldFault) -> Error
     ensures { result.kind ≡ kind_of_field_fault fault }
 {
     let kind = match fault {

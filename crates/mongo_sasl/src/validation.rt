@@ -9,12 +9,9 @@ use crate::properties::{
     has_foreign_property, is_other_than_array, properties_of, property, text_of,
 };
 use crate::rules::{Rule, first_broken};
-use crate::{AuthMechanism, Credential};
+use crate::{AuthMechanism, Credential, EXTERNAL};
 use mongo_bson::{RawDocument, Text};
 use mongo_wire::ArgumentFault;
-
-// The database of users that are known elsewhere.
-const EXTERNAL: &str = "$external";
 
 impl AuthMechanism {
     /// Whether the mechanism can log in with the credential; `callback_given` says whether a callback gives tokens.

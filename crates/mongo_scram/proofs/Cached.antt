@@ -61,6 +61,12 @@ is_equal Less is = absurd (cc)
 is_equal Equal is = refl
 is_equal Greater is = absurd (cc)
 
+pub equal_keys : (x y : SaltedKey) → is_eq (key_cmp x y) ≡ true → x ≡ y
+equal_keys x y is = key_cmp-exact x y (is_equal (key_cmp x y) is)
+
+pub same_keys : (x y : SaltedKey) → x ≡ y → is_eq (key_cmp x y) ≡ true
+same_keys x y same = subst (λ (key : SaltedKey). is_eq (key_cmp x key) ≡ true) same (at_itself x)
+
 -- ---- what stands in a list, by recursion
 
 abbrev IsIn : {X : Type 0} → List X → X → Type 0

@@ -6,13 +6,13 @@ use lib.Utf8.{encode}
 use Rattle.mongo_scram.specs.UserName.{escaped, escaped_byte}
 
 -- a byte that stays as it is
-abbrev IsPlain : ℕ → Type 0
+abbrev pub IsPlain : ℕ → Type 0
 IsPlain byte = (byte ≢ 0x3D) × (byte ≢ 0x2C)
 
-escaped_byte-plain : (byte : ℕ) → IsPlain byte → escaped_byte byte ≡ byte ∷ []
+pub escaped_byte-plain : (byte : ℕ) → IsPlain byte → escaped_byte byte ≡ byte ∷ []
 escaped_byte-plain byte plain = rw (ne_eqb byte 0x3D plain.0, ne_eqb byte 0x2C plain.1) refl
 
-escaped-plain : (bytes : List ℕ) → AllByRecursion IsPlain bytes → escaped bytes ≡ bytes
+pub escaped-plain : (bytes : List ℕ) → AllByRecursion IsPlain bytes → escaped bytes ≡ bytes
 escaped-plain [] plain = refl
 escaped-plain (byte ∷ bytes) plain = rw (escaped_byte-plain byte plain.0) (ap (λ rest. byte ∷ rest) (escaped-plain bytes plain.1))
 
@@ -23,7 +23,7 @@ cond-all false xs ys here there = there
 above : (least byte : ℕ) → 62 ≤ least → IsPlain (least + byte)
 above least byte high = (λ is. absurd (omega arith), λ is. absurd (omega arith))
 
-encode-plain : (c : ℕ) → IsPlain c → AllByRecursion IsPlain (encode c)
+pub encode-plain : (c : ℕ) → IsPlain c → AllByRecursion IsPlain (encode c)
 unfolding encode
 encode-plain c plain =
     cond-all (ltb c 128) _ _ (plain, tt)

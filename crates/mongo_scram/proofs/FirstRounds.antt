@@ -21,7 +21,7 @@ use Rattle.mongo_scram.specs.User.{User}
 use Rattle.mongo_scram.specs.Plan.{Handed, Challenge, message_by, nonce_by, start_said, challenged, opened}
 use Rattle.mongo_scram.specs.Replies.{CarriesFirst, FirstReplyRow}
 use Rattle.mongo_scram.specs.Rounds.{handed_by, Replies, Opens}
-use Rattle.mongo_scram.proofs.Unsent.{unbuilt_stopped}
+use Rattle.mongo_sasl.proofs.Unsent.{unbuilt_stopped}
 
 -- the command of the first message, as the plan has it
 abbrev start_command : Handed → User → Command

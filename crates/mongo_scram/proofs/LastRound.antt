@@ -20,7 +20,7 @@ use Rattle.mongo_scram.specs.Plan.{Challenge}
 use Rattle.mongo_scram.specs.Replies.{CarriesFinal, FinalReplyRow}
 use Rattle.mongo_scram.specs.Rounds.{final_said, RoundRow, last_heard, last_round, IsTaken, LastRefusal}
 use Rattle.mongo_scram.proofs.OneMessage.{no_final_row}
-use Rattle.mongo_scram.proofs.Unsent.{unbuilt_stopped}
+use Rattle.mongo_sasl.proofs.Unsent.{unbuilt_stopped}
 
 -- ---- the command
 

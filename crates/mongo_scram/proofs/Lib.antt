@@ -1,7 +1,6 @@
 pub mod Cached
 pub mod Escaped
 pub mod FirstBody
-pub mod NotBuilt
 pub mod OneMessage
 pub mod OneRow
 pub mod Parts
@@ -14,8 +13,8 @@ pub mod ClosingEnds
 pub mod ScramEnds
 pub mod ScramScript
 pub mod ScramCosts
+pub mod ScramLed
 pub mod Derived
-pub mod Unsent
 pub mod LastRound
 pub mod FirstRounds
 pub mod OpeningSteps

@@ -41,7 +41,7 @@ unfolding S256.digest_bytes
 sha256_words hash zero = λ i. omega arith
 sha256_words hash (suc n) = both_below 256 (S256.digest_bytes hash n) (to_be_bytes w32 (get_or hash n 0)) (sha256_words hash n) (word_bytes (get_or hash n 0))
 
-digest_octets : (version : ScramVersion) (text : List ℕ) → IsBytes (digest_of version text)
+pub digest_octets : (version : ScramVersion) (text : List ℕ) → IsBytes (digest_of version text)
 unfolding sha1 sha256
 digest_octets Sha1 text = sha1_words _ 5
 digest_octets Sha256 text = sha256_words _ 8

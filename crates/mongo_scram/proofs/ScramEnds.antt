@@ -1,7 +1,8 @@
 -- A SCRAM login that was followed to its end is one command and its reply after another, and the other way round.
-use Rattle.std.proofs.Common.{◌≡◌, ℕ, refl, ap, sym, ◌∙◌, subst, Option, None, Some, List, [], ◌∷◌, ◌++◌, map}
-use Rattle.mongo_command.specs.Conversation.{Said, Event, exchanged, asked, IsSendable, said_in}
+use Rattle.std.proofs.Common.{◌≡◌, ℕ, refl, ap, sym, ◌∙◌, subst, Option, None, Some, List, [], ◌∷◌, ◌++◌}
+use Rattle.mongo_command.specs.Conversation.{Event, exchanged, IsSendable, said_in}
 use Rattle.mongo_command.proofs.Ends.{Ends, ends_followed, ends_both}
+use Rattle.mongo_sasl.proofs.LoginEvents.{AreSendable}
 use Rattle.mongo_scram.specs.User.{IsUser}
 use Rattle.mongo_scram.specs.Plan.{Speculated, Handed, Challenge, start_said, close_said, opening, closing, scram_plan}
 use Rattle.mongo_scram.proofs.ScramPlan.{one_opening}
@@ -9,15 +10,6 @@ use Rattle.mongo_scram.proofs.OpeningEnds.{IsChallenged, OpensBy, IsOpened, CanO
 use Rattle.mongo_scram.proofs.ClosingEnds.{IsProved, IsClosed, closing_ended, closing_ends}
 
 -- ---- events
-
--- the replies of events, and the documents of their commands
-abbrev pub replies_in : List Event → List (List ℕ)
-replies_in [] = []
-replies_in (exchanged said reply ∷ events) = reply ∷ replies_in events
-replies_in (asked question answer ∷ events) = replies_in events
-
-abbrev pub documents_in : List Event → List (List ℕ)
-documents_in events = map (λ said. said.document) (said_in events)
 
 -- the events of a login: one command and its reply, where a first round went with the hello, or two
 abbrev pub login_events : Option Speculated → Handed → Challenge → List ℕ → List ℕ → List Event
@@ -67,11 +59,6 @@ scram_ended handed events c e =
     subst (IsLogin handed events) (sym back.0) (login_of handed events split.front split.more split.answer split.events_are (opening_ended handed split.front split.answer split.first) back.1)
 
 -- ---- and a login is an end
-
--- the commands can be sent
-abbrev pub AreSendable : List Said → Type 0
-AreSendable [] = Unit {0}
-AreSendable (said ∷ more) = IsSendable said × AreSendable more
 
 -- what stands before the last command and its reply
 front_of : Option Speculated → Handed → Challenge → List ℕ → List Event

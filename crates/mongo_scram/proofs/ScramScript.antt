@@ -15,7 +15,8 @@ use Rattle.mongo_scram.specs.Script.{IsConversation, IsLoginFrom, IsScramLogin}
 use Rattle.mongo_scram.proofs.Octets.{verifier_bytes, verifier_text}
 use Rattle.mongo_scram.proofs.OpeningEnds.{IsChallenged}
 use Rattle.mongo_scram.proofs.ClosingEnds.{IsProved}
-use Rattle.mongo_scram.proofs.ScramEnds.{replies_in, documents_in, login_events, IsFirstReply, IsLogin}
+use Rattle.mongo_sasl.proofs.LoginEvents.{replies_in, documents_in}
+use Rattle.mongo_scram.proofs.ScramEnds.{login_events, IsFirstReply, IsLogin}
 
 abbrev said_by : OwnedValue → Bool → List ℕ → SaslResponse
 said_by id done payload = record { conversation_id = id; done = done; payload = payload }

@@ -6,6 +6,7 @@ pub mod Costs
 pub mod Entry
 pub mod Key
 pub mod KeyOrder
+pub mod Led
 pub mod Messages
 pub mod Parsed
 pub mod Plan

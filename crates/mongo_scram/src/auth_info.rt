@@ -3,8 +3,7 @@ ghost use Rattle.mongo_scram.specs.User.{User, IsUser, CredentialRow};
 ghost use Rattle.mongo_scram.specs.Client.{user_of};
 
 use crate::ScramVersion;
-use crate::refusal::refused;
-use mongo_sasl::Credential;
+use mongo_sasl::{Credential, refused};
 use mongo_wire::{AuthFault, Error};
 
 /// Who logs in: the user's name and password, and the database that the user belongs to.

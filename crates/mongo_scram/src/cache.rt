@@ -100,13 +100,20 @@ impl PartialOrd for SaltedKey {
 impl PartialEq for SaltedKey {
     ghost use Rattle.std.specs.Cmp.{eq_by_cmp_equiv, partial_equiv_from_equiv};
     ghost use Rattle.std.specs.Ordering.{eq_by_cmp};
+    ghost use Rattle.std.specs.Prelude.{◌≡◌, ◌↔◌, IsTrue};
+    ghost use Rattle.mongo_scram.specs.Entry.{salted_of};
     ghost use Rattle.mongo_scram.specs.KeyOrder.{key_cmp, key_cmp-total};
 
     ghost eq = { eq_by_cmp key_cmp };
 
     ghost laws = { partial_equiv_from_equiv (eq_by_cmp_equiv key_cmp-total) };
 
-    fn eq(&self, other: &SaltedKey) -> bool {
+    /// Whether both are one key. Equal keys have one salted password.
+    fn eq(&self, other: &SaltedKey) -> bool
+        ensures eq { result ≡ eq_by_cmp key_cmp self.now other.now }
+        ensures same { IsTrue result ↔ (self.now ≡ other.now) }
+        ensures salted { IsTrue result → salted_of self.now ≡ salted_of other.now }
+    {
         self.cmp(other).is_eq()
     }
 }

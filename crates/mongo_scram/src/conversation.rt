@@ -21,15 +21,20 @@ pub struct FirstRound {
 }
 
 impl ScramVersion {
-    ghost use Rattle.std.specs.Prelude.{◌≡◌, ◌⊎◌, Err, None, Some, IfOk, IfErr, OnOk, OnErr, option_copied};
+    ghost use Rattle.std.specs.Prelude.{◌≡◌, ◌⊎◌, ℕ, List, Err, None, Some, IfOk, IfErr, OnOk, OnErr, option_copied};
     ghost use Rattle.mongo_wire.specs.declared.error.ErrorKind.{ErrorKind};
+    ghost use Rattle.mongo_wire.specs.declared.error.ErrorKind.TheVariants.{OutOfMemory};
+    ghost use Rattle.mongo_wire.specs.Outside.{Rose};
     ghost use Rattle.mongo_wire.specs.Buffer.{frames_taken, held_document};
     ghost use Rattle.mongo_command.specs.Connection.{kept_fault, KeepsRest};
+    ghost use Rattle.mongo_command.specs.Conversation.{Said, Turn, ends, Leads};
     ghost use Rattle.mongo_command.specs.Exchange.{frame_maximum, HoldsReply, CountsStay};
     ghost use Rattle.mongo_scram.specs.Base64.{base64_of};
     ghost use Rattle.mongo_scram.specs.Cache.{entries_of};
     ghost use Rattle.mongo_scram.specs.Client.{handed_to, frames_after};
     ghost use Rattle.mongo_scram.specs.Costs.{ledgers, Accepted, StoppedLogin};
+    ghost use Rattle.mongo_scram.specs.Led.{AnswersLed};
+    ghost use Rattle.mongo_scram.specs.Plan.{Challenge, scram_plan};
 
     /// Logs a connection in as the credential's user, by a nonce for a message of its own and at most `most` iterations.
     ///
@@ -71,6 +76,17 @@ impl ScramVersion {
         // A refusal says why it comes, what it left, and whether the key was derived before it.
         ensures refused { kept_fault connection.old ≡ None → IfErr result (λ e. StoppedLogin (handed_to self.now credential.now (option_copied server_api.entry) first_round (base64_of nonce.now) most (frame_maximum connection.old.stream_description)) e.kind
             (L.state link.old) (L.state link.new) ids.old ids.new (ledgers steps.old salted.old) (ledgers steps.new salted.new)) }
+
+        // Where the link doesn't fail, bytes left that lead to the login's end are accepted, and those that lead to a refusal get
+        // just that one; the link is left as they say, or memory runs out.
+        ensures exact { (bytes taken unread : List ℕ) (outcome : Turn Challenge) (commands : List Said) → kept_fault connection.old ≡ None → (L.state link.old).left ≡ Some bytes →
+            Leads (scram_plan (handed_to self.now credential.now (option_copied server_api.entry) first_round (base64_of nonce.now) most (frame_maximum connection.old.stream_description))) bytes outcome commands taken unread →
+            (Rose (L.state link.old).read_faults (L.state link.new).read_faults → ⊥) → (Rose (L.state link.old).write_faults (L.state link.new).write_faults → ⊥) →
+            AnswersLed result outcome commands unread (L.state link.old) (L.state link.new) ids.old ids.new }
+        ensures complete { (bytes taken unread : List ℕ) (challenge : Challenge) (commands : List Said) → kept_fault connection.old ≡ None → (L.state link.old).left ≡ Some bytes →
+            Leads (scram_plan (handed_to self.now credential.now (option_copied server_api.entry) first_round (base64_of nonce.now) most (frame_maximum connection.old.stream_description))) bytes (ends challenge) commands taken unread →
+            (Rose (L.state link.old).read_faults (L.state link.new).read_faults → ⊥) → (Rose (L.state link.old).write_faults (L.state link.new).write_faults → ⊥) →
+            IfErr result (λ e. e.kind ≡ OutOfMemory) }
 
         // The replies passed through the buffer.
         ensures frames { OnOk result (frames_taken buffer.new ≡ frames_after first_round (frames_taken buffer.old)) }

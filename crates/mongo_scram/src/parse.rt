@@ -7,10 +7,9 @@ ghost use Rattle.mongo_scram.specs.ServerMessages.{HasNoComma, BeginsWithParts, 
 ghost use Rattle.mongo_scram.specs.Parsed.{HoldsFirst, FirstRefused, FinalRefused};
 
 use crate::base64_text::decoded;
-use crate::refusal::refused;
 use crate::server_final::ServerFinalBody;
 use mongo_bson::{BsonFault, Bytes, OwnedValue, Text};
-use mongo_sasl::SaslView;
+use mongo_sasl::{SaslView, refused};
 use mongo_wire::{AuthFault, Error};
 use std::alloc::Global;
 

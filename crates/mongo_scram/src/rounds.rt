@@ -18,14 +18,13 @@ ghost use Rattle.mongo_scram.specs.Version.{digest_of};
 use crate::auth_info::ClientAuthInfo;
 use crate::conversation::FirstRound;
 use crate::messages::{ClientFinal, ClientFirst};
-use crate::refusal::refused;
 use crate::scram_version::ScramVersion;
 use crate::server_final::ServerFinal;
 use crate::server_first::ServerFirst;
 use mongo_bson::RawDocument;
 use mongo_command::{Connection, ServerApi};
 use mongo_mac::Tag;
-use mongo_sasl::Credential;
+use mongo_sasl::{Credential, held_reply, refused};
 use mongo_wire::{AuthFault, Error, FrameBuffer, Link, RequestIds};
 use std::alloc::Global;
 
@@ -149,17 +148,6 @@ fn go_on(alloc: Global, round: FirstRound) -> Result<Opened, Error>
         client_first,
         server_first,
     })
-}
-
-// The document of the frame that the buffer holds.
-fn held_reply(buffer: &FrameBuffer) -> RawDocument<'_>
-    requires { HoldsReply buffer.now }
-    ensures { result.bytes.now ≡ held_document buffer.now }
-{
-    match buffer.message() {
-        Some(message) => message.document_payload,
-        None => unreachable!(),
-    }
 }
 
 /// The last round: says the client's last message, and takes the server's, by the salted password. It ends the login.

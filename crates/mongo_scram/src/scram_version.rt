@@ -36,8 +36,8 @@ impl ScramVersion {
         self.mechanism().as_str()
     }
 
-    // H(text).
-    pub(crate) fn h(&self, text: &[u8]) -> Tag
+    /// H(text): the digest of the text by the version's hash function.
+    pub fn h(&self, text: &[u8]) -> Tag
         ensures value { result ≡ digest_of self.now text.now }
         ensures len { length result ≡ digest_len self.now }
     {
@@ -47,8 +47,8 @@ impl ScramVersion {
         }
     }
 
-    // HMAC(key, text).
-    pub(crate) fn hmac(&self, key: &[u8], text: &[u8]) -> Tag
+    /// HMAC(key, text) by the version's hash function (RFC 2104).
+    pub fn hmac(&self, key: &[u8], text: &[u8]) -> Tag
         ensures value { result ≡ hmac_of (digest_of self.now) key.now text.now }
         ensures len { length result ≡ digest_len self.now }
     {

@@ -12,16 +12,15 @@ ghost use Rattle.mongo_scram.specs.Version.{digest_of};
 use crate::ScramVersion;
 use crate::messages::{ClientFinal, server_signature};
 use crate::parse::{conversation_id_of, read_server_final};
-use crate::refusal::refused;
 use mongo_bson::{BsonFault, Bytes, OwnedValue, RawDocument, Text};
 use mongo_mac::{Tag, are_same_bytes};
-use mongo_sasl::SaslView;
+use mongo_sasl::{SaslView, refused};
 use mongo_wire::{AuthFault, Error};
 use std::alloc::Global;
-use std::str;
+use std::{fmt, str};
 
 /// What the server's last message says.
-#[derive(Debug, Drop)]
+#[derive(Drop)]
 pub enum ServerFinalBody {
     /// The login failed (`e=`), with the server's text.
     Error(Text),
@@ -38,6 +37,17 @@ pub struct ServerFinal {
     pub done: bool,
     /// What it says.
     pub body: ServerFinalBody,
+}
+
+// A verifier is never shown: who knows it can try passwords against it.
+impl fmt::Debug for ServerFinalBody {
+    ghost use Rattle.std.specs.Prelude.{Some, codes};
+
+    ghost debug_output = { λ _. Some (codes "ServerFinalBody { .. }") };
+
+    fn fmt<W: fmt::Write>(&self, f: &mut fmt::Formatter<W>) -> fmt::Result {
+        f.write_str("ServerFinalBody { .. }")
+    }
 }
 
 impl ServerFinalBody {

@@ -7,9 +7,8 @@ ghost use Rattle.mongo_scram.specs.Replies.{CarriesFirst, FirstReplyRow};
 ghost use Rattle.mongo_scram.specs.Validity.{IsValidFirst, FirstRow};
 
 use crate::parse::{conversation_id_of, read_server_first};
-use crate::refusal::refused;
 use mongo_bson::{BsonFault, Bytes, OwnedValue, RawDocument, Text};
-use mongo_sasl::SaslView;
+use mongo_sasl::{SaslView, refused};
 use mongo_wire::{AuthFault, Error};
 use std::alloc::Global;
 use std::str;

@@ -4,7 +4,7 @@ use Rattle.std.proofs.Math.Seq.{take-append_seam, drop-append_seam}
 use Rattle.std.proofs.lemmas.Bool.Decides.{nat_tests}
 use Rattle.std.specs.Int.{from_le_bytes, w32}
 use Rattle.std.specs.List.{AllByRecursion, concat}
-use Rattle.mongo_settings.specs.Report.{CountsItself, fitting_length, frame_length, sent_line, sent_lines}
+use Rattle.mongo_settings.specs.Report.{CountsItself, fitting_length, front_length, sent_line, sent_lines}
 
 -- what follows four bytes doesn't change their number
 from_le_bytes-front : (frame more : List ℕ) → 16 ≤ length frame → from_le_bytes w32 (frame ++ more) ≡ from_le_bytes w32 frame
@@ -18,16 +18,16 @@ fitting_length-fits : (room n : ℕ) → 16 ≤ n → n ≤ room → fitting_len
 fitting_length-fits room n header fits = grind (arith, nat_tests)
 
 -- the length of the first frame is found
-pub frame_length-front : (frame more : List ℕ) → CountsItself frame → frame_length (frame ++ more) ≡ Some (length frame)
-frame_length-front frame more counts =
+pub front_length-front : (frame more : List ℕ) → CountsItself frame → front_length (frame ++ more) ≡ Some (length frame)
+front_length-front frame more counts =
     let number : from_le_bytes w32 (frame ++ more) ≡ length frame = from_le_bytes-front frame more counts.header ∙ counts.counted in
     let room : length frame ≤ length (frame ++ more) = omega (arith, length-append frame more) in
     ap (fitting_length (length (frame ++ more))) number ∙ fitting_length-fits _ _ counts.header room
 
 -- no bytes are left of frames exactly where no frame is found
-pub no_frames : (later : List (List ℕ)) → AllByRecursion CountsItself later → frame_length (concat later) ≡ None → later ≡ []
+pub no_frames : (later : List (List ℕ)) → AllByRecursion CountsItself later → front_length (concat later) ≡ None → later ≡ []
 no_frames [] each none = refl
-no_frames (frame ∷ later) each none = let found = frame_length-front frame (concat later) each.0 in cc
+no_frames (frame ∷ later) each none = let found = front_length-front frame (concat later) each.0 in cc
 
 -- the first frame, the frames after it
 pub record Next (later : List (List ℕ)) (n : ℕ) : Type 0 where
@@ -38,10 +38,10 @@ pub record Next (later : List (List ℕ)) (n : ℕ) : Type 0 where
   pub front : take n (concat later) ≡ frame
   pub back : drop n (concat later) ≡ concat others
 
-pub next_frame : (later : List (List ℕ)) (n : ℕ) → AllByRecursion CountsItself later → frame_length (concat later) ≡ Some n → Next later n
+pub next_frame : (later : List (List ℕ)) (n : ℕ) → AllByRecursion CountsItself later → front_length (concat later) ≡ Some n → Next later n
 next_frame [] n each found = cc
 next_frame (frame ∷ others) n each found =
-    let here = frame_length-front frame (concat others) each.0 in
+    let here = front_length-front frame (concat others) each.0 in
     let is : length frame ≡ n = cc in
     record {
       frame = frame;

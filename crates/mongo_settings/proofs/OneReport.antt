@@ -10,16 +10,16 @@ use Rattle.mongo_establish.proofs.Establishment.{one_script, one_refusal, script
 use Rattle.mongo_settings.specs.declared.settings.Settings.{Settings}
 use Rattle.mongo_settings.specs.declared.rehearsal.Rehearsal.{Rehearsal}
 use Rattle.mongo_settings.specs.declared.rehearsal.RehearsalStatus.TheVariants.{Accepted, Refused}
-use Rattle.mongo_settings.specs.Report.{CountsItself, frame_length, sent_lines, read_line, accepted_lines, refused_lines}
+use Rattle.mongo_settings.specs.Report.{CountsItself, front_length, sent_lines, read_line, accepted_lines, refused_lines}
 use Rattle.mongo_settings.specs.Outcome.{asked_of, Acceptance, IsAcceptance, Outcome, accepted, refused, IsOutcome, Writes, taken_by, status_of, IsAccepted, IsRefused}
 use Rattle.mongo_settings.specs.Rehearsal.{outcome_lines, IsReport, IsRehearsal}
-use Rattle.mongo_settings.proofs.Frames.{no_frames, next_frame, frame_length-front}
+use Rattle.mongo_settings.proofs.Frames.{no_frames, next_frame, front_length-front}
 
 -- frames that tell their lengths are told by their bytes
 one_framing : (frames others : List (List ℕ)) → AllByRecursion CountsItself frames → AllByRecursion CountsItself others → concat frames ≡ concat others → frames ≡ others
-one_framing [] others each also joined = sym (no_frames others also (ap frame_length (sym joined) ∙ refl))
+one_framing [] others each also joined = sym (no_frames others also (ap front_length (sym joined) ∙ refl))
 one_framing (frame ∷ frames) others each also joined =
-    let next = next_frame others (length frame) also (ap frame_length (sym joined) ∙ frame_length-front frame (concat frames) each.0) in
+    let next = next_frame others (length frame) also (ap front_length (sym joined) ∙ front_length-front frame (concat frames) each.0) in
     let first : frame ≡ next.frame = sym (take-append_seam frame (concat frames)) ∙ ap (take (length frame)) joined ∙ next.front in
     let rest : concat frames ≡ concat next.others = sym (drop-append_seam frame (concat frames)) ∙ ap (drop (length frame)) joined ∙ next.back in
     ap (λ f. f ∷ frames) first ∙ ap (λ l. next.frame ∷ l) (one_framing frames next.others each.1 next.each rest) ∙ sym next.both

@@ -31,8 +31,8 @@ abbrev pub fitting_length : ℕ → ℕ → Option ℕ
 fitting_length room n = if nat_lt room 16 then None else (if nat_lt n 16 || nat_lt room n then None else Some n)
 
 -- the length of the frame that the bytes begin with, where all of it is there
-abbrev pub frame_length : List ℕ → Option ℕ
-frame_length bytes = fitting_length (length bytes) (from_le_bytes w32 bytes)
+abbrev pub front_length : List ℕ → Option ℕ
+front_length bytes = fitting_length (length bytes) (from_le_bytes w32 bytes)
 
 -- `read` and how many bytes of the replies were taken
 unfoldable pub read_line : ℕ → List ℕ
@@ -56,7 +56,7 @@ cause_lines kind = kind_line kind ++ (reason_line kind ++ (code_line kind ++ tex
 
 -- the description of the server: its versions of the wire protocol, least and greatest
 unfoldable pub wire_line : Option ℤ → Option ℤ → List ℕ
-wire_line min max = line (codes "wire") (optional signed_decimal min ∷ optional signed_decimal max ∷ [])
+wire_line minimum maximum = line (codes "wire") (optional signed_decimal minimum ∷ optional signed_decimal maximum ∷ [])
 
 -- how many login mechanisms the user has, and each
 abbrev pub mechanism_words : Option (List (List ℕ)) → List (List ℕ)

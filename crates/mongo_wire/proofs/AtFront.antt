@@ -7,8 +7,8 @@ use Rattle.std.proofs.lemmas.Nat.{from_le_bytes-to_le_bytes_4}
 use Rattle.mongo_bson.specs.Reading.{BeginsWithCstring, HasNoCstring}
 use Rattle.mongo_bson.proofs.Cstrings.{one_cstring}
 use Rattle.mongo_bson.proofs.Sizes.{number_at_front}
-use Rattle.mongo_wire.specs.Frame.{body, sequence, IsSequence, sequence_bytes, uint32}
-use Rattle.mongo_wire.specs.Sections.{BeginsWithDocument, HasNoDocument, AreDocuments, sized, BeginsWithSequence, HasNoSequence, BeginsWithSection}
+use Rattle.mongo_wire.specs.Frame.{Section, body, sequence, IsSection, IsSequence, section_bytes, sequence_bytes, uint32}
+use Rattle.mongo_wire.specs.Sections.{BeginsWithDocument, HasNoDocument, AreDocuments, sized, BeginsWithSequence, SplitsSequence, HasNoSequence, BeginsWithSection, SplitsSequenceSection}
 use Rattle.mongo_wire.specs.declared.document_sequence.DocumentSequence.{DocumentSequence}
 use Rattle.mongo_bson.specs.declared.raw_document.RawDocument.{RawDocument}
 use Rattle.mongo_wire.specs.declared.sections.SectionRef.TheVariants.{Body, Sequence}
@@ -56,11 +56,12 @@ pub no_sequence_name : (bytes content : List ℕ) (size : ℕ) → size ≡ from
 no_sequence_name bytes content size size_is cut none s rest is e =
     none s.identifier (flat_map (λ d. d) s.documents) is.name (content_is bytes rest content size s is e size_is cut)
 
-pub no_sequence_documents : (bytes content identifier documents : List ℕ) (size : ℕ) → size ≡ from_le_bytes w32 bytes → content ≡ drop 4 (take size bytes)
-    → BeginsWithCstring content identifier documents → (AreDocuments documents → ⊥) → HasNoSequence bytes
-no_sequence_documents bytes content identifier documents size size_is cut name none s rest is e =
+-- documents fill what stands after the identifier of a sequence
+pub sequence_filled : (bytes content identifier documents : List ℕ) (size : ℕ) → size ≡ from_le_bytes w32 bytes → content ≡ drop 4 (take size bytes)
+    → BeginsWithCstring content identifier documents → (s : DocumentSequence) (rest : List ℕ) → IsSequence s → bytes ≡ sized s ++ rest → AreDocuments documents
+sequence_filled bytes content identifier documents size size_is cut name s rest is e =
     let names = one_cstring identifier s.identifier documents (flat_map (λ d. d) s.documents) name.is_cstring.without_zero is.name.without_zero (sym name.spelled ∙ content_is bytes rest content size s is e size_is cut) in
-    none (s.documents, is.each, names.1)
+    (s.documents, is.each, names.1)
 
 pub sequence_found : (bytes content rest : List ℕ) (size : ℕ) (read : SequenceRef) → IsBytes bytes → 4 ≤ size → size < 2 ^ 31 → size ≤ length bytes → size ≡ from_le_bytes w32 bytes
     → content ≡ drop 4 (take size bytes) → rest ≡ drop size bytes → BeginsWithCstring content read.identifier.now read.documents.now → AreDocuments read.documents.now → BeginsWithSequence bytes read rest
@@ -94,3 +95,20 @@ sequence_section bytes after rest kind read front is begins = record {
   spelled = front ∙ ap (λ k. k ∷ after) is ∙ ap (λ l. 1 ∷ l) begins.spelled;
   shown = begins.shown;
 }
+
+head_of_byte : (k l : ℕ) (xs ys : List ℕ) → k ∷ xs ≡ l ∷ ys → k ≡ l
+head_of_byte k l xs ys e = cc
+
+tail_of_byte : (k l : ℕ) (xs ys : List ℕ) → k ∷ xs ≡ l ∷ ys → xs ≡ ys
+tail_of_byte k l xs ys e = cc
+
+pub sequence_split : (bytes after rest : List ℕ) (kind : ℕ) (read : SequenceRef) → bytes ≡ kind ∷ after → kind ≡ 1 → SplitsSequence after read rest → SplitsSequenceSection bytes read rest
+sequence_split bytes after rest kind read front is splits = record {
+  shorter = omega (arith, ap length front, splits.shorter);
+  whole = λ are. sequence_section bytes after rest kind read front is (splits.whole are);
+  filled = filled;
+}
+  where
+    filled : (s : Section) (more : List ℕ) → IsSection s → bytes ≡ section_bytes s ++ more → AreDocuments read.documents.now
+    filled (body document) more is_section e = absurd (omega (arith, head_of_byte kind 0 after (document ++ more) (sym front ∙ e), is))
+    filled (sequence s) more is_section e = splits.filled s more is_section (tail_of_byte kind 1 after (sized s ++ more) (sym front ∙ e))

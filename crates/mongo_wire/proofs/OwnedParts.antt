@@ -4,7 +4,7 @@ use Rattle.std.specs.List.{AllByRecursion, flat_map}
 use Rattle.mongo_bson.specs.Framed.{IsFramed}
 use Rattle.mongo_wire.specs.Frame.{Section, body, sequence, IsSection, IsSequence, section_bytes, sequences_of}
 use Rattle.mongo_bson.specs.declared.raw_document.RawDocument.{RawDocument}
-use Rattle.mongo_wire.specs.Sections.{AreDocuments, HasNoDocument, BeginsWithSection, HasNoSection, Shows, ShowsSequence}
+use Rattle.mongo_wire.specs.Sections.{AreDocuments, HasNoDocument, BeginsWithSection, SplitsSequenceSection, HasNoSection, Shows, ShowsSequence}
 use Rattle.mongo_wire.specs.declared.sections.SectionRef.TheVariants.{Body, Sequence}
 use Rattle.mongo_wire.specs.declared.sections.SequenceRef.{SequenceRef}
 use Rattle.mongo_wire.proofs.OneFrame.{one_documents, one_sections}
@@ -18,6 +18,10 @@ pub record OwnedSo (bytes rest : List ℕ) (sequences : List DocumentSequence) :
   pub each : AllByRecursion IsSection sections
   pub spelled : bytes ≡ flat_map section_bytes sections ++ rest
   pub same : sequences ≡ sequences_of sections
+
+-- the same where the bytes are sections
+abbrev pub OwnedWhere : List ℕ → List ℕ → List DocumentSequence → Type 0
+OwnedWhere bytes rest sequences = (ss : List Section) → AllByRecursion IsSection ss → bytes ≡ flat_map section_bytes ss → OwnedSo bytes rest sequences
 
 nothing_owned : (bytes : List ℕ) → OwnedSo bytes bytes []
 nothing_owned bytes = record { sections = []; each = tt; spelled = refl; same = refl }
@@ -56,6 +60,17 @@ owned_sequence_more bytes rest after read sequences copy so begins copied =
     of : (s : Section) → IsSection s → Shows s (Sequence read) → copy ∷ [] ≡ sequences_of (s ∷ [])
     of (body d) is shown = absurd shown
     of (sequence s) is shown = ap (λ z. z ∷ []) (copied s is shown)
+
+-- where something is left of sections, documents fill the sequence that was split off it
+pub owned_filled : (bytes rest after : List ℕ) (read : SequenceRef) (sequences : List DocumentSequence) (ss : List Section) → OwnedSo bytes rest sequences → rest ≢ [] → SplitsSequenceSection rest read after
+    → AllByRecursion IsSection ss → bytes ≡ flat_map section_bytes ss → BeginsWithSection rest (Sequence read) after
+owned_filled bytes rest after read sequences ss so some splits each spelled =
+    let (us, is, all, left) = goes_on so.sections ss rest [] so.each each (omega arith) (sym so.spelled ∙ spelled ∙ sym (append-nil (flat_map section_bytes ss))) in
+    splits.whole (first us all left)
+  where
+    first : (us : List Section) → AllByRecursion IsSection us → rest ≡ flat_map section_bytes us ++ [] → AreDocuments read.documents.now
+    first [] all left = absurd (some left)
+    first (u ∷ us) all left = splits.filled u (flat_map section_bytes us ++ []) all.0 (left ∙ append_assoc (section_bytes u) (flat_map section_bytes us) [])
 
 -- nothing is left: all sequences are copied
 pub owned_all : (bytes rest : List ℕ) (sequences : List DocumentSequence) (ss : List Section) → OwnedSo bytes rest sequences → rest ≡ [] → AllByRecursion IsSection ss → bytes ≡ flat_map section_bytes ss → sequences ≡ sequences_of ss

@@ -3,7 +3,7 @@
 use Rattle.std.specs.Prelude.{ℕ, ℤ, pos, Option, None, Some, List, ◌++◌, drop, unwrap_or, if◌then◌else◌}
 use Rattle.std.specs.Ordering.{int_eq}
 use Rattle.std.specs.Int.{from_le_bytes, cast_signed, w32}
-use Rattle.mongo_wire.specs.Frame.{int32}
+use Rattle.mongo_wire.specs.Frame.{int32, message_code}
 use Rattle.mongo_wire.specs.Bytes.{first_maximum}
 use Rattle.mongo_wire.specs.declared.header.Header.{Header}
 use Rattle.mongo_wire.specs.declared.op_code.OpCode.{OpCode}
@@ -18,21 +18,22 @@ signed_at place bytes = cast_signed w32 (number_at place bytes)
 
 -- the maximum that holds where none is given
 abbrev pub maximum_of : Option ℤ → ℤ
-maximum_of max = unwrap_or max first_maximum
+maximum_of maximum = unwrap_or maximum first_maximum
 
--- the op codes
+-- the op codes and their numbers
 abbrev pub code_number : OpCode → ℤ
 code_number Reply = pos 1
 code_number Query = pos 2004
 code_number Compressed = pos 2012
-code_number Message = pos 2013
+code_number Message = pos message_code
 
+-- the op code that has this number
 abbrev pub op_code_of : ℤ → Option OpCode
 op_code_of number =
-    if int_eq number (pos 1) then Some Reply
-    else if int_eq number (pos 2004) then Some Query
-    else if int_eq number (pos 2012) then Some Compressed
-    else if int_eq number (pos 2013) then Some Message
+    if int_eq number (code_number Reply) then Some Reply
+    else if int_eq number (code_number Query) then Some Query
+    else if int_eq number (code_number Compressed) then Some Compressed
+    else if int_eq number (code_number Message) then Some Message
     else None
 
 -- a header's bytes

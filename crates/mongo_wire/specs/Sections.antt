@@ -1,5 +1,5 @@
 -- What stands at the front of bytes: the words of the readers of sections.
-use Rattle.std.specs.Prelude.{◌≡◌, ℕ, ◌+◌, List, ◌++◌, length, flat_map}
+use Rattle.std.specs.Prelude.{◌≡◌, ℕ, ◌+◌, ◌<◌, List, ◌++◌, length, flat_map}
 use Rattle.std.specs.List.{AllByRecursion}
 use Rattle.mongo_bson.specs.Framed.{IsFramed}
 use Rattle.mongo_wire.specs.Frame.{Section, body, sequence, IsSection, IsSequence, section_bytes, sequence_bytes, uint32}
@@ -36,6 +36,12 @@ pub record BeginsWithSequence (bytes : List ℕ) (read : SequenceRef) (rest : Li
   pub spelled : bytes ≡ sized sequence ++ rest
   pub shown : ShowsSequence sequence read
 
+-- what is a sequence and the rest where documents fill it, as they do where a sequence stands there
+pub record SplitsSequence (bytes : List ℕ) (read : SequenceRef) (rest : List ℕ) : Type 0 where
+  pub shorter : length rest < length bytes
+  pub whole : AreDocuments read.documents.now → BeginsWithSequence bytes read rest
+  pub filled : (s : DocumentSequence) (more : List ℕ) → IsSequence s → bytes ≡ sized s ++ more → AreDocuments read.documents.now
+
 abbrev pub HasNoSequence : List ℕ → Type 0
 HasNoSequence bytes = (s : DocumentSequence) (rest : List ℕ) → IsSequence s → bytes ≡ sized s ++ rest → ⊥
 
@@ -52,6 +58,16 @@ pub record BeginsWithSection (bytes : List ℕ) (read : SectionRef) (rest : List
   pub is_section : IsSection section
   pub spelled : bytes ≡ section_bytes section ++ rest
   pub shown : Shows section read
+
+-- what is a section and the rest where documents fill it, as they do where a section stands there
+pub record SplitsSequenceSection (bytes : List ℕ) (read : SequenceRef) (rest : List ℕ) : Type 0 where
+  pub shorter : length rest < length bytes
+  pub whole : AreDocuments read.documents.now → BeginsWithSection bytes (Sequence read) rest
+  pub filled : (s : Section) (more : List ℕ) → IsSection s → bytes ≡ section_bytes s ++ more → AreDocuments read.documents.now
+
+abbrev pub SplitsSection : List ℕ → SectionRef → List ℕ → Type 0
+SplitsSection bytes (Body read) rest = BeginsWithSection bytes (Body read) rest
+SplitsSection bytes (Sequence read) rest = SplitsSequenceSection bytes read rest
 
 abbrev pub HasNoSection : List ℕ → Type 0
 HasNoSection bytes = (s : Section) (rest : List ℕ) → IsSection s → bytes ≡ section_bytes s ++ rest → ⊥

@@ -76,12 +76,12 @@ HasLowLength taken = (length taken ≡ 4) × (signed_at 0 taken <ℤ pos 4)
 abbrev pub TakesSuch : (List ℕ → Type 0) → Option (List ℕ) → Option (List ℕ) → Type 0
 TakesSuch P old new = (taken : List ℕ) × Consumes old new taken × P taken
 
-abbrev pub DocumentRefused : ErrorKind → Option (List ℕ) → Option (List ℕ) → ℕ → ℕ → ℕ → ℕ → Type 0
-DocumentRefused ReadFault old new faults_old faults_new ends_old ends_new = Rose faults_old faults_new × TakesSuch IsShortDocument old new
-DocumentRefused OutOfMemory old new faults_old faults_new ends_old ends_new = TakesSuch IsStartedDocument old new
-DocumentRefused EndOfInput old new faults_old faults_new ends_old ends_new = Rose ends_old ends_new × TakesSuch IsShortDocument old new × IsEmptied new
-DocumentRefused (InvalidArgument CheckedFailure) old new faults_old faults_new ends_old ends_new = TakesSuch HasLowLength old new
-DocumentRefused kind old new faults_old faults_new ends_old ends_new = ⊥
+abbrev pub DocumentUnread : ErrorKind → Option (List ℕ) → Option (List ℕ) → ℕ → ℕ → ℕ → ℕ → Type 0
+DocumentUnread ReadFault old new faults_old faults_new ends_old ends_new = Rose faults_old faults_new × TakesSuch IsShortDocument old new
+DocumentUnread OutOfMemory old new faults_old faults_new ends_old ends_new = TakesSuch IsStartedDocument old new
+DocumentUnread EndOfInput old new faults_old faults_new ends_old ends_new = Rose ends_old ends_new × TakesSuch IsShortDocument old new × IsEmptied new
+DocumentUnread (InvalidArgument CheckedFailure) old new faults_old faults_new ends_old ends_new = TakesSuch HasLowLength old new
+DocumentUnread kind old new faults_old faults_new ends_old ends_new = ⊥
 
 -- bytes after others that are there already
 abbrev pub Continues : List ℕ → Option (List ℕ) → Option (List ℕ) → List ℕ → Type 0

@@ -51,7 +51,7 @@ fn with_arrays(
     ensures too_long { IsErrOf result BsonFault.TooLong → 2 ^ 31 - 1 < length (enclosed (body_of body.now ++ arrays_bytes sequences.now)) }
     ensures refused { IfErr result PushRefuses }
 {
-    let mut document = copy_of(alloc, body.as_bytes())?;
+    let mut document = copy_of_document(alloc, body.as_bytes())?;
     'adding: for sequence in sequences {
         match add_array(alloc, &mut document, sequence) {
             Ok(()) => {}
@@ -62,7 +62,7 @@ fn with_arrays(
 }
 
 // The document that the bytes are.
-fn copy_of(alloc: Global, bytes: &[u8]) -> Result<RawDocumentBuf, BsonFault>
+fn copy_of_document(alloc: Global, bytes: &[u8]) -> Result<RawDocumentBuf, BsonFault>
     requires { IsFramed bytes.now }
     ensures copied { IfOk result (λ document. document ≡ enclosed (body_of bytes.now)) }
     ensures framed { IfOk result (λ document. IsFramed document) }

@@ -19,7 +19,7 @@ use crate::{Error, FrameBuffer, FrameFault, MessageRef, ResponseFault, Source};
 use std::alloc::Global;
 
 impl FrameBuffer {
-    /// Reads the next frame of the source, of at most `max` bytes, 50331648 where none is given, and lends the buffer to
+    /// Reads the next frame of the source, of at most `maximum` bytes, 50331648 where none is given, and lends the buffer to
     /// the message that shows it.
     ///
     /// Refusals, in this order, each with nothing taken past what shows it: `EndOfInput` within the 16 bytes of the header;
@@ -30,16 +30,16 @@ impl FrameBuffer {
     pub fn read<S: Source>(
         &mut self,
         source: &mut S,
-        max: Option<i32>,
+        maximum: Option<i32>,
     ) -> Result<MessageRef<'_>, FrameFault>
         // The buffer holds the frame that was taken, and nothing where none was.
-        ensures* after { sem 𝓛 (follows_so the_row the_row self.entry.ghost_name none (λ _ _. ⊤) (λ buffer. ReadsInto (maximum_of max) (S.state source.old).left (S.state source.new).left self.old result buffer)) }
-        ensures read { IfOk result (IsFrameRead (maximum_of max) (S.state source.old).left (S.state source.new).left) }
-        ensures refused { IfErr result (λ fault. ReadRefused (kind_of_frame_fault fault) (maximum_of max) (S.state source.old).left (S.state source.new).left (S.state source.old).read_faults (S.state source.new).read_faults (S.state source.old).ends (S.state source.new).ends) }
-        ensures again { (frame rest : List ℕ) (parts : Frame) → (S.state source.old).left ≡ Some (frame ++ rest) → IsFrame frame parts → pos (length frame) ≤ℤ maximum_of max → MatchResult result (ShowsAgain frame parts rest (S.state source.new).left) (λ fault. IsUnreadable (kind_of_frame_fault fault)) }
+        ensures* after { sem 𝓛 (follows_so the_row the_row self.entry.ghost_name none (λ _ _. ⊤) (λ buffer. ReadsInto (maximum_of maximum) (S.state source.old).left (S.state source.new).left self.old result buffer)) }
+        ensures read { IfOk result (IsFrameRead (maximum_of maximum) (S.state source.old).left (S.state source.new).left) }
+        ensures refused { IfErr result (λ fault. ReadRefused (kind_of_frame_fault fault) (maximum_of maximum) (S.state source.old).left (S.state source.new).left (S.state source.old).read_faults (S.state source.new).read_faults (S.state source.old).ends (S.state source.new).ends) }
+        ensures again { (frame rest : List ℕ) (parts : Frame) → (S.state source.old).left ≡ Some (frame ++ rest) → IsFrame frame parts → pos (length frame) ≤ℤ maximum_of maximum → MatchResult result (ShowsAgain frame parts rest (S.state source.new).left) (λ fault. IsUnreadable (kind_of_frame_fault fault)) }
         ensures on { ReadsOn (S.state source.old) (S.state source.new) }
     {
-        match self.take_frame(source, max) {
+        match self.take_frame(source, maximum) {
             Ok(()) => match self.message() {
                 Some(message) => Ok(message),
                 None => unreachable!(),
@@ -53,18 +53,18 @@ impl FrameBuffer {
     pub fn next<S: Source>(
         &mut self,
         source: &mut S,
-        max: Option<i32>,
+        maximum: Option<i32>,
     ) -> Result<Option<MessageRef<'_>>, FrameFault>
-        ensures* after { sem 𝓛 (follows_so the_row the_row self.entry.ghost_name none (λ _ _. ⊤) (λ buffer. NextInto (maximum_of max) (S.state source.old).left (S.state source.new).left self.old result buffer)) }
-        ensures read { IfOk result (λ found. IfSome found (IsFrameRead (maximum_of max) (S.state source.old).left (S.state source.new).left)) }
+        ensures* after { sem 𝓛 (follows_so the_row the_row self.entry.ghost_name none (λ _ _. ⊤) (λ buffer. NextInto (maximum_of maximum) (S.state source.old).left (S.state source.new).left self.old result buffer)) }
+        ensures read { IfOk result (λ found. IfSome found (IsFrameRead (maximum_of maximum) (S.state source.old).left (S.state source.new).left)) }
         ensures ended { IfOk result (λ found. IsNone found → HasEnded (S.state source.old).left (S.state source.new).left (S.state source.old).ends (S.state source.new).ends) }
-        ensures refused { IfErr result (λ fault. ReadRefused (kind_of_frame_fault fault) (maximum_of max) (S.state source.old).left (S.state source.new).left (S.state source.old).read_faults (S.state source.new).read_faults (S.state source.old).ends (S.state source.new).ends) }
+        ensures refused { IfErr result (λ fault. ReadRefused (kind_of_frame_fault fault) (maximum_of maximum) (S.state source.old).left (S.state source.new).left (S.state source.old).read_faults (S.state source.new).read_faults (S.state source.old).ends (S.state source.new).ends) }
         // An end that is a refusal came after the first byte.
         ensures more { IfErr result (λ fault. HasMore (kind_of_frame_fault fault) (S.state source.old).left) }
-        ensures again { (frame rest : List ℕ) (parts : Frame) → (S.state source.old).left ≡ Some (frame ++ rest) → IsFrame frame parts → pos (length frame) ≤ℤ maximum_of max → MatchResult result (FoundAgain frame parts rest (S.state source.new).left) (λ fault. IsUnreadable (kind_of_frame_fault fault)) }
+        ensures again { (frame rest : List ℕ) (parts : Frame) → (S.state source.old).left ≡ Some (frame ++ rest) → IsFrame frame parts → pos (length frame) ≤ℤ maximum_of maximum → MatchResult result (FoundAgain frame parts rest (S.state source.new).left) (λ fault. IsUnreadable (kind_of_frame_fault fault)) }
         ensures on { ReadsOn (S.state source.old) (S.state source.new) }
     {
-        match self.take_next_frame(source, max) {
+        match self.take_next_frame(source, maximum) {
             Ok(true) => match self.message() {
                 Some(message) => Ok(Some(message)),
                 None => unreachable!(),
@@ -79,23 +79,23 @@ impl FrameBuffer {
     pub fn take_frame<S: Source>(
         &mut self,
         source: &mut S,
-        max: Option<i32>,
+        maximum: Option<i32>,
     ) -> Result<(), FrameFault>
         // What was taken is a frame of the grammar within the maximum, and nothing after it.
-        ensures taken { OnOk result (IsFrameTaken (maximum_of max) (S.state source.old).left (S.state source.new).left self.new) }
+        ensures taken { OnOk result (IsFrameTaken (maximum_of maximum) (S.state source.old).left (S.state source.new).left self.new) }
         // Each refusal is the first row of the table that applies, and has taken what shows it.
-        ensures refused { IfErr result (λ fault. ReadRefused (kind_of_frame_fault fault) (maximum_of max) (S.state source.old).left (S.state source.new).left (S.state source.old).read_faults (S.state source.new).read_faults (S.state source.old).ends (S.state source.new).ends) }
+        ensures refused { IfErr result (λ fault. ReadRefused (kind_of_frame_fault fault) (maximum_of maximum) (S.state source.old).left (S.state source.new).left (S.state source.old).read_faults (S.state source.new).read_faults (S.state source.old).ends (S.state source.new).ends) }
         // A frame within the maximum is taken, whatever follows it.
-        ensures again { (frame rest : List ℕ) (parts : Frame) → (S.state source.old).left ≡ Some (frame ++ rest) → IsFrame frame parts → pos (length frame) ≤ℤ maximum_of max → TakesAgain frame parts rest (S.state source.new).left self.new result }
+        ensures again { (frame rest : List ℕ) (parts : Frame) → (S.state source.old).left ≡ Some (frame ++ rest) → IsFrame frame parts → pos (length frame) ≤ℤ maximum_of maximum → TakesAgain frame parts rest (S.state source.new).left self.new result }
         ensures counted { OnOk result (frames_taken self.new ≡ risen (frames_taken self.old)) }
         ensures emptied { OnErr result (IsCleared self.old self.new) }
         // Memory is for bytes that came, for twice as many at most and one piece of 4096, and never for more than the maximum:
         // the buffer's capacity says so.
         ensures came { GrowsFor (S.state source.old).left (S.state source.new).left self.old self.new }
-        ensures within { StaysWithin (maximum_of max) self.old self.new }
+        ensures within { StaysWithin (maximum_of maximum) self.old self.new }
         ensures on { ReadsOn (S.state source.old) (S.state source.new) }
     {
-        match self.take_next_frame(source, max) {
+        match self.take_next_frame(source, maximum) {
             Ok(true) => Ok(()),
             Ok(false) => Err(FrameFault::EndOfInput),
             Err(fault) => Err(fault),
@@ -107,25 +107,25 @@ impl FrameBuffer {
     fn take_next_frame<S: Source>(
         &mut self,
         source: &mut S,
-        max: Option<i32>,
+        maximum: Option<i32>,
     ) -> Result<bool, FrameFault>
-        ensures taken { IfOk result (λ found. found ≡ true → IsFrameTaken (maximum_of max) (S.state source.old).left (S.state source.new).left self.new) }
+        ensures taken { IfOk result (λ found. found ≡ true → IsFrameTaken (maximum_of maximum) (S.state source.old).left (S.state source.new).left self.new) }
         // There was none where the end came before the first byte.
         ensures ended { IfOk result (λ found. found ≡ false → HasEnded (S.state source.old).left (S.state source.new).left (S.state source.old).ends (S.state source.new).ends) }
-        ensures refused { IfErr result (λ fault. ReadRefused (kind_of_frame_fault fault) (maximum_of max) (S.state source.old).left (S.state source.new).left (S.state source.old).read_faults (S.state source.new).read_faults (S.state source.old).ends (S.state source.new).ends) }
+        ensures refused { IfErr result (λ fault. ReadRefused (kind_of_frame_fault fault) (maximum_of maximum) (S.state source.old).left (S.state source.new).left (S.state source.old).read_faults (S.state source.new).read_faults (S.state source.old).ends (S.state source.new).ends) }
         ensures more { IfErr result (λ fault. HasMore (kind_of_frame_fault fault) (S.state source.old).left) }
-        ensures again { (frame rest : List ℕ) (parts : Frame) → (S.state source.old).left ≡ Some (frame ++ rest) → IsFrame frame parts → pos (length frame) ≤ℤ maximum_of max → FindsAgain frame parts rest (S.state source.new).left self.new result }
+        ensures again { (frame rest : List ℕ) (parts : Frame) → (S.state source.old).left ≡ Some (frame ++ rest) → IsFrame frame parts → pos (length frame) ≤ℤ maximum_of maximum → FindsAgain frame parts rest (S.state source.new).left self.new result }
         ensures counted { IfOk result (λ found. found ≡ true → frames_taken self.new ≡ risen (frames_taken self.old)) }
         ensures none { IfOk result (λ found. found ≡ false → IsCleared self.old self.new) }
         ensures emptied { OnErr result (IsCleared self.old self.new) }
         ensures came { GrowsFor (S.state source.old).left (S.state source.new).left self.old self.new }
-        ensures within { StaysWithin (maximum_of max) self.old self.new }
+        ensures within { StaysWithin (maximum_of maximum) self.old self.new }
         ensures on { ReadsOn (S.state source.old) (S.state source.new) }
     {
         self.clear();
         let mut head = [0u8; 16];
         match fill_or_end(source, &mut head) {
-            Ok(true) => match self.take_rest(source, &head, max) {
+            Ok(true) => match self.take_rest(source, &head, maximum) {
                 Ok(()) => Ok(true),
                 Err(fault) => Err(fault),
             },
@@ -139,18 +139,18 @@ impl FrameBuffer {
         &mut self,
         source: &mut S,
         head: &[u8; 16],
-        max: Option<i32>,
+        maximum: Option<i32>,
     ) -> Result<(), FrameFault>
         requires nothing { HoldsNothing self.old }
-        ensures taken { (before : Option (List ℕ)) → Consumes before (S.state source.old).left head.now → OnOk result (IsFrameTaken (maximum_of max) before (S.state source.new).left self.new) }
-        ensures refused { (before : Option (List ℕ)) (faults ends : ℕ) → Consumes before (S.state source.old).left head.now → is_some (S.state source.old).left ≡ is_some before → faults ≤ (S.state source.old).read_faults → ends ≤ (S.state source.old).ends → IfErr result (λ fault. ReadRefused (kind_of_frame_fault fault) (maximum_of max) before (S.state source.new).left faults (S.state source.new).read_faults ends (S.state source.new).ends) }
+        ensures taken { (before : Option (List ℕ)) → Consumes before (S.state source.old).left head.now → OnOk result (IsFrameTaken (maximum_of maximum) before (S.state source.new).left self.new) }
+        ensures refused { (before : Option (List ℕ)) (faults ends : ℕ) → Consumes before (S.state source.old).left head.now → is_some (S.state source.old).left ≡ is_some before → faults ≤ (S.state source.old).read_faults → ends ≤ (S.state source.old).ends → IfErr result (λ fault. ReadRefused (kind_of_frame_fault fault) (maximum_of maximum) before (S.state source.new).left faults (S.state source.new).read_faults ends (S.state source.new).ends) }
         ensures counted { OnOk result (frames_taken self.new ≡ risen (frames_taken self.old)) }
         ensures emptied { OnErr result (IsCleared self.old self.new) }
         ensures came { GrowsFor (S.state source.old).left (S.state source.new).left self.old self.new }
-        ensures within { StaysWithin (maximum_of max) self.old self.new }
+        ensures within { StaysWithin (maximum_of maximum) self.old self.new }
         ensures on { ReadsOn (S.state source.old) (S.state source.new) }
     {
-        let start = match start_of(head, max) {
+        let start = match start_of(head, maximum) {
             Ok(start) => start,
             Err(fault) => return Err(fault),
         };
@@ -172,15 +172,15 @@ impl FrameBuffer {
 pub fn read_frame<'b, S: Source>(
     _alloc: Global,
     source: &mut S,
-    max: Option<i32>,
+    maximum: Option<i32>,
     buffer: &'b mut FrameBuffer,
 ) -> Result<MessageRef<'b>, Error>
-    ensures read { IfOk result (IsFrameRead (maximum_of max) (S.state source.old).left (S.state source.new).left) }
-    ensures refused { IfErr result (λ e. ReadRefused e.kind (maximum_of max) (S.state source.old).left (S.state source.new).left (S.state source.old).read_faults (S.state source.new).read_faults (S.state source.old).ends (S.state source.new).ends) }
-    ensures again { (frame rest : List ℕ) (parts : Frame) → (S.state source.old).left ≡ Some (frame ++ rest) → IsFrame frame parts → pos (length frame) ≤ℤ maximum_of max → MatchResult result (ShowsAgain frame parts rest (S.state source.new).left) (λ e. IsUnreadable e.kind) }
+    ensures read { IfOk result (IsFrameRead (maximum_of maximum) (S.state source.old).left (S.state source.new).left) }
+    ensures refused { IfErr result (λ e. ReadRefused e.kind (maximum_of maximum) (S.state source.old).left (S.state source.new).left (S.state source.old).read_faults (S.state source.new).read_faults (S.state source.old).ends (S.state source.new).ends) }
+    ensures again { (frame rest : List ℕ) (parts : Frame) → (S.state source.old).left ≡ Some (frame ++ rest) → IsFrame frame parts → pos (length frame) ≤ℤ maximum_of maximum → MatchResult result (ShowsAgain frame parts rest (S.state source.new).left) (λ e. IsUnreadable e.kind) }
     ensures on { ReadsOn (S.state source.old) (S.state source.new) }
 {
-    match buffer.read(source, max) {
+    match buffer.read(source, maximum) {
         Ok(message) => Ok(message),
         Err(fault) => Err(fault.into()),
     }
@@ -191,17 +191,17 @@ pub fn read_frame<'b, S: Source>(
 pub fn next_frame<'b, S: Source>(
     _alloc: Global,
     source: &mut S,
-    max: Option<i32>,
+    maximum: Option<i32>,
     buffer: &'b mut FrameBuffer,
 ) -> Result<Option<MessageRef<'b>>, Error>
-    ensures read { IfOk result (λ found. IfSome found (IsFrameRead (maximum_of max) (S.state source.old).left (S.state source.new).left)) }
+    ensures read { IfOk result (λ found. IfSome found (IsFrameRead (maximum_of maximum) (S.state source.old).left (S.state source.new).left)) }
     ensures ended { IfOk result (λ found. IsNone found → HasEnded (S.state source.old).left (S.state source.new).left (S.state source.old).ends (S.state source.new).ends) }
-    ensures refused { IfErr result (λ e. ReadRefused e.kind (maximum_of max) (S.state source.old).left (S.state source.new).left (S.state source.old).read_faults (S.state source.new).read_faults (S.state source.old).ends (S.state source.new).ends) }
+    ensures refused { IfErr result (λ e. ReadRefused e.kind (maximum_of maximum) (S.state source.old).left (S.state source.new).left (S.state source.old).read_faults (S.state source.new).read_faults (S.state source.old).ends (S.state source.new).ends) }
     ensures more { IfErr result (λ e. HasMore e.kind (S.state source.old).left) }
-    ensures again { (frame rest : List ℕ) (parts : Frame) → (S.state source.old).left ≡ Some (frame ++ rest) → IsFrame frame parts → pos (length frame) ≤ℤ maximum_of max → MatchResult result (FoundAgain frame parts rest (S.state source.new).left) (λ e. IsUnreadable e.kind) }
+    ensures again { (frame rest : List ℕ) (parts : Frame) → (S.state source.old).left ≡ Some (frame ++ rest) → IsFrame frame parts → pos (length frame) ≤ℤ maximum_of maximum → MatchResult result (FoundAgain frame parts rest (S.state source.new).left) (λ e. IsUnreadable e.kind) }
     ensures on { ReadsOn (S.state source.old) (S.state source.new) }
 {
-    match buffer.next(source, max) {
+    match buffer.next(source, maximum) {
         Ok(found) => Ok(found),
         Err(fault) => Err(fault.into()),
     }

@@ -41,14 +41,14 @@ impl Header {
     }
 
     // The length of the frame, 16 to the maximum, where an OP_MSG follows. Else the row that the header calls for.
-    pub(crate) fn length_within(&self, max: Option<i32>) -> Result<usize, FrameFault>
-        ensures passes { IfOk result (λ n. length_row (maximum_of max) self.now.length (Some self.now.op_code) (pos 0) ≡ None) }
+    pub(crate) fn length_within(&self, maximum: Option<i32>) -> Result<usize, FrameFault>
+        ensures passes { IfOk result (λ n. length_row (maximum_of maximum) self.now.length (Some self.now.op_code) (pos 0) ≡ None) }
         ensures length { IfOk result (λ n. (pos n ≡ self.now.length) × (16 ≤ n)) }
         ensures message { IfOk result (λ n. self.now.op_code ≡ op_code.Message) }
-        ensures within { IfOk result (λ n. pos n ≤ℤ maximum_of max) }
-        ensures row { IfErr result (λ fault. length_row (maximum_of max) self.now.length (Some self.now.op_code) (pos 0) ≡ Some (kind_of_frame_fault fault)) }
+        ensures within { IfOk result (λ n. pos n ≤ℤ maximum_of maximum) }
+        ensures row { IfErr result (λ fault. length_row (maximum_of maximum) self.now.length (Some self.now.op_code) (pos 0) ≡ Some (kind_of_frame_fault fault)) }
     {
-        if self.length > max.unwrap_or(FIRST_MAXIMUM) {
+        if self.length > maximum.unwrap_or(FIRST_MAXIMUM) {
             return Err(FrameFault::InvalidResponse(ResponseFault::OverMaximum));
         }
         match self.op_code {
@@ -74,16 +74,16 @@ pub(crate) struct FrameStart {
 }
 
 // The start of a frame within the maximum. Else the row that the header calls for.
-pub(crate) fn start_of(head: &[u8; 16], max: Option<i32>) -> Result<FrameStart, FrameFault>
-    ensures passes { IfOk result (λ start. header_row (maximum_of max) head.now ≡ None) }
+pub(crate) fn start_of(head: &[u8; 16], maximum: Option<i32>) -> Result<FrameStart, FrameFault>
+    ensures passes { IfOk result (λ start. header_row (maximum_of maximum) head.now ≡ None) }
     ensures header { IfOk result (λ start. start.header ≡ header_with head.now op_code.Message) }
     ensures code { IfOk result (λ start. signed_at 12 head.now ≡ pos 2013) }
     ensures size { IfOk result (λ start. pos (16 + start.rest) ≡ signed_at 0 head.now) }
-    ensures within { IfOk result (λ start. pos (16 + start.rest) ≤ℤ maximum_of max) }
-    ensures row { IfErr result (λ fault. header_row (maximum_of max) head.now ≡ Some (kind_of_frame_fault fault)) }
+    ensures within { IfOk result (λ start. pos (16 + start.rest) ≤ℤ maximum_of maximum) }
+    ensures row { IfErr result (λ fault. header_row (maximum_of maximum) head.now ≡ Some (kind_of_frame_fault fault)) }
 {
     match Header::decode(head) {
-        Ok(header) => match header.length_within(max) {
+        Ok(header) => match header.length_within(maximum) {
             Ok(length) => Ok(FrameStart {
                 header,
                 rest: length - 16,

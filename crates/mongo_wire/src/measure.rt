@@ -16,12 +16,12 @@ const LONGEST: usize = 0x7FFF_FFFF;
 // The length of the message's frame, where it can be written within the maximum.
 //
 // Refusals, in this order: `IdentifierHasZero`, `SequenceTooLong`, `MaximumNegative`, `TooLong`.
-pub(crate) fn measured(message: &Message, max: Option<i32>) -> Result<u32, ArgumentFault>
-    ensures fits { IfOk result (λ _. Fits (maximum_of max) message.now) }
+pub(crate) fn measured(message: &Message, maximum: Option<i32>) -> Result<u32, ArgumentFault>
+    ensures fits { IfOk result (λ _. Fits (maximum_of maximum) message.now) }
     ensures counted { IfOk result (λ length. length ≡ frame_length message.now) }
     ensures short { IfOk result (λ length. length < 2 ^ 31) }
     ensures sections { IfOk result (λ _. AllByRecursion IsSection (sections_of message.now)) }
-    ensures refused { IfErr result (λ fault. ArgumentRow fault (maximum_of max) message.now) }
+    ensures refused { IfErr result (λ fault. ArgumentRow fault (maximum_of maximum) message.now) }
 {
     let sequences = message.document_sequences.as_slice();
     if !are_named(sequences) {
@@ -30,7 +30,7 @@ pub(crate) fn measured(message: &Message, max: Option<i32>) -> Result<u32, Argum
     let Some(size) = sequences_size(sequences) else {
         return Err(ArgumentFault::SequenceTooLong);
     };
-    let maximum = max.unwrap_or(FIRST_MAXIMUM);
+    let maximum = maximum.unwrap_or(FIRST_MAXIMUM);
     if maximum < 0 {
         return Err(ArgumentFault::MaximumNegative);
     }

@@ -50,7 +50,7 @@ impl Message {
         })
     }
 
-    /// Reads the next frame of the source, of at most `max` bytes, 50331648 where none is given. The message has no
+    /// Reads the next frame of the source, of at most `maximum` bytes, 50331648 where none is given. The message has no
     /// request id.
     ///
     /// Refusals, in this order, each with nothing taken past what shows it: `EndOfInput` within the 16 bytes of the header;
@@ -60,20 +60,20 @@ impl Message {
     pub fn read_from<S: Source>(
         alloc: Global,
         source: &mut S,
-        max: Option<i32>,
+        maximum: Option<i32>,
     ) -> Result<Message, Error>
         // What was read is a frame of the grammar within the maximum, and nothing after it was taken.
-        ensures read { IfOk result (IsRead (maximum_of max) (S.state source.old).left (S.state source.new).left) }
+        ensures read { IfOk result (IsRead (maximum_of maximum) (S.state source.old).left (S.state source.new).left) }
         // Each refusal is the first row of the table that applies, and has taken what shows it.
-        ensures refused { IfErr result (λ e. ReadRefused e.kind (maximum_of max) (S.state source.old).left (S.state source.new).left (S.state source.old).read_faults (S.state source.new).read_faults (S.state source.old).ends (S.state source.new).ends) }
+        ensures refused { IfErr result (λ e. ReadRefused e.kind (maximum_of maximum) (S.state source.old).left (S.state source.new).left (S.state source.old).read_faults (S.state source.new).read_faults (S.state source.old).ends (S.state source.new).ends) }
         // A frame within the maximum is read, whatever follows it.
-        ensures again { (frame rest : List ℕ) (parts : Frame) → (S.state source.old).left ≡ Some (frame ++ rest) → IsFrame frame parts → pos (length frame) ≤ℤ maximum_of max → ReadsAgain parts rest (S.state source.new).left result }
+        ensures again { (frame rest : List ℕ) (parts : Frame) → (S.state source.old).left ≡ Some (frame ++ rest) → IsFrame frame parts → pos (length frame) ≤ℤ maximum_of maximum → ReadsAgain parts rest (S.state source.new).left result }
         // That is one frame and no other: none is a front of another.
         ensures alone { (frame more : List ℕ) (parts other : Frame) → IsFrame frame parts → IsFrame (frame ++ more) other → more ≡ [] }
         ensures on { ReadsOn (S.state source.old) (S.state source.new) }
     {
         let mut buffer = FrameBuffer::new(alloc);
-        match buffer.take_frame(source, max) {
+        match buffer.take_frame(source, maximum) {
             Ok(()) => owned_message(alloc, buffer),
             Err(fault) => Err(fault.into()),
         }
@@ -90,18 +90,18 @@ impl Message {
         &self,
         _alloc: Global,
         sink: &mut K,
-        max: Option<i32>,
+        maximum: Option<i32>,
         ids: &mut RequestIds,
     ) -> Result<(), Error>
-        ensures written { OnOk result (Writes (maximum_of max) self.now (K.state sink.old).written (K.state sink.new).written (K.state sink.new).flushed ids.old ids.new) }
+        ensures written { OnOk result (Writes (maximum_of maximum) self.now (K.state sink.old).written (K.state sink.new).written (K.state sink.new).flushed ids.old ids.new) }
         // It is a frame of the grammar, where its flags tell of its checksum.
         ensures frame { OnOk result (TellsChecksum self.now → IsFrameOf (id_of self.now ids.old) self.now (written_frame (id_of self.now ids.old) self.now)) }
-        ensures refused { IfErr result (λ e. WriteRefused e.kind (maximum_of max) self.now (K.state sink.old).written (K.state sink.new).written (K.state sink.old).write_faults (K.state sink.new).write_faults ids.old ids.new) }
+        ensures refused { IfErr result (λ e. WriteRefused e.kind (maximum_of maximum) self.now (K.state sink.old).written (K.state sink.new).written (K.state sink.old).write_faults (K.state sink.new).write_faults ids.old ids.new) }
         // Nothing is done where the message is refused before its id is drawn.
         ensures untouched { (fault : ArgumentFault) → IfErr result (λ e. e.kind ≡ InvalidArgument fault → sink.new ≡ sink.old) }
         ensures on { WritesOn (K.state sink.old) (K.state sink.new) }
     {
-        let length = match measured(self, max) {
+        let length = match measured(self, maximum) {
             Ok(length) => length,
             Err(fault) => return Err(ErrorKind::InvalidArgument(fault).into()),
         };

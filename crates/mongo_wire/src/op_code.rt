@@ -3,6 +3,15 @@ ghost use Rattle.mongo_wire.specs.Header.{op_code_of, code_number};
 
 use crate::ResponseFault;
 
+// The numbers of the op codes.
+const OP_REPLY: i32 = 1;
+
+const OP_QUERY: i32 = 2004;
+
+const OP_COMPRESSED: i32 = 2012;
+
+const OP_MSG: i32 = 2013;
+
 /// What a frame is, by the wire protocol.
 #[derive(Clone, Copy, Debug, PartialEq, Eq)]
 pub enum OpCode {
@@ -23,10 +32,10 @@ impl OpCode {
         ensures unknown { IfErr result (λ fault. (fault ≡ ResponseFault.OpCode number) × (op_code_of number ≡ None)) }
     {
         match number {
-            1 => Ok(OpCode::Reply),
-            2004 => Ok(OpCode::Query),
-            2012 => Ok(OpCode::Compressed),
-            2013 => Ok(OpCode::Message),
+            OP_REPLY => Ok(OpCode::Reply),
+            OP_QUERY => Ok(OpCode::Query),
+            OP_COMPRESSED => Ok(OpCode::Compressed),
+            OP_MSG => Ok(OpCode::Message),
             _ => Err(ResponseFault::OpCode(number)),
         }
     }
@@ -36,10 +45,10 @@ impl OpCode {
         ensures { result ≡ code_number self.now }
     {
         match self {
-            OpCode::Reply => 1,
-            OpCode::Query => 2004,
-            OpCode::Compressed => 2012,
-            OpCode::Message => 2013,
+            OpCode::Reply => OP_REPLY,
+            OpCode::Query => OP_QUERY,
+            OpCode::Compressed => OP_COMPRESSED,
+            OpCode::Message => OP_MSG,
         }
     }
 }

@@ -8,7 +8,7 @@ ghost use Rattle.mongo_wire.specs.Ref.{IsOwned};
 ghost use Rattle.mongo_wire.specs.declared.error.ErrorKind.TheVariants.{OutOfMemory};
 ghost use Rattle.mongo_wire.specs.declared.document_sequence.DocumentSequence.{DocumentSequence as SequenceValue};
 
-use crate::sections::{SectionRef, SequenceRef, take_document, take_section};
+use crate::sections::{SectionRef, SequenceRef, split_section, take_document};
 use crate::{DocumentSequence, Error, FrameBuffer, Message, Sequences};
 use mongo_bson::{BsonFault, Documents, Text};
 use std::alloc::Global;
@@ -45,7 +45,7 @@ fn owned_sequences(alloc: Global, bytes: &[u8]) -> Result<Sequences, BsonFault>
     let mut sequences = Sequences::new(alloc);
     let mut rest = bytes;
     'sections: while !rest.is_empty() {
-        match take_section(rest) {
+        match split_section(rest) {
             Some((SectionRef::Sequence(sequence), after)) => {
                 sequences.push(owned_sequence(alloc, sequence)?)?;
                 rest = after;

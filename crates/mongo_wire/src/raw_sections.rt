@@ -24,19 +24,19 @@ pub fn write_sections<K: Sink>(
     response_to: i32,
     flags: MessageFlags,
     sections: &[u8],
-    max: Option<i32>,
+    maximum: Option<i32>,
 ) -> Result<(), Error>
-    ensures fits { OnOk result (SectionsFit (maximum_of max) sections.now) }
+    ensures fits { OnOk result (SectionsFit (maximum_of maximum) sections.now) }
     ensures written { OnOk result (Appends (K.state sink.old).written (K.state sink.new).written (sections_frame request_id response_to flags.0 sections.now)) }
     ensures flushed { OnOk result (IsFlushed (K.state sink.new).written (K.state sink.new).flushed) }
     // It is a frame of the grammar, where the bytes are sections with one body.
     ensures frame { OnOk result (IsFrameOfSections request_id response_to flags.0 sections.now) }
-    ensures refused { IfErr result (λ e. SectionsRefused e.kind (maximum_of max) sections.now (sections_frame request_id response_to flags.0 sections.now) (K.state sink.old).written (K.state sink.new).written (K.state sink.old).write_faults (K.state sink.new).write_faults) }
+    ensures refused { IfErr result (λ e. SectionsRefused e.kind (maximum_of maximum) sections.now (sections_frame request_id response_to flags.0 sections.now) (K.state sink.old).written (K.state sink.new).written (K.state sink.old).write_faults (K.state sink.new).write_faults) }
     // Nothing is done where the sections are refused.
     ensures untouched { (fault : ArgumentFault) → IfErr result (λ e. e.kind ≡ InvalidArgument fault → sink.new ≡ sink.old) }
     ensures on { WritesOn (K.state sink.old) (K.state sink.new) }
 {
-    let length = match sections_length(sections, max) {
+    let length = match sections_length(sections, maximum) {
         Ok(length) => length,
         Err(fault) => return Err(ErrorKind::InvalidArgument(fault).into()),
     };
@@ -48,12 +48,12 @@ pub fn write_sections<K: Sink>(
 // The length of the frame of these sections, where it can be written within the maximum.
 //
 // Refusals, in this order: `MaximumNegative`, `TooLong`.
-fn sections_length(sections: &[u8], max: Option<i32>) -> Result<u32, ArgumentFault>
-    ensures fits { IfOk result (λ _. SectionsFit (maximum_of max) sections.now) }
+fn sections_length(sections: &[u8], maximum: Option<i32>) -> Result<u32, ArgumentFault>
+    ensures fits { IfOk result (λ _. SectionsFit (maximum_of maximum) sections.now) }
     ensures counted { IfOk result (λ size. (size ≡ 20 + length sections.now) × (size < 2 ^ 31)) }
-    ensures refused { IfErr result (λ fault. SectionsRow fault (maximum_of max) sections.now) }
+    ensures refused { IfErr result (λ fault. SectionsRow fault (maximum_of maximum) sections.now) }
 {
-    let maximum = max.unwrap_or(FIRST_MAXIMUM);
+    let maximum = maximum.unwrap_or(FIRST_MAXIMUM);
     if maximum < 0 {
         return Err(ArgumentFault::MaximumNegative);
     }

@@ -2,7 +2,7 @@ ghost use Rattle.std.specs.Prelude.{◌≡◌, ◌+◌, ◌-◌, ◌*◌, ◌≤
 ghost use Rattle.mongo_wire.specs.Error.{kind_of_frame_fault};
 ghost use Rattle.mongo_wire.specs.Header.{signed_at};
 ghost use Rattle.mongo_wire.specs.Outside.{ReadsOn};
-ghost use Rattle.mongo_wire.specs.Small.{TakesDocument, DocumentRefused};
+ghost use Rattle.mongo_wire.specs.Small.{TakesDocument, DocumentUnread};
 
 use crate::header::signed;
 use crate::reading::take_into;
@@ -17,7 +17,7 @@ use std::alloc::Global;
 /// taken; `ReadFault` where the source failed.
 pub fn read_document_bytes<S: Source>(alloc: Global, source: &mut S) -> Result<Bytes, Error>
     ensures read { IfOk result (TakesDocument (S.state source.old).left (S.state source.new).left) }
-    ensures refused { IfErr result (λ e. DocumentRefused e.kind (S.state source.old).left (S.state source.new).left (S.state source.old).read_faults (S.state source.new).read_faults (S.state source.old).ends (S.state source.new).ends) }
+    ensures refused { IfErr result (λ e. DocumentUnread e.kind (S.state source.old).left (S.state source.new).left (S.state source.old).read_faults (S.state source.new).read_faults (S.state source.old).ends (S.state source.new).ends) }
     ensures on { ReadsOn (S.state source.old) (S.state source.new) }
 {
     let mut store = Vec::new(alloc);
@@ -32,7 +32,7 @@ pub fn read_document_bytes<S: Source>(alloc: Global, source: &mut S) -> Result<B
 fn take_document<S: Source>(source: &mut S, store: &mut Vec<u8>) -> Result<(), FrameFault>
     requires { store.old.items ≡ [] }
     ensures read { OnOk result (TakesDocument (S.state source.old).left (S.state source.new).left store.new.items) }
-    ensures refused { IfErr result (λ fault. DocumentRefused (kind_of_frame_fault fault) (S.state source.old).left (S.state source.new).left (S.state source.old).read_faults (S.state source.new).read_faults (S.state source.old).ends (S.state source.new).ends) }
+    ensures refused { IfErr result (λ fault. DocumentUnread (kind_of_frame_fault fault) (S.state source.old).left (S.state source.new).left (S.state source.old).read_faults (S.state source.new).read_faults (S.state source.old).ends (S.state source.new).ends) }
     ensures came { (had left : List ℕ) → (S.state source.old).left ≡ Some had → (S.state source.new).left ≡ Some left → vec_capacity store.new ≤ max (vec_capacity store.old) (4096 + 2 * (length had - length left)) }
     ensures on { ReadsOn (S.state source.old) (S.state source.new) }
 {

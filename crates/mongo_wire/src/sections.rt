@@ -1,5 +1,5 @@
 ghost use Rattle.std.specs.Prelude.{◌≡◌, ◌↔◌, IsTrue, MatchOption};
-ghost use Rattle.mongo_wire.specs.Sections.{BeginsWithDocument, HasNoDocument, AreDocuments, BeginsWithSequence, HasNoSequence, BeginsWithSection, HasNoSection};
+ghost use Rattle.mongo_wire.specs.Sections.{BeginsWithDocument, HasNoDocument, AreDocuments, SplitsSequence, HasNoSequence, BeginsWithSection, SplitsSection, HasNoSection};
 
 use crate::header::number;
 use mongo_bson::{RawDocument, take_cstring};
@@ -24,13 +24,30 @@ pub(crate) struct SequenceRef<'a> {
 pub(crate) fn take_section<'a>(bytes: &'a [u8]) -> Option<(SectionRef<'a>, &'a [u8])>
     ensures { MatchOption result (HasNoSection bytes.now) (λ p. BeginsWithSection bytes.now p.0 p.1.now) }
 {
+    match split_section(bytes) {
+        Some((SectionRef::Body(document), rest)) => Some((SectionRef::Body(document), rest)),
+        Some((SectionRef::Sequence(sequence), rest)) => {
+            if are_documents(sequence.documents) {
+                Some((SectionRef::Sequence(sequence), rest))
+            } else {
+                None
+            }
+        }
+        None => None,
+    }
+}
+
+// The same for bytes that were judged before: whether documents fill a sequence isn't looked at.
+pub(crate) fn split_section<'a>(bytes: &'a [u8]) -> Option<(SectionRef<'a>, &'a [u8])>
+    ensures { MatchOption result (HasNoSection bytes.now) (λ p. SplitsSection bytes.now p.0 p.1.now) }
+{
     let (kind, rest) = bytes.split_first()?;
     match *kind {
         0 => match take_document(rest) {
             Some((document, after)) => Some((SectionRef::Body(document), after)),
             None => None,
         },
-        1 => match take_sequence(rest) {
+        1 => match split_sequence(rest) {
             Some((sequence, after)) => Some((SectionRef::Sequence(sequence), after)),
             None => None,
         },
@@ -56,9 +73,9 @@ pub(crate) fn take_document<'a>(bytes: &'a [u8]) -> Option<(RawDocument<'a>, &'a
     }
 }
 
-// The sequence that stands after its kind byte, and the bytes after it. Its documents fill what its size counts.
-fn take_sequence<'a>(bytes: &'a [u8]) -> Option<(SequenceRef<'a>, &'a [u8])>
-    ensures { MatchOption result (HasNoSequence bytes.now) (λ p. BeginsWithSequence bytes.now p.0 p.1.now) }
+// The sequence that stands after its kind byte, and the bytes after it, where documents fill what its size counts.
+fn split_sequence<'a>(bytes: &'a [u8]) -> Option<(SequenceRef<'a>, &'a [u8])>
+    ensures { MatchOption result (HasNoSequence bytes.now) (λ p. SplitsSequence bytes.now p.0 p.1.now) }
 {
     if bytes.len() < 4 {
         return None;
@@ -76,17 +93,11 @@ fn take_sequence<'a>(bytes: &'a [u8]) -> Option<(SequenceRef<'a>, &'a [u8])>
     let (section, rest) = bytes.split_at(size as usize);
     let (_size, content) = section.split_at(4);
     let (identifier, documents) = take_cstring(content)?;
-    if are_documents(documents) {
-        Some((
-            SequenceRef {
-                identifier,
-                documents,
-            },
-            rest,
-        ))
-    } else {
-        None
-    }
+    let sequence = SequenceRef {
+        identifier,
+        documents,
+    };
+    Some((sequence, rest))
 }
 
 // Whether documents fill the bytes, one after another.

@@ -1,3 +1,5 @@
+ghost use Rattle.std.specs.Prelude.{◌<◌};
+
 mod copies;
 mod links;
 mod reading;
@@ -5,7 +7,9 @@ mod small;
 mod standard;
 mod writing;
 
-use crate::{DocumentSequence, Error, ErrorKind, Message, MessageFlags, Sequences};
+use crate::{
+    DocumentSequence, Error, ErrorKind, FailingLink, MemoryLink, Message, MessageFlags, Sequences,
+};
 use bitflags::Flags;
 use mongo_bson::{Bytes, Documents, RawDocumentBuf, Text};
 use std::alloc::Global;
@@ -56,8 +60,26 @@ pub(crate) fn message_with_sequence(alloc: Global) -> Result<Message, Error> {
     Ok(message)
 }
 
+// A link that gives these bytes.
+pub(crate) fn giving(alloc: Global, bytes: &[u8]) -> Result<MemoryLink, Error> {
+    Ok(MemoryLink::new(alloc, Bytes::from_slice(alloc, bytes)?))
+}
+
+// A link that gives these bytes so many at a time, and fails at just this call.
+pub(crate) fn failing_link(
+    alloc: Global,
+    bytes: &[u8],
+    call: usize,
+    most: usize,
+) -> Result<FailingLink, Error>
+    requires { 0 < most }
+{
+    let input = Bytes::from_slice(alloc, bytes)?;
+    Ok(FailingLink::new(alloc, input, failing_at(alloc, call)?, most))
+}
+
 // A schedule under which just this call fails.
-pub(crate) fn failing_at(alloc: Global, call: usize) -> Result<Bytes, Error> {
+fn failing_at(alloc: Global, call: usize) -> Result<Bytes, Error> {
     let mut schedule = Vec::new(alloc);
     for _ in 0..call {
         schedule.push(0)?;

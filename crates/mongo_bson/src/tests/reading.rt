@@ -1,25 +1,40 @@
 use crate::tests::kinds::{document_of, value_of_kind};
 use crate::{BsonFault, ObjectId, RawDocument, RawDocumentBuf, RawValue, first_key, take_cstring};
+use std::alloc::Global;
 use std::test::Fail;
+
+// Whether a document of one value of this kind and these bytes is readable.
+fn is_readable(alloc: Global, kind: u8, value: &[u8]) -> Result<bool, BsonFault> {
+    Ok(document_of(alloc, kind, value)?.borrow().readable())
+}
+
+// Whether the only value of a document of one value is read as its kind and bytes.
+fn is_read_whole(alloc: Global, kind: u8, value: &[u8]) -> Result<bool, BsonFault> {
+    let document = document_of(alloc, kind, value)?;
+    Ok(
+        document.borrow().iter().count() == 1
+            && document.borrow().get_bytes("a")? == Some((kind, value)),
+    )
+}
+
+// Whether no value is found where these bytes are no value of the kind.
+fn is_refused(alloc: Global, kind: u8, value: &[u8]) -> Result<bool, BsonFault> {
+    let document = document_of(alloc, kind, value)?;
+    Ok(!document.borrow().readable() && document.borrow().get("a") == Err(BsonFault::Malformed))
+}
 
 #[test]
 fn each_kind_is_read_whole_and_refused_cut(rt: HostRuntime) -> Result<(), Fail> {
     for kind in 0..=255u8 {
         let Some(value) = value_of_kind(kind) else {
-            let unknown = document_of(rt.alloc(), kind, b"")?;
-            assert!(rt; !unknown.borrow().readable(), "kind {kind}");
+            assert!(rt; is_refused(rt.alloc(), kind, b"")?, "kind {kind}");
             continue;
         };
-        let whole = document_of(rt.alloc(), kind, value)?;
-        assert!(rt; whole.borrow().readable(), "kind {kind}");
-        assert_eq!(rt; whole.borrow().iter().count(), 1, "kind {kind}");
-        let found = whole.borrow().get_bytes("a")?;
-        assert!(rt; found == Some((kind, value)), "kind {kind}");
+        assert!(rt; is_readable(rt.alloc(), kind, value)?, "kind {kind}");
+        assert!(rt; is_read_whole(rt.alloc(), kind, value)?, "kind {kind}");
         for cut in 0..value.len() {
-            let short = document_of(rt.alloc(), kind, &value[..cut])?;
-            assert!(rt; !short.borrow().readable(), "kind {kind} cut to {cut}");
             assert!(rt;
-                short.borrow().get("a") == Err(BsonFault::Malformed),
+                is_refused(rt.alloc(), kind, &value[..cut])?,
                 "kind {kind} cut to {cut}"
             );
         }
@@ -91,20 +106,39 @@ fn a_frame_is_as_long_as_it_says(rt: HostRuntime) -> Result<(), Fail> {
 }
 
 #[test]
-fn texts_may_hold_zeros_and_must_be_utf8(rt: HostRuntime) -> Result<(), Fail> {
-    let inner_zero = document_of(rt.alloc(), 0x02, b"\x04\x00\x00\x00b\x00c\x00")?;
-    assert!(rt; inner_zero.borrow().get("a")? == Some(RawValue::Str("b\0c")));
-    let not_utf8 = document_of(rt.alloc(), 0x02, b"\x02\x00\x00\x00\xFF\x00")?;
-    assert!(rt; !not_utf8.borrow().readable());
-    let no_length = document_of(rt.alloc(), 0x02, b"\x00\x00\x00\x00")?;
-    assert!(rt; !no_length.borrow().readable());
-    let two = document_of(rt.alloc(), 0x08, b"\x02")?;
-    assert!(rt; !two.borrow().readable());
+fn a_text_may_hold_a_zero(rt: HostRuntime) -> Result<(), Fail> {
+    let document = document_of(rt.alloc(), 0x02, b"\x04\x00\x00\x00b\x00c\x00")?;
+    assert!(rt; document.borrow().get("a")? == Some(RawValue::Str("b\0c")));
+    Ok(())
+}
+
+#[test]
+fn other_texts_and_booleans_are_refused(rt: HostRuntime) -> Result<(), Fail> {
+    // not UTF-8, no room for the zero, no zero, and a boolean that is 2
+    let table: [(u8, &[u8]); 4] = [
+        (0x02, b"\x02\x00\x00\x00\xFF\x00"),
+        (0x02, b"\x00\x00\x00\x00"),
+        (0x02, b"\x01\x00\x00\x00b"),
+        (0x08, b"\x02"),
+    ];
+    for (kind, value) in table {
+        assert!(rt; is_refused(rt.alloc(), kind, value)?, "{value:?}");
+    }
+    Ok(())
+}
+
+#[test]
+fn a_key_is_utf8(rt: HostRuntime) -> Result<(), Fail> {
     let wide_key = RawDocument::from_bytes(b"\x09\x00\x00\x00\x0A\xC3\xA9\x00\x00")?;
     assert!(rt; wide_key.get("é")? == Some(RawValue::Null));
-    assert!(rt; take_cstring(b"\xC3\xA9\0b\0") == Some(("é", b"b\0".as_slice())));
-    assert!(rt; take_cstring(b"a\xFF\0").is_none() && take_cstring(b"a").is_none());
     let broken_key = RawDocument::from_bytes(b"\x08\x00\x00\x00\x0A\xFF\x00\x00")?;
     assert!(rt; broken_key.get("a") == Err(BsonFault::Malformed));
     Ok(())
+}
+
+#[test]
+fn a_cstring_ends_at_its_zero(rt: HostRuntime) {
+    assert!(rt; take_cstring(b"\xC3\xA9\0b\0") == Some(("é", b"b\0".as_slice())));
+    assert!(rt; take_cstring(b"a\xFF\0").is_none());
+    assert!(rt; take_cstring(b"a").is_none());
 }

@@ -12,12 +12,16 @@ use std::alloc::AllocError;
 
 /// Appends the least and the greatest version of the wire protocol, each `-` where it is absent.
 #[tactic(auto, unfolding(crate::specs::Report::wire_line))]
-pub fn push_wire(out: &mut Vec<u8>, min: Option<i32>, max: Option<i32>) -> Result<(), AllocError>
-    ensures { OnOk result (out.new.items ≡ out.old.items ++ wire_line min max) }
+pub fn push_wire(
+    out: &mut Vec<u8>,
+    minimum: Option<i32>,
+    maximum: Option<i32>,
+) -> Result<(), AllocError>
+    ensures { OnOk result (out.new.items ≡ out.old.items ++ wire_line minimum maximum) }
 {
     begin_line(out, "wire")?;
-    push_optional_number(out, min)?;
-    push_optional_number(out, max)?;
+    push_optional_number(out, minimum)?;
+    push_optional_number(out, maximum)?;
     end_line(out)
 }
 

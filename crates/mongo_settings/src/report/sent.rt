@@ -1,7 +1,7 @@
 //! The lines of the bytes that went over the link.
 ghost use Rattle.std.specs.Prelude.{◌≡◌, ◌++◌, ℕ, List, OnOk};
 ghost use Rattle.std.specs.List.{AllByRecursion, concat};
-ghost use Rattle.mongo_settings.specs.Report.{CountsItself, frame_length, sent_line, sent_lines, read_line};
+ghost use Rattle.mongo_settings.specs.Report.{CountsItself, front_length, sent_line, sent_lines, read_line};
 
 use crate::report::line::{begin_line, end_line, push_hex, push_number};
 use std::alloc::AllocError;
@@ -14,7 +14,7 @@ pub fn push_sent(out: &mut Vec<u8>, written: &[u8]) -> Result<(), AllocError>
         → out.new.items ≡ out.old.items ++ sent_lines frames) }
 {
     let mut rest = written;
-    'frames: while let Some(length) = frame_length(rest) {
+    'frames: while let Some(length) = front_length(rest) {
         let (frame, more) = rest.split_at(length);
         push_frame(out, frame)?;
         rest = more;
@@ -23,8 +23,8 @@ pub fn push_sent(out: &mut Vec<u8>, written: &[u8]) -> Result<(), AllocError>
 }
 
 // The length of the frame that the bytes begin with, where all of it is there.
-fn frame_length(bytes: &[u8]) -> Option<usize>
-    ensures { result ≡ frame_length bytes.now }
+fn front_length(bytes: &[u8]) -> Option<usize>
+    ensures { result ≡ front_length bytes.now }
 {
     if bytes.len() < 16 {
         return None;

@@ -27,45 +27,75 @@ fn concern_error(alloc: Global) -> Result<WriteConcernError, Error> {
     })
 }
 
-// The causes that own memory.
-fn causes(alloc: Global) -> Result<Vec<ErrorKind>, Error> {
-    let mut causes = Vec::new(alloc);
-    causes.push(ErrorKind::Callback(Text::from_slice(alloc, "no callback")?))?;
-    causes.push(ErrorKind::Authentication(AuthFault::Refused(Text::from_slice(alloc, "no")?)))?;
-    causes.push(ErrorKind::Command(CommandError {
+fn command_error(alloc: Global) -> Result<CommandError, Error> {
+    Ok(CommandError {
         code: 18,
         code_name: Text::from_slice(alloc, "AuthenticationFailed")?,
         message: Text::from_slice(alloc, "no")?,
         labels: Texts::new(alloc),
-    }))?;
-    causes.push(ErrorKind::Write(WriteFailure {
-        cause: WriteFailureCause::WriteError(write_error(alloc)?),
+    })
+}
+
+fn write_failure(alloc: Global, cause: WriteFailureCause) -> ErrorKind {
+    ErrorKind::Write(WriteFailure {
+        cause,
         labels: Texts::new(alloc),
-    }))?;
-    causes.push(ErrorKind::Write(WriteFailure {
-        cause: WriteFailureCause::WriteConcernError(concern_error(alloc)?),
-        labels: Texts::new(alloc),
-    }))?;
-    let mut write_errors = WriteErrors::new(alloc);
-    write_errors.push(IndexedWriteError {
+    })
+}
+
+fn write_errors(alloc: Global) -> Result<WriteErrors, Error> {
+    let mut errors = WriteErrors::new(alloc);
+    errors.push(IndexedWriteError {
         index: 0,
         error: write_error(alloc)?,
     })?;
-    causes.push(ErrorKind::InsertMany(InsertManyError {
-        write_errors: Some(write_errors),
+    Ok(errors)
+}
+
+fn insert_error(alloc: Global) -> Result<InsertManyError, Error> {
+    Ok(InsertManyError {
+        write_errors: Some(write_errors(alloc)?),
         write_concern_error: Some(concern_error(alloc)?),
         labels: Texts::new(alloc),
-    }))?;
-    Ok(causes)
+    })
+}
+
+// Whether a copy of the cause is made.
+fn is_copied(alloc: Global, kind: ErrorKind) -> bool {
+    Error { kind }.try_clone(alloc).is_ok()
 }
 
 #[test]
-fn messages_and_causes_are_copied(rt: HostRuntime) -> Result<(), Fail> {
+fn a_text_of_a_cause_is_copied(rt: HostRuntime) -> Result<(), Fail> {
     let alloc = rt.alloc();
-    let copy = message_with_sequence(alloc)?.try_clone(alloc)?;
+    let callback = Text::from_slice(alloc, "no callback")?;
+    assert!(rt; is_copied(alloc, ErrorKind::Callback(callback)));
+    let refusal = Text::from_slice(alloc, "no")?;
+    assert!(rt;
+        is_copied(
+            alloc,
+            ErrorKind::Authentication(AuthFault::Refused(refusal))
+        )
+    );
+    Ok(())
+}
+
+#[test]
+fn a_servers_error_is_copied(rt: HostRuntime) -> Result<(), Fail> {
+    let alloc = rt.alloc();
+    assert!(rt; is_copied(alloc, ErrorKind::Command(command_error(alloc)?)));
+    let written = WriteFailureCause::WriteError(write_error(alloc)?);
+    assert!(rt; is_copied(alloc, write_failure(alloc, written)));
+    let concern = WriteFailureCause::WriteConcernError(concern_error(alloc)?);
+    assert!(rt; is_copied(alloc, write_failure(alloc, concern)));
+    assert!(rt; is_copied(alloc, ErrorKind::InsertMany(insert_error(alloc)?)));
+    Ok(())
+}
+
+#[test]
+fn a_message_is_copied(rt: HostRuntime) -> Result<(), Fail> {
+    let message = message_with_sequence(rt.alloc())?;
+    let copy = message.try_clone(rt.alloc())?;
     assert_eq!(rt; copy.document_sequences.len(), 1);
-    for kind in causes(alloc)? {
-        assert!(rt; Error { kind }.try_clone(alloc).is_ok());
-    }
     Ok(())
 }

@@ -1,5 +1,5 @@
 // The bytes are laid out by the OP_MSG specification and BSON 1.1.
-use super::{EMPTY_MESSAGE, MESSAGE_WITH_SEQUENCE};
+use super::{EMPTY_MESSAGE, MESSAGE_WITH_SEQUENCE, failing_link, giving};
 use crate::{
     ArgumentFault, Error, ErrorKind, FailingLink, FrameBuffer, MemoryLink, Message, ResponseFault,
     Source, next_frame, read_frame,
@@ -26,7 +26,7 @@ fn header(length: i32, op_code: i32) -> [u8; 16] {
 }
 
 fn read(alloc: Global, bytes: &[u8]) -> Result<Message, Error> {
-    let mut link = MemoryLink::new(alloc, Bytes::from_slice(alloc, bytes)?);
+    let mut link = giving(alloc, bytes)?;
     Message::read_from(alloc, &mut link, None)
 }
 
@@ -53,24 +53,23 @@ fn argument_fault(alloc: Global, bytes: &[u8]) -> Option<ArgumentFault> {
     }
 }
 
+// Whether the message has just the sequence `documents` of one document.
+fn has_one_sequence(message: &Message) -> bool {
+    match message.document_sequences.as_slice() {
+        [sequence] => {
+            sequence.identifier.as_str() == "documents" && sequence.documents.len() == 1
+        }
+        _ => false,
+    }
+}
+
 #[test]
 fn a_message_with_a_sequence_is_read(rt: HostRuntime) -> Result<(), Fail> {
     let message = read(rt.alloc(), &MESSAGE_WITH_SEQUENCE)?;
-    assert_eq!(rt;
-        message.document_payload.as_bytes(),
-        [5, 0, 0, 0, 0].as_slice()
-    );
-    assert_eq!(rt; message.document_sequences.len(), 1);
-    assert_eq!(rt; message.flags.bits(), 0);
-    assert_eq!(rt; message.checksum, None);
-    assert_eq!(rt; message.request_id, None);
-    match message.document_sequences.get(0) {
-        Some(sequence) => {
-            assert_eq!(rt; sequence.identifier.as_str(), "documents");
-            assert_eq!(rt; sequence.documents.len(), 1);
-        }
-        None => assert!(rt; false),
-    }
+    assert!(rt; message.document_payload.as_bytes() == [5, 0, 0, 0, 0].as_slice());
+    assert!(rt; has_one_sequence(&message));
+    assert!(rt; message.flags.bits() == 0 && message.checksum.is_none());
+    assert!(rt; message.request_id.is_none());
     Ok(())
 }
 
@@ -103,55 +102,89 @@ fn a_header_is_refused_by_the_first_row_that_applies(rt: HostRuntime) {
     );
 }
 
-#[test]
-fn frames_come_one_after_another_through_one_buffer(rt: HostRuntime) -> Result<(), Fail> {
-    let alloc = rt.alloc();
+// Two frames one after another.
+fn two_frames(alloc: Global) -> Result<MemoryLink, Error> {
     let mut input = Bytes::from_slice(alloc, &REPLY)?;
     input.extend_from_slice(&EMPTY_MESSAGE)?;
-    let mut link = MemoryLink::new(alloc, input);
-    let mut buffer = FrameBuffer::new(alloc);
-    let first = read_frame(alloc, &mut link, None, &mut buffer)?;
-    assert_eq!(rt; first.header.length, 86);
-    assert_eq!(rt; first.header.request_id, 1);
-    assert_eq!(rt; first.sections.len(), 66);
-    assert_eq!(rt; first.document_payload.as_bytes().len(), 65);
-    let second = read_frame(alloc, &mut link, None, &mut buffer)?;
-    assert_eq!(rt; second.document_payload.as_bytes().len(), 5);
-    assert_eq!(rt; buffer.frames(), 2);
-    assert_eq!(rt; buffer.as_bytes(), &EMPTY_MESSAGE[16..]);
-    assert!(rt; next_frame(alloc, &mut link, None, &mut buffer)?.is_none());
-    assert_eq!(rt; buffer.frames(), 2);
-    assert_eq!(rt; buffer.as_bytes().len(), 0);
+    Ok(MemoryLink::new(alloc, input))
+}
+
+// The next frame's length and request id, and how long its sections and its body are; None where it isn't read.
+fn read_numbers(
+    alloc: Global,
+    link: &mut MemoryLink,
+    buffer: &mut FrameBuffer,
+) -> Option<(i32, i32, usize, usize)> {
+    match read_frame(alloc, link, None, buffer) {
+        Ok(message) => Some((
+            message.header.length,
+            message.header.request_id,
+            message.sections.len(),
+            message.document_payload.as_bytes().len(),
+        )),
+        Err(_) => None,
+    }
+}
+
+// Whether no frame is left.
+fn has_ended(alloc: Global, link: &mut MemoryLink, buffer: &mut FrameBuffer) -> bool {
+    match next_frame(alloc, link, None, buffer) {
+        Ok(frame) => frame.is_none(),
+        Err(_) => false,
+    }
+}
+
+#[test]
+fn frames_come_one_after_another_through_one_buffer(rt: HostRuntime) -> Result<(), Fail> {
+    let mut link = two_frames(rt.alloc())?;
+    let mut buffer = FrameBuffer::new(rt.alloc());
+    assert!(rt; read_numbers(rt.alloc(), &mut link, &mut buffer) == Some((86, 1, 66, 65)));
+    assert!(rt; read_numbers(rt.alloc(), &mut link, &mut buffer) == Some((26, 0, 6, 5)));
+    assert!(rt; buffer.frames() == 2 && buffer.as_bytes() == &EMPTY_MESSAGE[16..]);
+    assert!(rt; has_ended(rt.alloc(), &mut link, &mut buffer));
+    assert!(rt; buffer.frames() == 2 && buffer.as_bytes().is_empty());
     Ok(())
 }
 
-// How often a link failed that gives a message byte by byte and fails at just this call, and whether the frame was read.
-fn read_with_failure(alloc: Global, call: usize) -> Result<(u64, bool), Error> {
-    let mut schedule = Vec::new(alloc);
-    for _ in 0..call {
-        schedule.push(0)?;
-    }
-    schedule.push(1)?;
-    let input = Bytes::from_slice(alloc, &MESSAGE_WITH_SEQUENCE)?;
-    let mut link = FailingLink::new(alloc, input, Bytes::from_vec(schedule), 1);
+// Whether the link's frame is read.
+fn is_frame_read(alloc: Global, link: &mut FailingLink) -> bool {
     let mut buffer = FrameBuffer::new(alloc);
-    let read = read_frame(alloc, &mut link, None, &mut buffer).is_ok();
-    Ok((link.read_faults(), read))
+    read_frame(alloc, link, None, &mut buffer).is_ok()
 }
 
 #[test]
 fn a_frame_is_read_byte_by_byte_unless_a_call_fails(rt: HostRuntime) -> Result<(), Fail> {
     for call in 0..48 {
-        let (faults, read) = read_with_failure(rt.alloc(), call)?;
-        assert_eq!(rt; read, call >= 46);
-        assert_eq!(rt; faults == 1, call < 46);
+        let mut link = failing_link(rt.alloc(), &MESSAGE_WITH_SEQUENCE, call, 1)?;
+        assert_eq!(rt; is_frame_read(rt.alloc(), &mut link), call >= 46);
+        assert_eq!(rt; link.read_faults() == 1, call < 46);
     }
     Ok(())
 }
 
+// A frame, and after it a header of this length and op code with four bytes of zeros.
+fn frame_and_header(alloc: Global, length: i32, op_code: i32) -> Result<MemoryLink, Error> {
+    let mut input = Bytes::from_slice(alloc, &EMPTY_MESSAGE)?;
+    input.extend_from_slice(&header(length, op_code))?;
+    input.extend_from_slice(&[0; 4])?;
+    Ok(MemoryLink::new(alloc, input))
+}
+
+// Whether a frame is taken, and whether the buffer holds just it then.
+fn takes(link: &mut MemoryLink, buffer: &mut FrameBuffer) -> bool {
+    buffer.take_frame(link, None).is_ok() && buffer.as_bytes() == &EMPTY_MESSAGE[16..]
+}
+
+// Whether a read is refused, and the buffer shows nothing then.
+fn refuses(alloc: Global, link: &mut MemoryLink, buffer: &mut FrameBuffer) -> bool {
+    read_frame(alloc, link, None, buffer).is_err()
+        && buffer.as_bytes().is_empty()
+        && buffer.message().is_none()
+        && buffer.frames() == 1
+}
+
 #[test]
 fn a_refused_read_shows_nothing(rt: HostRuntime) -> Result<(), Fail> {
-    let alloc = rt.alloc();
     // a length below 16, one past the maximum, other op codes, a frame cut short, and one without a body
     for (length, op_code) in [
         (15, 2013),
@@ -162,29 +195,26 @@ fn a_refused_read_shows_nothing(rt: HostRuntime) -> Result<(), Fail> {
         (26, 2013),
         (20, 2013),
     ] {
-        let mut input = Bytes::from_slice(alloc, &EMPTY_MESSAGE)?;
-        input.extend_from_slice(&header(length, op_code))?;
-        input.extend_from_slice(&[0; 4])?;
-        let mut link = MemoryLink::new(alloc, input);
-        let mut buffer = FrameBuffer::new(alloc);
-        assert!(rt; buffer.take_frame(&mut link, None).is_ok());
-        assert_eq!(rt; buffer.as_bytes(), &EMPTY_MESSAGE[16..]);
-        assert!(rt; read_frame(alloc, &mut link, None, &mut buffer).is_err());
-        assert_eq!(rt; buffer.as_bytes().len(), 0);
-        assert!(rt; buffer.message().is_none());
-        assert_eq!(rt; buffer.frames(), 1);
+        let mut link = frame_and_header(rt.alloc(), length, op_code)?;
+        let mut buffer = FrameBuffer::new(rt.alloc());
+        assert!(rt; takes(&mut link, &mut buffer));
+        assert!(rt; refuses(rt.alloc(), &mut link, &mut buffer));
     }
     Ok(())
 }
 
-#[test]
-fn memory_is_taken_for_bytes_that_came(rt: HostRuntime) -> Result<(), Fail> {
-    let alloc = rt.alloc();
+// A header of the first maximum, and 100 bytes.
+fn a_hundred_bytes(alloc: Global) -> Result<MemoryLink, Error> {
     let mut input = Bytes::from_slice(alloc, &header(50_331_648, 2013))?;
     input.extend_from_slice(&[0; 100])?;
-    let mut link = MemoryLink::new(alloc, input);
-    let mut buffer = FrameBuffer::new(alloc);
-    assert!(rt; read_frame(alloc, &mut link, None, &mut buffer).is_err());
+    Ok(MemoryLink::new(alloc, input))
+}
+
+#[test]
+fn memory_is_taken_for_bytes_that_came(rt: HostRuntime) -> Result<(), Fail> {
+    let mut link = a_hundred_bytes(rt.alloc())?;
+    let mut buffer = FrameBuffer::new(rt.alloc());
+    assert!(rt; buffer.take_frame(&mut link, None).is_err());
     assert_eq!(rt; buffer.store.capacity(), 4096);
     assert_eq!(rt; buffer.frames(), 0);
     Ok(())
@@ -205,12 +235,10 @@ fn greatest_frame(alloc: Global) -> Result<Bytes, Error> {
 
 #[test]
 fn the_greatest_frame_is_read(rt: HostRuntime) -> Result<(), Fail> {
-    let alloc = rt.alloc();
-    let mut link = MemoryLink::new(alloc, greatest_frame(alloc)?);
-    let mut buffer = FrameBuffer::new(alloc);
-    let message = read_frame(alloc, &mut link, None, &mut buffer)?;
-    assert_eq!(rt; message.header.length, 50_331_648);
-    assert_eq!(rt; message.sections.len(), 50_331_628);
+    let mut link = MemoryLink::new(rt.alloc(), greatest_frame(rt.alloc())?);
+    let mut buffer = FrameBuffer::new(rt.alloc());
+    let numbers = read_numbers(rt.alloc(), &mut link, &mut buffer);
+    assert!(rt; numbers == Some((50_331_648, 0, 50_331_628, 5)));
     assert_eq!(rt; buffer.as_bytes().len(), 50_331_632);
     Ok(())
 }

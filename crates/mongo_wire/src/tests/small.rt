@@ -1,9 +1,10 @@
-use super::message_with_sequence;
+use super::{failing_link, giving, message_with_sequence};
 use crate::{
     ArgumentFault, ErrorKind, FailingLink, Header, MemoryLink, OpCode, RequestIds, ResponseFault,
     Sink, Source, SyncCountReader, SyncLittleEndianRead, read_document_bytes,
 };
 use mongo_bson::Bytes;
+use std::alloc::Global;
 use std::test::Fail;
 
 // A header of 26 bytes, the id 5 and the answer to -2, by the OP_MSG specification.
@@ -11,86 +12,107 @@ const HEADER: [u8; 16] = [
     0x1a, 0, 0, 0, 5, 0, 0, 0, 0xfe, 0xff, 0xff, 0xff, 0xdd, 0x07, 0, 0,
 ];
 
+const READ_HEADER: Header = Header {
+    length: 26,
+    request_id: 5,
+    response_to: -2,
+    op_code: OpCode::Message,
+};
+
+#[test]
+fn a_header_is_16_bytes(rt: HostRuntime) {
+    assert!(rt; READ_HEADER.encode() == HEADER);
+    assert!(rt; Header::decode(&HEADER) == Ok(READ_HEADER));
+}
+
+// The next header of the link, where one is read.
+fn next_header(link: &mut FailingLink) -> Option<Header> {
+    match Header::read_from(link) {
+        Ok(header) => Some(header),
+        Err(_) => None,
+    }
+}
+
 #[test]
 fn a_header_is_written_and_read_back(rt: HostRuntime) -> Result<(), Fail> {
-    let alloc = rt.alloc();
-    let header = Header {
-        length: 26,
-        request_id: 5,
-        response_to: -2,
-        op_code: OpCode::Message,
-    };
-    assert_eq!(rt; header.encode(), HEADER);
-    assert_eq!(rt; Header::decode(&HEADER), Ok(header));
-    let mut link = FailingLink::new(
-        alloc,
-        Bytes::from_slice(alloc, &HEADER)?,
-        Bytes::new(alloc),
-        3,
-    );
-    header.write_to(&mut link)?;
+    let mut link = failing_link(rt.alloc(), &HEADER, 1000, 3)?;
+    assert!(rt; READ_HEADER.write_to(&mut link).is_ok());
     assert_eq!(rt; link.written(), HEADER.as_slice());
-    assert_eq!(rt; Header::read_from(&mut link)?, header);
+    assert!(rt; next_header(&mut link) == Some(READ_HEADER));
     assert_eq!(rt; link.left().len(), 0);
     Ok(())
 }
 
+// The unknown op code of the next header, where that is its refusal.
+fn unknown_op_code(link: &mut MemoryLink) -> Option<i32> {
+    match Header::read_from(link) {
+        Err(error) => match error.kind {
+            ErrorKind::InvalidResponse(ResponseFault::OpCode(number)) => Some(number),
+            _ => None,
+        },
+        Ok(_) => None,
+    }
+}
+
 #[test]
 fn an_unknown_op_code_is_told_after_16_bytes(rt: HostRuntime) -> Result<(), Fail> {
-    let alloc = rt.alloc();
-    let mut link = MemoryLink::new(alloc, Bytes::from_slice(alloc, &[1; 17])?);
-    let told = match Header::read_from(&mut link) {
-        Err(error) => matches!(
-            error.kind,
-            ErrorKind::InvalidResponse(ResponseFault::OpCode(0x0101_0101))
-        ),
-        Ok(_) => false,
-    };
-    assert!(rt; told);
+    let mut link = giving(rt.alloc(), &[1; 17])?;
+    assert!(rt; unknown_op_code(&mut link) == Some(0x0101_0101));
     assert_eq!(rt; link.left().len(), 1);
     Ok(())
 }
 
+// The next three numbers, where they are read.
+fn numbers(reader: &mut SyncCountReader<MemoryLink>) -> Option<(i32, u32, u8)> {
+    let signed = reader.read_i32_sync().ok()?;
+    let unsigned = reader.read_u32_sync().ok()?;
+    let byte = reader.read_u8_sync().ok()?;
+    Some((signed, unsigned, byte))
+}
+
 #[test]
 fn numbers_have_their_low_byte_first(rt: HostRuntime) -> Result<(), Fail> {
-    let alloc = rt.alloc();
     let bytes = [0xfe, 0xff, 0xff, 0xff, 1, 2, 3, 0x84, 7, 9];
-    let mut reader = SyncCountReader::new(MemoryLink::new(
-        alloc,
-        Bytes::from_slice(alloc, &bytes)?,
-    ));
-    assert_eq!(rt; reader.read_i32_sync()?, -2);
-    assert_eq!(rt; reader.read_u32_sync()?, 0x8403_0201);
-    assert_eq!(rt; reader.read_u8_sync()?, 7);
+    let mut reader = SyncCountReader::new(giving(rt.alloc(), &bytes)?);
+    assert!(rt; numbers(&mut reader) == Some((-2, 0x8403_0201, 7)));
     assert_eq!(rt; reader.bytes_read(), 9);
     assert!(rt; reader.read_u32_sync().is_err());
-    assert_eq!(rt; reader.ends(), 1);
-    assert_eq!(rt; reader.bytes_read(), 10);
+    assert!(rt; reader.ends() == 1 && reader.bytes_read() == 10);
     Ok(())
+}
+
+// The next document of the link, where one is read.
+fn next_document(alloc: Global, link: &mut MemoryLink) -> Option<Bytes> {
+    match read_document_bytes(alloc, link) {
+        Ok(document) => Some(document),
+        Err(_) => None,
+    }
 }
 
 #[test]
 fn a_document_is_read_by_its_length(rt: HostRuntime) -> Result<(), Fail> {
-    let alloc = rt.alloc();
-    let mut link = MemoryLink::new(alloc, Bytes::from_slice(alloc, &[5, 0, 0, 0, 0, 0xff])?);
-    let document = read_document_bytes(alloc, &mut link)?;
-    assert_eq!(rt; document.as_bytes(), [5, 0, 0, 0, 0].as_slice());
-    assert_eq!(rt; link.left(), [0xff].as_slice());
+    let mut link = giving(rt.alloc(), &[5, 0, 0, 0, 0, 0xff])?;
+    let document = next_document(rt.alloc(), &mut link).ok_or("no document")?;
+    assert!(rt; document.as_bytes() == [5, 0, 0, 0, 0].as_slice());
+    assert!(rt; link.left() == [0xff].as_slice());
     Ok(())
 }
 
-#[test]
-fn a_length_below_four_is_told_after_four_bytes(rt: HostRuntime) -> Result<(), Fail> {
-    let alloc = rt.alloc();
-    let mut link = MemoryLink::new(alloc, Bytes::from_slice(alloc, &[3, 0, 0, 0, 0, 0xff])?);
-    let told = match read_document_bytes(alloc, &mut link) {
+// Whether the next document is refused for its length.
+fn is_too_low(alloc: Global, link: &mut MemoryLink) -> bool {
+    match read_document_bytes(alloc, link) {
         Err(error) => matches!(
             error.kind,
             ErrorKind::InvalidArgument(ArgumentFault::CheckedFailure)
         ),
         Ok(_) => false,
-    };
-    assert!(rt; told);
+    }
+}
+
+#[test]
+fn a_length_below_four_is_told_after_four_bytes(rt: HostRuntime) -> Result<(), Fail> {
+    let mut link = giving(rt.alloc(), &[3, 0, 0, 0, 0, 0xff])?;
+    assert!(rt; is_too_low(rt.alloc(), &mut link));
     assert_eq!(rt; link.left().len(), 2);
     Ok(())
 }

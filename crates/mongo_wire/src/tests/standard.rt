@@ -61,7 +61,7 @@ impl Write for FailingWriter {
     }
 }
 
-// Whether the source failed, where no message was read.
+// Whether the source failed, where the empty message was not read.
 fn read_once<S: Source>(alloc: Global, source: &mut S) -> Option<bool> {
     match Message::read_from(alloc, source, None) {
         Ok(_message) => None,
@@ -69,29 +69,53 @@ fn read_once<S: Source>(alloc: Global, source: &mut S) -> Option<bool> {
     }
 }
 
+// A reader that fails where so many bytes were given.
+fn reader(failing: usize) -> FailingReader<'static> {
+    FailingReader {
+        bytes: &EMPTY_MESSAGE,
+        given: 0,
+        failing: Some(failing),
+    }
+}
+
 #[test]
 fn a_reader_that_fails_is_told_from_one_that_ends(rt: HostRuntime) {
     let alloc = rt.alloc();
     for failing in 0..28 {
-        let mut source = StdSource::new(FailingReader {
-            bytes: EMPTY_MESSAGE.as_slice(),
-            given: 0,
-            failing: Some(failing),
-        });
+        let mut source = StdSource::new(reader(failing));
         assert_eq!(rt; read_once(alloc, &mut source) == Some(true), failing < 26);
-        assert_eq!(rt; source.read_faults() == 1, failing < 26);
-        assert_eq!(rt; source.ends(), 0);
+        assert!(rt; (source.read_faults() == 1) == (failing < 26) && source.ends() == 0);
         // fewer than the 16 bytes of a header are left where 11 or more were given, and none after the whole frame
-        let second = read_once(alloc, &mut source);
-        assert_eq!(rt; second == Some(true), failing == 26);
+        assert_eq!(rt; read_once(alloc, &mut source) == Some(true), failing == 26);
         assert_eq!(rt; source.ends() == 1, failing > 10 && failing != 26);
-        assert_eq!(rt; source.read_faults(), if failing < 27 { 1 } else { 0 });
+        assert_eq!(rt; source.read_faults() == 1, failing < 27);
+    }
+}
+
+// Whether the empty message is written.
+fn write_once<K: Sink>(alloc: Global, message: &Message, sink: &mut K) -> bool {
+    let mut ids = RequestIds::new(0);
+    message.write_op_msg_to(alloc, sink, None, &mut ids).is_ok()
+}
+
+// How many faults of the writer the sink counted when the message was written, where a refusal was told as one.
+fn faults_of(alloc: Global, message: &Message, writer: &mut FailingWriter) -> Option<u64> {
+    let mut ids = RequestIds::new(0);
+    let mut sink = StdSink::new(writer);
+    let told = match message.write_op_msg_to(alloc, &mut sink, None, &mut ids) {
+        Ok(()) => true,
+        Err(error) => is_write_fault(&error.kind),
+    };
+    if told {
+        Some(sink.write_faults())
+    } else {
+        None
     }
 }
 
 #[test]
 fn a_writer_that_fails_or_takes_nothing_is_told(rt: HostRuntime) -> Result<(), Fail> {
-    let alloc = rt.alloc();
+    let message = empty_message(rt.alloc())?;
     // most bytes a call, where it fails, whether its flush fails; then bytes written, flushes, faults
     for (most, failing, flush_fails, written, flushes, faults) in [
         (1, None, false, 26, 1, 0),
@@ -103,23 +127,15 @@ fn a_writer_that_fails_or_takes_nothing_is_told(rt: HostRuntime) -> Result<(), F
         (1, None, true, 26, 1, 1),
     ] {
         let mut writer = FailingWriter {
-            held: Vec::new(alloc),
+            held: Vec::new(rt.alloc()),
             most,
             failing,
             flush_fails,
             flushes: 0,
         };
-        let mut sink = StdSink::new(&mut writer);
-        let mut ids = RequestIds::new(0);
-        let told = match empty_message(alloc)?.write_op_msg_to(alloc, &mut sink, None, &mut ids) {
-            Ok(()) => false,
-            Err(error) => is_write_fault(&error.kind),
-        };
-        assert_eq!(rt; told, faults == 1);
-        assert_eq!(rt; sink.write_faults(), faults);
-        assert_eq!(rt; writer.held.len(), written);
+        assert!(rt; faults_of(rt.alloc(), &message, &mut writer) == Some(faults));
+        assert!(rt; writer.held.len() == written && writer.flushes == flushes);
         assert!(rt; EMPTY_MESSAGE.starts_with(writer.held.as_slice()));
-        assert_eq!(rt; writer.flushes, flushes);
     }
     Ok(())
 }
@@ -127,16 +143,13 @@ fn a_writer_that_fails_or_takes_nothing_is_told(rt: HostRuntime) -> Result<(), F
 #[test]
 fn a_link_counts_each_direction_apart(rt: HostRuntime) -> Result<(), Fail> {
     let alloc = rt.alloc();
-    let mut ids = RequestIds::new(0);
+    let message = empty_message(alloc)?;
     let mut held = Vec::new(alloc);
     let mut link = StdLink::new(EMPTY_MESSAGE.as_slice(), &mut held);
-    empty_message(alloc)?.write_op_msg_to(alloc, &mut link, None, &mut ids)?;
-    let message = Message::read_from(alloc, &mut link, None)?;
-    assert_eq!(rt; message.document_payload.as_bytes().len(), 5);
-    assert!(rt; Message::read_from(alloc, &mut link, None).is_err());
-    assert_eq!(rt; link.ends(), 1);
-    assert_eq!(rt; link.read_faults(), 0);
-    assert_eq!(rt; link.write_faults(), 0);
+    assert!(rt; write_once(alloc, &message, &mut link));
+    assert!(rt; read_once(alloc, &mut link).is_none());
+    assert!(rt; read_once(alloc, &mut link) == Some(false));
+    assert!(rt; link.ends() == 1 && link.read_faults() == 0 && link.write_faults() == 0);
     assert_eq!(rt; held.as_slice(), EMPTY_MESSAGE.as_slice());
     Ok(())
 }

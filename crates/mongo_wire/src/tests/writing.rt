@@ -1,13 +1,13 @@
 use super::{
-    EMPTY_MESSAGE, MESSAGE_WITH_SEQUENCE, empty_message, failing_at, is_write_fault,
+    EMPTY_MESSAGE, MESSAGE_WITH_SEQUENCE, empty_message, failing_link, giving, is_write_fault,
     message_with_sequence, one_empty_document,
 };
 use crate::{
-    ArgumentFault, Error, ErrorKind, FailingLink, MemoryLink, Message, MessageFlags, RequestIds,
-    Sink, write_sections,
+    ArgumentFault, DocumentSequence, Error, ErrorKind, FailingLink, MemoryLink, Message,
+    MessageFlags, RequestIds, Sequences, Sink, write_sections,
 };
 use bitflags::Flags;
-use mongo_bson::{Bytes, Documents};
+use mongo_bson::{Documents, Text};
 use std::alloc::Global;
 use std::test::Fail;
 
@@ -18,15 +18,26 @@ const WHOLE_MESSAGE: [u8; 51] = [
     0, 1, 0x0c, 0, 0, 0, 0x62, 0x62, 0, 5, 0, 0, 0, 0, 1, 7, 0, 0, 0, 0x61, 0x61, 0, 4, 3, 2, 1,
 ];
 
+// The sequence of no document under the identifier `aa`.
+fn no_document(alloc: Global) -> Result<DocumentSequence, Error> {
+    Ok(DocumentSequence {
+        identifier: Text::from_slice(alloc, "aa")?,
+        documents: Documents::new(alloc),
+    })
+}
+
+// The sequences of that message.
+fn two_sequences(alloc: Global) -> Result<Sequences, Error> {
+    let mut sequences = Sequences::new(alloc);
+    sequences.push(one_empty_document(alloc, "bb")?)?;
+    sequences.push(no_document(alloc)?)?;
+    Ok(sequences)
+}
+
 // That message, without a request id.
 fn whole_message(alloc: Global) -> Result<Message, Error> {
     let mut message = empty_message(alloc)?;
-    let mut empty = one_empty_document(alloc, "aa")?;
-    empty.documents = Documents::new(alloc);
-    message
-        .document_sequences
-        .push(one_empty_document(alloc, "bb")?)?;
-    message.document_sequences.push(empty)?;
+    message.document_sequences = two_sequences(alloc)?;
     message.response_to = -2;
     message.flags = MessageFlags::from_bits_retain(0x10005);
     message.checksum = Some(0x0102_0304);
@@ -36,51 +47,41 @@ fn whole_message(alloc: Global) -> Result<Message, Error> {
 
 #[test]
 fn a_sequence_follows_the_body(rt: HostRuntime) -> Result<(), Fail> {
-    let alloc = rt.alloc();
     let mut ids = RequestIds::new(7);
-    let mut link = MemoryLink::new(alloc, Bytes::new(alloc));
-    message_with_sequence(alloc)?.write_op_msg_to(alloc, &mut link, None, &mut ids)?;
+    let mut link = giving(rt.alloc(), &[])?;
+    let message = message_with_sequence(rt.alloc())?;
+    assert!(rt;
+        message
+            .write_op_msg_to(rt.alloc(), &mut link, None, &mut ids)
+            .is_ok()
+    );
     assert_eq!(rt; link.written(), MESSAGE_WITH_SEQUENCE.as_slice());
     assert_eq!(rt; ids.next(), 7);
     Ok(())
 }
 
 #[test]
-fn a_sequence_is_read_back(rt: HostRuntime) -> Result<(), Fail> {
-    let alloc = rt.alloc();
-    let input = Bytes::from_slice(alloc, &MESSAGE_WITH_SEQUENCE)?;
-    let message = Message::read_from(alloc, &mut MemoryLink::new(alloc, input), None)?;
-    assert_eq!(rt; message.document_sequences.len(), 1);
-    let sequence = message.document_sequences.get(0).unwrap();
-    assert_eq!(rt; sequence.identifier.as_str(), "documents");
-    assert_eq!(rt; sequence.documents.len(), 1);
-    Ok(())
-}
-
-#[test]
 fn sequences_and_checksum_go_out_byte_by_byte(rt: HostRuntime) -> Result<(), Fail> {
-    let alloc = rt.alloc();
     let mut ids = RequestIds::new(9);
-    let mut link = FailingLink::new(alloc, Bytes::new(alloc), Bytes::new(alloc), 1);
-    whole_message(alloc)?.write_op_msg_to(alloc, &mut link, Some(51), &mut ids)?;
+    let mut link = failing_link(rt.alloc(), &[], 1000, 1)?;
+    let message = whole_message(rt.alloc())?;
+    assert!(rt;
+        message
+            .write_op_msg_to(rt.alloc(), &mut link, Some(51), &mut ids)
+            .is_ok()
+    );
     assert_eq!(rt; link.written(), WHOLE_MESSAGE.as_slice());
     assert_eq!(rt; ids.next(), 10);
     Ok(())
 }
 
-// What a link holds after the message was written to it with just this call failing, and whether that was told.
-fn written_with_failure(
-    alloc: Global,
-    message: &Message,
-    call: usize,
-) -> Result<(FailingLink, bool), Error> {
+// Whether the write of the message failed and was told so.
+fn fails(alloc: Global, message: &Message, link: &mut FailingLink) -> bool {
     let mut ids = RequestIds::new(9);
-    let mut link = FailingLink::new(alloc, Bytes::new(alloc), failing_at(alloc, call)?, 100);
-    let told = match message.write_op_msg_to(alloc, &mut link, None, &mut ids) {
+    match message.write_op_msg_to(alloc, link, None, &mut ids) {
         Ok(()) => false,
         Err(error) => is_write_fault(&error.kind),
-    };
-    Ok((link, told))
+    }
 }
 
 #[test]
@@ -103,11 +104,11 @@ fn a_write_that_fails_at_any_call_leaves_a_front(rt: HostRuntime) -> Result<(), 
         (11, 51),
         (12, 51),
     ] {
-        let (link, told) = written_with_failure(rt.alloc(), &message, call)?;
+        let mut link = failing_link(rt.alloc(), &[], call, 100)?;
+        let told = fails(rt.alloc(), &message, &mut link);
+        assert!(rt; told == (call < 12) && (link.write_faults() == 1) == told);
         assert_eq!(rt; link.written().len(), written);
         assert!(rt; WHOLE_MESSAGE.starts_with(link.written()));
-        assert_eq!(rt; told, call < 12);
-        assert_eq!(rt; link.write_faults() == 1, told);
     }
     Ok(())
 }
@@ -115,48 +116,57 @@ fn a_write_that_fails_at_any_call_leaves_a_front(rt: HostRuntime) -> Result<(), 
 #[test]
 fn just_the_header_is_written_where_the_second_call_fails(rt: HostRuntime) -> Result<(), Fail> {
     let message = empty_message(rt.alloc())?;
-    let (link, told) = written_with_failure(rt.alloc(), &message, 1)?;
-    assert!(rt; told);
+    let mut link = failing_link(rt.alloc(), &[], 1, 100)?;
+    assert!(rt; fails(rt.alloc(), &message, &mut link));
     assert_eq!(rt; link.written(), &EMPTY_MESSAGE[..16]);
     Ok(())
 }
 
 // The refusal of the message within this maximum, where nothing was written and no id was drawn.
-fn refusal(
+fn refused(
     alloc: Global,
     message: &Message,
-    max: Option<i32>,
-) -> Result<Option<ArgumentFault>, Error> {
+    maximum: i32,
+    link: &mut MemoryLink,
+) -> Option<ArgumentFault> {
     let mut ids = RequestIds::new(9);
-    let mut link = MemoryLink::new(alloc, Bytes::new(alloc));
-    match message.write_op_msg_to(alloc, &mut link, max, &mut ids) {
+    match message.write_op_msg_to(alloc, link, Some(maximum), &mut ids) {
         Err(error) if link.written().is_empty() && ids.next() == 9 => match error.kind {
-            ErrorKind::InvalidArgument(fault) => Ok(Some(fault)),
-            _ => Ok(None),
+            ErrorKind::InvalidArgument(fault) => Some(fault),
+            _ => None,
         },
-        _ => Ok(None),
+        _ => None,
     }
 }
 
 #[test]
 fn a_message_is_refused_before_anything_is_done(rt: HostRuntime) -> Result<(), Fail> {
-    let alloc = rt.alloc();
-    let mut message = whole_message(alloc)?;
-    assert_eq!(rt;
-        refusal(alloc, &message, Some(50))?,
-        Some(ArgumentFault::TooLong)
-    );
-    assert_eq!(rt;
-        refusal(alloc, &message, Some(-1))?,
-        Some(ArgumentFault::MaximumNegative)
-    );
+    let message = whole_message(rt.alloc())?;
+    let mut link = giving(rt.alloc(), &[])?;
+    for (maximum, fault) in [
+        (50, ArgumentFault::TooLong),
+        (-1, ArgumentFault::MaximumNegative),
+    ] {
+        assert!(rt; refused(rt.alloc(), &message, maximum, &mut link) == Some(fault));
+    }
+    Ok(())
+}
+
+// The empty message with a sequence whose identifier holds a zero.
+fn message_with_zero(alloc: Global) -> Result<Message, Error> {
+    let mut message = empty_message(alloc)?;
     message
         .document_sequences
         .push(one_empty_document(alloc, "a\0b")?)?;
-    assert_eq!(rt;
-        refusal(alloc, &message, Some(-1))?,
-        Some(ArgumentFault::IdentifierHasZero)
-    );
+    Ok(message)
+}
+
+#[test]
+fn an_identifier_with_a_zero_is_refused_first(rt: HostRuntime) -> Result<(), Fail> {
+    let message = message_with_zero(rt.alloc())?;
+    let mut link = giving(rt.alloc(), &[])?;
+    let fault = refused(rt.alloc(), &message, -1, &mut link);
+    assert!(rt; fault == Some(ArgumentFault::IdentifierHasZero));
     Ok(())
 }
 
@@ -165,24 +175,29 @@ const FRAME_OF_SECTIONS: [u8; 26] = [
     0x1a, 0, 0, 0, 5, 0, 0, 0, 0, 0, 0, 0, 0xdd, 0x07, 0, 0, 0, 0, 0, 0, 0, 5, 0, 0, 0, 0,
 ];
 
+// The section of an empty body.
+const SECTIONS: [u8; 6] = [0, 5, 0, 0, 0, 0];
+
+// Whether these sections are written under the id 5 within this maximum.
+fn writes(flags: MessageFlags, maximum: i32, link: &mut MemoryLink) -> bool {
+    write_sections(link, 5, 0, flags, &SECTIONS, Some(maximum)).is_ok()
+}
+
 #[test]
 fn sections_are_written_as_they_are(rt: HostRuntime) -> Result<(), Fail> {
-    let alloc = rt.alloc();
-    let sections = [0, 5, 0, 0, 0, 0];
-    let mut link = MemoryLink::new(alloc, Bytes::new(alloc));
-    write_sections(&mut link, 5, 0, MessageFlags::empty(), &sections, None)?;
+    let mut link = giving(rt.alloc(), &[])?;
+    assert!(rt; writes(MessageFlags::empty(), 26, &mut link));
     assert_eq!(rt; link.written(), FRAME_OF_SECTIONS.as_slice());
     Ok(())
 }
 
 #[test]
 fn sections_carry_no_checksum_flag(rt: HostRuntime) -> Result<(), Fail> {
-    let alloc = rt.alloc();
     let flags = MessageFlags::from_bits_retain(0x10007);
-    let mut link = MemoryLink::new(alloc, Bytes::new(alloc));
-    write_sections(&mut link, 5, 0, flags, &[0, 5, 0, 0, 0, 0], Some(26))?;
-    assert_eq!(rt; &link.written()[16..20], [2, 0, 1, 0].as_slice());
-    assert!(rt; write_sections(&mut link, 5, 0, flags, &[0, 5, 0, 0, 0, 0], Some(25)).is_err());
+    let mut link = giving(rt.alloc(), &[])?;
+    assert!(rt; writes(flags, 26, &mut link));
+    assert!(rt; !writes(flags, 25, &mut link));
     assert_eq!(rt; link.written().len(), 26);
+    assert!(rt; link.written().get(16..20) == Some([2, 0, 1, 0].as_slice()));
     Ok(())
 }

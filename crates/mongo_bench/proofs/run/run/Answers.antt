@@ -1,5 +1,5 @@
 use Rattle.std.proofs.Common.{◌≡◌, ◌∙◌}
-use Rattle.mongo_bench.specs.declared.task.Task.TheVariants.{Derive, Walk, Frames}
+use Rattle.mongo_bench.specs.declared.task.Task.TheVariants.{Derive, Walk, Frames, Insert}
 use Rattle.mongo_bench.proofs.OneTask.{one_task}
 use Rattle.mongo_bench.proofs.run.run.Goals as goal
 
@@ -22,3 +22,8 @@ pub returns-in-Frames-clause-work : goal.returns-in-Frames-clause-work
 returns-in-Frames-clause-work g c = λ task asked done.
     let same : task ≡ Frames c.in-Frames.direction c.in-Frames.size c.in-Frames.count = one_task _ task c.in-Some.task asked c.in-Some.ensures ∙ c.in-Frames.is in
     rw same (c.run_frames.ensures.work done)
+
+pub returns-in-Insert-clause-work : goal.returns-in-Insert-clause-work
+returns-in-Insert-clause-work g c = λ task asked done.
+    let same : task ≡ Insert c.in-Insert.count = one_task _ task c.in-Some.task asked c.in-Some.ensures ∙ c.in-Insert.is in
+    rw same (c.run_inserts.ensures.work done)

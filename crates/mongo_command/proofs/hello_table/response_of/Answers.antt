@@ -1,3 +1,4 @@
+use Rattle.std.proofs.Common.{rules}
 use Rattle.mongo_command.specs.Hello.{IsHelloTable, IsSetTable}
 use Rattle.mongo_command.proofs.FieldAnswers.{refused, part_fault}
 use Rattle.mongo_command.proofs.hello_table.response_of.Goals as goal
@@ -34,3 +35,41 @@ returns-in_err-is_replica_set c = λ els are. refused IsHelloTable els _ _ _ _ c
 
 pub returns-in_err-last_write : goal.returns-in_err-last_write
 returns-in_err-last_write c = λ els are. refused IsHelloTable els _ _ _ _ c.from_residual-in_err-last_write.ensures.1 (λ t is. (t.last_write, is.last_write)) (c.in_err-last_write.ensures els are)
+
+pub returns : goal.returns
+returns c = λ els are. let set = c.in_ok-set.ensures els are in record {
+  set = record {
+    server = record {
+      compressors = set.server.compressors;
+      logical_session_timeout_minutes = set.server.logical_session_timeout_minutes;
+      min_wire_version = set.server.min_wire_version;
+      max_wire_version = set.server.max_wire_version;
+      sasl_supported_mechs = set.server.sasl_supported_mechs;
+      speculative_authenticate = set.server.speculative_authenticate;
+      max_bson_object_size = search rules;
+      max_message_size_bytes = search rules;
+      max_write_batch_size = set.server.max_write_batch_size;
+      service_id = set.server.service_id;
+      topology_version = set.server.topology_version;
+      connection_id = set.server.connection_id;
+    };
+    hosts = set.hosts;
+    passives = set.passives;
+    arbiters = set.arbiters;
+    primary = set.primary;
+    set_version = set.set_version;
+    set_name = set.set_name;
+    tags = set.tags;
+    election_id = set.election_id;
+  };
+  is_writable_primary = c.in_ok-is_writable_primary.ensures els are;
+  is_master = c.in_ok-is_master.ensures els are;
+  hello_ok = c.in_ok-hello_ok.ensures els are;
+  msg = c.in_ok-msg.ensures els are;
+  me = c.in_ok-me.ensures els are;
+  hidden = c.in_ok-hidden.ensures els are;
+  secondary = c.in_ok-secondary.ensures els are;
+  arbiter_only = c.in_ok-arbiter_only.ensures els are;
+  is_replica_set = c.in_ok-is_replica_set.ensures els are;
+  last_write = c.in_ok-last_write.ensures els are;
+}

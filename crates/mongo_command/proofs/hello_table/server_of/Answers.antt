@@ -1,3 +1,4 @@
+use Rattle.std.proofs.Common.{rules}
 use Rattle.mongo_command.specs.Hello.{IsServerTable}
 use Rattle.mongo_command.proofs.FieldAnswers.{refused, required_refused}
 use Rattle.mongo_command.proofs.hello_table.server_of.Goals as goal
@@ -37,3 +38,19 @@ returns-in_err-topology_version c = λ els are. refused IsServerTable els _ _ _ 
 
 pub returns-in_err-connection_id : goal.returns-in_err-connection_id
 returns-in_err-connection_id c = λ els are. refused IsServerTable els _ _ _ _ c.from_residual-in_err-connection_id.ensures.1 (λ t is. (t.connection_id, is.connection_id)) (c.in_err-connection_id.ensures els are)
+
+pub returns : goal.returns
+returns c = λ els are. record {
+  compressors = c.in_ok-compressors.ensures els are;
+  logical_session_timeout_minutes = c.in_ok-logical_session_timeout_minutes.ensures els are;
+  min_wire_version = c.in_ok-min_wire_version.ensures els are;
+  max_wire_version = c.in_ok-max_wire_version.ensures els are;
+  sasl_supported_mechs = c.in_ok-sasl_supported_mechs.ensures els are;
+  speculative_authenticate = c.in_ok-speculative_authenticate.ensures els are;
+  max_bson_object_size = search rules;
+  max_message_size_bytes = search rules;
+  max_write_batch_size = c.in_ok-max_write_batch_size.ensures els are;
+  service_id = c.in_ok-service_id.ensures els are;
+  topology_version = c.in_ok-topology_version.ensures els are;
+  connection_id = c.in_ok-connection_id.ensures els are;
+}

@@ -1,3 +1,4 @@
+use Rattle.std.proofs.Common.{rules}
 use Rattle.mongo_command.specs.Hello.{IsSetTable, IsServerTable}
 use Rattle.mongo_command.proofs.FieldAnswers.{refused, part_fault}
 use Rattle.mongo_command.proofs.hello_table.set_of.Goals as goal
@@ -28,3 +29,29 @@ returns-in_err-tags c = λ els are. refused IsSetTable els _ _ _ _ c.from_residu
 
 pub returns-in_err-election_id : goal.returns-in_err-election_id
 returns-in_err-election_id c = λ els are. refused IsSetTable els _ _ _ _ c.from_residual-in_err-election_id.ensures.1 (λ t is. (t.election_id, is.election_id)) (c.in_err-election_id.ensures els are)
+
+pub returns : goal.returns
+returns c = λ els are. let server = c.in_ok-server.ensures els are in record {
+  server = record {
+    compressors = server.compressors;
+    logical_session_timeout_minutes = server.logical_session_timeout_minutes;
+    min_wire_version = server.min_wire_version;
+    max_wire_version = server.max_wire_version;
+    sasl_supported_mechs = server.sasl_supported_mechs;
+    speculative_authenticate = server.speculative_authenticate;
+    max_bson_object_size = search rules;
+    max_message_size_bytes = search rules;
+    max_write_batch_size = server.max_write_batch_size;
+    service_id = server.service_id;
+    topology_version = server.topology_version;
+    connection_id = server.connection_id;
+  };
+  hosts = c.in_ok-hosts.ensures els are;
+  passives = c.in_ok-passives.ensures els are;
+  arbiters = c.in_ok-arbiters.ensures els are;
+  primary = c.in_ok-primary.ensures els are;
+  set_version = c.in_ok-set_version.ensures els are;
+  set_name = c.in_ok-set_name.ensures els are;
+  tags = c.in_ok-tags.ensures els are;
+  election_id = c.in_ok-election_id.ensures els are;
+}

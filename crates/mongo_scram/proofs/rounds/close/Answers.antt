@@ -1,5 +1,5 @@
 use Rattle.std.proofs.Common.{inl, inr}
-use Rattle.mongo_scram.proofs.Unsent.{handed_stopped, answered_fault, not_replied, handed_kept}
+use Rattle.mongo_sasl.proofs.Unsent.{handed_stopped, answered_fault, not_replied, handed_kept}
 use Rattle.mongo_scram.proofs.LastRound.{final_unbuilt, final_unanswered, final_exchanged, taken_reached, refused_stopped}
 use Rattle.mongo_scram.proofs.rounds.close.Goals as goal
 

@@ -1,11 +1,10 @@
 use Rattle.std.proofs.Common.{None, refl, ◌∙◌, inl, inr}
 use Rattle.mongo_command.specs.Exchange.{frame_maximum}
 use Rattle.mongo_command.proofs.Steps.{stopped_memory}
-use Rattle.mongo_scram.specs.declared.messages.ClientFirst.{ClientFirst}
 use Rattle.mongo_scram.specs.Client.{user_of}
 use Rattle.mongo_scram.specs.Rounds.{handed_by}
 use Rattle.mongo_scram.proofs.FirstRounds.{IsStart, start_unbuilt, start_unanswered, start_exchanged, start_refused, start_opens}
-use Rattle.mongo_scram.proofs.Unsent.{handed_stopped, answered_fault, not_replied, handed_kept}
+use Rattle.mongo_sasl.proofs.Unsent.{handed_stopped, answered_fault, not_replied, handed_kept}
 use Rattle.mongo_scram.proofs.rounds.Login.say_first.Goals as goal
 
 pub returns-in_err-client_first-clause-refused : goal.returns-in_err-client_first-clause-refused

@@ -1,4 +1,5 @@
 use Rattle.std.proofs.Common.{option_copied, refl, ap, ◌∙◌, inl, inr}
+use Rattle.mongo_command.specs.Conversation.{ends}
 use Rattle.mongo_command.specs.Exchange.{frame_maximum}
 use Rattle.mongo_command.proofs.Steps.{stopped_memory}
 use Rattle.mongo_scram.specs.Base64.{base64_of}
@@ -10,6 +11,7 @@ use Rattle.mongo_scram.proofs.Derived.{costs_nothing}
 use Rattle.mongo_scram.proofs.OpeningSteps.{credential_stopped, user_stopped, answer_stopped}
 use Rattle.mongo_scram.proofs.ClosingSteps.{final_by, closing_reached, closing_stopped, ends_login}
 use Rattle.mongo_scram.proofs.LoginSteps.{stopped_early, between_by, between_tag, stopped_late, stopped_last, accepted_by, frames_both, not_accepted, kept_stopped, fault_answered}
+use Rattle.mongo_scram.proofs.ScramLed.{answer_led, refusal_led, end_led}
 use Rattle.mongo_scram.proofs.scram_version.ScramVersion.authenticate_stream.Goals as goal
 
 pub returns-in_err-user-clause-refused : goal.returns-in_err-user-clause-refused
@@ -164,3 +166,53 @@ returns-in_err-close-clause-answers g c kind kept =
 pub returns-clause-answers : goal.returns-clause-answers
 returns-clause-answers g c kind kept =
     absurd (c.in_ok-close.ensures.kept kind (c.in_ok-opened.ensures.kept kind kept).2).0
+
+-- ---- as the bytes left lead
+
+pub returns-in_err-user-clause-exact : goal.returns-in_err-user-clause-exact
+returns-in_err-user-clause-exact g c bytes taken unread outcome commands faultless is leads unfailed unwritten =
+    refusal_led c.from_residual.result c.in_err-user.field-0.0 (handed_to c.args.self.now c.args.credential.now (option_copied c.args.server_api) c.args.first_round (base64_of c.args.nonce.now) c.args.most (frame_maximum c.args.connection.now.stream_description)) _ _ _ _ _ _ bytes taken unread outcome commands c.from_residual.ensures.1 (returns-in_err-user-clause-refused g c faultless) is leads unfailed unwritten
+
+pub returns-in_err-user-clause-complete : goal.returns-in_err-user-clause-complete
+returns-in_err-user-clause-complete g c bytes taken unread challenge commands faultless is leads unfailed unwritten =
+    end_led c.from_residual.result challenge commands unread _ _ _ _ (returns-in_err-user-clause-exact g c bytes taken unread (ends challenge) commands faultless is leads unfailed unwritten)
+
+pub returns-in_err-opened-clause-exact : goal.returns-in_err-opened-clause-exact
+returns-in_err-opened-clause-exact g c bytes taken unread outcome commands faultless is leads unfailed unwritten =
+    refusal_led c.from_residual-in_err-opened.result c.in_err-opened.field-0.0 (handed_to c.args.self.now c.args.credential.now (option_copied c.args.server_api) c.args.first_round (base64_of c.args.nonce.now) c.args.most (frame_maximum c.args.connection.now.stream_description)) _ _ _ _ _ _ bytes taken unread outcome commands c.from_residual-in_err-opened.ensures.1 (returns-in_err-opened-clause-refused g c faultless) is leads unfailed unwritten
+
+pub returns-in_err-opened-clause-complete : goal.returns-in_err-opened-clause-complete
+returns-in_err-opened-clause-complete g c bytes taken unread challenge commands faultless is leads unfailed unwritten =
+    end_led c.from_residual-in_err-opened.result challenge commands unread _ _ _ _ (returns-in_err-opened-clause-exact g c bytes taken unread (ends challenge) commands faultless is leads unfailed unwritten)
+
+pub returns-in_err-derived-clause-exact : goal.returns-in_err-derived-clause-exact
+returns-in_err-derived-clause-exact g c bytes taken unread outcome commands faultless is leads unfailed unwritten =
+    refusal_led c.from_residual-in_err-derived.result c.in_err-derived.field-0.0 (handed_to c.args.self.now c.args.credential.now (option_copied c.args.server_api) c.args.first_round (base64_of c.args.nonce.now) c.args.most (frame_maximum c.args.connection.now.stream_description)) _ _ _ _ _ _ bytes taken unread outcome commands c.from_residual-in_err-derived.ensures.1 (returns-in_err-derived-clause-refused g c faultless) is leads unfailed unwritten
+
+pub returns-in_err-derived-clause-complete : goal.returns-in_err-derived-clause-complete
+returns-in_err-derived-clause-complete g c bytes taken unread challenge commands faultless is leads unfailed unwritten =
+    end_led c.from_residual-in_err-derived.result challenge commands unread _ _ _ _ (returns-in_err-derived-clause-exact g c bytes taken unread (ends challenge) commands faultless is leads unfailed unwritten)
+
+pub returns-in_err-client_final-clause-exact : goal.returns-in_err-client_final-clause-exact
+returns-in_err-client_final-clause-exact g c bytes taken unread outcome commands faultless is leads unfailed unwritten =
+    refusal_led c.from_residual-in_err-client_final.result c.in_err-client_final.field-0.0 (handed_to c.args.self.now c.args.credential.now (option_copied c.args.server_api) c.args.first_round (base64_of c.args.nonce.now) c.args.most (frame_maximum c.args.connection.now.stream_description)) _ _ _ _ _ _ bytes taken unread outcome commands c.from_residual-in_err-client_final.ensures.1 (returns-in_err-client_final-clause-refused g c faultless) is leads unfailed unwritten
+
+pub returns-in_err-client_final-clause-complete : goal.returns-in_err-client_final-clause-complete
+returns-in_err-client_final-clause-complete g c bytes taken unread challenge commands faultless is leads unfailed unwritten =
+    end_led c.from_residual-in_err-client_final.result challenge commands unread _ _ _ _ (returns-in_err-client_final-clause-exact g c bytes taken unread (ends challenge) commands faultless is leads unfailed unwritten)
+
+pub returns-in_err-close-clause-exact : goal.returns-in_err-close-clause-exact
+returns-in_err-close-clause-exact g c bytes taken unread outcome commands faultless is leads unfailed unwritten =
+    refusal_led c.from_residual-in_err-close.result c.in_err-close.field-0.0 (handed_to c.args.self.now c.args.credential.now (option_copied c.args.server_api) c.args.first_round (base64_of c.args.nonce.now) c.args.most (frame_maximum c.args.connection.now.stream_description)) _ _ _ _ _ _ bytes taken unread outcome commands c.from_residual-in_err-close.ensures.1 (returns-in_err-close-clause-refused g c faultless) is leads unfailed unwritten
+
+pub returns-in_err-close-clause-complete : goal.returns-in_err-close-clause-complete
+returns-in_err-close-clause-complete g c bytes taken unread challenge commands faultless is leads unfailed unwritten =
+    end_led c.from_residual-in_err-close.result challenge commands unread _ _ _ _ (returns-in_err-close-clause-exact g c bytes taken unread (ends challenge) commands faultless is leads unfailed unwritten)
+
+pub returns-clause-exact : goal.returns-clause-exact
+returns-clause-exact g c bytes taken unread outcome commands faultless is leads unfailed unwritten =
+    answer_led c.keep.result (handed_to c.args.self.now c.args.credential.now (option_copied c.args.server_api) c.args.first_round (base64_of c.args.nonce.now) c.args.most (frame_maximum c.args.connection.now.stream_description)) _ _ _ _ _ _ _ bytes taken unread outcome commands (returns-clause-accepted g c) (returns-clause-refused g c faultless) is leads unfailed unwritten
+
+pub returns-clause-complete : goal.returns-clause-complete
+returns-clause-complete g c bytes taken unread challenge commands faultless is leads unfailed unwritten =
+    end_led c.keep.result challenge commands unread _ _ _ _ (returns-clause-exact g c bytes taken unread (ends challenge) commands faultless is leads unfailed unwritten)

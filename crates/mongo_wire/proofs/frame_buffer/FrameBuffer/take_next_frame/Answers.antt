@@ -6,18 +6,18 @@ use Rattle.mongo_wire.proofs.frame_buffer.FrameBuffer.take_next_frame.Goals as g
 
 pub returns-in-Ok-clause-again : goal.returns-in-Ok-clause-again
 returns-in-Ok-clause-again g c = λ frame rest parts is frame_is within.
-    let same = same_taken (maximum_of c.args.max) _ _ c.take_rest.new.self frame rest parts is frame_is (c.in-Ok.ensures.taken _ (c.in-Ok-true.ensures.filled c.in-Ok-true.field-0-test)) in
+    let same = same_taken (maximum_of c.args.maximum) _ _ c.take_rest.new.self frame rest parts is frame_is (c.in-Ok.ensures.taken _ (c.in-Ok-true.ensures.filled c.in-Ok-true.field-0-test)) in
     (refl, same.0, same.1)
 
 pub returns-in-Err-take_rest-clause-again : goal.returns-in-Err-take_rest-clause-again
 returns-in-Err-take_rest-clause-again g c = λ frame rest parts is frame_is within.
     let head = c.in-Ok-true.ensures in
-    no_refusal (kind_of_frame_fault c.in-Err-take_rest.fault) (maximum_of c.args.max) _ _ _ _ _ _ frame rest parts is frame_is within (c.in-Err-take_rest.ensures.refused _ _ _ (head.filled c.in-Ok-true.field-0-test) head.on.tells head.on.faults_stay head.on.ends_stay)
+    no_refusal (kind_of_frame_fault c.in-Err-take_rest.fault) (maximum_of c.args.maximum) _ _ _ _ _ _ frame rest parts is frame_is within (c.in-Err-take_rest.ensures.refused _ _ _ (head.filled c.in-Ok-true.field-0-test) head.on.tells head.on.faults_stay head.on.ends_stay)
 
 pub returns-in-Err-clause-refused : goal.returns-in-Err-clause-refused
 returns-in-Err-clause-refused g c =
     let refused = c.in-Err.ensures in
-    header_stopped (kind_of_frame_fault c.in-Err.fault) (maximum_of c.args.max) _ _ _ _ _ _ refused.on.tells refused.refused
+    header_stopped (kind_of_frame_fault c.in-Err.fault) (maximum_of c.args.maximum) _ _ _ _ _ _ refused.on.tells refused.refused
 
 pub returns-in-Ok-clause-came : goal.returns-in-Ok-clause-came
 returns-in-Ok-clause-came g c =

@@ -9,19 +9,19 @@ use Rattle.mongo_wire.proofs.message.Message.read_from.Goals as goal
 pub returns-in-Ok-clause-read : goal.returns-in-Ok-clause-read
 returns-in-Ok-clause-read g c =
     let read = c.in-Ok.ensures.taken in
-    IfOk-weaker c.owned_message.result _ _ (λ m owned. read_whole (maximum_of c.args.max) _ _ c.take_frame.new.self m read owned) (c.owned_message.ensures.copied read.frame read.parts read.holds)
+    IfOk-weaker c.owned_message.result _ _ (λ m owned. read_whole (maximum_of c.args.maximum) _ _ c.take_frame.new.self m read owned) (c.owned_message.ensures.copied read.frame read.parts read.holds)
 
 pub returns-in-Ok-clause-refused : goal.returns-in-Ok-clause-refused
 returns-in-Ok-clause-refused g c =
     let read = c.in-Ok.ensures.taken in
-    IfErr-weaker c.owned_message.result _ _ (λ e kind. rw kind (read_then_stopped (maximum_of c.args.max) _ _ c.take_frame.new.self read)) c.owned_message.ensures.refused
+    IfErr-weaker c.owned_message.result _ _ (λ e kind. rw kind (read_then_stopped (maximum_of c.args.maximum) _ _ c.take_frame.new.self read)) c.owned_message.ensures.refused
 
 pub returns-in-Ok-clause-again : goal.returns-in-Ok-clause-again
 returns-in-Ok-clause-again g c =
     let read = c.in-Ok.ensures.taken in
-    reads_again c.owned_message.result (maximum_of c.args.max) _ _ 0 0 0 0
-    (IfOk-weaker c.owned_message.result _ _ (λ m owned. read_whole (maximum_of c.args.max) _ _ c.take_frame.new.self m read owned) (c.owned_message.ensures.copied read.frame read.parts read.holds))
-    (IfErr-weaker c.owned_message.result _ _ (λ e kind. rw kind (read_then_stopped (maximum_of c.args.max) _ _ c.take_frame.new.self read)) c.owned_message.ensures.refused)
+    reads_again c.owned_message.result (maximum_of c.args.maximum) _ _ 0 0 0 0
+    (IfOk-weaker c.owned_message.result _ _ (λ m owned. read_whole (maximum_of c.args.maximum) _ _ c.take_frame.new.self m read owned) (c.owned_message.ensures.copied read.frame read.parts read.holds))
+    (IfErr-weaker c.owned_message.result _ _ (λ e kind. rw kind (read_then_stopped (maximum_of c.args.maximum) _ _ c.take_frame.new.self read)) c.owned_message.ensures.refused)
 
 pub returns-in-Ok-clause-alone : goal.returns-in-Ok-clause-alone
 returns-in-Ok-clause-alone g c = no_front

@@ -1,0 +1,59 @@
+"""What the benchmarks share: building the proved program, and measuring it and its peers in processor time."""
+
+import os
+import resource
+import shutil
+import subprocess
+import sys
+
+HERE = os.path.dirname(os.path.abspath(__file__))
+CRATE = os.path.join(os.path.dirname(HERE), "crates", "mongo_bench")
+LIBBSON = ("libbson-1.0", "bson2", "libbson-2.0")
+
+
+def build():
+    """Proves and builds the program, and returns its path."""
+    command = ["rt", "run", "--", "hi-sha1", "1"]
+    made = subprocess.run(command, cwd=CRATE, capture_output=True, text=True)
+    if made.returncode != 0:
+        sys.exit(f"the program was not built:\n{made.stdout}{made.stderr}")
+    return os.path.join(CRATE, "out", "mongo_bench")
+
+
+def children_seconds():
+    """The processor time that ended child processes took."""
+    used = resource.getrusage(resource.RUSAGE_CHILDREN)
+    return used.ru_utime + used.ru_stime
+
+
+def timed(command):
+    """What the command prints, and the processor seconds of its whole process."""
+    before = children_seconds()
+    run = subprocess.run(command, capture_output=True, text=True, check=True)
+    return run.stdout.strip(), children_seconds() - before
+
+
+def least_seconds(call, count, runs):
+    """What a call printed, and the least seconds of one of many: a run of many less a run of one."""
+    once = many = float("inf")
+    for _ in range(runs):
+        printed, seconds = call(1)
+        once = min(once, seconds)
+        _, seconds = call(count + 1)
+        many = min(many, seconds)
+    return printed, max(many - once, 1e-9) / count
+
+
+def compiled_with_libbson(folder, name):
+    """Builds a C program of this folder, and returns its path, or None where libbson isn't there."""
+    if shutil.which("cc") is None or shutil.which("pkg-config") is None:
+        return None
+    for library in LIBBSON:
+        words = ["pkg-config", "--cflags", "--libs", library]
+        found = subprocess.run(words, capture_output=True, text=True)
+        if found.returncode == 0:
+            made = os.path.join(folder, name)
+            source = os.path.join(HERE, f"{name}.c")
+            subprocess.run(["cc", "-O2", "-o", made, source, *found.stdout.split()], check=True)
+            return made
+    return None

@@ -1,0 +1,66 @@
+-- What a PLAIN login does is a step of its plan.
+use Rattle.std.proofs.Common.{◌≡◌, ◌⊎◌, ℕ, ℤ, refl, inl, inr, arith, Result, Ok, Err, List, IfErr, OnOk, flat_map}
+use Rattle.mongo_bson.specs.Document.{spell}
+use Rattle.mongo_bson.proofs.Enclosed.{length-enclosed}
+use Rattle.mongo_wire.specs.declared.error.Error.{Error}
+use Rattle.mongo_wire.specs.declared.error.ErrorKind.{ErrorKind}
+use Rattle.mongo_wire.specs.declared.error.ErrorKind.TheVariants.{OutOfMemory}
+use Rattle.mongo_wire.specs.Outside.{State}
+use Rattle.mongo_command.specs.Conversation.{plain_message, saying, reading, ending, Reached, Stopped}
+use Rattle.mongo_command.specs.Exchange.{CountsStay, Exchanges}
+use Rattle.mongo_command.proofs.Steps.{reached_ending, reached_unless, reached_reading, reached_saying, stopped_memory, stopped_row, stopped_unless, stopped_reading, stopped_later}
+use Rattle.mongo_sasl.specs.declared.mechanism.AuthMechanism.TheVariants.{Plain}
+use Rattle.mongo_sasl.specs.Commands.{start_elements, IsNotBuilt}
+use Rattle.mongo_sasl.specs.Plain.{payload_of, PlainUser, IsPlainUser, PlainRow, plain_body, plain_command, PlainHanded, plain_said, UnfinishedRow, FinishedRow, plain_heard, plain_plan, IsFinished}
+use Rattle.mongo_sasl.specs.Reply.{IsSaslReply, SaslRow}
+use Rattle.mongo_sasl.proofs.OneReply.{sasl_reply_no_row}
+use Rattle.mongo_sasl.proofs.PlainPlan.{no_plain_row, finished_no_row}
+use Rattle.mongo_sasl.proofs.Unsent.{unbuilt_stopped}
+
+module _ (handed : PlainHanded) (user : PlainUser) (is_user : IsPlainUser handed.credential user) where
+  -- a stop after the credential's tests
+  pub user_stopped : (kind : ErrorKind) (old new : State) (before after : ℤ) → Stopped (saying (plain_said handed user) plain_heard) kind old new before after → Stopped (plain_plan handed) kind old new before after
+  user_stopped kind old new before after r =
+      stopped_unless (PlainRow handed.credential) _ kind old new before after (no_plain_row handed.credential user is_user) (stopped_reading (IsPlainUser handed.credential) (λ u. saying (plain_said handed u) plain_heard) user kind old new before after is_user r)
+
+  -- the command wasn't built
+  pub plain_unbuilt : (kind : ErrorKind) (old : State) (before : ℤ) → IsNotBuilt (plain_body user) kind → Stopped (plain_plan handed) kind old old before before
+  plain_unbuilt kind old before unbuilt =
+      user_stopped kind old old before before
+      (unbuilt_stopped (plain_said handed user) plain_heard (plain_command user handed.server_api) kind old before refl
+      (omega (arith, length-enclosed (flat_map spell (start_elements Plain (payload_of user.username user.password))))) unbuilt)
+
+  -- the reply ends the login
+  pub plain_reached : {T : Type 0} (r : Result T Error) (reply : List ℕ) (old new : State) (before after : ℤ) → Exchanges handed.maximum (plain_message (plain_said handed user).document) old new before after reply → CountsStay old new → OnOk r (IsFinished reply) → OnOk r (Reached (plain_plan handed) tt old new before after)
+  plain_reached (Ok x) reply old new before after e counts is =
+      reached_unless (PlainRow handed.credential) _ tt old new before after (no_plain_row handed.credential user is_user)
+      (reached_reading (IsPlainUser handed.credential) (λ u. saying (plain_said handed u) plain_heard) user tt old new before after is_user
+      (reached_saying (plain_said handed user) plain_heard reply tt old new new before after after e counts
+      (reached_unless (SaslRow reply) _ tt new new after after (sasl_reply_no_row reply is.sasl is.is_reply)
+      (reached_reading (IsSaslReply reply) _ is.sasl tt new new after after is.is_reply
+      (reached_unless (UnfinishedRow is.sasl) (ending tt) tt new new after after (finished_no_row is.sasl is.done) (reached_ending tt new after))))))
+  plain_reached (Err x) reply old new before after e counts is = tt
+
+  heard_stopped : (reply : List ℕ) (kind : ErrorKind) (new : State) (after : ℤ) → FinishedRow reply kind ⊎ (kind ≡ OutOfMemory) → Stopped (plain_heard reply) kind new new after after
+  heard_stopped reply kind new after (inl (inl row)) = stopped_row (SaslRow reply) _ kind new after row
+  heard_stopped reply kind new after (inl (inr is)) =
+      stopped_unless (SaslRow reply) _ kind new new after after (sasl_reply_no_row reply is.0 is.1)
+      (stopped_reading (IsSaslReply reply) _ is.0 kind new new after after is.1 (stopped_row (UnfinishedRow is.0) (ending tt) kind new after is.2))
+  heard_stopped reply kind new after (inr memory) = stopped_memory (plain_heard reply) kind new after memory
+
+  -- it doesn't
+  pub plain_refused : {T : Type 0} (r : Result T Error) (reply : List ℕ) (old new : State) (before after : ℤ) → Exchanges handed.maximum (plain_message (plain_said handed user).document) old new before after reply → CountsStay old new → IfErr r (λ e. FinishedRow reply e.kind ⊎ (e.kind ≡ OutOfMemory)) → IfErr r (λ e. Stopped (plain_plan handed) e.kind old new before after)
+  plain_refused (Ok x) reply old new before after e counts h = tt
+  plain_refused (Err x) reply old new before after e counts h =
+      user_stopped x.kind old new before after (stopped_later (plain_said handed user) plain_heard reply x.kind old new new before after after e counts (heard_stopped reply x.kind new after h))
+
+-- the credential has no login
+pub credential_stopped : (handed : PlainHanded) (kind : ErrorKind) (old : State) (before : ℤ) → PlainRow handed.credential kind → Stopped (plain_plan handed) kind old old before before
+credential_stopped handed kind old before row = stopped_row (PlainRow handed.credential) (reading (IsPlainUser handed.credential) (λ user. saying (plain_said handed user) plain_heard)) kind old before row
+
+-- ---- the reply's row
+
+-- it is read, and doesn't end the conversation
+pub read_refused : (reply : List ℕ) (kind : ErrorKind) → SaslRow reply kind ⊎ (kind ≡ OutOfMemory) → FinishedRow reply kind ⊎ (kind ≡ OutOfMemory)
+read_refused reply kind (inl row) = inl (inl row)
+read_refused reply kind (inr memory) = inr memory

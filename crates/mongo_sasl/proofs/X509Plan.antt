@@ -1,0 +1,85 @@
+-- The plan of an X.509 login has one turn, and its end is a login by the script, and the other way round.
+use Rattle.std.proofs.Common.{◌≡◌, ℕ, Bool, true, false, refl, ap, sym, ◌∙◌, subst, inr, List, [], ◌∷◌, codes}
+use Rattle.mongo_bson.specs.Document.{Element}
+use Rattle.mongo_wire.specs.declared.auth_fault.AuthFault.TheVariants.{Malformed, X509Failed}
+use Rattle.mongo_wire.specs.declared.error.ErrorKind.TheVariants.{Authentication}
+use Rattle.mongo_command.specs.Conversation.{Event, exchanged, ends, IsOne, HasNone, HasOneTurn}
+use Rattle.mongo_command.specs.Field.{field_of}
+use Rattle.mongo_command.proofs.Ends.{Ends, ends_ending, ends_unless, ends_reading, ends_saying}
+use Rattle.mongo_command.proofs.Plans.{one_ending, one_unless, one_reading, one_saying}
+use Rattle.mongo_sasl.specs.X509.{SaysOk, Takes, IsTaken, IsFailed, X509Row, X509Handed, x509_said, x509_heard, x509_plan_from, x509_plan, IsAnsweredX509, IsX509LoginFrom, IsX509Login}
+use Rattle.mongo_sasl.proofs.LoginEvents.{replies_in, documents_in, AreWithin, LoginEnd, EndsBy}
+use Rattle.mongo_sasl.proofs.OneReply.{same_elements}
+
+-- ---- the reply
+
+not_failed : (reply : List ℕ) (elements : List Element) → Takes reply elements → IsFailed reply → ⊥
+not_failed reply elements taken failed = failed.failed (subst (λ es. SaysOk (field_of (codes "ok") es)) (same_elements reply elements failed.elements taken.well_formed failed.well_formed) taken.ok)
+
+pub taken_no_row : (reply : List ℕ) (elements : List Element) → Takes reply elements → HasNone (X509Row reply)
+taken_no_row reply elements taken (Authentication Malformed) row = row elements taken.well_formed
+taken_no_row reply elements taken (Authentication X509Failed) row = not_failed reply elements taken row
+taken_no_row reply elements taken kind row = row
+
+one_x509_row : (reply : List ℕ) → IsOne (X509Row reply)
+one_x509_row reply (Authentication Malformed) (Authentication Malformed) p q = refl
+one_x509_row reply (Authentication Malformed) (Authentication X509Failed) p q = absurd (p q.elements q.well_formed)
+one_x509_row reply (Authentication X509Failed) (Authentication Malformed) p q = absurd (q p.elements p.well_formed)
+one_x509_row reply (Authentication X509Failed) (Authentication X509Failed) p q = refl
+one_x509_row reply (Authentication Malformed) other p q = absurd q
+one_x509_row reply (Authentication X509Failed) other p q = absurd q
+one_x509_row reply kind other p q = absurd p
+
+one_taken : (reply : List ℕ) → IsOne (Takes reply)
+one_taken reply = λ a b p q. same_elements reply a b p.well_formed q.well_formed
+
+-- ---- one turn
+
+one_heard : (reply : List ℕ) → HasOneTurn (x509_heard reply)
+one_heard reply = one_unless _ _ (one_x509_row reply) (one_reading _ _ (one_taken reply) (λ elements. one_ending tt))
+
+one_from : (speculated : Bool) (handed : X509Handed) → HasOneTurn (x509_plan_from speculated handed)
+one_from true handed = one_ending tt
+one_from false handed = one_saying (x509_said handed) x509_heard one_heard
+
+pub one_x509 : (handed : X509Handed) → HasOneTurn (x509_plan handed)
+one_x509 handed = one_from handed.speculated handed
+
+-- ---- an end is a login
+
+heard_ended : (reply : List ℕ) (events : List Event) (answer : Unit {0}) → Ends (x509_heard reply) events answer → (events ≡ []) × IsTaken reply
+heard_ended reply events answer e =
+    let read = ends_reading (Takes reply) _ events answer (one_taken reply) (ends_unless (X509Row reply) _ events answer e).1 in
+    ((ends_ending tt events answer read.2).0, (read.0, read.1))
+
+from_ended : (speculated : Bool) (handed : X509Handed) (events : List Event) (answer : Unit {0}) → Ends (x509_plan_from speculated handed) events answer → EndsBy (IsX509LoginFrom speculated handed) tt handed.maximum events answer
+from_ended true handed events answer e =
+    let none = (ends_ending tt events answer e).0 in
+    (refl, (ap documents_in none, ap replies_in none), subst (AreWithin handed.maximum) (sym none) tt)
+from_ended false handed events answer e =
+    let said = ends_saying (x509_said handed) x509_heard events answer e in
+    let heard = heard_ended said.reply said.more answer said.rest in
+    let are : events ≡ exchanged (x509_said handed) said.reply ∷ [] = said.events_are ∙ ap (λ more. exchanged (x509_said handed) said.reply ∷ more) heard.0 in
+    let login : IsAnsweredX509 handed ((x509_said handed).document ∷ []) (said.reply ∷ []) = record { commands_are = refl; reply = said.reply; replies_are = refl; taken = heard.1 } in
+    (refl, subst (λ x. IsAnsweredX509 handed (documents_in x) (replies_in x)) (sym are) login, subst (AreWithin handed.maximum) (sym are) (refl, tt))
+
+pub x509_ended : (handed : X509Handed) (events : List Event) (answer : Unit {0}) → Ends (x509_plan handed) events answer → EndsBy (IsX509Login handed) tt handed.maximum events answer
+x509_ended handed events answer e = from_ended handed.speculated handed events answer e
+
+-- ---- and a login is an end
+
+heard_turn : (reply : List ℕ) → IsTaken reply → x509_heard reply [] (ends tt)
+heard_turn reply taken = inr (taken_no_row reply taken.0 taken.1, (taken.0, taken.1, refl))
+
+from_ends : (speculated : Bool) (handed : X509Handed) (commands replies : List (List ℕ)) → IsX509LoginFrom speculated handed commands replies → LoginEnd (x509_plan_from speculated handed) tt handed.maximum commands replies
+from_ends true handed commands replies is = record { events = []; commands_are = is.0; replies_are = is.1; within = tt; ends = λ sendable. record { follows = tt; answer_is = refl } }
+from_ends false handed commands replies is = record {
+  events = exchanged (x509_said handed) is.reply ∷ [];
+  commands_are = is.commands_are;
+  replies_are = is.replies_are;
+  within = (refl, tt);
+  ends = λ sendable. record { follows = (refl, sendable.0, tt); answer_is = heard_turn is.reply is.taken };
+}
+
+pub x509_ends : (handed : X509Handed) (commands replies : List (List ℕ)) → IsX509Login handed commands replies → LoginEnd (x509_plan handed) tt handed.maximum commands replies
+x509_ends handed commands replies is = from_ends handed.speculated handed commands replies is

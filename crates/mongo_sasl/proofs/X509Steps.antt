@@ -1,0 +1,52 @@
+-- What an X.509 login does is a step of its plan.
+use Rattle.std.proofs.Common.{◌≡◌, ◌⊎◌, ℕ, ℤ, true, false, refl, sym, subst, inl, inr, arith, Result, Ok, Err, List, ◌∷◌, codes, pos, IfErr, OnOk, flat_map}
+use Rattle.mongo_bson.specs.Document.{spell}
+use Rattle.mongo_bson.proofs.Enclosed.{length-enclosed}
+use Rattle.mongo_wire.specs.declared.error.Error.{Error}
+use Rattle.mongo_wire.specs.declared.error.ErrorKind.{ErrorKind}
+use Rattle.mongo_wire.specs.declared.error.ErrorKind.TheVariants.{OutOfMemory}
+use Rattle.mongo_wire.specs.Outside.{State}
+use Rattle.mongo_command.specs.Command.{given}
+use Rattle.mongo_command.specs.Conversation.{plain_message, saying, reading, ending, Reached, Stopped}
+use Rattle.mongo_command.specs.Exchange.{CountsStay, Exchanges}
+use Rattle.mongo_command.specs.Literal.{text_element, int32_element}
+use Rattle.mongo_command.proofs.Steps.{reached_ending, reached_unless, reached_reading, reached_saying, stopped_memory, stopped_row, stopped_later}
+use Rattle.mongo_sasl.specs.Commands.{IsNotBuilt}
+use Rattle.mongo_sasl.specs.X509.{Takes, IsTaken, X509Row, x509_body, x509_command, X509Handed, x509_said, x509_heard, x509_plan_from, x509_plan}
+use Rattle.mongo_sasl.proofs.Unsent.{unbuilt_stopped}
+use Rattle.mongo_sasl.proofs.X509Plan.{taken_no_row}
+
+module _ (handed : X509Handed) (later : handed.speculated ≡ false) where
+  -- a login that isn't answered yet
+  pub x509_stopped : (kind : ErrorKind) (old new : State) (before after : ℤ) → Stopped (saying (x509_said handed) x509_heard) kind old new before after → Stopped (x509_plan handed) kind old new before after
+  x509_stopped kind old new before after r = subst (λ s. Stopped (x509_plan_from s handed) kind old new before after) (sym later) r
+
+  -- the command wasn't built
+  pub x509_unbuilt : (kind : ErrorKind) (old : State) (before : ℤ) → IsNotBuilt (x509_body handed.credential.username) kind → Stopped (x509_plan handed) kind old old before before
+  x509_unbuilt kind old before unbuilt =
+      x509_stopped kind old old before before
+      (unbuilt_stopped (x509_said handed) x509_heard (x509_command handed.credential handed.server_api) kind old before refl
+      (omega (arith, length-enclosed (flat_map spell (int32_element (codes "authenticate") (pos 1) ∷ text_element (codes "mechanism") (codes "MONGODB-X509") ∷ given (text_element (codes "username")) handed.credential.username)))) unbuilt)
+
+  -- the server took the certificate
+  pub x509_reached : {T : Type 0} (r : Result T Error) (reply : List ℕ) (old new : State) (before after : ℤ) → Exchanges handed.maximum (plain_message (x509_said handed).document) old new before after reply → CountsStay old new → OnOk r (IsTaken reply) → OnOk r (Reached (x509_plan handed) tt old new before after)
+  x509_reached (Ok x) reply old new before after e counts is =
+      subst (λ s. Reached (x509_plan_from s handed) tt old new before after) (sym later)
+      (reached_saying (x509_said handed) x509_heard reply tt old new new before after after e counts
+      (reached_unless (X509Row reply) _ tt new new after after (taken_no_row reply is.0 is.1)
+      (reached_reading (Takes reply) (λ elements. ending tt) is.0 tt new new after after is.1 (reached_ending tt new after))))
+  x509_reached (Err x) reply old new before after e counts is = tt
+
+  heard_stopped : (reply : List ℕ) (kind : ErrorKind) (new : State) (after : ℤ) → X509Row reply kind ⊎ (kind ≡ OutOfMemory) → Stopped (x509_heard reply) kind new new after after
+  heard_stopped reply kind new after (inl row) = stopped_row (X509Row reply) (reading (Takes reply) (λ elements. ending tt)) kind new after row
+  heard_stopped reply kind new after (inr memory) = stopped_memory (x509_heard reply) kind new after memory
+
+  -- it didn't
+  pub x509_refused : {T : Type 0} (r : Result T Error) (reply : List ℕ) (old new : State) (before after : ℤ) → Exchanges handed.maximum (plain_message (x509_said handed).document) old new before after reply → CountsStay old new → IfErr r (λ e. X509Row reply e.kind ⊎ (e.kind ≡ OutOfMemory)) → IfErr r (λ e. Stopped (x509_plan handed) e.kind old new before after)
+  x509_refused (Ok x) reply old new before after e counts h = tt
+  x509_refused (Err x) reply old new before after e counts h =
+      x509_stopped x.kind old new before after (stopped_later (x509_said handed) x509_heard reply x.kind old new new before after after e counts (heard_stopped reply x.kind new after h))
+
+-- the hello was answered
+pub x509_at_once : (handed : X509Handed) (old : State) (before : ℤ) → handed.speculated ≡ true → Reached (x509_plan handed) tt old old before before
+x509_at_once handed old before is = subst (λ s. Reached (x509_plan_from s handed) tt old old before before) (sym is) (reached_ending tt old before)

@@ -1,0 +1,95 @@
+use Rattle.std.proofs.Common.{option_copied, codes, inl, inr}
+use Rattle.mongo_command.specs.Exchange.{frame_maximum}
+use Rattle.mongo_sasl.specs.Plain.{plain_handed, plain_body, plain_heard, plain_plan, IsPlainLogin, user_of}
+use Rattle.mongo_sasl.proofs.OneExchange.{exchanged_as, unanswered_as, led, led_handed, completed}
+use Rattle.mongo_sasl.proofs.PlainPlan.{one_plain, plain_ends}
+use Rattle.mongo_sasl.proofs.PlainSteps.{credential_stopped, user_stopped, plain_unbuilt, plain_reached, plain_refused}
+use Rattle.mongo_sasl.proofs.Unsent.{handed_stopped, answered_fault, handed_kept}
+use Rattle.mongo_sasl.proofs.plain.authenticate_stream.Goals as goal
+
+pub returns-in_err-login-clause-refused : goal.returns-in_err-login-clause-refused
+returns-in_err-login-clause-refused g c faultless =
+    let handed = plain_handed c.args.credential.now (option_copied c.args.server_api) (frame_maximum c.args.connection.now.stream_description) in
+    handed_stopped c.from_residual.result c.in_err-login.field-0.0 _ _ _ _ _ c.from_residual.ensures.1 (credential_stopped handed _ _ _ c.in_err-login.ensures.refused)
+
+pub returns-in_err-login-clause-complete : goal.returns-in_err-login-clause-complete
+returns-in_err-login-clause-complete g c bytes faultless is has unfailed unwritten =
+    let handed = plain_handed c.args.credential.now (option_copied c.args.server_api) (frame_maximum c.args.connection.now.stream_description) in
+    completed (plain_plan handed) (one_plain handed) _ _ _ _ (IsPlainLogin handed) _ (plain_ends handed) c.from_residual.result bytes (returns-in_err-login-clause-refused g c faultless) is has unfailed unwritten
+
+pub returns-in_err-login-clause-exact : goal.returns-in_err-login-clause-exact
+returns-in_err-login-clause-exact g c bytes taken unread outcome commands faultless is leads unfailed unwritten =
+    let handed = plain_handed c.args.credential.now (option_copied c.args.server_api) (frame_maximum c.args.connection.now.stream_description) in
+    led_handed (plain_plan handed) (one_plain handed) _ _ _ _ c.from_residual.result c.in_err-login.field-0.0 bytes taken unread outcome commands c.from_residual.ensures.1 (returns-in_err-login-clause-refused g c faultless) is leads unfailed unwritten
+
+pub returns-in_err-login-clause-answers : goal.returns-in_err-login-clause-answers
+returns-in_err-login-clause-answers g c kind kept =
+    let handed = plain_handed c.args.credential.now (option_copied c.args.server_api) (frame_maximum c.args.connection.now.stream_description) in
+    handed_kept c.from_residual.result c.in_err-login.field-0.0 _ _ _ _ c.from_residual.ensures.1 (inr (credential_stopped handed _ _ _ c.in_err-login.ensures.refused))
+
+pub returns-in_err-command-clause-refused : goal.returns-in_err-command-clause-refused
+returns-in_err-command-clause-refused g c faultless =
+    let handed = plain_handed c.args.credential.now (option_copied c.args.server_api) (frame_maximum c.args.connection.now.stream_description) in
+    handed_stopped c.from_residual-in_err-command.result c.in_err-command.field-0.0 _ _ _ _ _ c.from_residual-in_err-command.ensures.1 (plain_unbuilt handed (user_of c.in_ok-login.login) c.in_ok-login.ensures.user _ _ _ c.in_err-command.ensures.refused)
+
+pub returns-in_err-command-clause-complete : goal.returns-in_err-command-clause-complete
+returns-in_err-command-clause-complete g c bytes faultless is has unfailed unwritten =
+    let handed = plain_handed c.args.credential.now (option_copied c.args.server_api) (frame_maximum c.args.connection.now.stream_description) in
+    completed (plain_plan handed) (one_plain handed) _ _ _ _ (IsPlainLogin handed) _ (plain_ends handed) c.from_residual-in_err-command.result bytes (returns-in_err-command-clause-refused g c faultless) is has unfailed unwritten
+
+pub returns-in_err-command-clause-exact : goal.returns-in_err-command-clause-exact
+returns-in_err-command-clause-exact g c bytes taken unread outcome commands faultless is leads unfailed unwritten =
+    let handed = plain_handed c.args.credential.now (option_copied c.args.server_api) (frame_maximum c.args.connection.now.stream_description) in
+    led_handed (plain_plan handed) (one_plain handed) _ _ _ _ c.from_residual-in_err-command.result c.in_err-command.field-0.0 bytes taken unread outcome commands c.from_residual-in_err-command.ensures.1 (returns-in_err-command-clause-refused g c faultless) is leads unfailed unwritten
+
+pub returns-in_err-command-clause-answers : goal.returns-in_err-command-clause-answers
+returns-in_err-command-clause-answers g c kind kept =
+    let handed = plain_handed c.args.credential.now (option_copied c.args.server_api) (frame_maximum c.args.connection.now.stream_description) in
+    handed_kept c.from_residual-in_err-command.result c.in_err-command.field-0.0 _ _ _ _ c.from_residual-in_err-command.ensures.1 (inr (plain_unbuilt handed (user_of c.in_ok-login.login) c.in_ok-login.ensures.user _ _ _ c.in_err-command.ensures.refused))
+
+pub returns-in_err-exchange_into-clause-refused : goal.returns-in_err-exchange_into-clause-refused
+returns-in_err-exchange_into-clause-refused g c faultless =
+    let handed = plain_handed c.args.credential.now (option_copied c.args.server_api) (frame_maximum c.args.connection.now.stream_description) in
+    handed_stopped c.from_residual-in_err-exchange_into.result c.in_err-exchange_into.field-0.0 _ _ _ _ _ c.from_residual-in_err-exchange_into.ensures.1
+    (let user = user_of c.in_ok-login.login in
+    user_stopped handed user c.in_ok-login.ensures.user _ _ _ _ _ (unanswered_as (codes "saslStart") user.source (plain_body user) handed.server_api handed.maximum c.in_ok-command.command plain_heard _ _ _ _ _ _ c.in_ok-command.ensures.command c.in_err-exchange_into.ensures.counts (c.in_err-exchange_into.ensures.refused faultless)))
+
+pub returns-in_err-exchange_into-clause-complete : goal.returns-in_err-exchange_into-clause-complete
+returns-in_err-exchange_into-clause-complete g c bytes faultless is has unfailed unwritten =
+    let handed = plain_handed c.args.credential.now (option_copied c.args.server_api) (frame_maximum c.args.connection.now.stream_description) in
+    completed (plain_plan handed) (one_plain handed) _ _ _ _ (IsPlainLogin handed) _ (plain_ends handed) c.from_residual-in_err-exchange_into.result bytes (returns-in_err-exchange_into-clause-refused g c faultless) is has unfailed unwritten
+
+pub returns-in_err-exchange_into-clause-exact : goal.returns-in_err-exchange_into-clause-exact
+returns-in_err-exchange_into-clause-exact g c bytes taken unread outcome commands faultless is leads unfailed unwritten =
+    let handed = plain_handed c.args.credential.now (option_copied c.args.server_api) (frame_maximum c.args.connection.now.stream_description) in
+    led_handed (plain_plan handed) (one_plain handed) _ _ _ _ c.from_residual-in_err-exchange_into.result c.in_err-exchange_into.field-0.0 bytes taken unread outcome commands c.from_residual-in_err-exchange_into.ensures.1 (returns-in_err-exchange_into-clause-refused g c faultless) is leads unfailed unwritten
+
+pub returns-in_err-exchange_into-clause-answers : goal.returns-in_err-exchange_into-clause-answers
+returns-in_err-exchange_into-clause-answers g c kind kept =
+    handed_kept c.from_residual-in_err-exchange_into.result c.in_err-exchange_into.field-0.0 _ _ _ _ c.from_residual-in_err-exchange_into.ensures.1 (inl (answered_fault c.in_err-exchange_into.field-0.0 kind (c.in_err-exchange_into.ensures.kept kind kept).0))
+
+pub returns-clause-accepted : goal.returns-clause-accepted
+returns-clause-accepted g c =
+    let handed = plain_handed c.args.credential.now (option_copied c.args.server_api) (frame_maximum c.args.connection.now.stream_description) in
+    let user = user_of c.in_ok-login.login in
+    plain_reached handed user c.in_ok-login.ensures.user c.finish.result _ _ _ _ _
+    (exchanged_as (codes "saslStart") user.source (plain_body user) handed.server_api handed.maximum c.in_ok-command.command _ _ _ _ _ _ c.in_ok-command.ensures.command c.held_reply.ensures c.in_ok-exchange_into.ensures.exchanged)
+    c.in_ok-exchange_into.ensures.counts c.finish.ensures.finished
+
+pub returns-clause-refused : goal.returns-clause-refused
+returns-clause-refused g c faultless =
+    let handed = plain_handed c.args.credential.now (option_copied c.args.server_api) (frame_maximum c.args.connection.now.stream_description) in
+    let user = user_of c.in_ok-login.login in
+    plain_refused handed user c.in_ok-login.ensures.user c.finish.result _ _ _ _ _
+    (exchanged_as (codes "saslStart") user.source (plain_body user) handed.server_api handed.maximum c.in_ok-command.command _ _ _ _ _ _ c.in_ok-command.ensures.command c.held_reply.ensures c.in_ok-exchange_into.ensures.exchanged)
+    c.in_ok-exchange_into.ensures.counts c.finish.ensures.refused
+
+pub returns-clause-complete : goal.returns-clause-complete
+returns-clause-complete g c bytes faultless is has unfailed unwritten =
+    let handed = plain_handed c.args.credential.now (option_copied c.args.server_api) (frame_maximum c.args.connection.now.stream_description) in
+    completed (plain_plan handed) (one_plain handed) _ _ _ _ (IsPlainLogin handed) _ (plain_ends handed) c.finish.result bytes (returns-clause-refused g c faultless) is has unfailed unwritten
+
+pub returns-clause-exact : goal.returns-clause-exact
+returns-clause-exact g c bytes taken unread outcome commands faultless is leads unfailed unwritten =
+    let handed = plain_handed c.args.credential.now (option_copied c.args.server_api) (frame_maximum c.args.connection.now.stream_description) in
+    led (plain_plan handed) (one_plain handed) _ _ _ _ c.finish.result bytes taken unread outcome commands (returns-clause-accepted g c) (returns-clause-refused g c faultless) is leads unfailed unwritten

@@ -1,0 +1,25 @@
+-- A login over told bytes: the bytes that are one, and what a call answers by where they lead its plan.
+use Rattle.std.specs.Prelude.{◌≡◌, ℕ, ℤ, ◌⊎◌, Result, Ok, Err, List, ◌++◌}
+use Rattle.mongo_wire.specs.declared.error.Error.{Error}
+use Rattle.mongo_wire.specs.declared.error.ErrorKind.TheVariants.{OutOfMemory}
+use Rattle.mongo_wire.specs.Bytes.{IsSentWithin, IsWholeWithin}
+use Rattle.mongo_wire.specs.Outside.{State}
+use Rattle.mongo_command.specs.Conversation.{Said, Turn, refuses, ends, LeftBy}
+
+-- There are commands and replies of a login: the commands can be sent, and the replies' frames stand at the front of the bytes.
+pub record HasLogin (IsLogin : List (List ℕ) → List (List ℕ) → Type 0) (maximum first_id : ℤ) (bytes : List ℕ) : Type 0 where
+  pub commands : List (List ℕ)
+  pub replies : List (List ℕ)
+  pub is_login : IsLogin commands replies
+  pub sent : List ℕ
+  pub is_sent : IsSentWithin maximum maximum commands first_id sent
+  pub taken : List ℕ
+  pub rest : List ℕ
+  pub joined : bytes ≡ taken ++ rest
+  pub is_taken : IsWholeWithin maximum maximum replies taken
+
+-- An answer by what the bytes lead to: just that end or that refusal, and the link is left as it says. Want of memory may
+-- come in place of it.
+abbrev pub IsLed : Result (Unit {0}) Error → Turn (Unit {0}) → List Said → List ℕ → State → State → ℤ → ℤ → Type 0
+IsLed (Ok done) outcome commands unread old new before after = (outcome ≡ ends tt) × LeftBy commands unread old new before after
+IsLed (Err e) outcome commands unread old new before after = (e.kind ≡ OutOfMemory) ⊎ ((outcome ≡ refuses e.kind) × LeftBy commands unread old new before after)

@@ -1,0 +1,98 @@
+-- PLAIN, RFC 4616: one command carries the user name and the password as they are, and its reply ends the login.
+use Rattle.std.specs.Prelude.{◌≡◌, ℕ, ℤ, ◌⊎◌, true, false, Option, None, Some, IsSome, unwrap_or, List, [], ◌∷◌, ◌++◌, codes}
+use Rattle.mongo_wire.specs.declared.error.ErrorKind.{ErrorKind}
+use Rattle.mongo_wire.specs.declared.error.ErrorKind.TheVariants.{Authentication}
+use Rattle.mongo_wire.specs.declared.auth_fault.AuthFault.TheVariants.{NoUsername, NoPassword, Malformed}
+use Rattle.mongo_command.specs.declared.command.Command.{Command}
+use Rattle.mongo_command.specs.declared.server_api.ServerApi.{ServerApi}
+use Rattle.mongo_command.specs.Command.{command_of, command_document}
+use Rattle.mongo_command.specs.Conversation.{Said, Plan, ending, unless, reading, saying}
+use Rattle.mongo_sasl.specs.declared.credential.Credential.{Credential}
+use Rattle.mongo_sasl.specs.declared.mechanism.AuthMechanism.TheVariants.{Plain}
+use Rattle.mongo_sasl.specs.declared.plain.Login.{Login}
+use Rattle.mongo_sasl.specs.declared.sasl_response.SaslResponse.{SaslResponse}
+use Rattle.mongo_sasl.specs.Commands.{start_body}
+use Rattle.mongo_sasl.specs.Reply.{IsSaslReply, SaslRow}
+
+-- ---- what is said
+
+-- the message (RFC 4616, section 2): an authorization identity, which is empty here, the user name and the password, each
+-- after a NUL but the first
+abbrev pub payload_of : List ℕ → List ℕ → List ℕ
+payload_of username password = 0 ∷ (username ++ 0 ∷ password)
+
+-- who logs in, and the database that the user belongs to
+pub record PlainUser : Type 0 where
+  pub username : List ℕ
+  pub password : List ℕ
+  pub source : List ℕ
+
+-- the user of a credential; one that names no database belongs to `$external`
+pub record IsPlainUser (credential : Credential) (user : PlainUser) : Type 0 where
+  pub username : credential.username ≡ Some user.username
+  pub password : credential.password ≡ Some user.password
+  pub source : user.source ≡ unwrap_or credential.source (codes "$external")
+
+-- why a credential has no login by PLAIN: the first row that applies
+abbrev pub PlainRow : Credential → ErrorKind → Type 0
+PlainRow credential (Authentication NoUsername) = credential.username ≡ None
+PlainRow credential (Authentication NoPassword) = IsSome credential.username × (credential.password ≡ None)
+PlainRow credential kind = ⊥
+
+abbrev pub plain_body : PlainUser → List ℕ
+plain_body user = start_body Plain (payload_of user.username user.password)
+
+-- the `saslStart` that carries the message
+abbrev pub plain_command : PlainUser → Option ServerApi → Command
+plain_command user api = command_of (codes "saslStart") user.source (plain_body user) api
+
+-- ---- the plan
+
+-- what a login is handed: who logs in, the server API, and the greatest frame
+pub record PlainHanded : Type 0 where
+  pub credential : Credential
+  pub server_api : Option ServerApi
+  pub maximum : ℤ
+
+abbrev pub plain_said : PlainHanded → PlainUser → Said
+plain_said handed user = record { maximum = handed.maximum; document = command_document (plain_command user handed.server_api) }
+
+-- the one reply has to end the conversation
+abbrev pub UnfinishedRow : SaslResponse → ErrorKind → Type 0
+UnfinishedRow sasl kind = (kind ≡ Authentication Malformed) × (sasl.done ≡ false)
+
+-- why a reply doesn't end it: its row, or that
+abbrev pub FinishedRow : List ℕ → ErrorKind → Type 0
+FinishedRow reply kind = SaslRow reply kind ⊎ ((sasl : SaslResponse) × IsSaslReply reply sasl × UnfinishedRow sasl kind)
+
+-- after the reply
+abbrev pub plain_heard : List ℕ → Plan (Unit {0})
+plain_heard reply = unless (SaslRow reply) (reading (IsSaslReply reply) (λ sasl. unless (UnfinishedRow sasl) (ending tt)))
+
+abbrev pub plain_plan : PlainHanded → Plan (Unit {0})
+plain_plan handed = unless (PlainRow handed.credential) (reading (IsPlainUser handed.credential) (λ user. saying (plain_said handed user) plain_heard))
+
+-- ---- a login, as whole lists
+
+-- the reply succeeded, and the conversation is done
+pub record IsFinished (reply : List ℕ) : Type 0 where
+  pub sasl : SaslResponse
+  pub is_reply : IsSaslReply reply sasl
+  pub done : sasl.done ≡ true
+
+-- one command with the user's message, and one reply that ends it
+pub record IsPlainLogin (handed : PlainHanded) (commands replies : List (List ℕ)) : Type 0 where
+  pub user : PlainUser
+  pub is_user : IsPlainUser handed.credential user
+  pub commands_are : commands ≡ (plain_said handed user).document ∷ []
+  pub reply : List ℕ
+  pub replies_are : replies ≡ reply ∷ []
+  pub finished : IsFinished reply
+
+-- ---- what the code holds
+
+abbrev pub user_of : Login → PlainUser
+user_of login = record { username = login.username.now; password = login.password.now; source = login.source.now }
+
+abbrev pub plain_handed : Credential → Option ServerApi → ℤ → PlainHanded
+plain_handed credential api maximum = record { credential = credential; server_api = api; maximum = maximum }

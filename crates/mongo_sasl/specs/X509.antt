@@ -1,0 +1,109 @@
+-- MONGODB-X509, by the authentication specification: the certificate of the link is the credential, and one command asks the
+-- server to take it.
+use Rattle.std.specs.Prelude.{◌≡◌, ℕ, ℤ, pos, Bool, true, false, Option, None, Some, List, [], ◌∷◌, codes}
+use Rattle.mongo_bson.specs.Document.{Element, IsWellFormed}
+use Rattle.mongo_bson.specs.Number.{int_of_kind}
+use Rattle.mongo_wire.specs.declared.error.ErrorKind.{ErrorKind}
+use Rattle.mongo_wire.specs.declared.error.ErrorKind.TheVariants.{Authentication}
+use Rattle.mongo_wire.specs.declared.auth_fault.AuthFault.TheVariants.{Malformed, X509Failed}
+use Rattle.mongo_wire.specs.Outside.{risen}
+use Rattle.mongo_command.specs.declared.command.Command.{Command}
+use Rattle.mongo_command.specs.declared.server_api.ServerApi.{ServerApi}
+use Rattle.mongo_command.specs.Command.{given, command_of, command_document}
+use Rattle.mongo_command.specs.Conversation.{Said, Plan, ending, unless, reading, saying}
+use Rattle.mongo_command.specs.Field.{field_of}
+use Rattle.mongo_command.specs.Literal.{text_element, int32_element, document_of}
+use Rattle.mongo_sasl.specs.declared.credential.Credential.{Credential}
+
+-- ---- what is said
+
+-- the body, with the user name where one is given; else the server takes it from the certificate
+abbrev pub x509_body : Option (List ℕ) → List ℕ
+x509_body username =
+    document_of
+    (int32_element (codes "authenticate") (pos 1)
+    ∷ text_element (codes "mechanism") (codes "MONGODB-X509")
+    ∷ given (text_element (codes "username")) username)
+
+-- the `authenticate` of `$external`
+abbrev pub x509_command : Credential → Option ServerApi → Command
+x509_command credential api = command_of (codes "authenticate") (codes "$external") (x509_body credential.username) api
+
+-- ---- what the reply says
+
+-- `ok` is there and is the number 1
+abbrev pub SaysOk : Option Element → Type 0
+SaysOk None = ⊥
+SaysOk (Some ok) = int_of_kind ok.kind ok.value ≡ Some (pos 1)
+
+-- the reply's elements, by which the server took the certificate
+pub record Takes (reply : List ℕ) (elements : List Element) : Type 0 where
+  pub well_formed : IsWellFormed reply elements
+  pub ok : SaysOk (field_of (codes "ok") elements)
+
+-- by the reply it didn't
+pub record IsFailed (reply : List ℕ) : Type 0 where
+  pub elements : List Element
+  pub well_formed : IsWellFormed reply elements
+  pub failed : SaysOk (field_of (codes "ok") elements) → ⊥
+
+-- the server took it by some elements
+abbrev pub IsTaken : List ℕ → Type 0
+IsTaken reply = (elements : List Element) × Takes reply elements
+
+-- why a reply is refused
+abbrev pub X509Row : List ℕ → ErrorKind → Type 0
+X509Row reply (Authentication Malformed) = (elements : List Element) → IsWellFormed reply elements → ⊥
+X509Row reply (Authentication X509Failed) = IsFailed reply
+X509Row reply kind = ⊥
+
+-- ---- the plan
+
+-- what a login is handed: who logs in, the server API, whether the server answered the same body in its hello, and the
+-- greatest frame
+pub record X509Handed : Type 0 where
+  pub credential : Credential
+  pub server_api : Option ServerApi
+  pub speculated : Bool
+  pub maximum : ℤ
+
+abbrev pub x509_said : X509Handed → Said
+x509_said handed = record { maximum = handed.maximum; document = command_document (x509_command handed.credential handed.server_api) }
+
+-- after the reply
+abbrev pub x509_heard : List ℕ → Plan (Unit {0})
+x509_heard reply = unless (X509Row reply) (reading (Takes reply) (λ elements. ending tt))
+
+-- nothing follows an answer in the hello
+abbrev pub x509_plan_from : Bool → X509Handed → Plan (Unit {0})
+x509_plan_from true handed = ending tt
+x509_plan_from false handed = saying (x509_said handed) x509_heard
+
+abbrev pub x509_plan : X509Handed → Plan (Unit {0})
+x509_plan handed = x509_plan_from handed.speculated handed
+
+-- ---- a login, as whole lists
+
+-- one command, and one reply that takes it
+pub record IsAnsweredX509 (handed : X509Handed) (commands replies : List (List ℕ)) : Type 0 where
+  pub commands_are : commands ≡ (x509_said handed).document ∷ []
+  pub reply : List ℕ
+  pub replies_are : replies ≡ reply ∷ []
+  pub taken : IsTaken reply
+
+abbrev pub IsX509LoginFrom : Bool → X509Handed → List (List ℕ) → List (List ℕ) → Type 0
+IsX509LoginFrom true handed commands replies = (commands ≡ []) × (replies ≡ [])
+IsX509LoginFrom false handed commands replies = IsAnsweredX509 handed commands replies
+
+abbrev pub IsX509Login : X509Handed → List (List ℕ) → List (List ℕ) → Type 0
+IsX509Login handed commands replies = IsX509LoginFrom handed.speculated handed commands replies
+
+-- ---- what the code is handed
+
+abbrev pub x509_handed : Credential → Option ServerApi → Bool → ℤ → X509Handed
+x509_handed credential api speculated maximum = record { credential = credential; server_api = api; speculated = speculated; maximum = maximum }
+
+-- the count of a buffer's frames after a login
+abbrev pub frames_after : Bool → ℕ → ℕ
+frames_after true frames = frames
+frames_after false frames = risen frames

@@ -1,0 +1,149 @@
+-- A client's first message has one reading, and none where a part of it is missing.
+use Rattle.std.proofs.Common.{◌≡◌, ◌≢◌, ◌<◌, ◌-◌, ℕ, List, [], ◌∷◌, ◌++◌, length, get_or, codes, refl, ap, sym, subst, ◌∙◌, arith, length-append}
+use Rattle.std.specs.Str.{IsUtf8}
+use Rattle.std.proofs.lemmas.Str.{IsUtf8-append, IsUtf8-from_ascii, IsUtf8-past_char, IsUtf8-take, IsCharBoundary-before_ascii}
+use Rattle.std.proofs.lemmas.List.{take_at, get_or-append_right}
+use Rattle.std.proofs.lemmas.Bool.{lt-ltb}
+use lib.Utf8.{encode}
+use Rattle.std.proofs.lemmas.Str.Ascii.{IsAscii-nil, IsAscii-cons, IsAscii-from_all}
+use Rattle.mongo_scram.specs.Messages.{bare_message, open_message}
+use Rattle.mongo_scram.specs.ServerMessages.{HasNoComma}
+use Rattle.mongo_scram.specs.UserName.{escaped}
+use Rattle.mongo_scram.proofs.Parts.{no_cut, one_cut}
+use Rattle.mongo_server.specs.ClientMessages.{IsNonce, IsClientFirst}
+use Rattle.mongo_server.specs.SaslName.{IsSaslName}
+use Rattle.mongo_server.proofs.UserNames.{escaped_same, escaped-no_comma, escaped_text, name_text}
+
+-- ---- the texts
+
+-- the message behind its header
+pub opens : (username nonce : List ℕ) → open_message username nonce ≡ codes "n,," ++ bare_message username nonce
+unfolding open_message
+opens username nonce = refl
+
+-- and its two attributes
+pub bares : (username nonce : List ℕ) → bare_message username nonce ≡ codes "n=" ++ (escaped username ++ (0x2C ∷ (codes "r=" ++ nonce)))
+unfolding bare_message
+bares username nonce = refl
+
+behind_three : (a b c : ℕ) (x y : List ℕ) → a ∷ b ∷ c ∷ x ≡ a ∷ b ∷ c ∷ y → x ≡ y
+behind_three a b c x y same = cc
+
+behind_two : (a b : ℕ) (x y : List ℕ) → a ∷ b ∷ x ≡ a ∷ b ∷ y → x ≡ y
+behind_two a b x y same = cc
+
+sub_same : (n : ℕ) → n - n ≡ 0
+sub_same n = omega arith
+
+pub nonce_text : (nonce : List ℕ) → IsNonce nonce → IsUtf8 nonce
+nonce_text nonce is = IsUtf8-from_ascii nonce (IsAscii-from_all nonce (λ k d within. omega (arith, (is k d within).1)))
+
+nonce_ascii_text : (nonce : List ℕ) → IsUtf8 nonce → IsUtf8 (0x2C ∷ (codes "r=" ++ nonce))
+nonce_ascii_text nonce text = IsUtf8-append (codes ",r=") nonce (IsUtf8-from_ascii (codes ",r=") (IsAscii-cons 44 (114 ∷ 61 ∷ []) (omega arith) (IsAscii-cons 114 (61 ∷ []) (omega arith) (IsAscii-cons 61 [] (omega arith) IsAscii-nil)))) text
+
+five_ascii : IsUtf8 (codes "n,,n=")
+five_ascii = IsUtf8-from_ascii (codes "n,,n=") (IsAscii-cons 110 (44 ∷ 44 ∷ 110 ∷ 61 ∷ []) (omega arith) (IsAscii-cons 44 (44 ∷ 110 ∷ 61 ∷ []) (omega arith) (IsAscii-cons 44 (110 ∷ 61 ∷ []) (omega arith) (IsAscii-cons 110 (61 ∷ []) (omega arith) (IsAscii-cons 61 [] (omega arith) IsAscii-nil)))))
+
+first_text : (message username nonce : List ℕ) → IsClientFirst message username nonce → IsUtf8 message
+first_text message username nonce is =
+    subst IsUtf8 (sym (is.message_is ∙ opens username nonce ∙ ap (λ x. codes "n,," ++ x) (bares username nonce)))
+    (IsUtf8-append (codes "n,,n=") (escaped username ++ (0x2C ∷ (codes "r=" ++ nonce))) five_ascii
+    (IsUtf8-append (escaped username) (0x2C ∷ (codes "r=" ++ nonce)) (escaped_text username is.text) (nonce_ascii_text nonce (nonce_text nonce is.printable))))
+
+pub no_text : (message : List ℕ) → (IsUtf8 message → ⊥) → (username nonce : List ℕ) → IsClientFirst message username nonce → ⊥
+no_text message none username nonce is = none (first_text message username nonce is)
+
+-- a byte of ASCII is its character
+encode_ascii : (byte : ℕ) → byte < 128 → encode byte ≡ byte ∷ []
+unfolding encode
+encode_ascii byte ascii = rw (lt-ltb byte 128 ascii) refl
+
+one_byte : (byte : ℕ) (rest : List ℕ) → byte < 128 → byte ∷ rest ≡ encode byte ++ rest
+one_byte byte rest ascii = ap (λ x. x ++ rest) (sym (encode_ascii byte ascii))
+
+-- what stands before a comma is a text where the whole is
+name_front : (name rest : List ℕ) → IsUtf8 (name ++ (0x2C ∷ rest)) → IsUtf8 name
+name_front name rest text =
+    let comma : get_or (name ++ (0x2C ∷ rest)) (length name) 0 ≡ 0x2C = get_or-append_right name (0x2C ∷ rest) (length name) (length name) 0 refl (omega arith) ∙ ap (λ n. get_or (0x2C ∷ rest) n 0) (sub_same (length name)) in
+    subst IsUtf8 (take_at name (0x2C ∷ rest) (length name) refl)
+    (IsUtf8-take (name ++ (0x2C ∷ rest)) (length name) text
+    (IsCharBoundary-before_ascii (name ++ (0x2C ∷ rest)) (length name) (omega (arith, length-append name (0x2C ∷ rest))) (omega (arith, comma))))
+
+-- ---- its parts, one after another
+
+pub no_header : (message : List ℕ) → ((rest : List ℕ) → message ≢ codes "n,," ++ rest) → (username nonce : List ℕ) → IsClientFirst message username nonce → ⊥
+no_header message none username nonce is = none (bare_message username nonce) (is.message_is ∙ opens username nonce)
+
+-- the message behind its header is the bare one
+pub one_bare : (message bare username nonce : List ℕ) → message ≡ codes "n,," ++ bare → IsClientFirst message username nonce → bare ≡ bare_message username nonce
+one_bare message bare username nonce is first = behind_three 110 44 44 bare (bare_message username nonce) (sym is ∙ first.message_is ∙ opens username nonce)
+
+pub no_name : (message bare : List ℕ) → message ≡ codes "n,," ++ bare → ((rest : List ℕ) → bare ≢ codes "n=" ++ rest) → (username nonce : List ℕ) → IsClientFirst message username nonce → ⊥
+no_name message bare is none username nonce first = none (escaped username ++ (0x2C ∷ (codes "r=" ++ nonce))) (one_bare message bare username nonce is first ∙ bares username nonce)
+
+-- the message behind its first key
+pub record IsOpened (message bare attributes : List ℕ) : Type 0 where
+  pub header : message ≡ codes "n,," ++ bare
+  pub key : bare ≡ codes "n=" ++ attributes
+
+one_rest : (message bare attributes username nonce : List ℕ) → IsOpened message bare attributes → IsClientFirst message username nonce → attributes ≡ escaped username ++ (0x2C ∷ (codes "r=" ++ nonce))
+one_rest message bare attributes username nonce is first =
+    behind_two 110 61 attributes (escaped username ++ (0x2C ∷ (codes "r=" ++ nonce))) (sym is.key ∙ one_bare message bare username nonce is.header first ∙ bares username nonce)
+
+pub no_comma : (message bare attributes : List ℕ) → IsOpened message bare attributes → HasNoComma attributes → (username nonce : List ℕ) → IsClientFirst message username nonce → ⊥
+no_comma message bare attributes is none username nonce first = no_cut attributes (escaped username) (codes "r=" ++ nonce) none (one_rest message bare attributes username nonce is first)
+
+-- and its two attributes
+pub record AreAttributes (message bare attributes name attribute : List ℕ) : Type 0 where
+  pub opened : IsOpened message bare attributes
+  pub ends : HasNoComma name
+  pub joined : attributes ≡ name ++ (0x2C ∷ attribute)
+
+one_attributes : (message bare attributes name attribute username nonce : List ℕ) → AreAttributes message bare attributes name attribute → IsClientFirst message username nonce → (name ≡ escaped username) × (attribute ≡ codes "r=" ++ nonce)
+one_attributes message bare attributes name attribute username nonce is first =
+    one_cut name (escaped username) attribute (codes "r=" ++ nonce) is.ends (escaped-no_comma username) (sym is.joined ∙ one_rest message bare attributes username nonce is.opened first)
+
+module _ (message bare attributes name attribute : List ℕ) (is : AreAttributes message bare attributes name attribute) where
+  pub no_nonce : ((rest : List ℕ) → attribute ≢ codes "r=" ++ rest) → (username nonce : List ℕ) → IsClientFirst message username nonce → ⊥
+  no_nonce none username nonce first = none nonce (one_attributes message bare attributes name attribute username nonce is first).1
+
+  pub no_saslname : (IsSaslName name → ⊥) → (username nonce : List ℕ) → IsClientFirst message username nonce → ⊥
+  no_saslname none username nonce first = none (username, (one_attributes message bare attributes name attribute username nonce is first).0)
+
+  pub not_printable : (value : List ℕ) → attribute ≡ codes "r=" ++ value → (IsNonce value → ⊥) → (username nonce : List ℕ) → IsClientFirst message username nonce → ⊥
+  not_printable value value_is none username nonce first =
+      let same = behind_two 114 61 nonce value (sym (one_attributes message bare attributes name attribute username nonce is first).1 ∙ value_is) in
+      none (subst IsNonce same first.printable)
+
+  -- a message of these parts is one of the name
+  pub is_message : (username value : List ℕ) → name ≡ escaped username → attribute ≡ codes "r=" ++ value → message ≡ open_message username value
+  is_message username value name_is value_is =
+      is.opened.header
+      ∙ ap (λ x. codes "n,," ++ x) (is.opened.key ∙ ap (λ x. codes "n=" ++ x) (is.joined ∙ (λ i. name_is i ++ (0x2C ∷ value_is i))) ∙ sym (bares username value))
+      ∙ sym (opens username value)
+
+  pub is_bare : (username value : List ℕ) → name ≡ escaped username → attribute ≡ codes "r=" ++ value → bare ≡ bare_message username value
+  is_bare username value name_is value_is = is.opened.key ∙ ap (λ x. codes "n=" ++ x) (is.joined ∙ (λ i. name_is i ++ (0x2C ∷ value_is i))) ∙ sym (bares username value)
+
+  -- the user name is a text, since the message is
+  pub username_text : (username : List ℕ) → IsUtf8 message → name ≡ escaped username → IsUtf8 username
+  username_text username text name_is =
+      let one = IsUtf8-past_char message (44 ∷ 44 ∷ (codes "n=" ++ attributes)) 110 text (is.opened.header ∙ ap (λ x. codes "n,," ++ x) is.opened.key ∙ one_byte 110 _ (omega arith)) in
+      let two = IsUtf8-past_char (44 ∷ 44 ∷ (codes "n=" ++ attributes)) (44 ∷ (codes "n=" ++ attributes)) 44 one (one_byte 44 _ (omega arith)) in
+      let three = IsUtf8-past_char (44 ∷ (codes "n=" ++ attributes)) (codes "n=" ++ attributes) 44 two (one_byte 44 _ (omega arith)) in
+      let four = IsUtf8-past_char (codes "n=" ++ attributes) (61 ∷ attributes) 110 three (one_byte 110 _ (omega arith)) in
+      let five = IsUtf8-past_char (61 ∷ attributes) attributes 61 four (one_byte 61 _ (omega arith)) in
+      name_text username (subst IsUtf8 name_is (name_front name attribute (subst IsUtf8 is.joined five)))
+
+-- ---- one reading
+
+pub record SameFirst (username nonce other more : List ℕ) : Type 0 where
+  pub username_is : username ≡ other
+  pub nonce_is : nonce ≡ more
+
+pub one_first : (message username nonce other more : List ℕ) → IsClientFirst message username nonce → IsClientFirst message other more → SameFirst username nonce other more
+one_first message username nonce other more p q =
+    let bare = one_bare message (bare_message username nonce) other more (p.message_is ∙ opens username nonce) q in
+    let rest = behind_two 110 61 (escaped username ++ (0x2C ∷ (codes "r=" ++ nonce))) (escaped other ++ (0x2C ∷ (codes "r=" ++ more))) (sym (bares username nonce) ∙ bare ∙ bares other more) in
+    let cut = one_cut (escaped username) (escaped other) (codes "r=" ++ nonce) (codes "r=" ++ more) (escaped-no_comma username) (escaped-no_comma other) rest in
+    record { username_is = escaped_same username other cut.0; nonce_is = behind_two 114 61 nonce more cut.1 }

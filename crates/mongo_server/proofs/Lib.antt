@@ -1,0 +1,9 @@
+pub mod Accepted
+pub mod Base64Commas
+pub mod ClientFinals
+pub mod ClientFirsts
+pub mod ProofBytes
+pub mod ReadFirst
+pub mod ServedExchange
+pub mod ServerRows
+pub mod UserNames

@@ -1,0 +1,9 @@
+pub mod Acceptance
+pub mod ClientMessages
+pub mod Exchange
+pub mod Keys
+pub mod Parsed
+pub mod SaslName
+pub mod Server
+pub mod ServerTexts
+pub mod User

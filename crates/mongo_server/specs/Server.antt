@@ -1,0 +1,99 @@
+-- What a server holds, what it answers, and why it refuses.
+use Rattle.std.specs.Prelude.{◌≡◌, ◌≢◌, ℕ, Option, None, Some, IsSome, List, ◌++◌}
+use Rattle.base64.specs.GeneralPurpose.{IsBytes}
+use Rattle.mongo_scram.specs.Messages.{bare_message, transcript}
+use Rattle.mongo_server.specs.declared.fault.ServerFault.{ServerFault}
+use Rattle.mongo_server.specs.declared.fault.ServerFault.TheVariants.{Malformed, UnknownUser, Nonce, Proof, NotStarted, OutOfMemory}
+use Rattle.mongo_server.specs.declared.parse.FirstMessage.{FirstMessage}
+use Rattle.mongo_server.specs.declared.server_core.ServerCore.{ServerCore}
+use Rattle.mongo_server.specs.declared.server_core.Conversation.{Conversation}
+use Rattle.mongo_server.specs.declared.user.ServerUser.{ServerUser}
+use Rattle.mongo_server.specs.ClientMessages.{IsNonce, IsClientFirst, IsClientFinal}
+use Rattle.mongo_server.specs.Exchange.{Exchange, joined_of, auth_message_of}
+use Rattle.mongo_server.specs.Keys.{proof_under, verifier_under}
+use Rattle.mongo_server.specs.ServerTexts.{server_first, server_final}
+use Rattle.mongo_server.specs.User.{IsUserOf}
+
+-- ---- what it holds
+
+abbrev pub user_of : ServerCore → ServerUser
+user_of core = core.user
+
+abbrev pub username_of : ServerCore → List ℕ
+username_of core = core.user.username
+
+abbrev pub salt_of : ServerCore → List ℕ
+salt_of core = core.user.salt
+
+abbrev pub suffix_of : ServerCore → List ℕ
+suffix_of core = core.suffix
+
+-- the conversation that was begun last
+abbrev pub conversation_of : ServerCore → Option Conversation
+conversation_of core = core.conversation
+
+-- ---- what it answers
+
+abbrev pub joined_by : ServerCore → List ℕ → List ℕ
+joined_by core nonce = nonce ++ core.suffix
+
+-- its first message to a client of this nonce
+abbrev pub first_by : ServerCore → List ℕ → List ℕ
+first_by core nonce = server_first (joined_by core nonce) core.user.salt core.user.count
+
+-- the conversation with that client
+abbrev pub conversation_by : ServerCore → List ℕ → Conversation
+conversation_by core nonce = record { nonce = joined_by core nonce; auth_message = transcript (bare_message core.user.username nonce) (first_by core nonce) (joined_by core nonce) }
+
+-- a client of this nonce is answered by the text, and its conversation is held from then on
+pub record Answers (core : ServerCore) (nonce text : List ℕ) (new : ServerCore) : Type 0 where
+  pub text_is : text ≡ first_by core nonce
+  pub begun : conversation_of new ≡ Some (conversation_by core nonce)
+  pub user : user_of new ≡ user_of core
+  pub suffix : suffix_of new ≡ suffix_of core
+
+-- the client's first message, of the user, and what it says
+pub record IsHeard (core : ServerCore) (message : List ℕ) (first : FirstMessage) : Type 0 where
+  pub is_first : IsClientFirst message (username_of core) first.nonce.now
+  pub bare_is : first.bare.now ≡ bare_message (username_of core) first.nonce.now
+
+-- the text is the last message that it owes in its conversation
+abbrev pub IsOwed : ServerCore → List ℕ → Type 0
+IsOwed core text = (held : Conversation) × (conversation_of core ≡ Some held) × (text ≡ server_final (verifier_under core.user.keys held.auth_message))
+
+-- the message is a client's last one, with the joined nonce and the proof that the client owes
+abbrev pub IsTaken : ServerCore → List ℕ → Type 0
+IsTaken core message = (held : Conversation) × (conversation_of core ≡ Some held) × IsClientFinal message held.nonce (proof_under core.user.keys held.auth_message)
+
+-- ---- why it refuses: the first row that applies
+
+abbrev pub FirstRow : ServerCore → List ℕ → ServerFault → Type 0
+FirstRow core message Malformed = (username nonce : List ℕ) → IsClientFirst message username nonce → ⊥
+FirstRow core message UnknownUser = (username : List ℕ) × (nonce : List ℕ) × IsClientFirst message username nonce × (username ≢ username_of core)
+FirstRow core message fault = ⊥
+
+abbrev pub FinalRow : ServerCore → List ℕ → ServerFault → Type 0
+FinalRow core message NotStarted = conversation_of core ≡ None
+FinalRow core message Malformed = IsSome (conversation_of core) × ((nonce proof : List ℕ) → IsClientFinal message nonce proof → ⊥)
+FinalRow core message Nonce = (held : Conversation) × (conversation_of core ≡ Some held) × ((nonce : List ℕ) × (proof : List ℕ) × IsClientFinal message nonce proof × (nonce ≢ held.nonce))
+FinalRow core message Proof = (held : Conversation) × (conversation_of core ≡ Some held) × ((proof : List ℕ) × IsClientFinal message held.nonce proof × (proof ≢ proof_under core.user.keys held.auth_message))
+FinalRow core message fault = ⊥
+
+-- the same, with what is known where memory ran out: a conversation was held
+abbrev pub FinalRefused : ServerCore → List ℕ → ServerFault → Type 0
+FinalRefused core message OutOfMemory = IsSome (conversation_of core)
+FinalRefused core message fault = FinalRow core message fault
+
+-- ---- the server of an exchange
+
+-- it knows the user, and adds the suffix
+pub record Serves (core : ServerCore) (x : Exchange) : Type 0 where
+  pub user : IsUserOf x.version x.username x.password x.salt x.count (user_of core)
+  pub suffix : suffix_of core ≡ x.suffix
+
+-- its conversation is that of the exchange
+pub record HasBegun (core : ServerCore) (x : Exchange) : Type 0 where
+  pub serves : Serves core x
+  pub printable : IsNonce x.nonce
+  pub bytes : IsBytes x.salt
+  pub held : conversation_of core ≡ Some (record { nonce = joined_of x; auth_message = auth_message_of x })

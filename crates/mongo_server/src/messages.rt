@@ -1,0 +1,79 @@
+// What the server says (RFC 5802, sections 3 and 5.1), and what both sides sign.
+
+ghost use Rattle.std.specs.Prelude.{◌≡◌, ◌++◌, codes, decimal, IfOk, IfErr, OnOk};
+ghost use Rattle.base64.specs.GeneralPurpose.{IsBytes};
+ghost use Rattle.mongo_scram.specs.Messages.{transcript};
+ghost use Rattle.mongo_server.specs.ServerTexts.{server_first, server_final};
+ghost use Rattle.mongo_server.specs.declared.fault.ServerFault.TheVariants.{OutOfMemory};
+
+use crate::fault::ServerFault;
+use base64::engine::general_purpose::STANDARD;
+use itoa::Buffer;
+use mongo_bson::Text;
+use mongo_mac::Tag;
+use std::alloc::Global;
+
+/// The client's nonce and the server's suffix joined.
+pub fn joined_nonce(alloc: Global, nonce: &str, suffix: &str) -> Result<Text, ServerFault>
+    ensures text { IfOk result (λ text. text ≡ nonce.now ++ suffix.now) }
+    ensures refused { IfErr result (λ fault. fault ≡ OutOfMemory) }
+{
+    let mut text = Text::from_slice(alloc, nonce)?;
+    text.push_str(suffix)?;
+    Ok(text)
+}
+
+/// The server's first message: `r=` nonce `,s=` salt in base64 `,i=` iteration count.
+#[tactic(auto, unfolding(mongo_scram::specs::Base64::base64_of))]
+pub fn server_first_text(
+    alloc: Global,
+    nonce: &str,
+    salt: &[u8],
+    count: u32,
+) -> Result<Text, ServerFault>
+    ensures text { IfOk result (λ text. text ≡ server_first nonce.now salt.now count) }
+    ensures bytes { OnOk result (IsBytes salt.now) }
+    ensures refused { IfErr result (λ fault. fault ≡ OutOfMemory) }
+{
+    let mut text = Text::from_slice(alloc, "r=")?;
+    text.push_str(nonce)?;
+    text.push_str(",s=")?;
+    let encoded = STANDARD.encode(alloc, salt)?;
+    text.push_str(encoded.as_str())?;
+    text.push_str(",i=")?;
+    let mut digits = Buffer::new();
+    text.push_str(digits.format(count))?;
+    Ok(text)
+}
+
+/// AuthMessage: the client's first message without its header, the server's first, and the client's last without its
+/// proof, parted by commas.
+#[tactic(auto, unfolding(mongo_scram::specs::Messages::transcript, mongo_scram::specs::Messages::no_proof))]
+pub fn auth_message_text(
+    alloc: Global,
+    bare: &str,
+    server_first: &str,
+    nonce: &str,
+) -> Result<Text, ServerFault>
+    ensures text { IfOk result (λ text. text ≡ transcript bare.now server_first.now nonce.now) }
+    ensures refused { IfErr result (λ fault. fault ≡ OutOfMemory) }
+{
+    let mut text = Text::from_slice(alloc, bare)?;
+    text.push_str(",")?;
+    text.push_str(server_first)?;
+    text.push_str(",c=biws,r=")?;
+    text.push_str(nonce)?;
+    Ok(text)
+}
+
+/// The server's last message: `v=` and the verifier in base64.
+#[tactic(auto, unfolding(mongo_scram::specs::Base64::base64_of))]
+pub fn server_final_text(alloc: Global, verifier: &Tag) -> Result<Text, ServerFault>
+    ensures text { IfOk result (λ text. text ≡ server_final verifier.now) }
+    ensures refused { IfErr result (λ fault. fault ≡ OutOfMemory) }
+{
+    let verifier = STANDARD.encode(alloc, verifier.as_bytes())?;
+    let mut text = Text::from_slice(alloc, "v=")?;
+    text.push_str(verifier.as_str())?;
+    Ok(text)
+}

@@ -1,0 +1,145 @@
+// What the client says, cut at its commas (RFC 5802, sections 5.1 and 7).
+
+ghost use Rattle.std.specs.Prelude.{◌≡◌, ◌≢◌, ◌↔◌, ℕ, ◌++◌, ◌∷◌, List, MatchOption, IfOk, IfErr, IsTrue};
+ghost use Rattle.base64.specs.GeneralPurpose.{IsBytes};
+ghost use Rattle.mongo_scram.specs.Base64.{base64_of};
+ghost use Rattle.mongo_scram.specs.ServerMessages.{HasNoComma};
+ghost use Rattle.mongo_server.specs.ClientMessages.{IsNonce, IsClientFirst};
+ghost use Rattle.mongo_server.specs.Parsed.{HoldsFirst, HoldsFinal, FinalRefused};
+ghost use Rattle.mongo_server.specs.declared.fault.ServerFault.TheVariants.{OutOfMemory};
+
+use crate::fault::ServerFault;
+use crate::user_name::is_saslname;
+use base64::DecodeAllocError;
+use base64::engine::general_purpose::STANDARD;
+use memchr::memrchr;
+use mongo_bson::Bytes;
+use std::alloc::Global;
+use std::str;
+
+/// What a client's first message says, borrowed from it.
+#[derive(Clone, Copy)]
+pub struct FirstMessage<'a> {
+    /// The message without its GS2 header (`client-first-message-bare`).
+    pub bare: &'a str,
+    /// The user name as the message carries it.
+    pub saslname: &'a str,
+    /// The client's nonce.
+    pub nonce: &'a str,
+}
+
+/// What a client's last message says.
+#[derive(Drop)]
+pub struct FinalMessage<'a> {
+    /// The nonce.
+    pub nonce: &'a [u8],
+    /// The proof.
+    pub proof: Bytes,
+}
+
+/// Reads a client's first message: `n,,n=` user name `,r=` nonce. None where the bytes are none. It takes no memory.
+pub fn read_client_first(message: &[u8]) -> Option<FirstMessage<'_>>
+    ensures { MatchOption result
+        ((username nonce : List ℕ) → IsClientFirst message.now username nonce → ⊥)
+        (HoldsFirst message.now) }
+{
+    let Ok(message) = str::from_utf8(message) else {
+        return None;
+    };
+    let Some(bare) = message.strip_prefix("n,,") else {
+        return None;
+    };
+    let Some(attributes) = bare.strip_prefix("n=") else {
+        return None;
+    };
+    let Some((saslname, attribute)) = cut(attributes) else {
+        return None;
+    };
+    let Some(nonce) = attribute.strip_prefix("r=") else {
+        return None;
+    };
+    if !is_saslname(saslname) {
+        return None;
+    }
+    if !is_nonce(nonce) {
+        return None;
+    }
+    Some(FirstMessage {
+        bare,
+        saslname,
+        nonce,
+    })
+}
+
+/// Reads a client's last message: `c=biws,r=` nonce `,p=` proof in base64.
+///
+/// `Malformed` where the bytes are none.
+pub fn read_client_final(alloc: Global, message: &[u8]) -> Result<FinalMessage<'_>, ServerFault>
+    ensures read { IfOk result (HoldsFinal message.now) }
+    ensures refused { IfErr result (FinalRefused message.now) }
+{
+    let Some(attributes) = after(message, b"c=biws,r=") else {
+        return Err(ServerFault::Malformed);
+    };
+    let Some((nonce, attribute)) = cut_last(attributes) else {
+        return Err(ServerFault::Malformed);
+    };
+    let Some(text) = after(attribute, b"p=") else {
+        return Err(ServerFault::Malformed);
+    };
+    match decoded(alloc, text)? {
+        Some(proof) => Ok(FinalMessage { nonce, proof }),
+        None => Err(ServerFault::Malformed),
+    }
+}
+
+// The bytes whose base64 text this is; None where there are none.
+#[tactic(auto, unfolding(mongo_scram::specs::Base64::base64_of))]
+fn decoded(alloc: Global, text: &[u8]) -> Result<Option<Bytes>, ServerFault>
+    ensures found { IfOk result (λ found. MatchOption found
+        ((bytes : List ℕ) → IsBytes bytes → text.now ≢ base64_of bytes)
+        (λ bytes. IsBytes bytes × (text.now ≡ base64_of bytes))) }
+    ensures refused { IfErr result (λ fault. fault ≡ OutOfMemory) }
+{
+    match STANDARD.decode(alloc, text) {
+        Ok(bytes) => Ok(Some(Bytes::from_vec(bytes))),
+        Err(DecodeAllocError::OutOfMemory) => Err(ServerFault::OutOfMemory),
+        Err(_) => Ok(None),
+    }
+}
+
+// What follows the bytes of `front` at the front.
+fn after<'a>(bytes: &'a [u8], front: &[u8]) -> Option<&'a [u8]>
+    ensures { MatchOption result ((rest : List ℕ) → bytes.now ≢ front.now ++ rest)
+        (λ rest. bytes.now ≡ front.now ++ rest.now) }
+{
+    bytes.strip_prefix(front)
+}
+
+// What stands before the first comma, and behind it.
+fn cut(text: &str) -> Option<(&str, &str)>
+    ensures { MatchOption result (HasNoComma text.now)
+        (λ p. HasNoComma p.0.now × (text.now ≡ p.0.now ++ (0x2C ∷ p.1.now))) }
+{
+    text.split_once(',')
+}
+
+// What stands before the last comma, and behind it.
+fn cut_last(bytes: &[u8]) -> Option<(&[u8], &[u8])>
+    ensures { MatchOption result (HasNoComma bytes.now)
+        (λ p. HasNoComma p.1.now × (bytes.now ≡ p.0.now ++ (0x2C ∷ p.1.now))) }
+{
+    match memrchr(b',', bytes) {
+        Some(at) => Some((&bytes[..at], &bytes[at + 1..])),
+        None => None,
+    }
+}
+
+/// Whether the text is printable ASCII without a comma, as a nonce is and what a server adds to one.
+pub fn is_nonce(text: &str) -> bool
+    ensures { IsTrue result ↔ IsNonce text.now }
+{
+    text.as_bytes()
+        .iter()
+        .all(|byte| 0x20 <= *byte && *byte <= 0x7E && *byte != b',')
+}

@@ -1,0 +1,109 @@
+ghost use Rattle.std.specs.Prelude.{◌≡◌, IfOk, IfErr};
+ghost use Rattle.mongo_wire.specs.declared.error.ErrorKind.TheVariants.{OutOfMemory};
+ghost use Rattle.mongo_scram.specs.UserName.{escaped};
+
+use crate::keys::Keys;
+use mongo_bson::{Bytes, Text};
+use mongo_mac::{Steps, Tag};
+use mongo_scram::{ScramVersion, push_user_name};
+use mongo_wire::Error;
+use std::alloc::Global;
+use std::fmt;
+use std::sync::ledger::Ledger;
+
+/// What a server keeps of a user: the name, the salt, the iteration count and the keys, and never the password.
+#[derive(Drop)]
+pub struct ServerUser {
+    pub(crate) username: Text,
+    // The name as a message carries it.
+    pub(crate) saslname: Text,
+    pub(crate) salt: Bytes,
+    pub(crate) count: u32,
+    pub(crate) keys: Keys,
+    pub ghost said: { saslname ≡ escaped username },
+}
+
+impl ServerUser {
+    ghost use Rattle.std.specs.Prelude.{◌≡◌, ◌≢◌, ◌⊎◌, ◌+◌, ◌≤◌, IfOk, IfErr, IsErrAnd, OnOk};
+    ghost use Rattle.mongo_wire.specs.declared.error.ErrorKind.{ErrorKind};
+    ghost use Rattle.mongo_wire.specs.declared.error.ErrorKind.TheVariants.{OutOfMemory};
+    ghost use Rattle.mongo_scram.specs.Key.{PasswordRow};
+    ghost use Rattle.mongo_server.specs.User.{IsUserWith, IsUserOf};
+
+    /// A user of this version of SCRAM with its password, by a salt and an iteration count, of which there is one at least.
+    /// The keys are derived here, by exactly `count` steps.
+    ///
+    /// `PasswordNotAscii` and `Authentication(PasswordControl)` by the rows of
+    /// [`ScramVersion::compute_salted_password`], which take no step; then want of memory, which takes at most `count`.
+    pub fn new<G: Ledger>(
+        alloc: Global,
+        version: ScramVersion,
+        username: &str,
+        password: &str,
+        salt: Bytes,
+        count: u32,
+        steps: &mut Steps<G>,
+    ) -> Result<ServerUser, Error>
+        requires { 1 ≤ count }
+        ensures user { IfOk result (IsUserOf version username.now password.now salt count) }
+        ensures usable { OnOk result ((kind : ErrorKind) → PasswordRow version password.now kind → ⊥) }
+        ensures refused { IfErr result (λ e. PasswordRow version password.now e.kind ⊎ (e.kind ≡ OutOfMemory)) }
+        ensures exact { (kind : ErrorKind) → PasswordRow version password.now kind → IsErrAnd result (λ e. e.kind ≡ kind) }
+
+        // The steps of the derivation.
+        ensures cost { OnOk result (steps.new ≡ steps.old + count) }
+        ensures no_cost { IfErr result (λ e. e.kind ≢ OutOfMemory → steps.new ≡ steps.old) }
+        ensures at_most { steps.new ≤ steps.old + count }
+    {
+        let salted = version.compute_salted_password(
+            username,
+            password,
+            count,
+            salt.as_bytes(),
+            steps,
+        )?;
+        ServerUser::with_key(alloc, version, username, &salted, salt, count)
+    }
+
+    // The user whose salted password this is. Want of memory is the only refusal.
+    pub(crate) fn with_key(
+        alloc: Global,
+        version: ScramVersion,
+        username: &str,
+        salted: &Tag,
+        salt: Bytes,
+        count: u32,
+    ) -> Result<ServerUser, Error>
+        ensures user { IfOk result (IsUserWith version username.now salted.now salt count) }
+        ensures refused { IfErr result (λ e. e.kind ≡ OutOfMemory) }
+    {
+        Ok(ServerUser {
+            username: Text::from_slice(alloc, username)?,
+            saslname: saslname_of(alloc, username)?,
+            salt,
+            count,
+            keys: Keys::new(version, salted),
+        })
+    }
+}
+
+// The name as a message carries it.
+fn saslname_of(alloc: Global, username: &str) -> Result<Text, Error>
+    ensures name { IfOk result (λ name. name ≡ escaped username.now) }
+    ensures refused { IfErr result (λ e. e.kind ≡ OutOfMemory) }
+{
+    let mut name = String::new(alloc);
+    push_user_name(&mut name, username)?;
+    Ok(Text::from_slice(alloc, name.as_str())?)
+}
+
+// Keys are never shown.
+impl fmt::Debug for ServerUser {
+    ghost use Rattle.std.specs.Prelude.{Some, codes};
+
+    ghost debug_output = { λ _. Some (codes "ServerUser { .. }") };
+
+    fn fmt<W: fmt::Write>(&self, f: &mut fmt::Formatter<W>) -> fmt::Result {
+        f.write_str("ServerUser { .. }")
+    }
+}
