@@ -1,18 +1,17 @@
 -- How a run ends, and what the source and the sink hold then.
-use Rattle.std.specs.Prelude.{◌≡◌, ℕ, ◌+◌, ◌<◌, ◌≤◌, ◌⊎◌, Option, Some, Result, Ok, Err, List, [], length, drop, ⊤}
+use Rattle.std.specs.Prelude.{◌≡◌, ℕ, ◌+◌, ◌<◌, ◌≤◌, ◌⊎◌, Option, None, Some, Result, Ok, Err, List, [], length, drop, ⊤}
 use Rattle.std.specs.Io.KnownBytes.{Appends, Keeps}
 use Rattle.mongo_wire.specs.Outside.{State, Rose, AppendsFront, ConsumesAtMost, IsFlushed}
-use Rattle.mongo_settings.specs.declared.settings.Settings.{Settings}
 use Rattle.mongo_settings.specs.declared.settings.SettingsError.{SettingsError}
 use Rattle.mongo_settings.specs.declared.settings.SettingsError.TheVariants.{BadSettings as Bad, NotBuilt as Unbuilt, OutOfMemory}
+use Rattle.mongo_settings.specs.declared.task.Task.{Task}
 use Rattle.mongo_settings.specs.declared.rehearsal.RehearsalStatus.{RehearsalStatus}
 use Rattle.mongo_settings.specs.declared.rehearsal.RehearsalStatus.TheVariants as rehearsal
-use Rattle.mongo_settings.specs.Settings.{limit, judged}
-use Rattle.mongo_settings.specs.Outcome.{status_of, IsAccepted, IsRefused}
-use Rattle.mongo_settings.specs.Rehearsal.{IsReport}
+use Rattle.mongo_settings.specs.Settings.{limit}
+use Rattle.mongo_settings.specs.Task.{Asks, judged_as, Steps, Reports, ComesOut}
 use Rattle.mongo_login.specs.declared.status.Status.{Status}
 use Rattle.mongo_login.specs.declared.status.Status.TheVariants.{Done, Refused, BadSettings, Usage, SourceFault, SinkFault, NoMemory, NotBuilt}
-use Rattle.mongo_login.specs.Words.{IsRehearse}
+use Rattle.mongo_login.specs.Words.{task_in}
 
 -- the number that the process ends with
 abbrev pub code_of_status : Status → ℕ
@@ -32,29 +31,29 @@ status_after rehearsal.Refused = Refused
 
 -- ---- what was printed
 
--- The source was read to its end, its bytes are settings, and exactly their report, which ends so, was written after what
--- was there, all of it flushed.
-pub record Printed (status : RehearsalStatus) (input : List ℕ) (source_after sink sink_after : State) : Type 0 where
-  pub settings : Settings
-  pub settings_are : judged input ≡ Ok settings
+-- The source was read to its end, its bytes ask for logins, and exactly the report of these, which ends so, was written after
+-- what was there, all of it flushed.
+pub record Printed (task : Task) (steps : Steps) (status : RehearsalStatus) (input : List ℕ) (source_after sink sink_after : State) : Type 0 where
+  pub asks : Asks
+  pub asks_are : judged_as task input ≡ Ok asks
   pub read : source_after.left ≡ Some []
   pub text : List ℕ
-  pub report : IsReport settings text
-  pub status_is : status ≡ status_of report.outcome
+  pub reports : Reports asks steps status text
   pub written : Appends sink.written sink_after.written text
   pub flushed : IsFlushed sink_after.written sink_after.flushed
 
--- a front of the report of the settings was written after what was there
-pub record PrintedFront (input : List ℕ) (sink sink_after : State) : Type 0 where
-  pub settings : Settings
-  pub settings_are : judged input ≡ Ok settings
+-- a front of the report of the logins was written after what was there
+pub record PrintedFront (task : Task) (steps : Steps) (input : List ℕ) (sink sink_after : State) : Type 0 where
+  pub asks : Asks
+  pub asks_are : judged_as task input ≡ Ok asks
+  pub status : RehearsalStatus
   pub text : List ℕ
-  pub report : IsReport settings text
+  pub reports : Reports asks steps status text
   pub front : AppendsFront sink.written sink_after.written text
 
--- nothing was written, or a front of the report of the settings
-abbrev pub PrintedAtMost : List ℕ → State → State → Type 0
-PrintedAtMost input sink sink_after = Keeps sink.written sink_after.written ⊎ PrintedFront input sink sink_after
+-- nothing was written, or a front of the report of the logins
+abbrev pub PrintedAtMost : Task → Steps → List ℕ → State → State → Type 0
+PrintedAtMost task steps input sink sink_after = Keeps sink.written sink_after.written ⊎ PrintedFront task steps input sink sink_after
 
 -- What is left of an input that was read as settings: nothing of one within the limit, and of a longer one what follows
 -- the byte past the limit.
@@ -79,19 +78,19 @@ GaveInput source P = (input : List ℕ) → source.left ≡ Some input → P inp
 
 module _ {S K : Type 0} (source : S → State) (sink : K → State) where
   -- the report was written whole; an end of the source was met
-  pub record Reports (status : RehearsalStatus) (run : Run S K) : Type 0 where
+  pub record Reported (task : Task) (steps : Steps) (status : RehearsalStatus) (run : Run S K) : Type 0 where
     pub ended : Rose (source run.source).ends (source run.source_after).ends
-    pub printed : GaveInput (source run.source) (λ input. Printed status input (source run.source_after) (sink run.sink) (sink run.sink_after))
+    pub printed : GaveInput (source run.source) (λ input. Printed task steps status input (source run.source_after) (sink run.sink) (sink run.sink_after))
 
-  -- the text isn't settings: at most one byte past the limit was read, and nothing was written
-  pub record IsBad (run : Run S K) : Type 0 where
-    pub judged_so : GaveInput (source run.source) (λ input. judged input ≡ Err Bad)
+  -- the text asks for nothing: at most one byte past the limit was read, and nothing was written
+  pub record IsBad (task : Task) (run : Run S K) : Type 0 where
+    pub judged_so : GaveInput (source run.source) (λ input. judged_as task input ≡ Err Bad)
     pub read : GaveInput (source run.source) (λ input. LeftOver input (source run.source_after).left)
     pub unwritten : run.sink_after ≡ run.sink
 
   -- a key that isn't read yet: the source was read to its end, and nothing was written
-  pub record IsUnbuilt (run : Run S K) : Type 0 where
-    pub judged_so : GaveInput (source run.source) (λ input. judged input ≡ Err Unbuilt)
+  pub record IsUnbuilt (task : Task) (run : Run S K) : Type 0 where
+    pub judged_so : GaveInput (source run.source) (λ input. judged_as task input ≡ Err Unbuilt)
     pub ended : Rose (source run.source).ends (source run.source_after).ends
     pub read : GaveInput (source run.source) (λ input. (source run.source_after).left ≡ Some [])
     pub unwritten : run.sink_after ≡ run.sink
@@ -103,38 +102,44 @@ module _ {S K : Type 0} (source : S → State) (sink : K → State) where
     pub unwritten : run.sink_after ≡ run.sink
 
   -- the sink failed: the source was read to its end, and a front of the report was written
-  pub record SinkFailed (run : Run S K) : Type 0 where
+  pub record SinkFailed (task : Task) (steps : Steps) (run : Run S K) : Type 0 where
     pub rose : Rose (sink run.sink).write_faults (sink run.sink_after).write_faults
     pub ended : Rose (source run.source).ends (source run.source_after).ends
     pub read : GaveInput (source run.source) (λ input. (source run.source_after).left ≡ Some [])
-    pub printed : GaveInput (source run.source) (λ input. PrintedFront input (sink run.sink) (sink run.sink_after))
+    pub printed : GaveInput (source run.source) (λ input. PrintedFront task steps input (sink run.sink) (sink run.sink_after))
 
   -- memory ran out: no more than one byte past the limit was read, and at most a front of the report was written
-  pub record RanOut (run : Run S K) : Type 0 where
+  pub record RanOut (task : Task) (steps : Steps) (run : Run S K) : Type 0 where
     pub read : ConsumesAtMost (source run.source).left (source run.source_after).left (limit + 1)
-    pub printed : GaveInput (source run.source) (λ input. PrintedAtMost input (sink run.sink) (sink run.sink_after))
+    pub printed : GaveInput (source run.source) (λ input. PrintedAtMost task steps input (sink run.sink) (sink run.sink_after))
 
-  -- how a rehearsal ends
-  abbrev pub RehearseEnds : Run S K → Status → Type 0
-  RehearseEnds run Done = Reports rehearsal.Accepted run
-  RehearseEnds run Refused = Reports rehearsal.Refused run
-  RehearseEnds run BadSettings = IsBad run
-  RehearseEnds run Usage = ⊥
-  RehearseEnds run SourceFault = SourceFailed run
-  RehearseEnds run SinkFault = SinkFailed run
-  RehearseEnds run NoMemory = RanOut run
-  RehearseEnds run NotBuilt = IsUnbuilt run
+  -- how a task ends, and the steps that it counted
+  abbrev pub TaskEnds : Task → Steps → Run S K → Status → Type 0
+  TaskEnds task steps run Done = Reported task steps rehearsal.Accepted run
+  TaskEnds task steps run Refused = Reported task steps rehearsal.Refused run
+  TaskEnds task steps run BadSettings = IsBad task run
+  TaskEnds task steps run Usage = ⊥
+  TaskEnds task steps run SourceFault = SourceFailed run
+  TaskEnds task steps run SinkFault = SinkFailed task steps run
+  TaskEnds task steps run NoMemory = RanOut task steps run
+  TaskEnds task steps run NotBuilt = IsUnbuilt task run
 
-  -- the words are no command: nothing is read or written
+  -- the words name no task: nothing is read or written
   pub record IsUsage (words : List (List ℕ)) (run : Run S K) : Type 0 where
-    pub no_command : IsRehearse words → ⊥
+    pub no_task : task_in words ≡ None
     pub unread : run.source_after ≡ run.source
     pub unwritten : run.sink_after ≡ run.sink
 
-  -- how a run of a command ends
-  abbrev pub RunEnds : List (List ℕ) → Run S K → Status → Type 0
-  RunEnds words run Usage = IsUsage words run
-  RunEnds words run status = IsRehearse words × RehearseEnds run status
+  -- the words name a task that ends so
+  pub record RanTask (words : List (List ℕ)) (steps : Steps) (run : Run S K) (status : Status) : Type 0 where
+    pub task : Task
+    pub task_is : task_in words ≡ Some task
+    pub ends : TaskEnds task steps run status
+
+  -- how a run ends
+  abbrev pub RunEnds : List (List ℕ) → Steps → Run S K → Status → Type 0
+  RunEnds words steps run Usage = IsUsage words run
+  RunEnds words steps run status = RanTask words steps run status
 
   -- ---- what decides
 
@@ -147,21 +152,16 @@ module _ {S K : Type 0} (source : S → State) (sink : K → State) where
 abbrev pub EndsAs : Status → Status → Type 0
 EndsAs status result = (result ≡ status) ⊎ (result ≡ NoMemory)
 
--- settings end as their reply bytes come out
-pub record SettingsDecide (settings : Settings) (result : Status) : Type 0 where
-  pub accepts : IsAccepted settings → EndsAs Done result
-  pub refuses : IsRefused settings → EndsAs Refused result
-
--- what the text is decides how it ends
-abbrev pub TextDecides : Result Settings SettingsError → Status → Type 0
-TextDecides (Ok settings) result = SettingsDecide settings result
+-- what the text asks for decides how it ends: logins do by how their reply bytes come out
+abbrev pub TextDecides : Result Asks SettingsError → Status → Type 0
+TextDecides (Ok asks) result = (status : RehearsalStatus) → ComesOut asks status → EndsAs (status_after status) result
 TextDecides (Err Bad) result = EndsAs BadSettings result
 TextDecides (Err Unbuilt) result = EndsAs NotBuilt result
 TextDecides (Err OutOfMemory) result = ⊤
 
 -- Where nothing fails, the words and the text decide; want of memory may stand in its place.
 abbrev pub IsDecided : {S K : Type 0} → (S → State) → (K → State) → List (List ℕ) → Run S K → Status → Type 0
-IsDecided source sink words run result = IsRehearse words → Unfailed source sink run → GaveInput (source run.source) (λ input. TextDecides (judged input) result)
+IsDecided source sink words run result = (task : Task) → task_in words ≡ Some task → Unfailed source sink run → GaveInput (source run.source) (λ input. TextDecides (judged_as task input) result)
 
 -- a run counts steps only where it makes a connection
 abbrev pub StepsAfter : Status → ℕ → ℕ → Type 0

@@ -1,8 +1,10 @@
 //! Reading the text of settings from a source.
 ghost use Rattle.std.specs.Prelude.{◌≡◌, ℕ, List, Some, ◌+◌, ◌≤◌, length, IfOk, IsErrOf};
+ghost use Rattle.mongo_settings.specs.declared.task.Task.{Task};
 ghost use Rattle.std.specs.Io.KnownBytes.{Consumes};
 ghost use Rattle.mongo_wire.specs.Outside.{ReadsOn, Rose, ConsumesAtMost};
-ghost use Rattle.mongo_settings.specs.Settings.{limit, judged};
+ghost use Rattle.mongo_settings.specs.Settings.{limit};
+ghost use Rattle.mongo_settings.specs.Task.{judged_as};
 ghost use Rattle.mongo_login.specs.Input.{ReadsInput};
 
 #[cfg(test)]
@@ -39,7 +41,7 @@ impl From<AllocError> for InputError {
 /// `Fault` where the source failed. No more than that is consumed.
 pub fn read_input<S: Source>(alloc: Global, source: &mut S) -> Result<Vec<u8>, InputError>
     ensures read { (input : List ℕ) → (S.state source.old).left ≡ Some input → IfOk result (λ held. ReadsInput input held.items (S.state source.new).left) }
-    ensures judged_alike { (input : List ℕ) → (S.state source.old).left ≡ Some input → IfOk result (λ held. judged held.items ≡ judged input) }
+    ensures judged_alike { (task : Task) (input : List ℕ) → (S.state source.old).left ≡ Some input → IfOk result (λ held. judged_as task held.items ≡ judged_as task input) }
     ensures consumed { IfOk result (λ held. Consumes (S.state source.old).left (S.state source.new).left held.items) }
     ensures ended { IfOk result (λ held. length held.items ≤ limit → Rose (S.state source.old).ends (S.state source.new).ends) }
     ensures failed { IsErrOf result InputError.Fault → Rose (S.state source.old).read_faults (S.state source.new).read_faults }

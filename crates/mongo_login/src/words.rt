@@ -1,13 +1,25 @@
 //! The commands, by the words after the program's name.
-ghost use Rattle.std.specs.Prelude.{◌↔◌, IsTrue, map, string_bytes};
-ghost use Rattle.mongo_login.specs.Words.{IsRehearse};
+ghost use Rattle.std.specs.Prelude.{◌≡◌, map, string_bytes};
+ghost use Rattle.mongo_login.specs.Words.{task_in};
 
-/// Whether the words are the command `rehearse`: that one word.
-pub fn is_rehearse(words: &[String]) -> bool
-    ensures { IsTrue result ↔ IsRehearse (map string_bytes words.now) }
+use mongo_settings::Task;
+
+/// What the words ask for: one word is the name of a task. None for other words.
+pub fn task_in(words: &[String]) -> Option<Task>
+    ensures { result ≡ task_in (map string_bytes words.now) }
 {
     match words {
-        [word] => word.as_str() == "rehearse",
-        _ => false,
+        [word] => task_named(word.as_str()),
+        _ => None,
+    }
+}
+
+fn task_named(name: &str) -> Option<Task>
+    ensures { result ≡ task_named name.now }
+{
+    match name {
+        "rehearse" => Some(Task::Rehearse),
+        "batch" => Some(Task::Batch),
+        _ => None,
     }
 }

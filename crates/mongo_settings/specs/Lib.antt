@@ -10,3 +10,8 @@ pub mod Names
 pub mod Report
 pub mod Outcome
 pub mod Rehearsal
+pub mod Rounds
+pub mod Batch
+pub mod Logins
+pub mod Takes
+pub mod Task

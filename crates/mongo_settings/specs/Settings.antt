@@ -58,12 +58,18 @@ settings_of d = do
   login ← mechanism_judged (named_mechanism d)
   needed (settings_in d)
 
--- The settings that a text is, or why it is none, judged in this order.
-unfoldable pub judged : List ℕ → Result Settings SettingsError
-judged text = do
+-- The value of a text that isn't too long and holds no float.
+unfoldable pub value_judged : List ℕ → Result Data SettingsError
+value_judged text = do
   short ← rule (nat_le (length text) limit)
   d ← json_of text
   whole ← rule (not (has_float d))
+  Ok d
+
+-- The settings that a text is, or why it is none, judged in this order.
+unfoldable pub judged : List ℕ → Result Settings SettingsError
+judged text = do
+  d ← value_judged text
   settings_of d
 
 -- What is answered is what is judged. Want of memory may stand in its place.

@@ -6,9 +6,12 @@
 //! Want of memory may come in place of any answer that is a `Result`.
 #![tactic(auto)]
 
+mod batch;
 mod rehearsal;
 mod report;
 mod settings;
+mod task;
 
-pub use rehearsal::{Rehearsal, RehearsalStatus, rehearse};
-pub use settings::{LIMIT, Settings, SettingsError, read, settings_of};
+pub use rehearsal::{Rehearsal, RehearsalStatus};
+pub use settings::{LIMIT, Settings, SettingsError, settings_of};
+pub use task::{Logins, Task};

@@ -34,6 +34,21 @@ pub enum RehearsalStatus {
     Refused,
 }
 
+impl RehearsalStatus {
+    ghost use Rattle.std.specs.Prelude.{◌≡◌};
+    ghost use Rattle.mongo_settings.specs.Batch.{both};
+
+    // Accepted where both are.
+    pub(crate) fn and(self, other: RehearsalStatus) -> RehearsalStatus
+        ensures { result ≡ both self other }
+    {
+        match self {
+            RehearsalStatus::Accepted => other,
+            RehearsalStatus::Refused => RehearsalStatus::Refused,
+        }
+    }
+}
+
 /// A rehearsal that was made.
 #[derive(Debug, Drop)]
 pub struct Rehearsal {
@@ -55,6 +70,33 @@ pub fn rehearse<G: Ledger>(
     ensures only { IfOk result (λ rehearsal. (text : List ℕ) → IsReport settings text → text ≡ rehearsal.report.items) }
     ensures steps { steps.old ≤ steps.new }
 {
+    let mut state = new_state(alloc);
+    rehearse_with(alloc, settings, &mut state, steps)
+}
+
+// The state of logins of which none was made.
+pub(crate) fn new_state(alloc: Global) -> LoginState
+    ensures entries { entries_of result.salted ≡ [] }
+    ensures rounds { rounds_of result.salted ≡ 0 }
+{
+    LoginState {
+        salted: SaltedCache::new(alloc),
+        ids: RequestIds::new(0),
+    }
+}
+
+// Makes a connection as [`rehearse`] does, with the salted passwords of the logins before.
+pub(crate) fn rehearse_with<G: Ledger>(
+    alloc: Global,
+    settings: Settings,
+    state: &mut LoginState,
+    steps: &mut Steps<G>,
+) -> Result<Rehearsal, AllocError>
+    requires spoken { SpeaksFor settings.credential }
+    // The report is that of the settings, whatever logins were made before.
+    ensures rehearsed { IfOk result (IsTaking settings (ledgers steps.old state.old.salted) (ledgers steps.new state.new.salted)) }
+    ensures steps { steps.old ≤ steps.new }
+{
     let Settings {
         host,
         replies,
@@ -69,15 +111,13 @@ pub fn rehearse<G: Ledger>(
     };
     let total = replies.as_bytes().len();
     let mut link = MemoryLink::new(alloc, replies);
-    let ids = RequestIds::new(first_id);
-    let salted = SaltedCache::new(alloc);
-    let mut state = LoginState { salted, ids };
+    state.ids = RequestIds::new(first_id);
     match establisher.establish_connection(
         alloc,
         pending(host),
         &mut link,
         credential.as_ref(),
-        &mut state,
+        state,
         &inputs(nonces),
         steps,
     ) {

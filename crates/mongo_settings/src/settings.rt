@@ -2,13 +2,14 @@
 ghost use Rattle.std.specs.Prelude.{◌≡◌, IfOk};
 ghost use Rattle.serde_json.specs.View.{view};
 ghost use Rattle.mongo_establish.specs.Speculation.{SpeaksFor};
-ghost use Rattle.mongo_settings.specs.Settings.{rule, json_of, judged, settings_of, Gives};
+ghost use Rattle.mongo_settings.specs.Settings.{rule, json_of, value_judged, judged, settings_of, Gives};
 
 mod credential;
 mod environment;
 mod floats;
 mod keys;
 mod kinds;
+mod logins;
 mod mechanism;
 mod members;
 mod options;
@@ -19,6 +20,7 @@ mod tests;
 
 use floats::holds_float;
 use keys::judge_keys;
+pub use logins::read_logins;
 use mechanism::judge_mechanism;
 use mongo_bson::{BsonFault, Bytes, Text};
 use mongo_establish::Nonces;
@@ -94,10 +96,19 @@ pub fn read(alloc: Global, text: &[u8]) -> Result<Settings, SettingsError>
     ensures settings { Gives (λ s. s) result (judged text.now) }
     ensures spoken { IfOk result (λ s. SpeaksFor s.credential) }
 {
+    let value = value_of(alloc, text)?;
+    settings_of(alloc, &value)
+}
+
+// The value of a text that isn't too long and holds no float.
+#[tactic(auto, unfolding(crate::specs::Settings::value_judged))]
+fn value_of(alloc: Global, text: &[u8]) -> Result<Value, SettingsError>
+    ensures { Gives view result (value_judged text.now) }
+{
     check(text.len() <= LIMIT)?;
     let value = json_of(alloc, text)?;
     check(!holds_float(&value))?;
-    settings_of(alloc, &value)
+    Ok(value)
 }
 
 /// The settings that a JSON value is.

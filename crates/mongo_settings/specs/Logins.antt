@@ -1,0 +1,29 @@
+-- The logins of a batch: the text of one JSON object whose one key is `logins`, an array of settings.
+use Rattle.std.specs.Prelude.{ℕ, Option, None, Some, Result, Ok, Err, List, [], ◌∷◌, codes, ⊤}
+use Rattle.serde_json.specs.Data.{Data, Items, no_items, item}
+use Rattle.serde_json.specs.Find.{as_array}
+use Rattle.mongo_settings.specs.Kinds.{object_of, required}
+use Rattle.mongo_settings.specs.Settings.{◌>>=◌, needed, value_judged, settings_of}
+use Rattle.mongo_settings.specs.declared.settings.Settings.{Settings}
+use Rattle.mongo_settings.specs.declared.settings.SettingsError.{SettingsError}
+
+-- the settings that the values are, judged one after another
+unfoldable pub each_settings : Items → Result (List Settings) SettingsError
+each_settings no_items = Ok []
+each_settings (item d others) = do
+  settings ← settings_of d
+  more ← each_settings others
+  Ok (settings ∷ more)
+
+-- the logins that a value has
+unfoldable pub logins_of : Data → Result (List Settings) SettingsError
+logins_of d = do
+  keys ← needed (object_of (codes "logins" ∷ []) d)
+  values ← needed (required (codes "logins") as_array d)
+  each_settings values
+
+-- The logins that a text has, or why it has none, judged in this order.
+unfoldable pub logins_judged : List ℕ → Result (List Settings) SettingsError
+logins_judged text = do
+  d ← value_judged text
+  logins_of d

@@ -1,0 +1,41 @@
+-- The rounds of Hi that logins derive which share one cache of salted passwords: each key once, from the first login that
+-- asks for it until one with it was accepted.
+use Rattle.std.specs.Prelude.{◌≡◌, ℕ, ◌⊎◌, Bool, true, false, Option, None, Some, List, ◌∷◌, Contains}
+use Rattle.mongo_wire.specs.declared.error.ErrorKind.{ErrorKind}
+use Rattle.mongo_wire.specs.declared.error.ErrorKind.TheVariants.{IncompatibleServer}
+use Rattle.mongo_command.specs.Conversation.{Said, ends, Leads}
+use Rattle.mongo_scram.specs.declared.cache.SaltedKey.{SaltedKey}
+use Rattle.mongo_establish.specs.Derivation.{derivation_plan}
+use Rattle.mongo_settings.specs.declared.settings.Settings.{Settings}
+use Rattle.mongo_settings.specs.Outcome.{asked_of, Outcome, accepted, refused}
+
+-- the reply bytes lead the login to the key that it derives from
+pub record LeadsToKey (settings : Settings) (key : SaltedKey) : Type 0 where
+  pub commands : List Said
+  pub taken : List ℕ
+  pub unread : List ℕ
+  pub leads : Leads (derivation_plan (asked_of settings)) settings.replies (ends (Some key)) commands taken unread
+
+-- the key of a login, or that it has none
+abbrev pub IsKeyOf : Settings → Option SaltedKey → Type 0
+IsKeyOf settings None = (key : SaltedKey) → LeadsToKey settings key → ⊥
+IsKeyOf settings (Some key) = LeadsToKey settings key
+
+-- the rounds that a login with this key derives, where these keys were accepted before
+abbrev pub Derived : List SaltedKey → Option SaltedKey → ℕ → Type 0
+Derived keys None rounds = rounds ≡ 0
+Derived keys (Some key) rounds = (Contains keys key × (rounds ≡ 0)) ⊎ ((Contains keys key → ⊥) × (rounds ≡ key.count))
+
+-- the login was accepted: the one refusal that follows it is that of a server without a service
+abbrev pub is_after_login : ErrorKind → Bool
+is_after_login IncompatibleServer = true
+is_after_login kind = false
+
+abbrev pub logs_in : Outcome → Bool
+logs_in (accepted acceptance) = true
+logs_in (refused refusal) = is_after_login refusal.kind
+
+-- the accepted keys after a login with this key
+abbrev pub keys_after : Bool → Option SaltedKey → List SaltedKey → List SaltedKey
+keys_after true (Some key) keys = key ∷ keys
+keys_after accepted key keys = keys
