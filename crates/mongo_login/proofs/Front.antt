@@ -1,9 +1,13 @@
 -- What was held of an input and what is left of it.
-use Rattle.std.proofs.Common.{◌≡◌, ℕ, ◌+◌, ◌<◌, ◌≤◌, Option, None, Some, Err, List, ◌++◌, length, take, drop, refl, sym, ap, ◌∙◌, subst, inl, inr, append-nil, arith, length-append}
+use Rattle.std.proofs.Common.{◌≡◌, ℕ, ◌+◌, ◌<◌, ◌≤◌, Option, None, Some, Ok, Err, Result, List, ◌++◌, length, take, drop, refl, sym, ap, ◌∙◌, subst, inl, inr, append-nil, arith, length-append}
 use Rattle.std.proofs.Math.Seq.{take-append_seam, drop-append_seam}
 use Rattle.std.proofs.lemmas.Bool.{lt-leb}
 use Rattle.std.specs.Io.KnownBytes.{Consumes, IsAtEnd}
-use Rattle.mongo_settings.specs.Settings.{limit, judged}
+use Rattle.mongo_settings.specs.declared.task.Task.{Task}
+use Rattle.mongo_settings.specs.declared.task.Task.TheVariants.{Rehearse, Batch}
+use Rattle.mongo_settings.specs.Settings.{limit, value_judged, judged}
+use Rattle.mongo_settings.specs.Logins.{logins_judged}
+use Rattle.mongo_settings.specs.Task.{judged_as}
 use Rattle.mongo_login.specs.Input.{ReadsInput}
 use Rattle.mongo_settings.specs.declared.settings.SettingsError.TheVariants.{BadSettings}
 
@@ -35,15 +39,20 @@ reads_front old left held input told consumed past =
     let parts = cut (limit + 1) held rest input joined past in
     inr (longer, parts.0, is ∙ ap Some parts.1)
 
--- a text past the limit is no settings
-pub judged-past_limit : (text : List ℕ) → limit < length text → judged text ≡ Err BadSettings
-unfolding judged
-judged-past_limit text past = rw (lt-leb (length text) limit past) refl
+-- a text past the limit asks for nothing
+value_judged-past_limit : (text : List ℕ) → limit < length text → value_judged text ≡ Err BadSettings
+unfolding value_judged
+value_judged-past_limit text past = rw (lt-leb (length text) limit past) refl
+
+pub judged-past_limit : (task : Task) (text : List ℕ) → limit < length text → judged_as task text ≡ Err BadSettings
+unfolding judged_as, judged, logins_judged
+judged-past_limit Rehearse text past = rw (value_judged-past_limit text past) refl
+judged-past_limit Batch text past = rw (value_judged-past_limit text past) refl
 
 -- so its front past the limit is judged alike
-pub judged-front : (old left : Option (List ℕ)) (held input : List ℕ) → old ≡ Some input → Consumes old left held → length held ≡ limit + 1 → judged held ≡ judged input
-judged-front old left held input told consumed past =
+pub judged-front : (task : Task) (old left : Option (List ℕ)) (held input : List ℕ) → old ≡ Some input → Consumes old left held → length held ≡ limit + 1 → judged_as task held ≡ judged_as task input
+judged-front task old left held input told consumed past =
     let (rest, is, joined) = held_front old left held input told consumed in
     let longer : limit < length input = omega (arith, ap length joined, length-append held rest) in
     let held_longer : limit < length held = omega arith in
-    judged-past_limit held held_longer ∙ sym (judged-past_limit input longer)
+    judged-past_limit task held held_longer ∙ sym (judged-past_limit task input longer)

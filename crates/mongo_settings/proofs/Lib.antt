@@ -12,3 +12,6 @@ mod Spaced
 mod Spoken
 mod Rehearsing
 pub mod OneReport
+mod Sharing
+mod LoginsRead
+pub mod Outcomes

@@ -1,5 +1,5 @@
 -- A batch: logins one after another that share one cache of salted passwords and nothing else, and its report.
-use Rattle.std.specs.Prelude.{◌≡◌, ℕ, ◌-◌, ◌^◌, Option, Bool, List, [], ◌∷◌, ◌++◌, map, flat_map, sum, min, codes, decimal, ⊤}
+use Rattle.std.specs.Prelude.{◌≡◌, ℕ, ◌-◌, ◌^◌, Option, Bool, List, [], ◌∷◌, ◌++◌, map, flat_map, sum_by, min, codes, decimal, ⊤}
 use Rattle.mongo_scram.specs.declared.cache.SaltedKey.{SaltedKey}
 use Rattle.mongo_establish.specs.Speculation.{SpeaksFor}
 use Rattle.mongo_settings.specs.declared.settings.Settings.{Settings}
@@ -49,7 +49,7 @@ status_of_all [] = Accepted
 status_of_all (login ∷ others) = both login.status (status_of_all others)
 
 abbrev pub rounds_of_all : List Login → ℕ
-rounds_of_all logins = sum (map (λ login. login.rounds) logins)
+rounds_of_all logins = sum_by (λ login. login.rounds) logins
 
 -- what a cache counts of so many rounds: it stays at its last value
 abbrev pub counted : ℕ → ℕ

@@ -10,6 +10,8 @@ pub mod Names
 pub mod Report
 pub mod Outcome
 pub mod Rehearsal
+pub mod Derivation
+pub mod Costs
 pub mod Rounds
 pub mod Batch
 pub mod Logins

@@ -1,25 +1,16 @@
 -- The rounds of Hi that logins derive which share one cache of salted passwords: each key once, from the first login that
 -- asks for it until one with it was accepted.
-use Rattle.std.specs.Prelude.{◌≡◌, ℕ, ◌⊎◌, Bool, true, false, Option, None, Some, List, ◌∷◌, Contains}
+use Rattle.std.specs.Prelude.{◌≡◌, ℕ, ◌⊎◌, Bool, true, false, Option, None, Some, List, [], ◌∷◌, ◌++◌, Contains}
 use Rattle.mongo_wire.specs.declared.error.ErrorKind.{ErrorKind}
 use Rattle.mongo_wire.specs.declared.error.ErrorKind.TheVariants.{IncompatibleServer}
-use Rattle.mongo_command.specs.Conversation.{Said, ends, Leads}
 use Rattle.mongo_scram.specs.declared.cache.SaltedKey.{SaltedKey}
-use Rattle.mongo_establish.specs.Derivation.{derivation_plan}
+use Rattle.mongo_settings.specs.Derivation.{LeadsToKey}
 use Rattle.mongo_settings.specs.declared.settings.Settings.{Settings}
 use Rattle.mongo_settings.specs.Outcome.{asked_of, Outcome, accepted, refused}
 
--- the reply bytes lead the login to the key that it derives from
-pub record LeadsToKey (settings : Settings) (key : SaltedKey) : Type 0 where
-  pub commands : List Said
-  pub taken : List ℕ
-  pub unread : List ℕ
-  pub leads : Leads (derivation_plan (asked_of settings)) settings.replies (ends (Some key)) commands taken unread
-
--- the key of a login, or that it has none
+-- the key that the reply bytes lead the login to derive from, or that it comes to none
 abbrev pub IsKeyOf : Settings → Option SaltedKey → Type 0
-IsKeyOf settings None = (key : SaltedKey) → LeadsToKey settings key → ⊥
-IsKeyOf settings (Some key) = LeadsToKey settings key
+IsKeyOf settings key = LeadsToKey (asked_of settings) settings.replies key
 
 -- the rounds that a login with this key derives, where these keys were accepted before
 abbrev pub Derived : List SaltedKey → Option SaltedKey → ℕ → Type 0
@@ -37,5 +28,5 @@ logs_in (refused refusal) = is_after_login refusal.kind
 
 -- the accepted keys after a login with this key
 abbrev pub keys_after : Bool → Option SaltedKey → List SaltedKey → List SaltedKey
-keys_after true (Some key) keys = key ∷ keys
+keys_after true (Some key) keys = keys ++ key ∷ []
 keys_after accepted key keys = keys

@@ -1,28 +1,23 @@
 -- What a rehearsal takes of the counter and of the cache of salted passwords that it is handed.
-use Rattle.std.specs.Prelude.{◌≡◌, ◌+◌, ◌++◌, ℕ, ◌⊎◌, ◌↔◌, Bool, true, false, Option, None, Some, List}
+use Rattle.std.specs.Prelude.{◌≡◌, ◌++◌, Bool, true, false, Option}
 use Rattle.mongo_scram.specs.declared.cache.SaltedKey.{SaltedKey}
-use Rattle.mongo_scram.specs.Costs.{HasEntry, Ledgers, Counts, SameEntries, Derives}
+use Rattle.mongo_scram.specs.Costs.{Ledgers}
+use Rattle.mongo_settings.specs.Costs.{AcceptedTakes, RefusedTakes}
 use Rattle.mongo_settings.specs.declared.settings.Settings.{Settings}
 use Rattle.mongo_settings.specs.declared.rehearsal.Rehearsal.{Rehearsal}
 use Rattle.mongo_settings.specs.Rehearsal.{IsRehearsal}
 use Rattle.mongo_settings.specs.Rounds.{IsKeyOf, logs_in}
 use Rattle.mongo_settings.specs.Batch.{both}
 
--- a key is derived exactly where it has no entry, and without a key nothing is
-abbrev pub DerivesFor : Option SaltedKey → Ledgers → Ledgers → Type 0
-DerivesFor None first last = Counts 0 first last
-DerivesFor (Some key) first last = Derives key first last
-
--- the key of an accepted login has an entry then, beside those before; else the entries stay as they are
-abbrev pub KeepsFor : Bool → Option SaltedKey → Ledgers → Ledgers → Type 0
-KeepsFor true (Some key) first last = (other : SaltedKey) → HasEntry last.cache other ↔ (HasEntry first.cache other ⊎ (other ≡ key))
-KeepsFor accepted key first last = SameEntries first last
+-- by whether the login was accepted
+abbrev pub TakesBy : Bool → Option SaltedKey → Ledgers → Ledgers → Type 0
+TakesBy true key first last = AcceptedTakes key first last
+TakesBy false key first last = RefusedTakes key first last
 
 pub record Takes (settings : Settings) (accepted : Bool) (first last : Ledgers) : Type 0 where
   pub key : Option SaltedKey
   pub key_is : IsKeyOf settings key
-  pub derived : DerivesFor key first last
-  pub kept : KeepsFor accepted key first last
+  pub taken : TakesBy accepted key first last
 
 -- the rehearsal has the report of settings, whatever the cache held, and took so much
 pub record IsTaking (settings : Settings) (first last : Ledgers) (rehearsal : Rehearsal) : Type 0 where

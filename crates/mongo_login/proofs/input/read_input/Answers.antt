@@ -31,4 +31,4 @@ returns-clause-read g c =
 pub returns-clause-judged_alike : goal.returns-clause-judged_alike
 returns-clause-judged_alike g c =
     let past : length c.reading.held.items ≡ limit + 1 = omega arith in
-    λ input told. judged-front _ _ _ input told c.reading.invariant.front past
+    λ task input told. judged-front task _ _ _ input told c.reading.invariant.front past
