@@ -29,4 +29,4 @@ logs_in (refused refusal) = is_after_login refusal.kind
 -- the accepted keys after a login with this key
 abbrev pub keys_after : Bool → Option SaltedKey → List SaltedKey → List SaltedKey
 keys_after true (Some key) keys = keys ++ key ∷ []
-keys_after accepted key keys = keys
+keys_after logged_in key keys = keys
