@@ -10,5 +10,6 @@ mod PlainKeys
 mod Sent
 mod Spaced
 mod Spoken
+mod Ready
 mod Rehearsing
 pub mod OneReport

@@ -70,6 +70,14 @@ abbrev pub number_from : ℕ → ℕ → Data → Option ℕ
 number_from least greatest d =
     option_and_then (λ n. if nat_le least n && nat_le n greatest then Some n else None) (option_and_then as_u64 (as_number d))
 
+-- a port of TCP
+abbrev pub port_in : Data → Option ℕ
+port_in d = number_from 0 (2 ^ 16 - 1) d
+
+-- an unsigned number of 32 bits
+abbrev pub uint32_in : Data → Option ℕ
+uint32_in d = number_from 0 (2 ^ 32 - 1) d
+
 -- an int32
 abbrev pub int32_in : Data → Option ℤ
 int32_in d =

@@ -63,6 +63,34 @@ impl SettingValue for i32 {
     }
 }
 
+/// A whole number from 0 to 65535.
+impl SettingValue for u16 {
+    ghost use Rattle.mongo_settings.specs.Kinds.{port_in};
+
+    ghost meaning = { port_in };
+
+    fn read(_alloc: Global, value: &Value) -> Result<u16, SettingsError> {
+        match number_from(value, 0, u16::MAX as u64) {
+            Some(number) => Ok(number as u16),
+            None => Err(SettingsError::BadSettings),
+        }
+    }
+}
+
+/// A whole number from 0 to 4294967295.
+impl SettingValue for u32 {
+    ghost use Rattle.mongo_settings.specs.Kinds.{uint32_in};
+
+    ghost meaning = { uint32_in };
+
+    fn read(_alloc: Global, value: &Value) -> Result<u32, SettingsError> {
+        match number_from(value, 0, u32::MAX as u64) {
+            Some(number) => Ok(number as u32),
+            None => Err(SettingsError::BadSettings),
+        }
+    }
+}
+
 /// The most iterations of a login: from 4096 to 4294967295. Contracts see the number.
 #[derive(Debug, Drop)]
 pub struct Iterations {
