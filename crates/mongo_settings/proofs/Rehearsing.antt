@@ -50,7 +50,7 @@ same_some a b e = cc
 -- ---- a connection that was made
 
 pub described : (asked : Asked) (old new : State) (ended : Result PooledConnection EstablishError) → IfOk ended (IsMade asked old new) → IfOk ended (λ pooled. IsSome pooled.connection.stream_description)
-described asked old new (Ok pooled) made = rw made.established.connection.description_is tt
+described asked old new (Ok pooled) made = rw made.established.connection.description_is refl
 described asked old new (Err refusal) made = tt
 
 made : (settings : Settings) (old new : State) (pooled : PooledConnection) (link : MemoryLink) (total : ℕ) (x : Rehearsal)
