@@ -1,30 +1,41 @@
 -- A rehearsal's report, from what the establishment over reply bytes in memory answers.
-use Rattle.std.proofs.Common.{◌≡◌, ℕ, ℤ, ◌+◌, ◌-◌, ◌∙◌, ◌++◌, ap, subst, sym, arith, refl, inl, inr, Option, Some, Result, Ok, Err, List, [], length, length-append, IfOk, OnOk}
+use Rattle.std.proofs.Common.{◌≡◌, ℕ, ℤ, ◌+◌, ◌-◌, ◌∙◌, ◌++◌, ap, subst, sym, arith, refl, inl, inr, Option, Some, Result, Ok, Err, List, [], length, length-append, IfOk, IfErr, IsSome}
 use Rattle.std.specs.List.{AllByRecursion, concat}
 use Rattle.mongo_wire.specs.declared.error.ErrorKind.{ErrorKind}
+use Rattle.mongo_wire.specs.declared.memory_link.MemoryLink.{MemoryLink}
+use Rattle.mongo_wire.specs.Memory.{bytes_left, bytes_written}
 use Rattle.mongo_wire.specs.Outside.{State, Rose}
-use Rattle.mongo_command.specs.declared.stream_description.StreamDescription.{StreamDescription}
 use Rattle.mongo_command.specs.Conversation.{IsSaid}
-use Rattle.mongo_sasl.specs.declared.credential.Credential.{Credential}
-use Rattle.mongo_establish.specs.declared.establisher.PendingConnection.{PendingConnection}
-use Rattle.mongo_establish.specs.declared.login_state.Nonces.{Nonces}
-use Rattle.mongo_establish.specs.declared.options.HandshakerOptions.{HandshakerOptions}
-use Rattle.mongo_establish.specs.Asked.{Asked, asked_for}
-use Rattle.mongo_establish.specs.Options.{options_of}
-use Rattle.mongo_establish.specs.declared.establisher.PooledConnection.{PooledConnection}
+use Rattle.mongo_establish.specs.declared.establisher.EstablishError.{EstablishError}
 use Rattle.mongo_establish.specs.declared.establisher.HandshakePhase.{HandshakePhase}
+use Rattle.mongo_establish.specs.declared.establisher.PooledConnection.{PooledConnection}
+use Rattle.mongo_establish.specs.Asked.{Asked}
 use Rattle.mongo_establish.specs.Generation.{generation_of}
 use Rattle.mongo_establish.specs.Script.{IsWritten}
-use Rattle.mongo_establish.specs.Established.{Established}
-use Rattle.mongo_establish.specs.Stopped.{StoppedIn}
 use Rattle.mongo_establish.proofs.Establishment.{RefusedBy, stopped_refusal}
 use Rattle.mongo_settings.proofs.Sent.{Framed-from_sent, Framed-from_said}
 use Rattle.mongo_settings.specs.declared.settings.Settings.{Settings}
 use Rattle.mongo_settings.specs.declared.rehearsal.Rehearsal.{Rehearsal}
-use Rattle.mongo_settings.specs.declared.rehearsal.RehearsalStatus.TheVariants.{Accepted, Refused}
-use Rattle.mongo_settings.specs.Report.{CountsItself, sent_lines, read_line, accepted_lines, refused_lines}
-use Rattle.mongo_settings.specs.Outcome.{pending_to, spec_of, asked_of, accepted, refused}
-use Rattle.mongo_settings.specs.Rehearsal.{IsRehearsal, IsReported}
+use Rattle.mongo_settings.specs.Report.{sent_lines, read_line, accepted_lines, refused_lines}
+use Rattle.mongo_settings.specs.Outcome.{asked_of, accepted, refused}
+use Rattle.mongo_settings.specs.Login.{IsMade, IsStopped}
+use Rattle.mongo_settings.specs.Telling.{TellsMade, IsReported, TellsRefused, Tells}
+use Rattle.mongo_settings.specs.Rehearsal.{IsRehearsal}
+
+-- ---- the link
+
+-- A link in memory gave these bytes; nothing had been written to it, and it doesn't fail. This was written and this is left.
+pub record Replayed (replies output left : List ℕ) (old new : State) : Type 0 where
+  pub fresh : old.written ≡ Some []
+  pub given : old.left ≡ Some replies
+  pub written_is : new.written ≡ Some output
+  pub left_is : new.left ≡ Some left
+  pub unfailed : Rose old.read_faults new.read_faults → ⊥
+  pub unwritten : Rose old.write_faults new.write_faults → ⊥
+
+-- a count that stands still hasn't risen
+pub never_rose : Rose 0 0 → ⊥
+never_rose r = omega arith
 
 -- how many bytes were taken, from how many are left
 taken_length : (bytes taken rest left : List ℕ) → bytes ≡ taken ++ rest → left ≡ rest → length bytes - length left ≡ length taken
@@ -36,19 +47,22 @@ taken_length bytes taken rest left whole is =
 same_some : (a b : List ℕ) → Some a ≡ Some b → a ≡ b
 same_some a b e = cc
 
-made : (settings : Settings) (old new : State) (after : ℤ) (pooled : PooledConnection) (output left : List ℕ) (total : ℕ) (x : Rehearsal)
-    → Established (asked_of settings) old new after pooled → old.written ≡ Some [] → old.left ≡ Some settings.replies → new.written ≡ Some output → new.left ≡ Some left → total ≡ length settings.replies
-    → x.status ≡ Accepted
-    → ((frames : List (List ℕ)) (d : StreamDescription) → AllByRecursion CountsItself frames → output ≡ concat frames → pooled.connection.stream_description ≡ Some d
-    → x.report.items ≡ sent_lines frames ++ (read_line (total - length left) ++ accepted_lines d pooled.generation pooled.connection.server_id))
-    → IsRehearsal settings x
-made settings old new after pooled output left total x e fresh given written_is left_is total_is status told =
-    let sent : output ≡ e.sent = rw (fresh, written_is) at e.written in
+-- ---- a connection that was made
+
+pub described : (asked : Asked) (old new : State) (ended : Result PooledConnection EstablishError) → IfOk ended (IsMade asked old new) → IfOk ended (λ pooled. IsSome pooled.connection.stream_description)
+described asked old new (Ok pooled) made = rw made.established.connection.description_is refl
+described asked old new (Err refusal) made = tt
+
+made : (settings : Settings) (old new : State) (pooled : PooledConnection) (link : MemoryLink) (total : ℕ) (x : Rehearsal)
+    → IsMade (asked_of settings) old new pooled → Replayed settings.replies (bytes_written link) (bytes_left link) old new → total ≡ length settings.replies → TellsMade link total pooled x → IsRehearsal settings x
+made settings old new pooled link total x m p total_is tells =
+    let e = m.established in
+    let sent : bytes_written link ≡ e.sent = rw (p.fresh, p.written_is) at e.written in
     let f = Framed-from_sent _ _ e.script.commands (asked_of settings).first_id e.sent e.is_written in
-    let t = e.taken settings.replies given in
+    let t = e.taken settings.replies p.given in
     let g = e.script.greeting in
-    let rest : left ≡ t.rest = same_some left t.rest (sym left_is ∙ t.left_is) in
-    let count : total - length left ≡ length t.taken = ap (λ n. n - length left) total_is ∙ taken_length settings.replies t.taken t.rest left t.joined rest in
+    let rest : bytes_left link ≡ t.rest = same_some (bytes_left link) t.rest (sym p.left_is ∙ t.left_is) in
+    let count : total - length (bytes_left link) ≡ length t.taken = ap (λ n. n - length (bytes_left link)) total_is ∙ taken_length settings.replies t.taken t.rest (bytes_left link) t.joined rest in
     record {
       report = record {
         outcome = accepted (record { script = e.script; taken = t.taken; unread = t.rest });
@@ -56,78 +70,55 @@ made settings old new after pooled output left total x e fresh given written_is 
         frames = f.frames;
         each_frame = f.each;
         sent = subst (IsWritten (asked_of settings) e.script) f.joined e.is_written;
-        text_is = told f.frames g.description f.each (sent ∙ f.joined) e.connection.description_is
+        text_is = (tells.text g.description e.connection.description_is).told f.frames f.each (sent ∙ f.joined)
             ∙ ap (λ n. sent_lines f.frames ++ (read_line n ++ accepted_lines g.description pooled.generation pooled.connection.server_id)) count
             ∙ ap (λ generation. sent_lines f.frames ++ (read_line (length t.taken) ++ accepted_lines g.description generation pooled.connection.server_id)) e.generation
             ∙ ap (λ i. sent_lines f.frames ++ (read_line (length t.taken) ++ accepted_lines g.description (generation_of (asked_of settings).pending.generation g.description) i)) e.connection.server_id;
       };
-      status_is = status;
+      status_is = tells.status;
     }
 
--- what was asked for is what the settings ask for
-pub asked_by : (settings : Settings) (pending : PendingConnection) (options : HandshakerOptions) (credential : Option Credential) (nonces : Nonces) (id : ℤ)
-    → pending ≡ pending_to settings.host → options ≡ options_of (spec_of settings) → credential ≡ settings.credential → nonces ≡ settings.nonces → id ≡ settings.first_id → asked_for pending options credential nonces id ≡ asked_of settings
-unfolding asked_of
-asked_by settings pending options credential nonces id p o c n i =
-    ap (λ x. asked_for x options credential nonces id) p
-    ∙ ap (λ x. asked_for (pending_to settings.host) x credential nonces id) o
-    ∙ ap (λ x. asked_for (pending_to settings.host) (options_of (spec_of settings)) x nonces id) c
-    ∙ ap (λ x. asked_for (pending_to settings.host) (options_of (spec_of settings)) settings.credential x id) n
-    ∙ ap (λ x. asked_for (pending_to settings.host) (options_of (spec_of settings)) settings.credential settings.nonces x) i
+-- ---- a refusal
 
--- an establishment that was made gives the report of it
-pub accepted_rehearsal : {E : Type 0} (settings : Settings) (asked : Asked) (old new : State) (after : ℤ) (pooled : PooledConnection) (output left : List ℕ) (total : ℕ) (r : Result Rehearsal E)
-    → asked ≡ asked_of settings → Established asked old new after pooled → old.written ≡ Some [] → old.left ≡ Some settings.replies → new.written ≡ Some output → new.left ≡ Some left → total ≡ length settings.replies
-    → IfOk r (λ x. x.status ≡ Accepted)
-    → IfOk r (λ x. (frames : List (List ℕ)) (d : StreamDescription) → AllByRecursion CountsItself frames → output ≡ concat frames → pooled.connection.stream_description ≡ Some d
-    → x.report.items ≡ sent_lines frames ++ (read_line (total - length left) ++ accepted_lines d pooled.generation pooled.connection.server_id))
-    → IfOk r (IsRehearsal settings)
-accepted_rehearsal settings asked old new after pooled output left total (Ok x) same e fresh given written_is left_is total_is status told =
-    made settings old new after pooled output left total x (subst (λ a. Established a old new after pooled) same e) fresh given written_is left_is total_is status told
-accepted_rehearsal settings asked old new after pooled output left total (Err error) same e fresh given written_is left_is total_is status told = tt
-
-unmade : (kind : ErrorKind) (settings : Settings) (old new : State) (after : ℤ) (phase : HandshakePhase) (output left : List ℕ) (total : ℕ) (x : Rehearsal)
-    → RefusedBy phase (asked_of settings) settings.replies kind old new after → old.written ≡ Some [] → new.written ≡ Some output → new.left ≡ Some left → total ≡ length settings.replies
-    → x.status ≡ Refused
-    → ((frames : List (List ℕ)) → AllByRecursion CountsItself frames → output ≡ concat frames → x.report.items ≡ sent_lines frames ++ (read_line (total - length left) ++ refused_lines phase kind))
-    → IsRehearsal settings x
-unmade kind settings old new after phase output left total x r fresh written_is left_is total_is status told =
+told_refusal : (settings : Settings) (kind : ErrorKind) (phase : HandshakePhase) (old new : State) (after : ℤ) (link : MemoryLink) (total : ℕ) (refusal : EstablishError) (x : Rehearsal)
+    → refusal.cause.kind ≡ kind → refusal.handshake_phase ≡ phase → RefusedBy phase (asked_of settings) settings.replies kind old new after
+    → Replayed settings.replies (bytes_written link) (bytes_left link) old new → total ≡ length settings.replies → TellsRefused link total refusal x → IsRehearsal settings x
+told_refusal settings kind phase old new after link total refusal x kind_is phase_is r p total_is tells =
     let l = r.left_by in
-    let refusal = r.refusal in
-    let sent : output ≡ l.sent = rw (fresh, written_is) at l.written in
-    let f = Framed-from_said refusal.commands (asked_of settings).first_id l.sent l.sent_is in
-    let rest : left ≡ refusal.unread = same_some left refusal.unread (sym left_is ∙ l.left) in
-    let count : total - length left ≡ length refusal.taken = ap (λ n. n - length left) total_is ∙ taken_length settings.replies refusal.taken refusal.unread left r.joined rest in
+    let first = r.refusal in
+    let sent : bytes_written link ≡ l.sent = rw (p.fresh, p.written_is) at l.written in
+    let f = Framed-from_said first.commands (asked_of settings).first_id l.sent l.sent_is in
+    let rest : bytes_left link ≡ first.unread = same_some (bytes_left link) first.unread (sym p.left_is ∙ l.left) in
+    let count : total - length (bytes_left link) ≡ length first.taken = ap (λ n. n - length (bytes_left link)) total_is ∙ taken_length settings.replies first.taken first.unread (bytes_left link) r.joined rest in
     record {
       report = record {
-        outcome = refused refusal;
+        outcome = refused first;
         is_outcome = r.is_refusal;
         frames = f.frames;
         each_frame = f.each;
-        sent = subst (IsSaid refusal.commands (asked_of settings).first_id) f.joined l.sent_is;
-        text_is = told f.frames f.each (sent ∙ f.joined)
-            ∙ ap (λ n. sent_lines f.frames ++ (read_line n ++ refused_lines phase kind)) count
-            ∙ ap (λ p. sent_lines f.frames ++ (read_line (length refusal.taken) ++ refused_lines p kind)) (sym r.phase_is)
-            ∙ ap (λ k. sent_lines f.frames ++ (read_line (length refusal.taken) ++ refused_lines refusal.phase k)) (sym r.kind_is);
+        sent = subst (IsSaid first.commands (asked_of settings).first_id) f.joined l.sent_is;
+        text_is = tells.text.told f.frames f.each (sent ∙ f.joined)
+            ∙ ap (λ n. sent_lines f.frames ++ (read_line n ++ refused_lines refusal.handshake_phase refusal.cause.kind)) count
+            ∙ ap (λ p. sent_lines f.frames ++ (read_line (length first.taken) ++ refused_lines p refusal.cause.kind)) (phase_is ∙ sym r.phase_is)
+            ∙ ap (λ k. sent_lines f.frames ++ (read_line (length first.taken) ++ refused_lines first.phase k)) (kind_is ∙ sym r.kind_is);
       };
-      status_is = status;
+      status_is = tells.status;
     }
 
--- an establishment that was refused gives the report of it
-pub refused_rehearsal : {E : Type 0} (kind : ErrorKind) (settings : Settings) (asked : Asked) (old new : State) (after : ℤ) (phase : HandshakePhase) (output left : List ℕ) (total : ℕ) (r : Result Rehearsal E)
-    → asked ≡ asked_of settings → StoppedIn phase asked kind old new after → OnOk r (IsReported kind)
-    → old.written ≡ Some [] → old.left ≡ Some settings.replies → new.written ≡ Some output → new.left ≡ Some left → total ≡ length settings.replies
-    → (Rose old.read_faults new.read_faults → ⊥) → (Rose old.write_faults new.write_faults → ⊥)
-    → IfOk r (λ x. x.status ≡ Refused)
-    → IfOk r (λ x. (frames : List (List ℕ)) → AllByRecursion CountsItself frames → output ≡ concat frames → x.report.items ≡ sent_lines frames ++ (read_line (total - length left) ++ refused_lines phase kind))
-    → IfOk r (IsRehearsal settings)
-refused_rehearsal kind settings asked old new after phase output left total (Ok x) same stopped reported fresh given written_is left_is total_is unfailed unwritten status told =
-    elim (stopped_refusal phase (asked_of settings) kind old new after settings.replies (subst (λ a. StoppedIn phase a kind old new after) same stopped) given unfailed unwritten) [
-      | inl memory ↦ absurd (subst IsReported memory reported)
-      | inr r ↦ unmade kind settings old new after phase output left total x r fresh written_is left_is total_is status told
+unmade : (settings : Settings) (old new : State) (refusal : EstablishError) (link : MemoryLink) (total : ℕ) (x : Rehearsal)
+    → IsStopped (asked_of settings) old new refusal → Replayed settings.replies (bytes_written link) (bytes_left link) old new → total ≡ length settings.replies → TellsRefused link total refusal x → IsRehearsal settings x
+unmade settings old new refusal link total x s p total_is tells =
+    elim (stopped_refusal refusal.handshake_phase (asked_of settings) refusal.cause.kind old new s.after settings.replies s.stopped p.given p.unfailed p.unwritten) [
+      | inl memory ↦ absurd (subst IsReported memory tells.reported)
+      | inr r ↦ told_refusal settings refusal.cause.kind refusal.handshake_phase old new s.after link total refusal x refl refl r p total_is tells
     ]
-refused_rehearsal kind settings asked old new after phase output left total (Err e) same stopped reported fresh given written_is left_is total_is unfailed unwritten status told = tt
 
--- a count that stands still hasn't risen
-pub never_rose : Rose 0 0 → ⊥
-never_rose r = omega arith
+-- ---- either
+
+-- however an establishment ended, what is told of it is the report
+pub rehearsed : {E : Type 0} (settings : Settings) (asked : Asked) (old new : State) (link : MemoryLink) (total : ℕ) (ended : Result PooledConnection EstablishError) (r : Result Rehearsal E)
+    → asked ≡ asked_of settings → IfOk ended (IsMade asked old new) → IfErr ended (IsStopped asked old new)
+    → Replayed settings.replies (bytes_written link) (bytes_left link) old new → total ≡ length settings.replies → IfOk r (Tells link total ended) → IfOk r (IsRehearsal settings)
+rehearsed settings asked old new link total (Ok pooled) (Ok x) same m s p total_is tells = made settings old new pooled link total x (subst (λ a. IsMade a old new pooled) same m) p total_is tells
+rehearsed settings asked old new link total (Err refusal) (Ok x) same m s p total_is tells = unmade settings old new refusal link total x (subst (λ a. IsStopped a old new refusal) same s) p total_is tells
+rehearsed settings asked old new link total ended (Err error) same m s p total_is tells = tt

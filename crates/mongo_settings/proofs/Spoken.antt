@@ -8,11 +8,13 @@ use Rattle.mongo_sasl.specs.declared.mechanism.AuthMechanism.{AuthMechanism}
 use Rattle.mongo_sasl.specs.declared.mechanism.AuthMechanism.TheVariants.{MongoDbCr, ScramSha1, ScramSha256, MongoDbX509, Plain, MongoDbAws, MongoDbOidc}
 use Rattle.mongo_meta.specs.declared.client_options.ClientOptions.{ClientOptions}
 use Rattle.mongo_establish.specs.declared.login_state.Nonces.{Nonces}
+use Rattle.mongo_establish.specs.declared.establisher.PendingConnection.{PendingConnection}
 use Rattle.mongo_establish.specs.Speculation.{mechanism_before, IsSpoken, SpeaksFor}
-use Rattle.mongo_settings.specs.Kinds.{◌>>=◌, optional, optional_in, required, object_of, joined_hex_in, nonces_in, int32_in, iterations_in}
+use Rattle.mongo_settings.specs.Kinds.{◌>>=◌, optional, optional_in, object_of, joined_hex_in, nonces_in, int32_in, iterations_in}
 use Rattle.mongo_settings.specs.Credential.{mechanism_in, credential_in}
 use Rattle.mongo_settings.specs.Meaning.{default_nonces, default_first_id, default_iterations, settings_in}
 use Rattle.mongo_settings.specs.Options.{options_in}
+use Rattle.mongo_settings.specs.Pending.{pending_in}
 use Rattle.mongo_settings.specs.Properties.{properties_in}
 use Rattle.mongo_settings.specs.Settings.{mechanism_judged, settings_of, Gives}
 use Rattle.mongo_settings.specs.declared.settings.Settings.{Settings}
@@ -84,9 +86,9 @@ optional_spoken (Some d) credential is judged = credential_spoken (credential_in
 -- ---- settings
 
 -- settings of their parts
-abbrev settings_of_parts : Option (List ℕ) → Option (Option (List ℕ)) → Option (Option Credential) → Option (Option Nonces) → Option (Option ℤ) → Option ClientOptions → Option (Option ℕ) → Option Settings
-settings_of_parts host replies credential nonces first_id options iterations = do
-  h ← host
+abbrev settings_of_parts : Option PendingConnection → Option (Option (List ℕ)) → Option (Option Credential) → Option (Option Nonces) → Option (Option ℤ) → Option ClientOptions → Option (Option ℕ) → Option Settings
+settings_of_parts pending replies credential nonces first_id options iterations = do
+  p ← pending
   r ← replies
   c ← credential
   n ← nonces
@@ -94,7 +96,7 @@ settings_of_parts host replies credential nonces first_id options iterations = d
   o ← options
   i ← iterations
   Some (record {
-    host = h;
+    pending = p;
     replies = unwrap_or r [];
     credential = c;
     nonces = unwrap_or n default_nonces;
@@ -103,21 +105,21 @@ settings_of_parts host replies credential nonces first_id options iterations = d
     max_iterations = unwrap_or i default_iterations;
   })
 
-their_credential : (host : Option (List ℕ)) (replies : Option (Option (List ℕ))) (credential : Option (Option Credential)) (nonces : Option (Option Nonces)) (first_id : Option (Option ℤ)) (options : Option ClientOptions) (iterations : Option (Option ℕ)) (s : Settings)
-    → settings_of_parts host replies credential nonces first_id options iterations ≡ Some s → credential ≡ Some s.credential
-their_credential (Some h) (Some r) (Some c) (Some n) (Some f) (Some o) (Some i) s is = ap (option_map (λ (x : Settings). x.credential)) is
+their_credential : (pending : Option PendingConnection) (replies : Option (Option (List ℕ))) (credential : Option (Option Credential)) (nonces : Option (Option Nonces)) (first_id : Option (Option ℤ)) (options : Option ClientOptions) (iterations : Option (Option ℕ)) (s : Settings)
+    → settings_of_parts pending replies credential nonces first_id options iterations ≡ Some s → credential ≡ Some s.credential
+their_credential (Some p) (Some r) (Some c) (Some n) (Some f) (Some o) (Some i) s is = ap (option_map (λ (x : Settings). x.credential)) is
 their_credential None r c n f o i s is = cc
-their_credential (Some h) None c n f o i s is = cc
-their_credential (Some h) (Some r) None n f o i s is = cc
-their_credential (Some h) (Some r) (Some c) None f o i s is = cc
-their_credential (Some h) (Some r) (Some c) (Some n) None o i s is = cc
-their_credential (Some h) (Some r) (Some c) (Some n) (Some f) None i s is = cc
-their_credential (Some h) (Some r) (Some c) (Some n) (Some f) (Some o) None s is = cc
+their_credential (Some p) None c n f o i s is = cc
+their_credential (Some p) (Some r) None n f o i s is = cc
+their_credential (Some p) (Some r) (Some c) None f o i s is = cc
+their_credential (Some p) (Some r) (Some c) (Some n) None o i s is = cc
+their_credential (Some p) (Some r) (Some c) (Some n) (Some f) None i s is = cc
+their_credential (Some p) (Some r) (Some c) (Some n) (Some f) (Some o) None s is = cc
 
 credential_of : (d : Data) (s : Settings) → settings_in d ≡ Some s → optional (codes "credential") credential_in d ≡ Some s.credential
 unfolding settings_in
 credential_of d s is =
-    their_credential (required (codes "host") as_str d) (optional (codes "replies") joined_hex_in d) (optional (codes "credential") credential_in d) (optional (codes "nonces") nonces_in d)
+    their_credential (pending_in d) (optional (codes "replies") joined_hex_in d) (optional (codes "credential") credential_in d) (optional (codes "nonces") nonces_in d)
     (optional (codes "first_id") int32_in d) (options_in d) (optional (codes "max_iterations") iterations_in d) s is
 
 settings_spoken : (d : Data) (s : Settings) → settings_of d ≡ Ok s → SpeaksFor s.credential

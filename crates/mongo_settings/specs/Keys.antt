@@ -19,7 +19,7 @@ later name = key_row name Later
 -- the format's keys
 abbrev pub keys : List Key
 keys =
-    built (codes "host") ∷ built (codes "replies") ∷ later (codes "port") ∷ later (codes "unix") ∷ later (codes "id") ∷ later (codes "generation")
+    built (codes "host") ∷ built (codes "replies") ∷ built (codes "port") ∷ built (codes "unix") ∷ built (codes "id") ∷ built (codes "generation")
     ∷ later (codes "load_balanced") ∷ later (codes "generations") ∷ built (codes "app_name") ∷ built (codes "driver_info") ∷ built (codes "server_api")
     ∷ built (codes "os") ∷ built (codes "platform") ∷ built (codes "platform_short") ∷ built (codes "environment") ∷ built (codes "dockerenv")
     ∷ built (codes "credential") ∷ built (codes "nonces") ∷ later (codes "moment") ∷ built (codes "first_id") ∷ built (codes "max_iterations")

@@ -70,6 +70,14 @@ abbrev pub number_from : ℕ → ℕ → Data → Option ℕ
 number_from least greatest d =
     option_and_then (λ n. if nat_le least n && nat_le n greatest then Some n else None) (option_and_then as_u64 (as_number d))
 
+-- a port of TCP
+abbrev pub port_in : Data → Option ℕ
+port_in d = number_from 0 (2 ^ 16 - 1) d
+
+-- an unsigned number of 32 bits
+abbrev pub uint32_in : Data → Option ℕ
+uint32_in d = number_from 0 (2 ^ 32 - 1) d
+
 -- an int32
 abbrev pub int32_in : Data → Option ℤ
 int32_in d =
@@ -82,8 +90,11 @@ iterations_in d = number_from 4096 (2 ^ 32 - 1) d
 -- ---- bytes
 
 -- the bytes of a hex text, whose digits are an even number of either case
+abbrev pub hex_of : List ℕ → Option (List ℕ)
+hex_of text = result_ok (decode_of text)
+
 abbrev pub hex_bytes : Data → Option (List ℕ)
-hex_bytes d = option_and_then (λ text. result_ok (decode_of text)) (as_str d)
+hex_bytes d = option_and_then hex_of (as_str d)
 
 -- the bytes of an array of hex texts, joined
 unfoldable pub joined_hex : Items → Option (List ℕ)
@@ -92,6 +103,11 @@ joined_hex (item d others) = option_and_then (λ bytes. option_map (λ more. byt
 
 abbrev pub joined_hex_in : Data → Option (List ℕ)
 joined_hex_in d = option_and_then joined_hex (as_array d)
+
+-- bytes that have those that are meant at their end
+abbrev pub IsJoined : Option (List ℕ) → List ℕ → List ℕ → Type 0
+IsJoined None old new = ⊥
+IsJoined (Some bytes) old new = new ≡ old ++ bytes
 
 -- the 32 bytes of a nonce, by 64 hex digits
 abbrev pub nonce_in : Data → Option (List ℕ)

@@ -3,6 +3,7 @@ pub mod Kinds
 pub mod Properties
 pub mod Credential
 pub mod Options
+pub mod Pending
 pub mod Meaning
 pub mod Settings
 pub mod Line
@@ -10,6 +11,8 @@ pub mod Names
 pub mod Report
 pub mod Outcome
 pub mod Rehearsal
+pub mod Login
+pub mod Telling
 pub mod Derivation
 pub mod Costs
 pub mod Rounds

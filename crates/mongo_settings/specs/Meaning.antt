@@ -1,11 +1,11 @@
 -- What the keys of settings mean together.
 use Rattle.std.specs.Prelude.{◌≡◌, ℕ, ℤ, pos, Option, None, Some, unwrap_or, List, [], codes, replicate}
 use Rattle.serde_json.specs.Data.{Data}
-use Rattle.serde_json.specs.Find.{as_str}
 use Rattle.mongo_establish.specs.declared.login_state.Nonces.{Nonces}
-use Rattle.mongo_settings.specs.Kinds.{◌>>=◌, optional, required, joined_hex_in, nonces_in, int32_in, iterations_in}
+use Rattle.mongo_settings.specs.Kinds.{◌>>=◌, optional, joined_hex_in, nonces_in, int32_in, iterations_in}
 use Rattle.mongo_settings.specs.Credential.{credential_in}
 use Rattle.mongo_settings.specs.Options.{options_in}
+use Rattle.mongo_settings.specs.Pending.{pending_in}
 use Rattle.mongo_settings.specs.declared.settings.Settings.{Settings}
 
 -- ---- what holds where a key is absent
@@ -21,10 +21,10 @@ default_iterations = 10000000
 
 -- ----
 
--- The settings that an object is: `host` is needed.
+-- The settings that an object is.
 unfoldable pub settings_in : Data → Option Settings
 settings_in d = do
-  host ← required (codes "host") as_str d
+  pending ← pending_in d
   replies ← optional (codes "replies") joined_hex_in d
   credential ← optional (codes "credential") credential_in d
   nonces ← optional (codes "nonces") nonces_in d
@@ -32,7 +32,7 @@ settings_in d = do
   options ← options_in d
   iterations ← optional (codes "max_iterations") iterations_in d
   Some (record {
-    host = host;
+    pending = pending;
     replies = unwrap_or replies [];
     credential = credential;
     nonces = unwrap_or nonces default_nonces;

@@ -1,9 +1,6 @@
 -- How the establishment that settings ask for comes out over their reply bytes.
-use Rattle.std.specs.Prelude.{◌≡◌, ℕ, None, List, ◌++◌}
-use Rattle.mongo_command.specs.declared.server_address.ServerAddress.TheVariants.{Tcp}
+use Rattle.std.specs.Prelude.{◌≡◌, ℕ, List, ◌++◌}
 use Rattle.mongo_command.specs.Conversation.{IsSaid}
-use Rattle.mongo_establish.specs.declared.establisher.PendingConnection.{PendingConnection}
-use Rattle.mongo_establish.specs.declared.generation.PoolGeneration.TheVariants.{Normal}
 use Rattle.mongo_establish.specs.declared.options.TopologySpec.{TopologySpec}
 use Rattle.mongo_establish.specs.Asked.{Asked, asked_for}
 use Rattle.mongo_establish.specs.Options.{options_of}
@@ -14,17 +11,13 @@ use Rattle.mongo_settings.specs.declared.settings.Settings.{Settings}
 use Rattle.mongo_settings.specs.declared.rehearsal.RehearsalStatus.{RehearsalStatus}
 use Rattle.mongo_settings.specs.declared.rehearsal.RehearsalStatus.TheVariants.{Accepted, Refused}
 
--- the connection to a host
-abbrev pub pending_to : List ℕ → PendingConnection
-pending_to host = record { id = 1; address = Tcp host None; generation = Normal 0 }
-
 -- what the establisher is made of
 abbrev pub spec_of : Settings → TopologySpec
 spec_of settings = record { options = settings.options; metadata = metadata_of settings.options; max_iterations = settings.max_iterations }
 
 -- what settings ask for
 unfoldable pub asked_of : Settings → Asked
-asked_of settings = asked_for (pending_to settings.host) (options_of (spec_of settings)) settings.credential settings.nonces settings.first_id
+asked_of settings = asked_for settings.pending (options_of (spec_of settings)) settings.credential settings.nonces settings.first_id
 
 -- a script, and of the reply bytes what is taken and unread
 pub record Acceptance : Type 0 where

@@ -1,8 +1,6 @@
 -- The report of settings, and what a rehearsal answers.
-use Rattle.std.specs.Prelude.{◌≡◌, ℕ, List, ◌++◌, length, ⊤}
+use Rattle.std.specs.Prelude.{◌≡◌, ℕ, List, ◌++◌, length}
 use Rattle.std.specs.List.{AllByRecursion, concat}
-use Rattle.mongo_wire.specs.declared.error.ErrorKind.{ErrorKind}
-use Rattle.mongo_wire.specs.declared.error.ErrorKind.TheVariants.{OutOfMemory}
 use Rattle.mongo_establish.specs.Generation.{generation_of}
 use Rattle.mongo_settings.specs.declared.settings.Settings.{Settings}
 use Rattle.mongo_settings.specs.declared.rehearsal.Rehearsal.{Rehearsal}
@@ -33,8 +31,3 @@ pub record IsReport (settings : Settings) (text : List ℕ) : Type 0 where
 pub record IsRehearsal (settings : Settings) (rehearsal : Rehearsal) : Type 0 where
   pub report : IsReport settings rehearsal.report.items
   pub status_is : rehearsal.status ≡ status_of report.outcome
-
--- a cause that a report tells
-abbrev pub IsReported : ErrorKind → Type 0
-IsReported OutOfMemory = ⊥
-IsReported kind = ⊤

@@ -13,6 +13,7 @@ mod logins;
 mod mechanism;
 mod members;
 mod options;
+mod pending;
 mod properties;
 mod reading;
 #[cfg(test)]
@@ -22,8 +23,8 @@ use floats::holds_float;
 use keys::judge_keys;
 pub use logins::read_logins;
 use mechanism::judge_mechanism;
-use mongo_bson::{BsonFault, Bytes, Text};
-use mongo_establish::Nonces;
+use mongo_bson::{BsonFault, Bytes};
+use mongo_establish::{Nonces, PendingConnection};
 use mongo_meta::ClientOptions;
 use mongo_sasl::Credential;
 use reading::SettingValue;
@@ -36,8 +37,8 @@ pub const LIMIT: usize = 4_194_304;
 /// What a rehearsal is told.
 #[derive(Debug, Drop)]
 pub struct Settings {
-    /// The host that the connection is to.
-    pub host: Text,
+    /// The connection that is asked for.
+    pub pending: PendingConnection,
     /// The bytes that the server answers.
     pub replies: Bytes,
     /// Who logs in, if anyone.
@@ -115,7 +116,7 @@ fn value_of(alloc: Global, text: &[u8]) -> Result<Value, SettingsError>
 ///
 /// Refusals, in this order: `BadSettings` where it is no object or has a key that the format hasn't; `NotBuilt` where it
 /// has a key that isn't read yet, or its credential names a mechanism that isn't spoken yet; `BadSettings` where a key's
-/// value is of another kind, or `host` isn't there.
+/// value is of another kind, or not just one of `host` and `unix` is there.
 #[tactic(auto, unfolding(crate::specs::Settings::settings_of))]
 pub fn settings_of(alloc: Global, value: &Value) -> Result<Settings, SettingsError>
     ensures settings { Gives (λ s. s) result (settings_of (view value.now)) }

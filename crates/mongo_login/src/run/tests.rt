@@ -62,9 +62,9 @@ fn settings_decide_how_it_ends(rt: HostRuntime) -> Result<(), Fail> {
         ("", Status::BadSettings, true),
         ("{}", Status::BadSettings, true),
         ("{\"host\":\"a\",\"port\":1.5}", Status::BadSettings, true),
-        ("{\"host\":\"a\",\"port\":1}", Status::NotBuilt, true),
+        ("{\"host\":\"a\",\"moment\":1}", Status::NotBuilt, true),
         (
-            "{\"host\":\"a\",\"hosts\":1,\"port\":1}",
+            "{\"host\":\"a\",\"hosts\":1,\"moment\":1}",
             Status::BadSettings,
             true,
         ),

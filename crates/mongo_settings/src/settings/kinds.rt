@@ -1,11 +1,11 @@
 //! The plain kinds of values.
-ghost use Rattle.std.specs.Prelude.{◌≡◌, ◌≤◌, ◌-◌, ◌^◌, ℕ, List, IfSome};
+ghost use Rattle.std.specs.Prelude.{◌≡◌, ◌≤◌, ◌-◌, ◌/◌, ◌^◌, ℕ, List, length, take, IfSome, IfErr, OnOk};
 ghost use Rattle.serde_json.specs.View.{view, items_view};
-ghost use Rattle.mongo_settings.specs.Kinds.{number_from, hex_bytes, joined_hex, nonce_in, Means};
+ghost use Rattle.mongo_settings.specs.Kinds.{number_from, hex_of, hex_bytes, joined_hex, nonce_in, IsJoined, Means, MeansNothing};
 
 use crate::settings::SettingsError;
 use crate::settings::reading::{SettingValue, two_in};
-use hex::{FromHex, FromHexError};
+use hex::FromHex;
 use mongo_bson::{Bytes, Text};
 use mongo_establish::Nonces;
 use serde_json::Value;
@@ -58,6 +58,34 @@ impl SettingValue for i32 {
                 Ok(number) => Ok(number),
                 Err(_) => Err(SettingsError::BadSettings),
             },
+            None => Err(SettingsError::BadSettings),
+        }
+    }
+}
+
+/// A whole number from 0 to 65535.
+impl SettingValue for u16 {
+    ghost use Rattle.mongo_settings.specs.Kinds.{port_in};
+
+    ghost meaning = { port_in };
+
+    fn read(_alloc: Global, value: &Value) -> Result<u16, SettingsError> {
+        match number_from(value, 0, u16::MAX as u64) {
+            Some(number) => Ok(number as u16),
+            None => Err(SettingsError::BadSettings),
+        }
+    }
+}
+
+/// A whole number from 0 to 4294967295.
+impl SettingValue for u32 {
+    ghost use Rattle.mongo_settings.specs.Kinds.{uint32_in};
+
+    ghost meaning = { uint32_in };
+
+    fn read(_alloc: Global, value: &Value) -> Result<u32, SettingsError> {
+        match number_from(value, 0, u32::MAX as u64) {
+            Some(number) => Ok(number as u32),
             None => Err(SettingsError::BadSettings),
         }
     }
@@ -131,22 +159,33 @@ fn joined_hex(alloc: Global, items: &[Value]) -> Result<Bytes, SettingsError>
 {
     let mut joined = Vec::new(alloc);
     for item in items {
-        let bytes = hex_bytes(alloc, item)?;
-        joined.extend_from_slice(bytes.as_slice())?;
+        push_hex_bytes(&mut joined, item)?;
     }
     Ok(Bytes::from_vec(joined))
 }
 
-// the bytes of a hex text, whose digits are an even number of either case
-fn hex_bytes(alloc: Global, value: &Value) -> Result<Vec<u8>, SettingsError>
-    ensures { Means (λ v. v.items) result (hex_bytes (view value.now)) }
+// Appends the bytes of a hex text, whose digits are an even number of either case. A refusal may leave other bytes at the end.
+fn push_hex_bytes(joined: &mut Vec<u8>, value: &Value) -> Result<(), SettingsError>
+    ensures pushed { OnOk result (IsJoined (hex_bytes (view value.now)) joined.old.items joined.new.items) }
+    ensures refused { IfErr result (λ e. MeansNothing e (hex_bytes (view value.now))) }
 {
     let Some(text) = value.as_str() else {
         return Err(SettingsError::BadSettings);
     };
-    match hex::decode(alloc, text) {
-        Ok(bytes) => Ok(bytes),
-        Err(FromHexError::OutOfMemory) => Err(SettingsError::OutOfMemory),
+    let at = joined.len();
+    joined.resize(at + text.len() / 2, 0)?;
+    decode_at(joined.as_mut_slice(), at, text)
+}
+
+// Writes the bytes of a hex text over those from a place to the end.
+fn decode_at(bytes: &mut [u8], at: usize, text: &str) -> Result<(), SettingsError>
+    requires place { at ≤ length bytes.old }
+    requires room { length bytes.old - at ≡ length text.now / 2 }
+    ensures decoded { OnOk result (IsJoined (hex_of text.now) (take at bytes.old) bytes.new) }
+    ensures refused { IfErr result (λ e. MeansNothing e (hex_of text.now)) }
+{
+    match hex::decode_to_slice(text, &mut bytes[at..]) {
+        Ok(()) => Ok(()),
         Err(_) => Err(SettingsError::BadSettings),
     }
 }

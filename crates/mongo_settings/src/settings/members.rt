@@ -2,10 +2,10 @@ ghost use Rattle.std.specs.Prelude.{◌≡◌, unwrap_or};
 ghost use Rattle.mongo_settings.specs.Meaning.{default_nonces, default_iterations};
 
 use crate::settings::kinds::Iterations;
-use crate::settings::reading::{SettingValue, optional, required};
+use crate::settings::reading::{SettingValue, optional};
 use crate::settings::{Settings, SettingsError};
-use mongo_bson::{Bytes, Text};
-use mongo_establish::Nonces;
+use mongo_bson::Bytes;
+use mongo_establish::{Nonces, PendingConnection};
 use mongo_meta::ClientOptions;
 use mongo_sasl::Credential;
 use serde_json::Value;
@@ -22,7 +22,7 @@ impl SettingValue for Settings {
 
     #[tactic(auto, unfolding(crate::specs::Meaning::settings_in))]
     fn read(alloc: Global, value: &Value) -> Result<Settings, SettingsError> {
-        let host = required::<Text>(alloc, value, "host")?;
+        let pending = PendingConnection::read(alloc, value)?;
         let replies = optional::<Bytes>(alloc, value, "replies")?;
         let credential = optional::<Credential>(alloc, value, "credential")?;
         let nonces = optional::<Nonces>(alloc, value, "nonces")?;
@@ -30,7 +30,7 @@ impl SettingValue for Settings {
         let options = ClientOptions::read(alloc, value)?;
         let iterations = optional::<Iterations>(alloc, value, "max_iterations")?;
         Ok(Settings {
-            host,
+            pending,
             replies: replies.unwrap_or(Bytes::new(alloc)),
             credential,
             nonces: nonces.unwrap_or(default_nonces()),

@@ -1,5 +1,6 @@
 use super::{SettingsError, read};
 use mongo_bson::Text;
+use mongo_establish::{PoolGeneration, ServerAddress};
 use mongo_sasl::AuthMechanism;
 use std::test::Fail;
 
@@ -12,13 +13,51 @@ const PROPERTIES: &[u8] =
     b"\x2a\0\0\0\x04a\0\x19\0\0\0\x120\0\xff\xff\xff\xff\xff\xff\xff\xff\x021\0\x02\0\0\0y\0\0\x02b\0\x02\0\0\0x\0\0";
 
 #[test]
-fn host_and_joined_replies_are_read(rt: HostRuntime) -> Result<(), Fail> {
-    let text = b"{\"host\": \"localhost\", \"replies\": [\"00fF\", \"\", \"Ab\"]} \n";
+fn joined_replies_are_read(rt: HostRuntime) -> Result<(), Fail> {
+    let text = b"{\"host\": \"h\", \"replies\": [\"00fF\", \"\", \"Ab\"]} \n";
     let Ok(settings) = read(rt.alloc(), text) else {
         return Err(Fail::from("settings"));
     };
-    assert_eq!(rt; settings.host.as_str(), "localhost");
     assert_eq!(rt; settings.replies.as_bytes(), [0, 255, 171].as_slice());
+    Ok(())
+}
+
+// The place, the port, the id and the generation of each. A port beside a path says nothing.
+#[test]
+fn connections_are_read(rt: HostRuntime) -> Result<(), Fail> {
+    for (text, place, port, id, number) in [
+        ("{\"host\":\"h\"}", "h", None, 1, 0),
+        ("{\"host\":\"h\",\"port\":0,\"id\":0}", "h", Some(0), 0, 0),
+        (
+            "{\"host\":\"\",\"port\":65535,\"id\":4294967295}",
+            "",
+            Some(65535),
+            u32::MAX,
+            0,
+        ),
+        (
+            "{\"unix\":\"/s\",\"port\":1,\"generation\":4294967295}",
+            "/s",
+            None,
+            1,
+            u32::MAX,
+        ),
+    ] {
+        let Ok(settings) = read(rt.alloc(), text.as_bytes()) else {
+            return Err(Fail::from("settings"));
+        };
+        let (its_place, its_port) = match &settings.pending.address {
+            ServerAddress::Tcp { host, port } => (host, *port),
+            ServerAddress::Unix { path } => (path, None),
+        };
+        let PoolGeneration::Normal(its_number) = settings.pending.generation else {
+            return Err(Fail::from("a number"));
+        };
+        assert_eq!(rt; its_place.as_str(), place);
+        assert_eq!(rt; its_port, port);
+        assert_eq!(rt; settings.pending.id, id);
+        assert_eq!(rt; its_number, number);
+    }
     Ok(())
 }
 
@@ -76,6 +115,10 @@ fn another_kind_of_a_key_is_no_settings(rt: HostRuntime) {
         "\"credential\":{\"properties\":{\"a\":[[]]}}}",
         "\"credential\":{\"properties\":{\"a\":9223372036854775808}}}",
         "\"credential\":{\"properties\":{\"a\\u0000\":\"b\"}}}",
+        "\"port\":65536}",
+        "\"port\":-1}",
+        "\"id\":4294967296}",
+        "\"generation\":true}",
         "\"nonces\":[]}",
         "\"nonces\":[\"00\",\"00\"]}",
         "\"first_id\":2147483648}",
@@ -110,8 +153,13 @@ fn each_refusal_has_its_cause(rt: HostRuntime) {
             "{\"host\":\"a\",\"replies\":[\"0g\"]}",
             SettingsError::BadSettings,
         ),
-        ("{\"host\":\"a\",\"port\":1}", SettingsError::NotBuilt),
-        ("{\"host\":1,\"port\":1}", SettingsError::NotBuilt),
+        (
+            "{\"host\":\"a\",\"unix\":\"b\"}",
+            SettingsError::BadSettings,
+        ),
+        ("{\"port\":1}", SettingsError::BadSettings),
+        ("{\"host\":\"a\",\"moment\":1}", SettingsError::NotBuilt),
+        ("{\"host\":1,\"moment\":1}", SettingsError::NotBuilt),
         (
             "{\"host\":1,\"credential\":{\"mechanism\":\"PLAIN\"}}",
             SettingsError::NotBuilt,
@@ -126,7 +174,7 @@ fn each_refusal_has_its_cause(rt: HostRuntime) {
         ),
         ("{\"host\":\"a\",\"port\":1.5}", SettingsError::BadSettings),
         (
-            "{\"host\":\"a\",\"port\":1,\"ports\":1}",
+            "{\"host\":\"a\",\"moment\":1,\"ports\":1}",
             SettingsError::BadSettings,
         ),
     ] {

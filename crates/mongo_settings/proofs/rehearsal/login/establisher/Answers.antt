@@ -1,7 +1,7 @@
 use Rattle.std.proofs.Common.{ap, ◌∙◌}
 use Rattle.std.proofs.lemmas.Result.{IfOk-weaker}
 use Rattle.mongo_establish.specs.Options.{options_of}
-use Rattle.mongo_settings.proofs.rehearsal.establisher.Goals as goal
+use Rattle.mongo_settings.proofs.rehearsal.login.establisher.Goals as goal
 
 pub returns : goal.returns
 returns c = record {

@@ -1,0 +1,8 @@
+use Rattle.mongo_settings.proofs.Connecting.{made, stopped}
+use Rattle.mongo_settings.proofs.rehearsal.login.connect.Goals as goal
+
+pub returns-clause-made : goal.returns-clause-made
+returns-clause-made g c = made c.args.login _ _ _ _ c.establish_connection.result c.as_ref.ensures.value c.establish_connection.ensures.established
+
+pub returns-clause-stopped : goal.returns-clause-stopped
+returns-clause-stopped g c = stopped c.args.login _ _ _ _ c.establish_connection.result c.as_ref.ensures.value c.establish_connection.ensures.refused
