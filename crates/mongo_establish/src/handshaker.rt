@@ -94,16 +94,9 @@ impl Handshaker {
             &first,
         )?;
         let round = answered_round(first, &mut reply);
+        let options = &self.options;
         log_in(
-            alloc,
-            &self.options,
-            connection,
-            link,
-            credential,
-            state,
-            round,
-            inputs,
-            steps,
+            alloc, options, connection, link, credential, state, round, inputs, steps,
         )?;
         Ok(reply)
     }
