@@ -16,7 +16,7 @@ returns-in_err-validate-clause-refused g c =
     log_in_invalid c.args.connection.now c.args.options.now (option_copied c.args.credential) c.args.inputs.now.nonces c.args.state.now.ids c.in-Some.credential.now (ap option_copied c.in-Some.is) c.args.round c.in-Some-mechanism_at.mechanism c.in-Some-stream_description.description c.in-Some-stream_description.is
     (c.in-Some-mechanism_at.ensures.0, λ reply like. c.in-Some-mechanism_at.ensures.1 reply (like ∙ sym c.is_some.ensures)) c.requires.spoken c.requires.made _ _ _ _ (costs_nothing _ _) (search rules)
 
-pub converse-requires-clause-conversation : goal.converse-requires-conversation
+pub converse-requires-clause-conversation : goal.converse-requires-clause-conversation
 converse-requires-clause-conversation g c =
     has_conversation c.args.connection.now c.args.options.now (option_copied c.args.credential) c.args.inputs.now.nonces c.args.state.now.ids c.in-Some.credential.now (ap option_copied c.in-Some.is) c.args.round c.in-Some-mechanism_at.mechanism c.in-Some-stream_description.description c.in-Some-stream_description.is
     (c.in-Some-mechanism_at.ensures.0, λ reply like. c.in-Some-mechanism_at.ensures.1 reply (like ∙ sym c.is_some.ensures)) c.requires.spoken c.requires.made
