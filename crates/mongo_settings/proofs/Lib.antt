@@ -17,3 +17,5 @@ pub mod OneReport
 mod Sharing
 mod LoginsRead
 pub mod Outcomes
+mod Taking
+mod CostsLed

@@ -1,13 +1,14 @@
 -- The settings of a batch's values, one after another.
-use Rattle.std.proofs.Common.{◌≡◌, ℕ, suc, ◌<◌, ◌∙◌, refl, sym, ap, Result, Ok, Err, List, [], ◌∷◌, ◌++◌, length, get_or, drop, add-one, drop-cons, append-nil}
-use Rattle.std.proofs.lemmas.List.{append-assoc}
+use Rattle.std.proofs.Common.{◌≡◌, ℕ, suc, ◌<◌, ◌+◌, ◌∙◌, refl, sym, ap, subst, Result, Ok, Err, List, [], ◌∷◌, ◌++◌, length, get_or, drop, add-one, drop-cons, append-nil}
+use Rattle.std.proofs.lemmas.List.{append_assoc}
 use Rattle.serde_json.specs.Data.{Data, Items}
 use Rattle.serde_json.specs.View.{view, items_view}
 use Rattle.serde_json.specs.declared.value.Value.{Value}
-use Rattle.mongo_settings.specs.Settings.{◌>>=◌, settings_of}
+use Rattle.mongo_settings.specs.Settings.{◌>>=◌, settings_of, Refuses}
 use Rattle.mongo_settings.specs.Logins.{each_settings}
 use Rattle.mongo_settings.specs.declared.settings.Settings.{Settings}
 use Rattle.mongo_settings.specs.declared.settings.SettingsError.{SettingsError}
+use Rattle.mongo_settings.specs.declared.settings.SettingsError.TheVariants.{BadSettings, NotBuilt, OutOfMemory}
 
 -- settings before the others
 abbrev pub with_front : List Settings → Result (List Settings) SettingsError → Result (List Settings) SettingsError
@@ -31,7 +32,7 @@ rest_of values i x within at =
     ap (λ l. each_settings (items_view l)) next
 
 joined : (front : List Settings) (settings : Settings) (others : Result (List Settings) SettingsError) → with_front front (others >>= (λ more. Ok (settings ∷ more))) ≡ with_front (front ++ settings ∷ []) others
-joined front settings (Ok more) = ap Ok (sym (append-assoc front (settings ∷ []) more))
+joined front settings (Ok more) = ap Ok (sym (append_assoc front (settings ∷ []) more))
 joined front settings (Err e) = refl
 
 pub read_more : (values : List Value) (i : ℕ) (front : List Settings) (x : Value) (settings : Settings) → i < length values → x ≡ get_or values i x → ReadTo values i front → settings_of (view x) ≡ Ok settings → ReadTo values (i + 1) (front ++ settings ∷ [])
@@ -47,3 +48,9 @@ read_refused values i front x e within at so_far is =
 pub read_all : (values : List Value) (i : ℕ) (front : List Settings) → drop i values ≡ [] → ReadTo values i front → each_settings (items_view values) ≡ Ok front
 unfolding each_settings
 read_all values i front none so_far = so_far ∙ ap (λ l. with_front front (each_settings (items_view l))) none ∙ ap Ok (append-nil front)
+
+-- what is refused is refused so
+pub read_stopped : (values : List Value) (i : ℕ) (front : List Settings) (x : Value) (e : SettingsError) → i < length values → x ≡ get_or values i x → ReadTo values i front → Refuses e (settings_of (view x)) → Refuses e (each_settings (items_view values))
+read_stopped values i front x OutOfMemory within at so_far r = tt
+read_stopped values i front x BadSettings within at so_far r = read_refused values i front x BadSettings within at so_far r
+read_stopped values i front x NotBuilt within at so_far r = read_refused values i front x NotBuilt within at so_far r

@@ -21,6 +21,8 @@ use Rattle.mongo_settings.specs.Outcome.{asked_of, accepted, refused}
 use Rattle.mongo_settings.specs.Login.{IsMade, IsStopped}
 use Rattle.mongo_settings.specs.Telling.{TellsMade, IsReported, TellsRefused, Tells}
 use Rattle.mongo_settings.specs.Rehearsal.{IsRehearsal}
+use Rattle.mongo_settings.specs.Rounds.{is_after_login}
+use Rattle.mongo_settings.specs.Takes.{Rehearses}
 
 -- ---- the link
 
@@ -54,7 +56,7 @@ described asked old new (Ok pooled) made = rw made.established.connection.descri
 described asked old new (Err refusal) made = tt
 
 made : (settings : Settings) (old new : State) (pooled : PooledConnection) (link : MemoryLink) (total : ℕ) (x : Rehearsal)
-    → IsMade (asked_of settings) old new pooled → Replayed settings.replies (bytes_written link) (bytes_left link) old new → total ≡ length settings.replies → TellsMade link total pooled x → IsRehearsal settings x
+    → IsMade (asked_of settings) old new pooled → Replayed settings.replies (bytes_written link) (bytes_left link) old new → total ≡ length settings.replies → TellsMade link total pooled x → Rehearses settings (Ok pooled) x
 made settings old new pooled link total x m p total_is tells =
     let e = m.established in
     let sent : bytes_written link ≡ e.sent = rw (p.fresh, p.written_is) at e.written in
@@ -64,6 +66,7 @@ made settings old new pooled link total x m p total_is tells =
     let rest : bytes_left link ≡ t.rest = same_some (bytes_left link) t.rest (sym p.left_is ∙ t.left_is) in
     let count : total - length (bytes_left link) ≡ length t.taken = ap (λ n. n - length (bytes_left link)) total_is ∙ taken_length settings.replies t.taken t.rest (bytes_left link) t.joined rest in
     record {
+      rehearsal_is = record {
       report = record {
         outcome = accepted (record { script = e.script; taken = t.taken; unread = t.rest });
         is_outcome = record { is_script = e.is_script; joined = t.joined; is_taken = t.is_taken };
@@ -76,13 +79,15 @@ made settings old new pooled link total x m p total_is tells =
             ∙ ap (λ i. sent_lines f.frames ++ (read_line (length t.taken) ++ accepted_lines g.description (generation_of (asked_of settings).pending.generation g.description) i)) e.connection.server_id;
       };
       status_is = tells.status;
+      };
+      logs_in_is = refl;
     }
 
 -- ---- a refusal
 
 told_refusal : (settings : Settings) (kind : ErrorKind) (phase : HandshakePhase) (old new : State) (after : ℤ) (link : MemoryLink) (total : ℕ) (refusal : EstablishError) (x : Rehearsal)
     → refusal.cause.kind ≡ kind → refusal.handshake_phase ≡ phase → RefusedBy phase (asked_of settings) settings.replies kind old new after
-    → Replayed settings.replies (bytes_written link) (bytes_left link) old new → total ≡ length settings.replies → TellsRefused link total refusal x → IsRehearsal settings x
+    → Replayed settings.replies (bytes_written link) (bytes_left link) old new → total ≡ length settings.replies → TellsRefused link total refusal x → Rehearses settings (Err refusal) x
 told_refusal settings kind phase old new after link total refusal x kind_is phase_is r p total_is tells =
     let l = r.left_by in
     let first = r.refusal in
@@ -91,6 +96,7 @@ told_refusal settings kind phase old new after link total refusal x kind_is phas
     let rest : bytes_left link ≡ first.unread = same_some (bytes_left link) first.unread (sym p.left_is ∙ l.left) in
     let count : total - length (bytes_left link) ≡ length first.taken = ap (λ n. n - length (bytes_left link)) total_is ∙ taken_length settings.replies first.taken first.unread (bytes_left link) r.joined rest in
     record {
+      rehearsal_is = record {
       report = record {
         outcome = refused first;
         is_outcome = r.is_refusal;
@@ -103,10 +109,12 @@ told_refusal settings kind phase old new after link total refusal x kind_is phas
             ∙ ap (λ k. sent_lines f.frames ++ (read_line (length first.taken) ++ refused_lines first.phase k)) (kind_is ∙ sym r.kind_is);
       };
       status_is = tells.status;
+      };
+      logs_in_is = ap is_after_login (r.kind_is ∙ sym kind_is);
     }
 
 unmade : (settings : Settings) (old new : State) (refusal : EstablishError) (link : MemoryLink) (total : ℕ) (x : Rehearsal)
-    → IsStopped (asked_of settings) old new refusal → Replayed settings.replies (bytes_written link) (bytes_left link) old new → total ≡ length settings.replies → TellsRefused link total refusal x → IsRehearsal settings x
+    → IsStopped (asked_of settings) old new refusal → Replayed settings.replies (bytes_written link) (bytes_left link) old new → total ≡ length settings.replies → TellsRefused link total refusal x → Rehearses settings (Err refusal) x
 unmade settings old new refusal link total x s p total_is tells =
     elim (stopped_refusal refusal.handshake_phase (asked_of settings) refusal.cause.kind old new s.after settings.replies s.stopped p.given p.unfailed p.unwritten) [
       | inl memory ↦ absurd (subst IsReported memory tells.reported)
@@ -118,7 +126,7 @@ unmade settings old new refusal link total x s p total_is tells =
 -- however an establishment ended, what is told of it is the report
 pub rehearsed : {E : Type 0} (settings : Settings) (asked : Asked) (old new : State) (link : MemoryLink) (total : ℕ) (ended : Result PooledConnection EstablishError) (r : Result Rehearsal E)
     → asked ≡ asked_of settings → IfOk ended (IsMade asked old new) → IfErr ended (IsStopped asked old new)
-    → Replayed settings.replies (bytes_written link) (bytes_left link) old new → total ≡ length settings.replies → IfOk r (Tells link total ended) → IfOk r (IsRehearsal settings)
+    → Replayed settings.replies (bytes_written link) (bytes_left link) old new → total ≡ length settings.replies → IfOk r (Tells link total ended) → IfOk r (Rehearses settings ended)
 rehearsed settings asked old new link total (Ok pooled) (Ok x) same m s p total_is tells = made settings old new pooled link total x (subst (λ a. IsMade a old new pooled) same m) p total_is tells
 rehearsed settings asked old new link total (Err refusal) (Ok x) same m s p total_is tells = unmade settings old new refusal link total x (subst (λ a. IsStopped a old new refusal) same s) p total_is tells
 rehearsed settings asked old new link total ended (Err error) same m s p total_is tells = tt

@@ -1,18 +1,30 @@
 -- What a rehearsal takes of the counter and of the cache of salted passwords that it is handed.
-use Rattle.std.specs.Prelude.{◌≡◌, ◌++◌, Bool, true, false, Option}
+use Rattle.std.specs.Prelude.{◌≡◌, ◌++◌, Bool, true, false, Option, Result, Ok, Err}
 use Rattle.mongo_scram.specs.declared.cache.SaltedKey.{SaltedKey}
 use Rattle.mongo_scram.specs.Costs.{Ledgers}
+use Rattle.mongo_establish.specs.declared.establisher.PooledConnection.{PooledConnection}
+use Rattle.mongo_establish.specs.declared.establisher.EstablishError.{EstablishError}
 use Rattle.mongo_settings.specs.Costs.{AcceptedTakes, RefusedTakes}
 use Rattle.mongo_settings.specs.declared.settings.Settings.{Settings}
 use Rattle.mongo_settings.specs.declared.rehearsal.Rehearsal.{Rehearsal}
 use Rattle.mongo_settings.specs.Rehearsal.{IsRehearsal}
-use Rattle.mongo_settings.specs.Rounds.{IsKeyOf, logs_in}
+use Rattle.mongo_settings.specs.Rounds.{IsKeyOf, is_after_login, logs_in}
 use Rattle.mongo_settings.specs.Batch.{both}
 
 -- by whether the login was accepted
 abbrev pub TakesBy : Bool → Option SaltedKey → Ledgers → Ledgers → Type 0
 TakesBy true key first last = AcceptedTakes key first last
 TakesBy false key first last = RefusedTakes key first last
+
+-- whether the login of an establishment was accepted that ended so
+abbrev pub logged_in : Result PooledConnection EstablishError → Bool
+logged_in (Ok pooled) = true
+logged_in (Err refusal) = is_after_login refusal.cause.kind
+
+-- the rehearsal is that of settings, whose establishment ended so
+pub record Rehearses (settings : Settings) (ended : Result PooledConnection EstablishError) (rehearsal : Rehearsal) : Type 0 where
+  pub rehearsal_is : IsRehearsal settings rehearsal
+  pub logs_in_is : logs_in rehearsal_is.report.outcome ≡ logged_in ended
 
 pub record Takes (settings : Settings) (accepted : Bool) (first last : Ledgers) : Type 0 where
   pub key : Option SaltedKey

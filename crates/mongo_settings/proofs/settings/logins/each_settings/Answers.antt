@@ -1,4 +1,19 @@
-use Rattle.std.proofs.Common.{◌≡◌, drop_of_length-le}
+use Rattle.std.proofs.Common.{rules, drop_of_length-le}
+use Rattle.std.proofs.lemmas.Result.{err_from_is_err_and}
 use Rattle.std.proofs.lemmas.List.Elements.{All-push}
-use Rattle.mongo_settings.proofs.LoginsRead.{read_none, read_more, read_refused, read_all}
+use Rattle.mongo_settings.proofs.LoginsRead.{read_more, read_stopped, read_all}
 use Rattle.mongo_settings.proofs.settings.logins.each_settings.Goals as goal
+
+pub returns-in_err-settings-clause-settings : goal.returns-in_err-settings-clause-settings
+returns-in_err-settings-clause-settings c =
+    let p = err_from_is_err_and c.from_residual.result c.from_residual.ensures.1 in
+    rw (p.1, p.2) (read_stopped c.args.values.now c.loop-value.value-index c.loop-value.logins.items c.value-item.result c.in_err-settings.field-0.0 c.loop-value-test.true c.value-item.is c.loop-value.invariant.read c.in_err-settings.ensures.settings)
+
+pub loop-value-preserved : goal.loop-value-preserved
+loop-value-preserved c = record {
+  read = ?;
+  spoken = ?;
+}
+
+pub returns-clause-settings : goal.returns-clause-settings
+returns-clause-settings c = read_all c.args.values.now c.loop-value.value-index c.loop-value.logins.items (drop_of_length-le c.args.values.now c.loop-value-test.false) c.loop-value.invariant.read
