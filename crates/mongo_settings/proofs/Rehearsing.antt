@@ -67,18 +67,18 @@ made settings old new pooled link total x m p total_is tells =
     let count : total - length (bytes_left link) ≡ length t.taken = ap (λ n. n - length (bytes_left link)) total_is ∙ taken_length settings.replies t.taken t.rest (bytes_left link) t.joined rest in
     record {
       rehearsal_is = record {
-      report = record {
-        outcome = accepted (record { script = e.script; taken = t.taken; unread = t.rest });
-        is_outcome = record { is_script = e.is_script; joined = t.joined; is_taken = t.is_taken };
-        frames = f.frames;
-        each_frame = f.each;
-        sent = subst (IsWritten (asked_of settings) e.script) f.joined e.is_written;
-        text_is = (tells.text g.description e.connection.description_is).told f.frames f.each (sent ∙ f.joined)
-            ∙ ap (λ n. sent_lines f.frames ++ (read_line n ++ accepted_lines g.description pooled.generation pooled.connection.server_id)) count
-            ∙ ap (λ generation. sent_lines f.frames ++ (read_line (length t.taken) ++ accepted_lines g.description generation pooled.connection.server_id)) e.generation
-            ∙ ap (λ i. sent_lines f.frames ++ (read_line (length t.taken) ++ accepted_lines g.description (generation_of (asked_of settings).pending.generation g.description) i)) e.connection.server_id;
-      };
-      status_is = tells.status;
+        report = record {
+          outcome = accepted (record { script = e.script; taken = t.taken; unread = t.rest });
+          is_outcome = record { is_script = e.is_script; joined = t.joined; is_taken = t.is_taken };
+          frames = f.frames;
+          each_frame = f.each;
+          sent = subst (IsWritten (asked_of settings) e.script) f.joined e.is_written;
+          text_is = (tells.text g.description e.connection.description_is).told f.frames f.each (sent ∙ f.joined)
+              ∙ ap (λ n. sent_lines f.frames ++ (read_line n ++ accepted_lines g.description pooled.generation pooled.connection.server_id)) count
+              ∙ ap (λ generation. sent_lines f.frames ++ (read_line (length t.taken) ++ accepted_lines g.description generation pooled.connection.server_id)) e.generation
+              ∙ ap (λ i. sent_lines f.frames ++ (read_line (length t.taken) ++ accepted_lines g.description (generation_of (asked_of settings).pending.generation g.description) i)) e.connection.server_id;
+        };
+        status_is = tells.status;
       };
       logs_in_is = refl;
     }
@@ -97,18 +97,18 @@ told_refusal settings kind phase old new after link total refusal x kind_is phas
     let count : total - length (bytes_left link) ≡ length first.taken = ap (λ n. n - length (bytes_left link)) total_is ∙ taken_length settings.replies first.taken first.unread (bytes_left link) r.joined rest in
     record {
       rehearsal_is = record {
-      report = record {
-        outcome = refused first;
-        is_outcome = r.is_refusal;
-        frames = f.frames;
-        each_frame = f.each;
-        sent = subst (IsSaid first.commands (asked_of settings).first_id) f.joined l.sent_is;
-        text_is = tells.text.told f.frames f.each (sent ∙ f.joined)
-            ∙ ap (λ n. sent_lines f.frames ++ (read_line n ++ refused_lines refusal.handshake_phase refusal.cause.kind)) count
-            ∙ ap (λ p. sent_lines f.frames ++ (read_line (length first.taken) ++ refused_lines p refusal.cause.kind)) (phase_is ∙ sym r.phase_is)
-            ∙ ap (λ k. sent_lines f.frames ++ (read_line (length first.taken) ++ refused_lines first.phase k)) (kind_is ∙ sym r.kind_is);
-      };
-      status_is = tells.status;
+        report = record {
+          outcome = refused first;
+          is_outcome = r.is_refusal;
+          frames = f.frames;
+          each_frame = f.each;
+          sent = subst (IsSaid first.commands (asked_of settings).first_id) f.joined l.sent_is;
+          text_is = tells.text.told f.frames f.each (sent ∙ f.joined)
+              ∙ ap (λ n. sent_lines f.frames ++ (read_line n ++ refused_lines refusal.handshake_phase refusal.cause.kind)) count
+              ∙ ap (λ p. sent_lines f.frames ++ (read_line (length first.taken) ++ refused_lines p refusal.cause.kind)) (phase_is ∙ sym r.phase_is)
+              ∙ ap (λ k. sent_lines f.frames ++ (read_line (length first.taken) ++ refused_lines first.phase k)) (kind_is ∙ sym r.kind_is);
+        };
+        status_is = tells.status;
       };
       logs_in_is = ap is_after_login (r.kind_is ∙ sym kind_is);
     }

@@ -9,8 +9,8 @@ mod login;
 mod telling;
 
 use crate::settings::Settings;
-use login::{connect, prepare};
 pub(crate) use login::new_state;
+use login::{connect, prepare};
 use mongo_establish::LoginState;
 use mongo_mac::Steps;
 use std::alloc::{AllocError, Global};

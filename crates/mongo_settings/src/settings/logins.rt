@@ -1,9 +1,10 @@
 //! The logins of a batch.
-ghost use Rattle.std.specs.Prelude.{◌≡◌, All, IfOk};
+ghost use Rattle.std.specs.Prelude.{◌≡◌, ◌++◌, [], ◌∷◌, All, IfOk, IfErr, OnOk};
 ghost use Rattle.serde_json.specs.View.{view, items_view};
 ghost use Rattle.mongo_settings.specs.Settings.{needed, Gives};
 ghost use Rattle.mongo_settings.specs.Logins.{each_settings, logins_of, logins_judged};
 ghost use Rattle.mongo_settings.specs.Batch.{IsSpoken};
+ghost use Rattle.mongo_settings.specs.declared.settings.SettingsError.TheVariants.{OutOfMemory};
 
 use crate::settings::reading::judge_object;
 use crate::settings::{Settings, SettingsError, settings_of, value_of};
@@ -38,9 +39,17 @@ fn each_settings(alloc: Global, values: &[Value]) -> Result<Vec<Settings>, Setti
     let mut logins = Vec::new(alloc);
     for value in values {
         let settings = settings_of(alloc, value)?;
-        if logins.push(settings).is_err() {
-            return Err(SettingsError::OutOfMemory);
-        }
+        push(&mut logins, settings)?;
     }
     Ok(logins)
+}
+
+fn push(logins: &mut Vec<Settings>, settings: Settings) -> Result<(), SettingsError>
+    ensures pushed { OnOk result (logins.new.items ≡ logins.old.items ++ settings ∷ []) }
+    ensures refused { IfErr result (λ e. e ≡ OutOfMemory) }
+{
+    match logins.push(settings) {
+        Ok(()) => Ok(()),
+        Err(_) => Err(SettingsError::OutOfMemory),
+    }
 }
