@@ -1,55 +1,78 @@
--- What a login takes of the counter and of the cache.
-use Rattle.std.proofs.Common.{◌≡◌, ◌⊎◌, ℕ, ℤ, subst, sym, inl, inr, Result, Ok, Err, List, Contains, IfErr, OnOk}
-use Rattle.mongo_wire.specs.declared.error.Error.{Error}
+-- What a caller concludes from what an establishment costs.
+use Rattle.std.proofs.Common.{◌≡◌, ◌⊎◌, ◌↔◌, ◌≤◌, ℕ, ℤ, ap, subst, sym, inl, inr, Option, None, Some, List, Contains, arith}
 use Rattle.mongo_wire.specs.declared.error.ErrorKind.{ErrorKind}
-use Rattle.mongo_wire.specs.declared.error.ErrorKind.TheVariants.{IncompatibleServer}
 use Rattle.mongo_wire.specs.Outside.{State}
-use Rattle.mongo_command.specs.declared.connection.Connection.{Connection}
-use Rattle.mongo_scram.specs.declared.cache.SaltedCache.{SaltedCache}
+use Rattle.mongo_command.specs.Conversation.{Plan}
 use Rattle.mongo_scram.specs.declared.cache.SaltedKey.{SaltedKey}
 use Rattle.mongo_scram.specs.Cache.{entries_of}
-use Rattle.mongo_scram.specs.Costs.{Ledgers, ledgers, Counts, Derives, SameEntries, Accepted, StoppedLogin}
-use Rattle.mongo_scram.specs.Plan.{Handed}
-use Rattle.mongo_scram.proofs.Derived.{costs_nothing}
-use Rattle.mongo_establish.specs.declared.establisher.EstablishError.{EstablishError}
-use Rattle.mongo_establish.specs.declared.establisher.PooledConnection.{PooledConnection}
-use Rattle.mongo_establish.specs.declared.generation.PoolGeneration.{PoolGeneration}
-use Rattle.mongo_establish.specs.Costs.{CostsSome}
-use Rattle.mongo_establish.specs.Pooled.{UnnamedService}
+use Rattle.mongo_scram.specs.Costs.{Ledgers, HasEntry, Counts, Derives, SameEntries, CostsNothing}
+use Rattle.mongo_establish.specs.Asked.{Asked}
+use Rattle.mongo_establish.specs.Costs.{TakesKey, AcceptedTakes, RefusedTakes, AcceptedCosts, RefusedCosts, HandshakeTakes, EstablishmentSpends}
 
--- nothing was taken
-pub costs_none : (steps : ℕ) (cache : SaltedCache) → CostsSome (ledgers steps cache) (ledgers steps cache)
-costs_none steps cache = record { rounds = 0; counts = (costs_nothing steps cache).counts; kept = λ entry there. there }
+-- ---- some rounds
 
-abbrev Kept : Ledgers → Ledgers → Type 0
-Kept first last = (entry : SaltedKey × List ℕ) → Contains (entries_of first.cache) entry → Contains (entries_of last.cache) entry
+-- so many rounds were derived, counted by both; no entry is lost
+pub record CostsSome (first last : Ledgers) : Type 0 where
+  pub rounds : ℕ
+  pub counts : Counts rounds first last
+  pub kept : (entry : SaltedKey × List ℕ) → Contains (entries_of first.cache) entry → Contains (entries_of last.cache) entry
 
-same_kept : (first last : Ledgers) → SameEntries first last → Kept first last
+same_kept : (first last : Ledgers) → SameEntries first last → (entry : SaltedKey × List ℕ) → Contains (entries_of first.cache) entry → Contains (entries_of last.cache) entry
 same_kept first last same entry there = subst (λ entries. Contains entries entry) (sym same) there
 
-derived_costs : (key : SaltedKey) (first last : Ledgers) → Derives key first last → Kept first last → CostsSome first last
-derived_costs key first last derived kept =
+nothing_some : (first last : Ledgers) → CostsNothing first last → CostsSome first last
+nothing_some first last nothing = record { rounds = 0; counts = nothing.counts; kept = same_kept first last nothing.entries }
+
+derived_some : (key : SaltedKey) (first last : Ledgers) → Derives key first last → ((entry : SaltedKey × List ℕ) → Contains (entries_of first.cache) entry → Contains (entries_of last.cache) entry) → CostsSome first last
+derived_some key first last derived kept =
     elim derived [ inl found ↦ record { rounds = 0; counts = found.1; kept = kept } | inr anew ↦ record { rounds = key.count; counts = anew.1; kept = kept } ]
 
-accepted_costs : (handed : Handed) (document : List ℕ) (old new : State) (before after : ℤ) (first last : Ledgers) → Accepted handed document old new before after first last → CostsSome first last
-accepted_costs handed document old new before after first last is =
-    derived_costs _ first last is.derived (λ entry there. elim is.kept [ inl same ↦ same_kept first last same.1 entry there | inr added ↦ (added entry).1 (inl there) ])
+pub accepted_some : (key : Option SaltedKey) (first last : Ledgers) → AcceptedTakes key first last → CostsSome first last
+accepted_some None first last takes = nothing_some first last takes
+accepted_some (Some key) first last takes =
+    derived_some key first last takes.derived (λ entry there. elim takes.others [ inl same ↦ same_kept first last same entry there | inr adds ↦ (adds entry).1 (inl there) ])
 
-stopped_costs : (handed : Handed) (kind : ErrorKind) (old new : State) (before after : ℤ) (first last : Ledgers) → StoppedLogin handed kind old new before after first last → CostsSome first last
-stopped_costs handed kind old new before after first last is =
-    elim is [
-      | inl early ↦ record { rounds = 0; counts = early.1.counts; kept = same_kept first last early.1.entries }
-      | inr late ↦ elim late.derived [
-        | inl derived ↦ derived_costs _ first last derived (same_kept first last late.entries)
-        | inr memory ↦ record { rounds = 0; counts = memory.1; kept = same_kept first last late.entries }
-      ]
+pub refused_some : (key : Option SaltedKey) (first last : Ledgers) → RefusedTakes key first last → CostsSome first last
+refused_some None first last takes = nothing_some first last takes
+refused_some (Some key) first last takes = derived_some key first last takes.derived (same_kept first last takes.entries)
+
+refused_costs_some : (plan : Plan (Option SaltedKey)) (kind : ErrorKind) (old new : State) (before after : ℤ) (first last : Ledgers) → RefusedCosts plan kind old new before after first last → CostsSome first last
+refused_costs_some plan kind old new before after first last r =
+    elim r [
+      | inl early ↦ nothing_some first last early.nothing
+      | inr late ↦ elim late.takes [ inl takes ↦ refused_some late.key first last takes | inr memory ↦ nothing_some first last memory.1 ]
     ]
 
-pub login_costs : {T : Type 0} (r : Result T Error) (handed : Handed) (document : List ℕ) (old new : State) (before after : ℤ) (first last : Ledgers) → OnOk r (Accepted handed document old new before after first last) → IfErr r (λ e. StoppedLogin handed e.kind old new before after first last) → CostsSome first last
-login_costs (Ok x) handed document old new before after first last accepted stopped = accepted_costs handed document old new before after first last accepted
-login_costs (Err e) handed document old new before after first last accepted stopped = stopped_costs handed e.kind old new before after first last stopped
+pub takes_some : (asked : Asked) (old : State) (first last : Ledgers) → HandshakeTakes asked old first last → CostsSome first last
+takes_some asked old first last takes = accepted_some takes.key first last takes.takes
 
--- where a service is missing, the login had been accepted
-pub unnamed_entries : (P : Type 0) (r : Result PooledConnection EstablishError) (connection : Connection) (pool : PoolGeneration) → IfErr r (UnnamedService connection pool) → IfErr r (λ e. (e.cause.kind ≡ IncompatibleServer) ⊎ P)
-unnamed_entries P (Ok pooled) connection pool h = tt
-unnamed_entries P (Err e) connection pool h = inl h.kind_is
+pub spends_some : (asked : Asked) (kind : ErrorKind) (old new : State) (after : ℤ) (first last : Ledgers) → EstablishmentSpends asked kind old new after first last → CostsSome first last
+spends_some asked kind old new after first last spends =
+    elim spends [ inl unnamed ↦ takes_some asked old first last unnamed.accepted | inr refused ↦ refused_costs_some _ kind old new asked.first_id after first last refused.refused ]
+
+-- the counter never falls
+pub some_rise : (first last : Ledgers) → CostsSome first last → first.steps ≤ last.steps
+some_rise first last some = let counted = some.counts.steps in omega arith
+
+-- ---- the keys that have an entry
+
+-- those that had one, and nothing else
+pub same_keys : (first last : Ledgers) → SameEntries first last → (other : SaltedKey) → HasEntry last.cache other ↔ HasEntry first.cache other
+same_keys first last same other =
+    (λ has. (has.0, subst (λ entries. Contains entries (other, has.0)) same has.1), λ had. (had.0, subst (λ entries. Contains entries (other, had.0)) (sym same) had.1))
+
+key_of_entry : (key other : SaltedKey) (tag another : List ℕ) → ◌≡◌ {A = SaltedKey × List ℕ} (key, tag) (other, another) → key ≡ other
+key_of_entry key other tag another same = ap (λ (entry : SaltedKey × List ℕ). entry.0) same
+
+-- those that had one, and the key that was taken
+pub taken_keys : (key : SaltedKey) (first last : Ledgers) → TakesKey key first last → (other : SaltedKey) → HasEntry last.cache other ↔ (HasEntry first.cache other ⊎ (key ≡ other))
+taken_keys key first last takes other =
+    elim takes.others [
+      | inl same ↦
+          let keys = same_keys first last same other in
+          (λ has. inl (keys.0 has), λ has. elim has [ inl had ↦ keys.1 had | inr is ↦ subst (HasEntry last.cache) is takes.entry ])
+      | inr adds ↦ (
+        λ has. elim ((adds (other, has.0)).0 has.1) [ inl there ↦ inl (has.0, there) | inr is ↦ inr (key_of_entry key other _ has.0 is) ],
+        λ has. elim has [ inl had ↦ (had.0, (adds (other, had.0)).1 (inl had.1)) | inr is ↦ subst (HasEntry last.cache) is takes.entry ],
+      )
+    ]

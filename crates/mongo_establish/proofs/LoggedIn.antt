@@ -95,12 +95,12 @@ not_both : (result : Result (Unit {0}) ArgumentFault) (fault : ArgumentFault) �
 not_both result fault p q = cc
 
 -- a credential that was taken, or isn't asked for, has no row
-valid_row : (reply : Option (List ℕ)) (mechanism : AuthMechanism) (credential : Credential) → IsScram mechanism → (is_some reply ≡ false → IsValidated mechanism credential false (Ok tt)) → HasNone (InvalidRow reply mechanism credential)
+pub valid_row : (reply : Option (List ℕ)) (mechanism : AuthMechanism) (credential : Credential) → IsScram mechanism → (is_some reply ≡ false → IsValidated mechanism credential false (Ok tt)) → HasNone (InvalidRow reply mechanism credential)
 valid_row None mechanism credential scram valid (InvalidArgument fault) row = not_both (first_broken (scram_rules credential)) fault (fault_broken mechanism credential (Err fault) scram row) (fault_broken mechanism credential (Ok tt) scram (valid refl))
 valid_row None mechanism credential scram valid kind row = row
 valid_row (Some reply) mechanism credential scram valid kind row = row
 
-none_is : (reply : Option (List ℕ)) → is_some reply ≡ false → reply ≡ None
+pub none_is : (reply : Option (List ℕ)) → is_some reply ≡ false → reply ≡ None
 none_is None is = refl
 none_is (Some reply) is = let no : ⊥ = cc in absurd no
 

@@ -48,7 +48,7 @@ scram_validated mechanism credential fault scram is = absurd scram
 same_fault : (result : Result (Unit {0}) ArgumentFault) (a b : ArgumentFault) → Err a ≡ result → Err b ≡ result → a ≡ b
 same_fault result a b p q = cc
 
-one_invalid_row : (reply : Option (List ℕ)) (mechanism : AuthMechanism) (credential : Credential) → IsScram mechanism → IsOne (InvalidRow reply mechanism credential)
+pub one_invalid_row : (reply : Option (List ℕ)) (mechanism : AuthMechanism) (credential : Credential) → IsScram mechanism → IsOne (InvalidRow reply mechanism credential)
 one_invalid_row None mechanism credential scram (InvalidArgument a) (InvalidArgument b) p q =
     ap InvalidArgument (same_fault (first_broken (scram_rules credential)) a b (scram_validated mechanism credential a scram p) (scram_validated mechanism credential b scram q))
 one_invalid_row None mechanism credential scram (InvalidArgument a) other p q = absurd q

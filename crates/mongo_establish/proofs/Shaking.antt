@@ -15,11 +15,14 @@ use Rattle.mongo_command.specs.HelloExchange.{RunsHello, RunHelloRefused}
 use Rattle.mongo_sasl.specs.declared.credential.Credential.{Credential}
 use Rattle.mongo_scram.specs.declared.conversation.FirstRound.{FirstRound}
 use Rattle.mongo_scram.specs.Client.{speculated_of}
+use Rattle.mongo_scram.specs.Costs.{Ledgers}
 use Rattle.mongo_establish.specs.declared.client_first.ClientFirst.{ClientFirst}
 use Rattle.mongo_establish.specs.declared.login_state.Nonces.{Nonces}
 use Rattle.mongo_establish.specs.declared.options.HandshakerOptions.{HandshakerOptions}
 use Rattle.mongo_establish.specs.Asked.{Asked, asked_over}
 use Rattle.mongo_establish.specs.Client.{hello_with, login_hello}
+use Rattle.mongo_establish.specs.Costs.{LoginTakes, LoginSpends, HandshakeTakes, HandshakeSpends}
+use Rattle.mongo_establish.specs.Derivation.{login_derivation, derivation_plan}
 use Rattle.mongo_establish.specs.Established.{Holds, IsReplyOf, ShookHands, StoppedHandshake, StoppedHello}
 use Rattle.mongo_establish.specs.First.{IsFirst, IsRoundOf, first_document, round_with}
 use Rattle.mongo_establish.specs.Greeting.{Greeting}
@@ -28,6 +31,8 @@ use Rattle.mongo_establish.specs.LoggingIn.{LogsIn, LoginStops}
 use Rattle.mongo_establish.specs.Plan.{hello_plan}
 use Rattle.mongo_establish.specs.Reply.{HoldsReply}
 use Rattle.mongo_establish.specs.Speculation.{HelloRow, left_in, speculation}
+use Rattle.mongo_establish.proofs.DerivationPlan.{derivation_alike}
+use Rattle.mongo_establish.proofs.DerivationSteps.{accepted_more, refused_more, accepted_after, refused_after}
 use Rattle.mongo_establish.proofs.FirstRounds.{first_speculation, round_of}
 use Rattle.mongo_establish.proofs.LoginAlike.{pending_over, reached_alike, stopped_alike}
 use Rattle.mongo_establish.proofs.HelloExchange.{unmade, unbuilt, unrun, hello_run, undescribed, greeting_in, greeted_by}
@@ -148,3 +153,20 @@ module _ (opened : Connection) (options : HandshakerOptions) (credential : Optio
             described = record { holds = held connection later; faultless = faultless };
             reply_is = is_reply answer is;
           }
+
+          -- ---- what it costs
+
+          pub login_spends : {T : Type 0} (r : Result T Error) (new : State) (after : ℤ) (first last : Ledgers) → IfErr r (λ e. LoginSpends anew described.stream_description round e.kind middle new between after first last) → IfErr r (λ e. HandshakeSpends asked e.kind old new after first last)
+          unfolding derivation_plan
+          login_spends (Ok x) new after first last h = tt
+          login_spends (Err e) new after first last h =
+              refused_after (hello_plan asked) (login_derivation asked) greeting e.kind old middle new id between after first last greeted
+              (refused_more (login_derivation anew greeting) (login_derivation asked greeting) e.kind middle new between after first last (derivation_alike (pending_over described) (pending_over opened) options credential nonces between id greeting)
+              (h.costs greeting held_description held_round))
+
+          pub shaken_takes : (first last : Ledgers) → LoginTakes anew described.stream_description round middle between first last → HandshakeTakes asked old first last
+          unfolding derivation_plan
+          shaken_takes first last h =
+              accepted_after (hello_plan asked) (login_derivation asked) greeting old middle id between first last greeted
+              (accepted_more (login_derivation anew greeting) (login_derivation asked greeting) middle between first last (derivation_alike (pending_over described) (pending_over opened) options credential nonces between id greeting)
+              (h.costs greeting held_description held_round))

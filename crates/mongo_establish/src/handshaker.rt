@@ -32,16 +32,15 @@ pub struct Handshaker {
 }
 
 impl Handshaker {
-    ghost use Rattle.std.specs.Prelude.{◌≡◌, ◌⊎◌, None, IsSome, option_copied, option_map, IfOk, IfErr, OnOk, OnErr};
+    ghost use Rattle.std.specs.Prelude.{◌≡◌, ◌⊎◌, None, IsSome, option_copied, option_map, IfOk, IfErr, OnOk};
     ghost use Rattle.mongo_wire.specs.declared.error.ErrorKind.{ErrorKind};
     ghost use Rattle.mongo_wire.specs.declared.error.ErrorKind.TheVariants.{OutOfMemory};
     ghost use Rattle.mongo_command.specs.Connection.{kept_fault, KeepsRest};
     ghost use Rattle.mongo_command.specs.Exchange.{CountsStay};
-    ghost use Rattle.mongo_scram.specs.Cache.{entries_of};
     ghost use Rattle.mongo_scram.specs.Costs.{ledgers};
     ghost use Rattle.mongo_establish.specs.Asked.{asked_over};
     ghost use Rattle.mongo_establish.specs.Client.{common_hello, hello_with};
-    ghost use Rattle.mongo_establish.specs.Costs.{CostsSome};
+    ghost use Rattle.mongo_establish.specs.Costs.{LoginTakes, LoginSpends, HandshakeTakes, HandshakeSpends};
     ghost use Rattle.mongo_establish.specs.Established.{ShookHands, StoppedHandshake};
     ghost use Rattle.mongo_establish.specs.First.{first_document};
     ghost use Rattle.mongo_establish.specs.Handshaker.{options_in};
@@ -66,7 +65,6 @@ impl Handshaker {
     /// hello is longer than 2147483647 bytes and at `TooLong` where its frame is longer than 50331648. `WriteFault` where the
     /// link failed to take it; those of [`mongo_wire::Message::read_from`]; `Command`, `Hello`, `SessionTimeout`. Up to here
     /// the connection has no description; then it has that of the reply, and the refusals of the mechanism follow.
-    #[tactic(auto, using(crate::proofs::Costing::costs_none))]
     pub fn handshake<L: Link, G: Ledger>(
         &self,
         alloc: Global,
@@ -84,9 +82,11 @@ impl Handshaker {
             (L.state link.old) (L.state link.new) state.new.ids) }
         ensures refused { IfErr result (λ e. StoppedHandshake (asked_over connection.old (options_in self.now) (option_copied credential.entry) inputs.now.nonces state.old.ids) connection.old connection.new e.kind
             (L.state link.old) (L.state link.new) state.new.ids) }
-        // Rounds are counted by both, and no entry is lost.
-        ensures costs { CostsSome (ledgers steps.old state.old.salted) (ledgers steps.new state.new.salted) }
-        ensures entries { OnErr result (entries_of state.new.salted ≡ entries_of state.old.salted) }
+        // The key of the login, where it came so far, was derived where it had no entry; it has one once the login was accepted.
+        ensures costs { OnOk result (HandshakeTakes (asked_over connection.old (options_in self.now) (option_copied credential.entry) inputs.now.nonces state.old.ids)
+            (L.state link.old) (ledgers steps.old state.old.salted) (ledgers steps.new state.new.salted)) }
+        ensures spent { IfErr result (λ e. HandshakeSpends (asked_over connection.old (options_in self.now) (option_copied credential.entry) inputs.now.nonces state.old.ids) e.kind
+            (L.state link.old) (L.state link.new) state.new.ids (ledgers steps.old state.old.salted) (ledgers steps.new state.new.salted)) }
         ensures counts { CountsStay (L.state link.old) (L.state link.new) }
     {
         let first = speculative_first(alloc, credential, &connection.address, &inputs.nonces)?;
@@ -118,7 +118,6 @@ impl Handshaker {
     }
 
     // Logs in where there is somebody who does, from the first round that went with the hello where there was one.
-    #[tactic(auto, using(crate::proofs::Costing::costs_none))]
     fn log_in<L: Link, G: Ledger>(
         &self,
         alloc: Global,
@@ -138,8 +137,10 @@ impl Handshaker {
             (L.state link.old) (L.state link.new) state.old.ids state.new.ids) }
         ensures refused { IfErr result (λ e. LoginStops (asked_over connection.old (options_in self.now) (option_copied credential.entry) inputs.now.nonces state.old.ids) connection.old.stream_description round e.kind
             (L.state link.old) (L.state link.new) state.old.ids state.new.ids) }
-        ensures costs { CostsSome (ledgers steps.old state.old.salted) (ledgers steps.new state.new.salted) }
-        ensures entries { OnErr result (entries_of state.new.salted ≡ entries_of state.old.salted) }
+        ensures costs { OnOk result (LoginTakes (asked_over connection.old (options_in self.now) (option_copied credential.entry) inputs.now.nonces state.old.ids) connection.old.stream_description round
+            (L.state link.old) state.old.ids (ledgers steps.old state.old.salted) (ledgers steps.new state.new.salted)) }
+        ensures spent { IfErr result (λ e. LoginSpends (asked_over connection.old (options_in self.now) (option_copied credential.entry) inputs.now.nonces state.old.ids) connection.old.stream_description round e.kind
+            (L.state link.old) (L.state link.new) state.old.ids state.new.ids (ledgers steps.old state.old.salted) (ledgers steps.new state.new.salted)) }
         ensures connection { KeepsRest connection.old connection.new }
         ensures faultless { OnOk result (kept_fault connection.new ≡ None) }
         ensures counts { CountsStay (L.state link.old) (L.state link.new) }
