@@ -33,10 +33,13 @@ use Rattle.mongo_establish.specs.Speculation.{mechanism_before, MechanismRow, He
 abbrev Fits : {A : Type 0} → Plan A → Type 0
 Fits plan = Never IncompatibleServer plan
 
+same_kind : {A : Type 0} (a b : ErrorKind) → ◌≡◌ {A = Turn A} (refuses a) (refuses b) → a ≡ b
+same_kind a b e = cc
+
 fits_passed : {A B : Type 0} (next : A → Turn B → Type 0) (first : Turn A) → (first ≡ refuses IncompatibleServer → ⊥) → ((answer : A) → next answer (refuses IncompatibleServer) → ⊥) → passed_on next first (refuses IncompatibleServer) → ⊥
 fits_passed next (says s) early late h = cc
 fits_passed next (asks question answer) early late h = cc
-fits_passed next (refuses kind) early late h = early (sym h)
+fits_passed next (refuses kind) early late h = early (ap refuses (same_kind kind IncompatibleServer (sym h)))
 fits_passed next (ends answer) early late h = late answer h
 
 fits_later : {A B : Type 0} (next : A → Turn B → Type 0) (rest : Turn B → Type 0) (first : Turn A) → (rest (refuses IncompatibleServer) → ⊥) → ((answer : A) → next answer (refuses IncompatibleServer) → ⊥) → passed_later next rest first (refuses IncompatibleServer) → ⊥
