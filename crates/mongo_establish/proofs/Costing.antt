@@ -1,13 +1,16 @@
 -- What a caller concludes from what an establishment costs.
-use Rattle.std.proofs.Common.{◌≡◌, ◌⊎◌, ◌↔◌, ◌≤◌, ℕ, ℤ, ap, subst, sym, inl, inr, Option, None, Some, List, Contains, arith}
+use Rattle.std.proofs.Common.{◌≡◌, ◌⊎◌, ◌↔◌, ◌≤◌, ℕ, ℤ, ap, subst, sym, inl, inr, Option, None, Some, Result, Ok, Err, List, Contains, arith, IfErr, OnOk}
 use Rattle.mongo_wire.specs.declared.error.ErrorKind.{ErrorKind}
 use Rattle.mongo_wire.specs.Outside.{State}
 use Rattle.mongo_command.specs.Conversation.{Plan}
 use Rattle.mongo_scram.specs.declared.cache.SaltedKey.{SaltedKey}
 use Rattle.mongo_scram.specs.Cache.{entries_of}
 use Rattle.mongo_scram.specs.Costs.{Ledgers, HasEntry, Counts, Derives, SameEntries, CostsNothing}
+use Rattle.mongo_establish.specs.declared.establisher.EstablishError.{EstablishError}
 use Rattle.mongo_establish.specs.Asked.{Asked}
-use Rattle.mongo_establish.specs.Costs.{TakesKey, AcceptedTakes, RefusedTakes, AcceptedCosts, RefusedCosts, HandshakeTakes, EstablishmentSpends}
+use Rattle.mongo_establish.specs.Costs.{TakesKey, AcceptedTakes, RefusedTakes, RefusedCosts, HandshakeTakes, EstablishmentSpends, TakesAsLed}
+use Rattle.mongo_establish.specs.Derivation.{LeadsToKey}
+use Rattle.mongo_establish.proofs.DerivationPlan.{one_key}
 
 -- ---- some rounds
 
@@ -50,6 +53,11 @@ pub spends_some : (asked : Asked) (kind : ErrorKind) (old new : State) (after : 
 spends_some asked kind old new after first last spends =
     elim spends [ inl unnamed ↦ takes_some asked old first last unnamed.accepted | inr refused ↦ refused_costs_some _ kind old new asked.first_id after first last refused.refused ]
 
+-- however it came out
+pub costs_some : {T : Type 0} (r : Result T EstablishError) (asked : Asked) (old new : State) (after : ℤ) (first last : Ledgers) → OnOk r (HandshakeTakes asked old first last) → IfErr r (λ e. EstablishmentSpends asked e.cause.kind old new after first last) → CostsSome first last
+costs_some (Ok x) asked old new after first last takes spends = takes_some asked old first last takes
+costs_some (Err e) asked old new after first last takes spends = spends_some asked e.cause.kind old new after first last spends
+
 -- the counter never falls
 pub some_rise : (first last : Ledgers) → CostsSome first last → first.steps ≤ last.steps
 some_rise first last some = let counted = some.counts.steps in omega arith
@@ -76,3 +84,9 @@ taken_keys key first last takes other =
         λ has. elim has [ inl had ↦ (had.0, (adds (other, had.0)).1 (inl had.1)) | inr is ↦ subst (HasEntry last.cache) is takes.entry ],
       )
     ]
+
+-- ---- over told bytes
+
+-- a key that the bytes lead to is the one that was taken
+pub taken_as_led : (asked : Asked) (bytes : List ℕ) (takes : Option SaltedKey → Type 0) (key : Option SaltedKey) → TakesAsLed asked bytes takes → LeadsToKey asked bytes key → takes key
+taken_as_led asked bytes takes key t led = subst takes (one_key asked bytes t.key key t.leads led) t.taken
