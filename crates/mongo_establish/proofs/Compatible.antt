@@ -7,13 +7,14 @@ use Rattle.mongo_wire.specs.declared.message.Message.{Message}
 use Rattle.mongo_wire.specs.Outside.{State}
 use Rattle.mongo_command.specs.Exchange.{ExchangeRefused}
 use Rattle.mongo_command.specs.declared.connection.Connection.{Connection}
-use Rattle.mongo_command.specs.Conversation.{Event, exchanged, asked, Turn, says, asks, refuses, ends, Plan, later, passed_on, passed_later, followed_by, ending, reading, unless, saying, plain_message, Stopped}
+use Rattle.mongo_command.specs.Conversation.{Event, Turn, says, asks, refuses, ends, Plan, later, passed_on, passed_later, followed_by, ending, reading, unless, saying, plain_message, Stopped}
 use Rattle.mongo_command.proofs.Leads.{Never, never_ending, never_unless, never_reading, never_saying}
 use Rattle.mongo_sasl.specs.declared.credential.Credential.{Credential}
 use Rattle.mongo_sasl.specs.declared.mechanism.AuthMechanism.{AuthMechanism}
 use Rattle.mongo_sasl.specs.declared.mechanism.AuthMechanism.TheVariants.{MongoDbCr, ScramSha1, ScramSha256}
 use Rattle.mongo_scram.specs.declared.scram_version.ScramVersion.{ScramVersion}
 use Rattle.mongo_scram.specs.declared.scram_version.ScramVersion.TheVariants.{Sha1, Sha256}
+use Rattle.mongo_scram.specs.declared.server_first.ServerFirst.{ServerFirst}
 use Rattle.mongo_scram.specs.declared.server_final.ServerFinal.{ServerFinal}
 use Rattle.mongo_scram.specs.User.{User, IsUser, CredentialRow}
 use Rattle.mongo_scram.specs.Key.{PasswordRow}
@@ -77,8 +78,8 @@ no_hello_row (Some credential) row = no_mechanism_row (mechanism_before credenti
 
 fits_hello : (asked : Asked) → Fits (hello_plan asked)
 fits_hello asked =
-    never_unless IncompatibleServer (HelloRow asked.credential) _ (no_hello_row asked.credential) (never_saying IncompatibleServer (hello_said asked) (after_hello asked.pending.address) (λ reply.
-    never_unless IncompatibleServer (DocumentRow reply) _ (λ row. row) (never_reading IncompatibleServer (Greets asked.pending.address reply) ending (λ greeting. never_ending IncompatibleServer greeting))))
+    never_unless IncompatibleServer (HelloRow asked.credential) (saying (hello_said asked) (after_hello asked.pending.address)) (no_hello_row asked.credential) (never_saying IncompatibleServer (hello_said asked) (after_hello asked.pending.address) (λ reply.
+    never_unless IncompatibleServer (DocumentRow reply) (reading (Greets asked.pending.address reply) ending) (λ row. row) (never_reading IncompatibleServer (Greets asked.pending.address reply) ending (λ greeting. never_ending IncompatibleServer greeting))))
 
 -- ---- SCRAM
 
@@ -92,17 +93,24 @@ no_password Sha256 password row = row
 no_challenge : (handed : Handed) (c : Challenge) → ChallengeRow handed c IncompatibleServer → ⊥
 no_challenge handed c row = elim row [ inl x ↦ x | inr x ↦ no_password handed.version c.user.password x.1 ]
 
+-- after the server's first message and its last
+abbrev judged : Handed → User → ServerFirst → Plan Challenge
+judged handed user first = unless (ChallengeRow handed (challenge_of user first)) (ending (challenge_of user first))
+
+abbrev proved : Handed → Challenge → ServerFinal → Plan Challenge
+proved handed c last = unless (LastRow handed c last) (ending c)
+
 fits_challenged : (handed : Handed) (user : User) (reply : List ℕ) → Fits (challenged handed user reply)
 fits_challenged handed user reply =
-    never_unless IncompatibleServer (FirstReplyRow reply) _ (no_first_reply reply) (never_reading IncompatibleServer (CarriesFirst reply) _ (λ first.
-    never_unless IncompatibleServer (ChallengeRow handed (challenge_of user first)) _ (no_challenge handed (challenge_of user first)) (never_ending IncompatibleServer (challenge_of user first))))
+    never_unless IncompatibleServer (FirstReplyRow reply) (reading (CarriesFirst reply) (judged handed user)) (no_first_reply reply) (never_reading IncompatibleServer (CarriesFirst reply) (judged handed user) (λ first.
+    never_unless IncompatibleServer (ChallengeRow handed (challenge_of user first)) (ending (challenge_of user first)) (no_challenge handed (challenge_of user first)) (never_ending IncompatibleServer (challenge_of user first))))
 
 fits_opened : (speculated : Option Speculated) (handed : Handed) (user : User) → Fits (opened speculated handed user)
 fits_opened None handed user = never_saying IncompatibleServer (start_said handed user) (challenged handed user) (fits_challenged handed user)
 fits_opened (Some speculated) handed user = fits_challenged handed user speculated.reply
 
 fits_opening : (handed : Handed) → Fits (opening handed)
-fits_opening handed = never_unless IncompatibleServer (CredentialRow handed.credential) _ (λ row. row) (never_reading IncompatibleServer (IsUser handed.credential) (opened handed.speculated handed) (fits_opened handed.speculated handed))
+fits_opening handed = never_unless IncompatibleServer (CredentialRow handed.credential) (reading (IsUser handed.credential) (opened handed.speculated handed)) (λ row. row) (never_reading IncompatibleServer (IsUser handed.credential) (opened handed.speculated handed) (fits_opened handed.speculated handed))
 
 malformed : IncompatibleServer ≡ Authentication Malformed → ⊥
 malformed is = cc
@@ -118,7 +126,7 @@ no_last handed c last row = elim row [ inl x ↦ x | inr x ↦ undone x.1.0 ]
 
 fits_closed : (handed : Handed) (c : Challenge) (reply : List ℕ) → Fits (closed handed c reply)
 fits_closed handed c reply =
-    never_unless IncompatibleServer (FinalReplyRow reply) _ (no_final_reply reply) (never_reading IncompatibleServer (CarriesFinal reply) _ (λ last.
+    never_unless IncompatibleServer (FinalReplyRow reply) (reading (CarriesFinal reply) (proved handed c)) (no_final_reply reply) (never_reading IncompatibleServer (CarriesFinal reply) (proved handed c) (λ last.
     never_unless IncompatibleServer (LastRow handed c last) (ending c) (no_last handed c last) (never_ending IncompatibleServer c)))
 
 fits_scram : (handed : Handed) → Fits (scram_plan handed)
@@ -135,8 +143,8 @@ no_invalid None mechanism credential row = row
 no_invalid (Some reply) mechanism credential row = row
 
 fits_mechanism : (mechanism : AuthMechanism) (asked : Asked) (credential : Credential) (greeting : Greeting) → Fits (mechanism_plan mechanism asked credential greeting)
-fits_mechanism ScramSha1 asked credential greeting = never_unless IncompatibleServer (InvalidRow (speculative_reply asked greeting) ScramSha1 credential) _ (no_invalid (speculative_reply asked greeting) ScramSha1 credential) (fits_scram_login Sha1 asked credential greeting)
-fits_mechanism ScramSha256 asked credential greeting = never_unless IncompatibleServer (InvalidRow (speculative_reply asked greeting) ScramSha256 credential) _ (no_invalid (speculative_reply asked greeting) ScramSha256 credential) (fits_scram_login Sha256 asked credential greeting)
+fits_mechanism ScramSha1 asked credential greeting = never_unless IncompatibleServer (InvalidRow (speculative_reply asked greeting) ScramSha1 credential) (scram_login Sha1 asked credential greeting) (no_invalid (speculative_reply asked greeting) ScramSha1 credential) (fits_scram_login Sha1 asked credential greeting)
+fits_mechanism ScramSha256 asked credential greeting = never_unless IncompatibleServer (InvalidRow (speculative_reply asked greeting) ScramSha256 credential) (scram_login Sha256 asked credential greeting) (no_invalid (speculative_reply asked greeting) ScramSha256 credential) (fits_scram_login Sha256 asked credential greeting)
 fits_mechanism mechanism asked credential greeting = λ events is. is
 
 fits_login_by : (who : Option Credential) (asked : Asked) (greeting : Greeting) → Fits (login_by who asked greeting)
