@@ -1,5 +1,5 @@
 -- No handshake is refused for a server that names no service: that comes once it is over.
-use Rattle.std.proofs.Common.{◌≡◌, ℕ, ℤ, ap, sym, subst, inl, inr, Option, None, Some, List, [], ◌∷◌}
+use Rattle.std.proofs.Common.{◌≡◌, ℕ, ℤ, ap, sym, subst, inl, inr, Bool, true, false, Option, None, Some, List, [], ◌∷◌}
 use Rattle.mongo_wire.specs.declared.error.ErrorKind.{ErrorKind}
 use Rattle.mongo_wire.specs.declared.error.ErrorKind.TheVariants.{Authentication, IncompatibleServer}
 use Rattle.mongo_wire.specs.declared.auth_fault.AuthFault.TheVariants.{Malformed, NotCompleted}
@@ -11,7 +11,10 @@ use Rattle.mongo_command.specs.Conversation.{Event, Turn, says, asks, refuses, e
 use Rattle.mongo_command.proofs.Leads.{Never, never_ending, never_unless, never_reading, never_saying}
 use Rattle.mongo_sasl.specs.declared.credential.Credential.{Credential}
 use Rattle.mongo_sasl.specs.declared.mechanism.AuthMechanism.{AuthMechanism}
-use Rattle.mongo_sasl.specs.declared.mechanism.AuthMechanism.TheVariants.{MongoDbCr, ScramSha1, ScramSha256}
+use Rattle.mongo_sasl.specs.declared.mechanism.AuthMechanism.TheVariants.{MongoDbCr, ScramSha1, ScramSha256, MongoDbX509, Plain}
+use Rattle.mongo_sasl.specs.Plain.{PlainHanded, PlainRow, IsPlainUser, UnfinishedRow, plain_said, plain_heard, plain_plan}
+use Rattle.mongo_sasl.specs.Reply.{IsSaslReply, SaslRow}
+use Rattle.mongo_sasl.specs.X509.{X509Handed, X509Row, Takes, x509_said, x509_heard, x509_plan_from, x509_plan}
 use Rattle.mongo_scram.specs.declared.scram_version.ScramVersion.{ScramVersion}
 use Rattle.mongo_scram.specs.declared.scram_version.ScramVersion.TheVariants.{Sha1, Sha256}
 use Rattle.mongo_scram.specs.declared.server_first.ServerFirst.{ServerFirst}
@@ -24,8 +27,8 @@ use Rattle.mongo_scram.proofs.ScramPlan.{challenge_of}
 use Rattle.mongo_establish.specs.Asked.{Asked}
 use Rattle.mongo_establish.specs.Established.{StoppedHandshake}
 use Rattle.mongo_establish.specs.Greeting.{Greeting, Greets}
-use Rattle.mongo_establish.specs.Login.{logging_in, speculative_reply, IsMechanism, InvalidRow, handed_by}
-use Rattle.mongo_establish.specs.Plan.{hello_said, after_hello, hello_plan, scram_login, mechanism_plan, login_by, login_plan}
+use Rattle.mongo_establish.specs.Login.{logging_in, speculative_reply, IsMechanism, InvalidRow, handed_by, plain_by, x509_by}
+use Rattle.mongo_establish.specs.Plan.{hello_said, after_hello, hello_plan, conversation, validated, mechanism_plan, login_by, login_plan}
 use Rattle.mongo_establish.specs.Refusal.{DocumentRow}
 use Rattle.mongo_establish.specs.Speculation.{mechanism_before, MechanismRow, HelloRow}
 
@@ -77,6 +80,7 @@ no_hello_row None row = row
 no_hello_row (Some credential) row = no_mechanism_row (mechanism_before credential.mechanism) credential row
 
 fits_hello : (asked : Asked) → Fits (hello_plan asked)
+unfolding hello_plan
 fits_hello asked =
     never_unless IncompatibleServer (HelloRow asked.credential) (saying (hello_said asked) (after_hello asked.pending.address)) (no_hello_row asked.credential) (never_saying IncompatibleServer (hello_said asked) (after_hello asked.pending.address) (λ reply.
     never_unless IncompatibleServer (DocumentRow reply) (reading (Greets asked.pending.address reply) ending) (λ row. row) (never_reading IncompatibleServer (Greets asked.pending.address reply) ending (λ greeting. never_ending IncompatibleServer greeting))))
@@ -132,19 +136,51 @@ fits_closed handed c reply =
 fits_scram : (handed : Handed) → Fits (scram_plan handed)
 fits_scram handed = fits_followed (opening handed) (closing handed) (fits_opening handed) (λ c. never_saying IncompatibleServer (close_said handed c) (closed handed c) (fits_closed handed c))
 
--- ---- the login
+-- ---- PLAIN and X.509
 
-fits_scram_login : (version : ScramVersion) (asked : Asked) (credential : Credential) (greeting : Greeting) → Fits (scram_login version asked credential greeting)
-fits_scram_login version asked credential greeting =
-    fits_followed (scram_plan (handed_by version asked credential greeting)) (λ challenge. ending greeting) (fits_scram (handed_by version asked credential greeting)) (λ challenge. never_ending IncompatibleServer greeting)
+fits_plain_heard : (reply : List ℕ) → Fits (plain_heard reply)
+fits_plain_heard reply =
+    never_unless IncompatibleServer (SaslRow reply) (reading (IsSaslReply reply) (λ sasl. unless (UnfinishedRow sasl) (ending tt))) (λ row. row) (never_reading IncompatibleServer (IsSaslReply reply) (λ sasl. unless (UnfinishedRow sasl) (ending tt)) (λ sasl.
+    never_unless IncompatibleServer (UnfinishedRow sasl) (ending tt) (λ row. malformed row.0) (never_ending IncompatibleServer tt)))
+
+fits_plain : (handed : PlainHanded) → Fits (plain_plan handed)
+fits_plain handed =
+    never_unless IncompatibleServer (PlainRow handed.credential) (reading (IsPlainUser handed.credential) (λ user. saying (plain_said handed user) plain_heard)) (λ row. row)
+    (never_reading IncompatibleServer (IsPlainUser handed.credential) (λ user. saying (plain_said handed user) plain_heard) (λ user. never_saying IncompatibleServer (plain_said handed user) plain_heard fits_plain_heard))
+
+fits_x509 : (speculated : Bool) (handed : X509Handed) → Fits (x509_plan_from speculated handed)
+fits_x509 true handed = never_ending IncompatibleServer tt
+fits_x509 false handed =
+    never_saying IncompatibleServer (x509_said handed) x509_heard (λ reply.
+    never_unless IncompatibleServer (X509Row reply) (reading (Takes reply) (λ elements. ending tt)) (λ row. row) (never_reading IncompatibleServer (Takes reply) (λ elements. ending tt) (λ elements. never_ending IncompatibleServer tt)))
+
+-- ---- the login
 
 no_invalid : (reply : Option (List ℕ)) (mechanism : AuthMechanism) (credential : Credential) → InvalidRow reply mechanism credential IncompatibleServer → ⊥
 no_invalid None mechanism credential row = row
 no_invalid (Some reply) mechanism credential row = row
 
+fits_then : {A : Type 0} (plan : Plan A) (greeting : Greeting) → Fits plan → Fits (followed_by plan (λ done. ending greeting))
+fits_then plan greeting fits = fits_followed plan (λ done. ending greeting) fits (λ done. never_ending IncompatibleServer greeting)
+
+fits_conversation : (mechanism : AuthMechanism) (asked : Asked) (credential : Credential) (greeting : Greeting) → Fits (conversation mechanism asked credential greeting)
+unfolding conversation
+fits_conversation ScramSha1 asked credential greeting = fits_then (scram_plan (handed_by Sha1 asked credential greeting)) greeting (fits_scram (handed_by Sha1 asked credential greeting))
+fits_conversation ScramSha256 asked credential greeting = fits_then (scram_plan (handed_by Sha256 asked credential greeting)) greeting (fits_scram (handed_by Sha256 asked credential greeting))
+fits_conversation Plain asked credential greeting = fits_then (plain_plan (plain_by asked credential greeting)) greeting (fits_plain (plain_by asked credential greeting))
+fits_conversation MongoDbX509 asked credential greeting = fits_then (x509_plan (x509_by asked credential greeting)) greeting (fits_x509 (x509_by asked credential greeting).speculated (x509_by asked credential greeting))
+fits_conversation mechanism asked credential greeting = λ events is. is
+
+fits_validated : (mechanism : AuthMechanism) (asked : Asked) (credential : Credential) (greeting : Greeting) → Fits (validated mechanism asked credential greeting)
+fits_validated mechanism asked credential greeting =
+    never_unless IncompatibleServer (InvalidRow (speculative_reply asked greeting) mechanism credential) (conversation mechanism asked credential greeting) (no_invalid (speculative_reply asked greeting) mechanism credential) (fits_conversation mechanism asked credential greeting)
+
 fits_mechanism : (mechanism : AuthMechanism) (asked : Asked) (credential : Credential) (greeting : Greeting) → Fits (mechanism_plan mechanism asked credential greeting)
-fits_mechanism ScramSha1 asked credential greeting = never_unless IncompatibleServer (InvalidRow (speculative_reply asked greeting) ScramSha1 credential) (scram_login Sha1 asked credential greeting) (no_invalid (speculative_reply asked greeting) ScramSha1 credential) (fits_scram_login Sha1 asked credential greeting)
-fits_mechanism ScramSha256 asked credential greeting = never_unless IncompatibleServer (InvalidRow (speculative_reply asked greeting) ScramSha256 credential) (scram_login Sha256 asked credential greeting) (no_invalid (speculative_reply asked greeting) ScramSha256 credential) (fits_scram_login Sha256 asked credential greeting)
+unfolding mechanism_plan
+fits_mechanism ScramSha1 asked credential greeting = fits_validated ScramSha1 asked credential greeting
+fits_mechanism ScramSha256 asked credential greeting = fits_validated ScramSha256 asked credential greeting
+fits_mechanism Plain asked credential greeting = fits_validated Plain asked credential greeting
+fits_mechanism MongoDbX509 asked credential greeting = fits_validated MongoDbX509 asked credential greeting
 fits_mechanism mechanism asked credential greeting = λ events is. is
 
 fits_login_by : (who : Option Credential) (asked : Asked) (greeting : Greeting) → Fits (login_by who asked greeting)
@@ -155,6 +191,7 @@ fits_login_by (Some credential) asked greeting =
 -- ---- the handshake
 
 pub compatible : (asked : Asked) (opened connection : Connection) (kind : ErrorKind) (old new : State) (after : ℤ) → StoppedHandshake asked opened connection kind old new after → kind ≡ IncompatibleServer → ⊥
+unfolding login_plan
 compatible asked opened connection kind old new after s is =
     elim (subst (λ k. StoppedHandshake asked opened connection k old new after) is s) [
       | inl hello ↦ no_stop (hello_plan asked) old new asked.first_id after (fits_hello asked) hello.hello

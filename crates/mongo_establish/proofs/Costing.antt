@@ -1,92 +1,63 @@
--- What a caller concludes from what an establishment costs.
-use Rattle.std.proofs.Common.{◌≡◌, ◌⊎◌, ◌↔◌, ◌≤◌, ℕ, ℤ, ap, subst, sym, inl, inr, Option, None, Some, Result, Ok, Err, List, Contains, arith, IfErr, OnOk}
+-- What an establishment takes of the counter and of the cache.
+use Rattle.std.proofs.Common.{◌≡◌, ◌⊎◌, inl, inr, ℤ, subst, sym, Option, Result, Ok, Err, IfErr}
+use Rattle.mongo_wire.specs.declared.error.Error.{Error}
 use Rattle.mongo_wire.specs.declared.error.ErrorKind.{ErrorKind}
+use Rattle.mongo_wire.specs.declared.error.ErrorKind.TheVariants.{IncompatibleServer}
 use Rattle.mongo_wire.specs.Outside.{State}
-use Rattle.mongo_command.specs.Conversation.{Plan}
-use Rattle.mongo_scram.specs.declared.cache.SaltedKey.{SaltedKey}
-use Rattle.mongo_scram.specs.Cache.{entries_of}
-use Rattle.mongo_scram.specs.Costs.{Ledgers, HasEntry, Counts, Derives, SameEntries, CostsNothing}
+use Rattle.mongo_command.specs.declared.connection.Connection.{Connection}
+use Rattle.mongo_sasl.specs.declared.credential.Credential.{Credential}
+use Rattle.mongo_scram.specs.Costs.{Ledgers}
 use Rattle.mongo_establish.specs.declared.establisher.EstablishError.{EstablishError}
-use Rattle.mongo_establish.specs.Asked.{Asked}
-use Rattle.mongo_establish.specs.Costs.{TakesKey, AcceptedTakes, RefusedTakes, RefusedCosts, HandshakeTakes, EstablishmentSpends, TakesAsLed}
-use Rattle.mongo_establish.specs.Derivation.{LeadsToKey}
-use Rattle.mongo_establish.proofs.DerivationPlan.{one_key}
+use Rattle.mongo_establish.specs.declared.establisher.PendingConnection.{PendingConnection}
+use Rattle.mongo_establish.specs.declared.establisher.PooledConnection.{PooledConnection}
+use Rattle.mongo_establish.specs.declared.generation.PoolGeneration.{PoolGeneration}
+use Rattle.mongo_establish.specs.declared.login_state.Nonces.{Nonces}
+use Rattle.mongo_establish.specs.declared.options.HandshakerOptions.{HandshakerOptions}
+use Rattle.mongo_establish.specs.Asked.{Asked, asked_for, asked_over}
+use Rattle.mongo_establish.specs.Costs.{HandshakeCosts, StoppedHandshakeCosts, EstablishmentCosts}
+use Rattle.mongo_establish.specs.Pooled.{UnnamedService}
+use Rattle.mongo_establish.proofs.Handshaken.{hello_reached, hello_stopped}
+use Rattle.mongo_establish.proofs.LoginAlike.{pending_over, costs_alike, stopped_login_costs_alike}
 
--- ---- some rounds
+-- where a service is missing, the login had been accepted
+pub unnamed_entries : (P : Type 0) (r : Result PooledConnection EstablishError) (connection : Connection) (pool : PoolGeneration) → IfErr r (UnnamedService connection pool) → IfErr r (λ e. (e.cause.kind ≡ IncompatibleServer) ⊎ P)
+unnamed_entries P (Ok pooled) connection pool h = tt
+unnamed_entries P (Err e) connection pool h = inl h.kind_is
 
--- so many rounds were derived, counted by both; no entry is lost
-pub record CostsSome (first last : Ledgers) : Type 0 where
-  pub rounds : ℕ
-  pub counts : Counts rounds first last
-  pub kept : (entry : SaltedKey × List ℕ) → Contains (entries_of first.cache) entry → Contains (entries_of last.cache) entry
+module _ (pending : PendingConnection) (options : HandshakerOptions) (credential : Option Credential) (nonces : Nonces) (id : ℤ) (opened : Connection) (same : opened.address ≡ pending.address) where
+  abbrev wanted : Asked
+  wanted = asked_for pending options credential nonces id
 
-same_kept : (first last : Ledgers) → SameEntries first last → (entry : SaltedKey × List ℕ) → Contains (entries_of first.cache) entry → Contains (entries_of last.cache) entry
-same_kept first last same entry there = subst (λ entries. Contains entries entry) (sym same) there
+  abbrev over : Asked
+  over = asked_over opened options credential nonces id
 
-nothing_some : (first last : Ledgers) → CostsNothing first last → CostsSome first last
-nothing_some first last nothing = record { rounds = 0; counts = nothing.counts; kept = same_kept first last nothing.entries }
+  pub whole_costs : (old new : State) (after : ℤ) (early late : Ledgers) → HandshakeCosts over old new after early late → HandshakeCosts wanted old new after early late
+  whole_costs old new after early late h = record {
+    greeting = h.greeting;
+    middle = h.middle;
+    between = h.between;
+    hello = hello_reached pending options credential nonces id opened same h.greeting old h.middle h.between h.hello;
+    login = costs_alike (pending_over opened) pending options credential nonces id id h.greeting h.middle new h.between after early late h.login;
+  }
 
-derived_some : (key : SaltedKey) (first last : Ledgers) → Derives key first last → ((entry : SaltedKey × List ℕ) → Contains (entries_of first.cache) entry → Contains (entries_of last.cache) entry) → CostsSome first last
-derived_some key first last derived kept =
-    elim derived [ inl found ↦ record { rounds = 0; counts = found.1; kept = kept } | inr anew ↦ record { rounds = key.count; counts = anew.1; kept = kept } ]
+  stopped_costs : (kind : ErrorKind) (old new : State) (after : ℤ) (early late : Ledgers) → StoppedHandshakeCosts over kind old new after early late → StoppedHandshakeCosts wanted kind old new after early late
+  stopped_costs kind old new after early late s =
+      elim s [
+        | inl h ↦ inl (record { hello = hello_stopped pending options credential nonces id opened same kind old new after h.hello; nothing = h.nothing })
+        | inr l ↦ inr (record {
+          greeting = l.greeting;
+          middle = l.middle;
+          between = l.between;
+          hello = hello_reached pending options credential nonces id opened same l.greeting old l.middle l.between l.hello;
+          login = stopped_login_costs_alike (pending_over opened) pending options credential nonces id id l.greeting kind l.middle new l.between after early late l.login;
+        })
+      ]
 
-pub accepted_some : (key : Option SaltedKey) (first last : Ledgers) → AcceptedTakes key first last → CostsSome first last
-accepted_some None first last takes = nothing_some first last takes
-accepted_some (Some key) first last takes =
-    derived_some key first last takes.derived (λ entry there. elim takes.others [ inl same ↦ same_kept first last same entry there | inr adds ↦ (adds entry).1 (inl there) ])
+  -- after a handshake the connection is ready, or its server named no service
+  pub pooled_costs : (r : Result PooledConnection EstablishError) (connection : Connection) (old new : State) (after : ℤ) (early late : Ledgers) → HandshakeCosts over old new after early late → IfErr r (UnnamedService connection pending.generation) → EstablishmentCosts r wanted old new after early late
+  pooled_costs (Ok pooled) connection old new after early late h u = record { accepted = whole_costs old new after early late h; refused = tt }
+  pooled_costs (Err e) connection old new after early late h u = record { accepted = tt; refused = inr (u.kind_is, whole_costs old new after early late h) }
 
-pub refused_some : (key : Option SaltedKey) (first last : Ledgers) → RefusedTakes key first last → CostsSome first last
-refused_some None first last takes = nothing_some first last takes
-refused_some (Some key) first last takes = derived_some key first last takes.derived (same_kept first last takes.entries)
-
-refused_costs_some : (plan : Plan (Option SaltedKey)) (kind : ErrorKind) (old new : State) (before after : ℤ) (first last : Ledgers) → RefusedCosts plan kind old new before after first last → CostsSome first last
-refused_costs_some plan kind old new before after first last r =
-    elim r [
-      | inl early ↦ nothing_some first last early.nothing
-      | inr late ↦ elim late.takes [ inl takes ↦ refused_some late.key first last takes | inr memory ↦ nothing_some first last memory.1 ]
-    ]
-
-pub takes_some : (asked : Asked) (old : State) (first last : Ledgers) → HandshakeTakes asked old first last → CostsSome first last
-takes_some asked old first last takes = accepted_some takes.key first last takes.takes
-
-pub spends_some : (asked : Asked) (kind : ErrorKind) (old new : State) (after : ℤ) (first last : Ledgers) → EstablishmentSpends asked kind old new after first last → CostsSome first last
-spends_some asked kind old new after first last spends =
-    elim spends [ inl unnamed ↦ takes_some asked old first last unnamed.accepted | inr refused ↦ refused_costs_some _ kind old new asked.first_id after first last refused.refused ]
-
--- however it came out
-pub costs_some : {T : Type 0} (r : Result T EstablishError) (asked : Asked) (old new : State) (after : ℤ) (first last : Ledgers) → OnOk r (HandshakeTakes asked old first last) → IfErr r (λ e. EstablishmentSpends asked e.cause.kind old new after first last) → CostsSome first last
-costs_some (Ok x) asked old new after first last takes spends = takes_some asked old first last takes
-costs_some (Err e) asked old new after first last takes spends = spends_some asked e.cause.kind old new after first last spends
-
--- the counter never falls
-pub some_rise : (first last : Ledgers) → CostsSome first last → first.steps ≤ last.steps
-some_rise first last some = let counted = some.counts.steps in omega arith
-
--- ---- the keys that have an entry
-
--- those that had one, and nothing else
-pub same_keys : (first last : Ledgers) → SameEntries first last → (other : SaltedKey) → HasEntry last.cache other ↔ HasEntry first.cache other
-same_keys first last same other =
-    (λ has. (has.0, subst (λ entries. Contains entries (other, has.0)) same has.1), λ had. (had.0, subst (λ entries. Contains entries (other, had.0)) (sym same) had.1))
-
-key_of_entry : (key other : SaltedKey) (tag another : List ℕ) → ◌≡◌ {A = SaltedKey × List ℕ} (key, tag) (other, another) → key ≡ other
-key_of_entry key other tag another same = ap (λ (entry : SaltedKey × List ℕ). entry.0) same
-
--- those that had one, and the key that was taken
-pub taken_keys : (key : SaltedKey) (first last : Ledgers) → TakesKey key first last → (other : SaltedKey) → HasEntry last.cache other ↔ (HasEntry first.cache other ⊎ (key ≡ other))
-taken_keys key first last takes other =
-    elim takes.others [
-      | inl same ↦
-          let keys = same_keys first last same other in
-          (λ has. inl (keys.0 has), λ has. elim has [ inl had ↦ keys.1 had | inr is ↦ subst (HasEntry last.cache) is takes.entry ])
-      | inr adds ↦ (
-        λ has. elim ((adds (other, has.0)).0 has.1) [ inl there ↦ inl (has.0, there) | inr is ↦ inr (key_of_entry key other _ has.0 is) ],
-        λ has. elim has [ inl had ↦ (had.0, (adds (other, had.0)).1 (inl had.1)) | inr is ↦ subst (HasEntry last.cache) is takes.entry ],
-      )
-    ]
-
--- ---- over told bytes
-
--- a key that the bytes lead to is the one that was taken
-pub taken_as_led : (asked : Asked) (bytes : List ℕ) (takes : Option SaltedKey → Type 0) (key : Option SaltedKey) → TakesAsLed asked bytes takes → LeadsToKey asked bytes key → takes key
-taken_as_led asked bytes takes key t led = subst takes (one_key asked bytes t.key key t.leads led) t.taken
+  -- the handshake was stopped
+  pub refused_costs : (e : EstablishError) (cause : Error) (old new : State) (after : ℤ) (early late : Ledgers) → e.cause ≡ cause → StoppedHandshakeCosts over cause.kind old new after early late → EstablishmentCosts {T = PooledConnection} (Err e) wanted old new after early late
+  refused_costs e cause old new after early late is s = record { accepted = tt; refused = inl (stopped_costs e.cause.kind old new after early late (subst (λ x. StoppedHandshakeCosts over x.kind old new after early late) (sym is) s)) }

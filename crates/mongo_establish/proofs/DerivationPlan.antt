@@ -1,7 +1,6 @@
--- The plan of a login's key has one turn, so that reply bytes lead to one key; it is the same for all connections and ids.
-use Rattle.std.proofs.Common.{◌≡◌, ℕ, ℤ, ◌∙◌, ap, subst, sym, Option, None, Some, List}
-use Rattle.mongo_command.specs.declared.server_address.ServerAddress.{ServerAddress}
-use Rattle.mongo_command.specs.Conversation.{Event, Turn, Plan, HasOneTurn, ending, unless, saying, followed_by}
+-- The plan of a login's key has one turn, so that reply bytes lead to one key.
+use Rattle.std.proofs.Common.{◌≡◌, ℕ, ◌∙◌, ap, sym, Option, None, Some, List}
+use Rattle.mongo_command.specs.Conversation.{HasOneTurn, ending}
 use Rattle.mongo_command.proofs.Plans.{one_ending, one_unless, one_reading, one_followed}
 use Rattle.mongo_command.proofs.Leads.{one_way}
 use Rattle.mongo_sasl.specs.declared.credential.Credential.{Credential}
@@ -13,18 +12,14 @@ use Rattle.mongo_scram.specs.declared.scram_version.ScramVersion.TheVariants.{Sh
 use Rattle.mongo_scram.specs.Costs.{key_by}
 use Rattle.mongo_scram.specs.Plan.{opening}
 use Rattle.mongo_scram.proofs.ScramPlan.{one_opening}
-use Rattle.mongo_establish.specs.declared.establisher.PendingConnection.{PendingConnection}
-use Rattle.mongo_establish.specs.declared.login_state.Nonces.{Nonces}
-use Rattle.mongo_establish.specs.declared.options.HandshakerOptions.{HandshakerOptions}
-use Rattle.mongo_establish.specs.Asked.{Asked, asked_for}
+use Rattle.mongo_establish.specs.Asked.{Asked}
 use Rattle.mongo_establish.specs.Derivation.{scram_derivation, derivation_by, derivation_of, login_derivation, derivation_plan, key_in, LeadsToKey}
 use Rattle.mongo_establish.specs.Greeting.{Greeting}
 use Rattle.mongo_establish.specs.Login.{logging_in, speculative_reply, handed_by}
-use Rattle.mongo_establish.specs.Plan.{hello_said, after_hello, hello_plan}
-use Rattle.mongo_establish.specs.Speculation.{HelloRow}
+use Rattle.mongo_establish.specs.Plan.{hello_plan}
 use Rattle.mongo_establish.proofs.HelloPlan.{one_hello}
-use Rattle.mongo_establish.proofs.LoginPlan.{one_mechanism, one_invalid_row}
-use Rattle.mongo_establish.proofs.DerivationSteps.{followed_more}
+use Rattle.mongo_establish.proofs.LoginPlan.{one_mechanism}
+use Rattle.mongo_establish.proofs.Validated.{one_invalid_row}
 
 -- ---- one turn
 
@@ -53,36 +48,3 @@ pub one_key : (asked : Asked) (bytes : List ℕ) (key other : Option SaltedKey) 
 one_key asked bytes key other p q =
     let same = one_way (derivation_plan asked) bytes p.outcome q.outcome p.commands q.commands p.taken p.unread q.taken q.unread (one_derivation asked) p.leads q.leads in
     p.key_is ∙ ap key_in same.outcome_same ∙ sym q.key_is
-
--- ---- whatever the connection and the ids are
-
-module _ (first second : PendingConnection) (options : HandshakerOptions) (credential : Option Credential) (nonces : Nonces) (first_id second_id : ℤ) where
-  abbrev this : Asked
-  this = asked_for first options credential nonces first_id
-
-  abbrev that : Asked
-  that = asked_for second options credential nonces second_id
-
-  by_alike : (mechanism : AuthMechanism) (c : Credential) (greeting : Greeting) (past : List Event) (turn : Turn (Option SaltedKey)) → derivation_by mechanism this c greeting past turn → derivation_by mechanism that c greeting past turn
-  unfolding derivation_by
-  by_alike ScramSha1 c greeting past turn h = h
-  by_alike ScramSha256 c greeting past turn h = h
-  by_alike mechanism c greeting past turn h = h
-
-  of_alike : (who : Option Credential) (greeting : Greeting) (past : List Event) (turn : Turn (Option SaltedKey)) → derivation_of who this greeting past turn → derivation_of who that greeting past turn
-  of_alike None greeting past turn h = h
-  of_alike (Some c) greeting past turn h = (h.0, h.1, by_alike h.0 c greeting past turn h.2)
-
-  pub derivation_alike : (greeting : Greeting) (past : List Event) (turn : Turn (Option SaltedKey)) → login_derivation this greeting past turn → login_derivation that greeting past turn
-  unfolding login_derivation
-  derivation_alike greeting past turn h = of_alike (logging_in that greeting) greeting past turn h
-
-  -- the hello to this address
-  abbrev hello_at : ServerAddress → Plan Greeting
-  hello_at address = unless (HelloRow credential) (saying (hello_said that) (after_hello address))
-
-  -- to the same address
-  pub plan_alike : first.address ≡ second.address → (past : List Event) (turn : Turn (Option SaltedKey)) → derivation_plan this past turn → derivation_plan that past turn
-  unfolding derivation_plan
-  plan_alike same past turn h =
-      followed_more (hello_plan that) (login_derivation this) (login_derivation that) derivation_alike past turn (subst (λ address. followed_by (hello_at address) (login_derivation this) past turn) same h)

@@ -1,127 +1,108 @@
--- What an establishment takes of the counter and of the cache of salted passwords, by the key that its login derives from.
-use Rattle.std.specs.Prelude.{◌≡◌, ℕ, ℤ, ◌⊎◌, Option, None, Some, Result, Ok, Err, List}
+-- What an establishment takes of the counter and of the cache of salted passwords: what its SCRAM login takes, and nothing else.
+use Rattle.std.specs.Prelude.{◌≡◌, ℕ, ℤ, ◌⊎◌, Option, None, Some, Result, List, IfErr, OnOk}
+use Rattle.mongo_wire.specs.declared.error.Error.{Error}
 use Rattle.mongo_wire.specs.declared.error.ErrorKind.{ErrorKind}
-use Rattle.mongo_wire.specs.declared.error.ErrorKind.TheVariants.{IncompatibleServer, OutOfMemory}
-use Rattle.mongo_wire.specs.Outside.{State, Rose}
-use Rattle.mongo_command.specs.declared.stream_description.StreamDescription.{StreamDescription}
-use Rattle.mongo_command.specs.Conversation.{Plan, Reached, Stopped}
-use Rattle.mongo_scram.specs.declared.cache.SaltedKey.{SaltedKey}
-use Rattle.mongo_scram.specs.declared.conversation.FirstRound.{FirstRound}
-use Rattle.mongo_scram.specs.Cache.{entries_of, Adds}
-use Rattle.mongo_scram.specs.Costs.{Ledgers, HasEntry, Derives, SameEntries, CostsNothing}
-use Rattle.mongo_scram.specs.Entry.{salted_of}
+use Rattle.mongo_wire.specs.declared.error.ErrorKind.TheVariants.{IncompatibleServer}
+use Rattle.mongo_wire.specs.Outside.{State}
+use Rattle.mongo_command.specs.Conversation.{Reached, Stopped}
+use Rattle.mongo_sasl.specs.declared.credential.Credential.{Credential}
+use Rattle.mongo_sasl.specs.declared.mechanism.AuthMechanism.{AuthMechanism}
+use Rattle.mongo_sasl.specs.declared.mechanism.AuthMechanism.TheVariants.{ScramSha1, ScramSha256}
+use Rattle.mongo_scram.specs.declared.scram_version.ScramVersion.{ScramVersion}
+use Rattle.mongo_scram.specs.declared.scram_version.ScramVersion.TheVariants.{Sha1, Sha256}
+use Rattle.mongo_scram.specs.Costs.{Ledgers, CostsNothing, Accepted, StoppedLogin}
 use Rattle.mongo_establish.specs.declared.establisher.EstablishError.{EstablishError}
 use Rattle.mongo_establish.specs.Asked.{Asked}
-use Rattle.mongo_establish.specs.Derivation.{login_derivation, derivation_plan, LeadsToKey}
-use Rattle.mongo_establish.specs.First.{IsRoundOf}
 use Rattle.mongo_establish.specs.Greeting.{Greeting}
+use Rattle.mongo_establish.specs.Login.{logging_in, speculative_reply, IsMechanism, InvalidRow, handed_by}
+use Rattle.mongo_establish.specs.Plan.{hello_plan}
 
--- ---- what a key costs
+-- ---- a login's conversation
 
--- The key was derived where it had no entry, and has one now; the entries are those that were there, or these and that one.
-pub record TakesKey (key : SaltedKey) (first last : Ledgers) : Type 0 where
-  pub derived : Derives key first last
-  pub entry : HasEntry last.cache key
-  pub others : SameEntries first last ⊎ Adds (entries_of first.cache) (entries_of last.cache) (key, salted_of key)
+-- SCRAM's was accepted: its key was derived where it had no entry, and has one now
+pub record ScramAccepted (version : ScramVersion) (asked : Asked) (credential : Credential) (greeting : Greeting) (old new : State) (before after : ℤ) (first last : Ledgers) : Type 0 where
+  pub document : List ℕ
+  pub accepted : Accepted (handed_by version asked credential greeting) document old new before after first last
 
--- the key was derived where it had no entry, and isn't put in
-pub record SpendsKey (key : SaltedKey) (first last : Ledgers) : Type 0 where
-  pub derived : Derives key first last
-  pub entries : SameEntries first last
+-- what a mechanism's login costs that was accepted
+abbrev pub AcceptedCosts : AuthMechanism → Asked → Credential → Greeting → State → State → ℤ → ℤ → Ledgers → Ledgers → Type 0
+AcceptedCosts ScramSha1 asked credential greeting old new before after first last = ScramAccepted Sha1 asked credential greeting old new before after first last
+AcceptedCosts ScramSha256 asked credential greeting old new before after first last = ScramAccepted Sha256 asked credential greeting old new before after first last
+AcceptedCosts mechanism asked credential greeting old new before after first last = CostsNothing first last
 
--- a login that was accepted; without a key it takes nothing
-abbrev pub AcceptedTakes : Option SaltedKey → Ledgers → Ledgers → Type 0
-AcceptedTakes None first last = CostsNothing first last
-AcceptedTakes (Some key) first last = TakesKey key first last
+-- that was stopped: SCRAM derived its key where the opening had ended and the key had no entry; the entries stay
+abbrev pub StoppedCosts : AuthMechanism → Asked → Credential → Greeting → ErrorKind → State → State → ℤ → ℤ → Ledgers → Ledgers → Type 0
+StoppedCosts ScramSha1 asked credential greeting kind old new before after first last = StoppedLogin (handed_by Sha1 asked credential greeting) kind old new before after first last
+StoppedCosts ScramSha256 asked credential greeting kind old new before after first last = StoppedLogin (handed_by Sha256 asked credential greeting) kind old new before after first last
+StoppedCosts mechanism asked credential greeting kind old new before after first last = CostsNothing first last
 
--- a login that was refused
-abbrev pub RefusedTakes : Option SaltedKey → Ledgers → Ledgers → Type 0
-RefusedTakes None first last = CostsNothing first last
-RefusedTakes (Some key) first last = SpendsKey key first last
+-- ---- a login
 
--- ---- how far the plan of the key was followed
+-- the mechanism of a login, and what its conversation cost
+pub record MechanismCosts (credential : Credential) (asked : Asked) (greeting : Greeting) (old new : State) (before after : ℤ) (first last : Ledgers) : Type 0 where
+  pub mechanism : AuthMechanism
+  pub is_mechanism : IsMechanism credential.mechanism (speculative_reply asked greeting) greeting.description mechanism
+  pub costs : AcceptedCosts mechanism asked credential greeting old new before after first last
 
--- it was followed to its end, and what came after it was accepted
-pub record AcceptedCosts (plan : Plan (Option SaltedKey)) (old : State) (before : ℤ) (first last : Ledgers) : Type 0 where
-  pub key : Option SaltedKey
+-- of one that was stopped; nothing, where the mechanism didn't take the credential
+pub record StoppedMechanismCosts (credential : Credential) (asked : Asked) (greeting : Greeting) (kind : ErrorKind) (old new : State) (before after : ℤ) (first last : Ledgers) : Type 0 where
+  pub mechanism : AuthMechanism
+  pub is_mechanism : IsMechanism credential.mechanism (speculative_reply asked greeting) greeting.description mechanism
+  pub costs : (InvalidRow (speculative_reply asked greeting) mechanism credential kind × CostsNothing first last) ⊎ StoppedCosts mechanism asked credential greeting kind old new before after first last
+
+-- nothing, where nobody logs in
+abbrev pub LoginCostsOf : Option Credential → Asked → Greeting → State → State → ℤ → ℤ → Ledgers → Ledgers → Type 0
+LoginCostsOf None asked greeting old new before after first last = CostsNothing first last
+LoginCostsOf (Some credential) asked greeting old new before after first last = MechanismCosts credential asked greeting old new before after first last
+
+abbrev pub LoginCosts : Asked → Greeting → State → State → ℤ → ℤ → Ledgers → Ledgers → Type 0
+LoginCosts asked greeting old new before after first last = LoginCostsOf (logging_in asked greeting) asked greeting old new before after first last
+
+abbrev pub StoppedLoginCostsOf : Option Credential → Asked → Greeting → ErrorKind → State → State → ℤ → ℤ → Ledgers → Ledgers → Type 0
+StoppedLoginCostsOf None asked greeting kind old new before after first last = CostsNothing first last
+StoppedLoginCostsOf (Some credential) asked greeting kind old new before after first last = StoppedMechanismCosts credential asked greeting kind old new before after first last
+
+abbrev pub StoppedLoginCosts : Asked → Greeting → ErrorKind → State → State → ℤ → ℤ → Ledgers → Ledgers → Type 0
+StoppedLoginCosts asked greeting kind old new before after first last = StoppedLoginCostsOf (logging_in asked greeting) asked greeting kind old new before after first last
+
+-- ---- a handshake
+
+-- the hello was followed to its end, which costs nothing, and then the login
+pub record HandshakeCosts (asked : Asked) (old new : State) (after : ℤ) (first last : Ledgers) : Type 0 where
+  pub greeting : Greeting
   pub middle : State
   pub between : ℤ
-  pub reached : Reached plan key old middle before between
-  pub takes : AcceptedTakes key first last
+  pub hello : Reached (hello_plan asked) greeting old middle asked.first_id between
+  pub login : LoginCosts asked greeting middle new between after first last
 
--- it was followed to its end, and what came after it was refused; memory may have run out before the key was derived
-pub record RefusedAfterKey (plan : Plan (Option SaltedKey)) (kind : ErrorKind) (old : State) (before : ℤ) (first last : Ledgers) : Type 0 where
-  pub key : Option SaltedKey
-  pub middle : State
-  pub between : ℤ
-  pub reached : Reached plan key old middle before between
-  pub takes : RefusedTakes key first last ⊎ ((kind ≡ OutOfMemory) × CostsNothing first last)
-
--- it was stopped, and nothing was derived
-pub record RefusedBeforeKey (plan : Plan (Option SaltedKey)) (kind : ErrorKind) (old new : State) (before after : ℤ) (first last : Ledgers) : Type 0 where
-  pub stopped : Stopped plan kind old new before after
+-- the hello was stopped
+pub record StoppedHelloCosts (asked : Asked) (kind : ErrorKind) (old new : State) (after : ℤ) (first last : Ledgers) : Type 0 where
+  pub hello : Stopped (hello_plan asked) kind old new asked.first_id after
   pub nothing : CostsNothing first last
 
-abbrev pub RefusedCosts : Plan (Option SaltedKey) → ErrorKind → State → State → ℤ → ℤ → Ledgers → Ledgers → Type 0
-RefusedCosts plan kind old new before after first last = RefusedBeforeKey plan kind old new before after first last ⊎ RefusedAfterKey plan kind old before first last
+-- the login was
+pub record LateCosts (asked : Asked) (kind : ErrorKind) (old new : State) (after : ℤ) (first last : Ledgers) : Type 0 where
+  pub greeting : Greeting
+  pub middle : State
+  pub between : ℤ
+  pub hello : Reached (hello_plan asked) greeting old middle asked.first_id between
+  pub login : StoppedLoginCosts asked greeting kind middle new between after first last
 
--- ---- a login over a connection that holds a description, for each greeting that says so
+abbrev pub StoppedHandshakeCosts : Asked → ErrorKind → State → State → ℤ → Ledgers → Ledgers → Type 0
+StoppedHandshakeCosts asked kind old new after first last = StoppedHelloCosts asked kind old new after first last ⊎ LateCosts asked kind old new after first last
 
--- that was accepted
-pub record LoginTakes (asked : Asked) (held : Option StreamDescription) (round : Option FirstRound) (old : State) (before : ℤ) (first last : Ledgers) : Type 0 where
-  pub costs : (greeting : Greeting) → held ≡ Some greeting.description → IsRoundOf asked.credential asked greeting round → AcceptedCosts (login_derivation asked greeting) old before first last
+-- what a handshake costs by its answer
+pub record CostsOf {T : Type 0} (result : Result T Error) (asked : Asked) (old new : State) (after : ℤ) (first last : Ledgers) : Type 0 where
+  pub accepted : OnOk result (HandshakeCosts asked old new after first last)
+  pub refused : IfErr result (λ e. StoppedHandshakeCosts asked e.kind old new after first last)
 
--- that was refused
-pub record LoginSpends (asked : Asked) (held : Option StreamDescription) (round : Option FirstRound) (kind : ErrorKind) (old new : State) (before after : ℤ) (first last : Ledgers) : Type 0 where
-  pub costs : (greeting : Greeting) → held ≡ Some greeting.description → IsRoundOf asked.credential asked greeting round → RefusedCosts (login_derivation asked greeting) kind old new before after first last
+-- ---- an establishment
 
--- ---- a handshake, and an establishment
+-- the handshake was stopped, or its server named no service
+abbrev pub StoppedEstablishmentCosts : Asked → ErrorKind → State → State → ℤ → Ledgers → Ledgers → Type 0
+StoppedEstablishmentCosts asked kind old new after first last = StoppedHandshakeCosts asked kind old new after first last ⊎ ((kind ≡ IncompatibleServer) × HandshakeCosts asked old new after first last)
 
--- that was accepted
-abbrev pub HandshakeTakes : Asked → State → Ledgers → Ledgers → Type 0
-HandshakeTakes asked old first last = AcceptedCosts (derivation_plan asked) old asked.first_id first last
-
--- that was refused
-abbrev pub HandshakeSpends : Asked → ErrorKind → State → State → ℤ → Ledgers → Ledgers → Type 0
-HandshakeSpends asked kind old new after first last = RefusedCosts (derivation_plan asked) kind old new asked.first_id after first last
-
--- the server names no service, and its login had been accepted
-pub record SpendsUnnamed (asked : Asked) (kind : ErrorKind) (old : State) (first last : Ledgers) : Type 0 where
-  pub kind_is : kind ≡ IncompatibleServer
-  pub accepted : HandshakeTakes asked old first last
-
--- the handshake was refused, for another cause
-pub record SpendsRefused (asked : Asked) (kind : ErrorKind) (old new : State) (after : ℤ) (first last : Ledgers) : Type 0 where
-  pub other : kind ≡ IncompatibleServer → ⊥
-  pub refused : HandshakeSpends asked kind old new after first last
-
--- an establishment that was refused
-abbrev pub EstablishmentSpends : Asked → ErrorKind → State → State → ℤ → Ledgers → Ledgers → Type 0
-EstablishmentSpends asked kind old new after first last = SpendsUnnamed asked kind old first last ⊎ SpendsRefused asked kind old new after first last
-
--- ---- over told bytes
-
--- the bytes lead to this key, and it was taken so
-pub record TakesAsLed (asked : Asked) (bytes : List ℕ) (takes : Option SaltedKey → Type 0) : Type 0 where
-  pub key : Option SaltedKey
-  pub leads : LeadsToKey asked bytes key
-  pub taken : takes key
-
--- the server names no service: the login's key was put in
-pub record UnnamedOver (asked : Asked) (kind : ErrorKind) (bytes : List ℕ) (first last : Ledgers) : Type 0 where
-  pub kind_is : kind ≡ IncompatibleServer
-  pub led : TakesAsLed asked bytes (λ key. AcceptedTakes key first last)
-
--- the handshake was refused: the login's key, if it came so far, was derived and isn't put in
-pub record RefusedOver (asked : Asked) (kind : ErrorKind) (bytes : List ℕ) (first last : Ledgers) : Type 0 where
-  pub other : kind ≡ IncompatibleServer → ⊥
-  pub led : TakesAsLed asked bytes (λ key. RefusedTakes key first last)
-
--- what an establishment costs over these bytes, unless memory ran out
-abbrev pub CostsOver : {T : Type 0} → Result T EstablishError → Asked → List ℕ → Ledgers → Ledgers → Type 0
-CostsOver (Ok pooled) asked bytes first last = TakesAsLed asked bytes (λ key. AcceptedTakes key first last)
-CostsOver (Err e) asked bytes first last = (e.cause.kind ≡ OutOfMemory) ⊎ (UnnamedOver asked e.cause.kind bytes first last ⊎ RefusedOver asked e.cause.kind bytes first last)
-
--- where a link tells its bytes and doesn't fail, they decide what an establishment costs
-pub record CostsAsLed {T : Type 0} (result : Result T EstablishError) (asked : Asked) (old new : State) (first last : Ledgers) : Type 0 where
-  pub over : (bytes : List ℕ) → old.left ≡ Some bytes → (Rose old.read_faults new.read_faults → ⊥) → (Rose old.write_faults new.write_faults → ⊥) → CostsOver result asked bytes first last
+-- what it costs by its answer
+pub record EstablishmentCosts {T : Type 0} (result : Result T EstablishError) (asked : Asked) (old new : State) (after : ℤ) (first last : Ledgers) : Type 0 where
+  pub accepted : OnOk result (HandshakeCosts asked old new after first last)
+  pub refused : IfErr result (λ e. StoppedEstablishmentCosts asked e.cause.kind old new after first last)
