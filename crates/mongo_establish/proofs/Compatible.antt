@@ -7,7 +7,7 @@ use Rattle.mongo_wire.specs.declared.message.Message.{Message}
 use Rattle.mongo_wire.specs.Outside.{State}
 use Rattle.mongo_command.specs.Exchange.{ExchangeRefused}
 use Rattle.mongo_command.specs.declared.connection.Connection.{Connection}
-use Rattle.mongo_command.specs.Conversation.{Event, Turn, says, asks, refuses, ends, Plan, later, passed_on, passed_later, followed_by, ending, reading, unless, saying, plain_message, Stopped}
+use Rattle.mongo_command.specs.Conversation.{Turn, says, asks, refuses, ends, Plan, later, passed_on, passed_later, followed_by, ending, reading, unless, saying, plain_message, Stopped}
 use Rattle.mongo_command.proofs.Leads.{Never, never_ending, never_unless, never_reading, never_saying}
 use Rattle.mongo_sasl.specs.declared.credential.Credential.{Credential}
 use Rattle.mongo_sasl.specs.declared.mechanism.AuthMechanism.{AuthMechanism}

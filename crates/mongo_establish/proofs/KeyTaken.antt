@@ -7,10 +7,10 @@ use Rattle.mongo_wire.specs.declared.auth_fault.AuthFault.TheVariants.{NoUsernam
 use Rattle.mongo_wire.specs.Outside.{State, Rose}
 use Rattle.mongo_command.specs.declared.connection.Connection.{Connection}
 use Rattle.mongo_command.specs.declared.stream_description.StreamDescription.{StreamDescription}
-use Rattle.mongo_command.specs.Conversation.{Turn, refuses, ends, HasNone, ending, Reached, Stopped}
+use Rattle.mongo_command.specs.Conversation.{refuses, ends, HasNone, ending, Reached, Stopped}
 use Rattle.mongo_command.proofs.FollowedBy.{reached_both, stopped_first}
 use Rattle.mongo_command.proofs.Leads.{reached_led, stopped_led}
-use Rattle.mongo_command.proofs.Steps.{reached_ending, reached_unless, stopped_row, stopped_unless}
+use Rattle.mongo_command.proofs.Steps.{reached_ending, reached_unless, stopped_unless}
 use Rattle.mongo_sasl.specs.declared.credential.Credential.{Credential}
 use Rattle.mongo_sasl.specs.declared.mechanism.AuthMechanism.{AuthMechanism}
 use Rattle.mongo_sasl.specs.declared.mechanism.AuthMechanism.TheVariants.{ScramSha1, ScramSha256}
