@@ -1,5 +1,5 @@
 -- What a mechanism's conversation answers, as a part of its login's plan.
-use Rattle.std.proofs.Common.{◌≡◌, ℕ, ℤ, ◌∙◌, refl, ap, subst, sym, true, false, Bool, Option, None, Some, Result, Ok, Err, List, is_some, IfErr, OnOk}
+use Rattle.std.proofs.Common.{◌≡◌, ℕ, ℤ, ◌∙◌, ap, subst, sym, Bool, Option, Some, Result, Ok, Err, List, is_some, IfErr, OnOk}
 use Rattle.mongo_wire.specs.declared.error.Error.{Error}
 use Rattle.mongo_wire.specs.declared.error.ErrorKind.{ErrorKind}
 use Rattle.mongo_wire.specs.Outside.{State}
@@ -12,8 +12,8 @@ use Rattle.mongo_command.proofs.FollowedBy.{reached_both, stopped_first}
 use Rattle.mongo_sasl.specs.declared.credential.Credential.{Credential}
 use Rattle.mongo_sasl.specs.declared.mechanism.AuthMechanism.{AuthMechanism}
 use Rattle.mongo_sasl.specs.declared.mechanism.AuthMechanism.TheVariants.{MongoDbX509, Plain}
-use Rattle.mongo_sasl.specs.Plain.{PlainHanded, plain_handed, plain_plan}
-use Rattle.mongo_sasl.specs.X509.{X509Handed, x509_handed, x509_plan}
+use Rattle.mongo_sasl.specs.Plain.{plain_handed, plain_plan}
+use Rattle.mongo_sasl.specs.X509.{x509_handed, x509_plan}
 use Rattle.mongo_scram.specs.declared.conversation.FirstRound.{FirstRound as ScramRound}
 use Rattle.mongo_scram.specs.declared.scram_version.ScramVersion.{ScramVersion}
 use Rattle.mongo_scram.specs.declared.scram_version.ScramVersion.TheVariants.{Sha1, Sha256}
@@ -21,7 +21,7 @@ use Rattle.mongo_scram.specs.Base64.{base64_of}
 use Rattle.mongo_scram.specs.Client.{speculated_of, handed_to}
 use Rattle.mongo_scram.specs.Commands.{mechanism_of}
 use Rattle.mongo_scram.specs.Costs.{Ledgers, CostsNothing, Accepted, StoppedLogin}
-use Rattle.mongo_scram.specs.Plan.{Handed, Challenge, scram_plan}
+use Rattle.mongo_scram.specs.Plan.{Handed, scram_plan}
 use Rattle.mongo_scram.proofs.ScramCosts.{accepted_reached, stopped_whole}
 use Rattle.mongo_establish.specs.declared.first_round.FirstRound.{FirstRound}
 use Rattle.mongo_establish.specs.Asked.{Asked}
@@ -29,7 +29,7 @@ use Rattle.mongo_establish.specs.First.{IsRoundBy, scram_round}
 use Rattle.mongo_establish.specs.Greeting.{Greeting}
 use Rattle.mongo_establish.specs.LoggingIn.{Conversed, ConversationStopped, Converses}
 use Rattle.mongo_establish.specs.Login.{IsScram, handed_by, plain_by, x509_by}
-use Rattle.mongo_establish.specs.Plan.{scram_login, plain_login, x509_login, conversation}
+use Rattle.mongo_establish.specs.Plan.{conversation}
 
 abbrev followed : {A : Type 0} → Plan A → Greeting → Plan Greeting
 followed plan greeting = followed_by plan (λ done. ending greeting)

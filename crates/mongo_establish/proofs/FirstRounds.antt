@@ -8,7 +8,7 @@ use Rattle.mongo_sasl.specs.declared.mechanism.AuthMechanism.TheVariants.{ScramS
 use Rattle.mongo_sasl.specs.X509.{x509_body}
 use Rattle.mongo_scram.specs.declared.scram_version.ScramVersion.{ScramVersion}
 use Rattle.mongo_scram.specs.declared.scram_version.ScramVersion.TheVariants.{Sha1, Sha256}
-use Rattle.mongo_scram.specs.Client.{message_of, nonce_of, speculated_of}
+use Rattle.mongo_scram.specs.Client.{speculated_of}
 use Rattle.mongo_scram.specs.Plan.{Speculated}
 use Rattle.mongo_establish.specs.declared.client_first.ClientFirst.{ClientFirst}
 use Rattle.mongo_establish.specs.declared.client_first.ClientFirst.TheVariants.{Scram, X509}

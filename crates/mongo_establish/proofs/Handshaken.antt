@@ -1,17 +1,15 @@
 -- A handshake over a connection, as a part of the establishment that it is for.
-use Rattle.std.proofs.Common.{◌≡◌, ℤ, ◌∙◌, refl, subst, sym, ap, inl, inr, Option, None, Some, List}
+use Rattle.std.proofs.Common.{◌≡◌, ℤ, ◌∙◌, refl, subst, sym, ap, inl, inr, Option, Some}
 use Rattle.mongo_wire.specs.declared.error.ErrorKind.{ErrorKind}
 use Rattle.mongo_wire.specs.Outside.{State}
 use Rattle.mongo_command.specs.declared.connection.Connection.{Connection}
 use Rattle.mongo_command.specs.declared.stream_description.StreamDescription.{StreamDescription}
 use Rattle.mongo_command.specs.declared.hello.HelloReply.{HelloReply}
 use Rattle.mongo_command.specs.declared.server_address.ServerAddress.{ServerAddress}
-use Rattle.mongo_command.specs.Conversation.{Event, Turn, Plan, unless, saying, Reached, Stopped}
-use Rattle.mongo_command.proofs.Steps.{reached_ending, reached_more, reached_unless, stopped_more, stopped_row}
+use Rattle.mongo_command.specs.Conversation.{Plan, unless, saying, Reached, Stopped}
+use Rattle.mongo_command.proofs.Steps.{reached_ending, reached_unless, stopped_row}
 use Rattle.mongo_command.proofs.FollowedBy.{reached_both, stopped_first, stopped_second}
 use Rattle.mongo_sasl.specs.declared.credential.Credential.{Credential}
-use Rattle.mongo_sasl.specs.declared.mechanism.AuthMechanism.{AuthMechanism}
-use Rattle.mongo_sasl.specs.declared.mechanism.AuthMechanism.TheVariants.{ScramSha1, ScramSha256}
 use Rattle.mongo_establish.specs.declared.establisher.EstablishError.{EstablishError}
 use Rattle.mongo_establish.specs.declared.establisher.HandshakePhase.{HandshakePhase}
 use Rattle.mongo_establish.specs.declared.establisher.HandshakePhase.TheVariants.{PreHello, PostHello}
@@ -23,8 +21,7 @@ use Rattle.mongo_establish.specs.Asked.{Asked, asked_for, asked_over}
 use Rattle.mongo_establish.specs.Established.{Established, IsDescribed, ShookHands, StoppedHandshake, StoppedHello, StoppedLogin}
 use Rattle.mongo_establish.specs.Generation.{NamesService, generation_of}
 use Rattle.mongo_establish.specs.Greeting.{Greeting}
-use Rattle.mongo_establish.specs.Login.{logging_in}
-use Rattle.mongo_establish.specs.Plan.{hello_said, after_hello, hello_plan, mechanism_plan, login_by, login_plan, handshake_plan, service_plan, establishment_plan}
+use Rattle.mongo_establish.specs.Plan.{hello_said, after_hello, hello_plan, login_plan, handshake_plan, service_plan, establishment_plan}
 use Rattle.mongo_establish.specs.Pooled.{phase_at, IsPooled, UnnamedService}
 use Rattle.mongo_establish.specs.Refusal.{NoService}
 use Rattle.mongo_establish.specs.Speculation.{HelloRow}

@@ -1,9 +1,9 @@
 -- A hello's body as it grows: each document is no shorter than the one before it, so one that can't be made makes the
 -- hello too long.
-use Rattle.std.proofs.Common.{◌≡◌, ℕ, ◌+◌, ◌-◌, ◌^◌, ◌<◌, ◌≤◌, ◌↔◌, ◌∙◌, refl, ap, sym, subst, Option, None, Some, Result, Ok, Err, IfErr, List, ◌++◌, ◌∷◌, Contains, codes, length, take, drop, arith}
+use Rattle.std.proofs.Common.{◌≡◌, ℕ, ◌+◌, ◌-◌, ◌^◌, ◌<◌, ◌≤◌, ◌↔◌, ◌∙◌, refl, ap, sym, subst, Option, None, Some, Result, Ok, Err, IfErr, List, ◌++◌, ◌∷◌, Contains, codes, length, drop, arith}
 use Rattle.std.proofs.lemmas.List.{length-append, length-take-le, length-drop}
 use Rattle.mongo_bson.specs.Document.{Element, spell}
-use Rattle.mongo_bson.specs.Framed.{body_of, enclosed}
+use Rattle.mongo_bson.specs.Framed.{body_of}
 use Rattle.mongo_bson.proofs.Enclosed.{length-enclosed}
 use Rattle.mongo_bson.specs.Refusals.{AppendRefuses}
 use Rattle.mongo_bson.specs.declared.fault.BsonFault.{BsonFault}

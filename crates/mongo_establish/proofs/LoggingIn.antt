@@ -1,5 +1,5 @@
 -- What a login over a connection that holds a description answers.
-use Rattle.std.proofs.Common.{◌≡◌, ℕ, ℤ, ◌∙◌, refl, ap, subst, sym, true, false, Option, None, Some, Result, Ok, Err, List, [], is_some, IfErr, OnOk}
+use Rattle.std.proofs.Common.{◌≡◌, ℕ, ℤ, ◌∙◌, refl, subst, sym, true, false, Option, None, Some, Result, Ok, Err, List, [], is_some, IfErr, OnOk}
 use Rattle.mongo_wire.specs.declared.error.Error.{Error}
 use Rattle.mongo_wire.specs.Outside.{State}
 use Rattle.mongo_command.specs.declared.connection.Connection.{Connection}

@@ -1,7 +1,7 @@
 -- A login that was followed to its end is a login by the script, and the other way round.
 use Rattle.std.proofs.Common.{◌≡◌, ℕ, ℤ, ◌∙◌, refl, ap, subst, sym, inr, Option, None, Some, List, [], ◌++◌, append-nil}
 use Rattle.mongo_wire.specs.declared.error.ErrorKind.{ErrorKind}
-use Rattle.mongo_command.specs.Conversation.{Event, Plan, HasOneTurn, HasNone, ending, unless, reading, followed_by, said_in}
+use Rattle.mongo_command.specs.Conversation.{Event, Plan, HasOneTurn, HasNone, ending, unless, reading, followed_by}
 use Rattle.mongo_command.proofs.Talked.{follows_more}
 use Rattle.mongo_command.proofs.Ends.{Ends, ends_ending, ends_unless, ends_reading, ends_followed, ends_both}
 use Rattle.mongo_sasl.specs.declared.credential.Credential.{Credential}
@@ -9,7 +9,7 @@ use Rattle.mongo_sasl.specs.declared.mechanism.AuthMechanism.{AuthMechanism}
 use Rattle.mongo_sasl.specs.declared.mechanism.AuthMechanism.TheVariants.{ScramSha1, ScramSha256, MongoDbX509, Plain}
 use Rattle.mongo_sasl.specs.Plain.{plain_plan, IsPlainLogin}
 use Rattle.mongo_sasl.specs.X509.{x509_plan, IsX509Login}
-use Rattle.mongo_sasl.proofs.LoginEvents.{replies_in, documents_in, AreSendable, AreWithin, LoginEnd, EndsBy}
+use Rattle.mongo_sasl.proofs.LoginEvents.{replies_in, documents_in, AreWithin, LoginEnd, EndsBy}
 use Rattle.mongo_sasl.proofs.PlainPlan.{one_plain, plain_ended, plain_ends}
 use Rattle.mongo_sasl.proofs.X509Plan.{one_x509, x509_ended, x509_ends}
 use Rattle.mongo_scram.specs.declared.scram_version.ScramVersion.{ScramVersion}

@@ -1,5 +1,5 @@
 -- The plan of a login has one turn.
-use Rattle.std.proofs.Common.{◌≡◌, ℕ, refl, Option, None, Some, List}
+use Rattle.std.proofs.Common.{ℕ, refl, Option, None, Some, List}
 use Rattle.mongo_command.specs.declared.stream_description.StreamDescription.{StreamDescription}
 use Rattle.mongo_command.specs.Conversation.{Plan, IsOne, HasOneTurn, ending, followed_by}
 use Rattle.mongo_command.proofs.Plans.{one_is, one_ending, one_unless, one_reading, one_followed}

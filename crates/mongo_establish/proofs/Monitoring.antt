@@ -1,5 +1,5 @@
 -- What monitoring answers: an establishment without anybody who logs in.
-use Rattle.std.proofs.Common.{◌≡◌, ℕ, ℤ, ◌⊎◌, ◌∙◌, refl, ap, subst, sym, Option, None, Some, Result, Ok, Err, List, [], IfErr}
+use Rattle.std.proofs.Common.{◌≡◌, ℕ, ℤ, ◌⊎◌, ◌∙◌, refl, ap, subst, sym, None, Some, Result, Ok, Err, List, [], IfErr}
 use Rattle.mongo_wire.specs.declared.error.Error.{Error}
 use Rattle.mongo_wire.specs.declared.error.ErrorKind.{ErrorKind}
 use Rattle.mongo_wire.specs.declared.error.ErrorKind.TheVariants.{OutOfMemory}

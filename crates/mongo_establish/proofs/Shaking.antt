@@ -1,5 +1,5 @@
 -- What a handshake over a connection answers, step by step.
-use Rattle.std.proofs.Common.{◌≡◌, ℕ, ℤ, ◌⊎◌, ◌∙◌, refl, ap, subst, sym, inl, inr, is_some, Option, None, Some, option_map, Result, Ok, Err, List, IfErr, OnOk}
+use Rattle.std.proofs.Common.{◌≡◌, ℕ, ℤ, ◌∙◌, refl, ap, subst, sym, inl, inr, is_some, Option, None, option_map, Result, Ok, Err, List, IfErr, OnOk}
 use Rattle.mongo_wire.specs.declared.error.Error.{Error}
 use Rattle.mongo_wire.specs.declared.error.ErrorKind.{ErrorKind}
 use Rattle.mongo_wire.specs.Outside.{State}

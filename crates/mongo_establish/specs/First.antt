@@ -2,7 +2,6 @@
 use Rattle.std.specs.Prelude.{◌≡◌, ℕ, Option, None, Some, is_some, option_map, List, ⊤}
 use Rattle.mongo_wire.specs.declared.error.ErrorKind.{ErrorKind}
 use Rattle.mongo_wire.specs.declared.error.ErrorKind.TheVariants.{OutOfMemory}
-use Rattle.mongo_command.specs.declared.command.Command.{Command}
 use Rattle.mongo_sasl.specs.declared.credential.Credential.{Credential}
 use Rattle.mongo_sasl.specs.declared.mechanism.AuthMechanism.{AuthMechanism}
 use Rattle.mongo_sasl.specs.declared.mechanism.AuthMechanism.TheVariants.{ScramSha1, ScramSha256, MongoDbX509}
@@ -21,8 +20,8 @@ use Rattle.mongo_establish.specs.Login.{IsScram, speculative_reply, speculated_b
 use Rattle.mongo_establish.specs.declared.client_first.ClientFirst.{ClientFirst}
 use Rattle.mongo_establish.specs.declared.client_first.ClientFirst.TheVariants.{Scram, X509}
 use Rattle.mongo_establish.specs.declared.first_round.FirstRound.{FirstRound}
-use Rattle.mongo_establish.specs.declared.first_round.FirstRound.TheVariants.{Scram as ScramAnswered, X509 as X509Answered}
-use Rattle.mongo_establish.specs.Speculation.{mechanism_before, MechanismRow, HelloRow, speculation, speculation_by, scram_speculation, speculative_message, speculative_nonce}
+use Rattle.mongo_establish.specs.declared.first_round.FirstRound.TheVariants.{Scram as ScramAnswered}
+use Rattle.mongo_establish.specs.Speculation.{mechanism_before, scram_speculation, speculative_message, speculative_nonce}
 
 -- ---- the first message
 

@@ -1,4 +1,4 @@
-use Rattle.std.proofs.Common.{rules, ap, ◌∙◌, Err, sym}
+use Rattle.std.proofs.Common.{ap, ◌∙◌, Err}
 use Rattle.std.proofs.lemmas.Result.{err_from_is_err_and}
 use Rattle.mongo_establish.specs.Establisher.{options_of_establisher}
 use Rattle.mongo_establish.proofs.Monitoring.{monitored, unmonitored, monitored_memory, monitored_refused}
