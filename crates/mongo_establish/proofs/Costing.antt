@@ -31,7 +31,7 @@ module _ (pending : PendingConnection) (options : HandshakerOptions) (credential
   abbrev over : Asked
   over = asked_over opened options credential nonces id
 
-  whole_costs : (old new : State) (after : ℤ) (early late : Ledgers) → HandshakeCosts over old new after early late → HandshakeCosts wanted old new after early late
+  pub whole_costs : (old new : State) (after : ℤ) (early late : Ledgers) → HandshakeCosts over old new after early late → HandshakeCosts wanted old new after early late
   whole_costs old new after early late h = record {
     greeting = h.greeting;
     middle = h.middle;

@@ -1,0 +1,277 @@
+-- What an establishment took of the counter and of the cache, by the key that its login derives from; told bytes lead to that key.
+use Rattle.std.proofs.Common.{◌≡◌, ◌⊎◌, ◌∙◌, ℕ, ℤ, refl, ap, subst, sym, inl, inr, Bool, true, false, Option, None, Some, Result, Ok, Err, List, Contains, codes, unwrap_or, if◌then◌else◌, IsSome, IfErr}
+use Rattle.mongo_wire.specs.declared.error.Error.{Error}
+use Rattle.mongo_wire.specs.declared.error.ErrorKind.{ErrorKind}
+use Rattle.mongo_wire.specs.declared.error.ErrorKind.TheVariants.{Authentication, IncompatibleServer, OutOfMemory}
+use Rattle.mongo_wire.specs.declared.auth_fault.AuthFault.TheVariants.{NoUsername, NoPassword, PropertiesGiven}
+use Rattle.mongo_wire.specs.Outside.{State, Rose}
+use Rattle.mongo_command.specs.declared.connection.Connection.{Connection}
+use Rattle.mongo_command.specs.declared.stream_description.StreamDescription.{StreamDescription}
+use Rattle.mongo_command.specs.Conversation.{refuses, ends, HasNone, ending, Reached, Stopped}
+use Rattle.mongo_command.proofs.FollowedBy.{reached_both, stopped_first}
+use Rattle.mongo_command.proofs.Leads.{reached_led, stopped_led}
+use Rattle.mongo_command.proofs.Steps.{reached_ending, reached_unless, stopped_unless}
+use Rattle.mongo_sasl.specs.declared.credential.Credential.{Credential}
+use Rattle.mongo_sasl.specs.declared.mechanism.AuthMechanism.{AuthMechanism}
+use Rattle.mongo_sasl.specs.declared.mechanism.AuthMechanism.TheVariants.{ScramSha1, ScramSha256}
+use Rattle.mongo_scram.specs.declared.cache.SaltedKey.{SaltedKey}
+use Rattle.mongo_scram.specs.declared.scram_version.ScramVersion.{ScramVersion}
+use Rattle.mongo_scram.specs.declared.scram_version.ScramVersion.TheVariants.{Sha1, Sha256}
+use Rattle.mongo_scram.specs.Cache.{entries_of, Adds}
+use Rattle.mongo_scram.specs.Commands.{mechanism_of}
+use Rattle.mongo_scram.specs.Costs.{Ledgers, key_by, HasEntry, SameEntries, CostsNothing, Accepted, StoppedClosing, StoppedLogin}
+use Rattle.mongo_scram.specs.Entry.{salted_of}
+use Rattle.mongo_scram.specs.Plan.{Handed, Challenge, opening}
+use Rattle.mongo_scram.specs.User.{User, IsUser, CredentialRow}
+use Rattle.mongo_establish.specs.declared.establisher.EstablishError.{EstablishError}
+use Rattle.mongo_establish.specs.declared.establisher.PooledConnection.{PooledConnection}
+use Rattle.mongo_establish.specs.declared.generation.PoolGeneration.{PoolGeneration}
+use Rattle.mongo_establish.specs.Asked.{Asked}
+use Rattle.mongo_establish.specs.Costs.{AcceptedCosts, StoppedCosts, LoginCostsOf, StoppedLoginCostsOf, HandshakeCosts, StoppedHandshakeCosts, EstablishmentCosts}
+use Rattle.mongo_establish.specs.Derivation.{derivation_by, derivation_of, login_derivation, derivation_plan}
+use Rattle.mongo_establish.specs.Established.{StoppedHandshake}
+use Rattle.mongo_establish.specs.Greeting.{Greeting}
+use Rattle.mongo_establish.specs.KeyCosts.{TakesKey, AcceptedTakes, RefusedTakes, TakesAsLed, CostsAsLed}
+use Rattle.mongo_establish.specs.Login.{holds_users, logging_in, speculative_reply, IsMechanism, IsScram, InvalidRow, handed_by}
+use Rattle.mongo_establish.specs.Plan.{hello_plan}
+use Rattle.mongo_establish.specs.Pooled.{UnnamedService}
+use Rattle.mongo_establish.specs.Speculation.{mechanism_before, MechanismRow, HelloRow}
+use Rattle.mongo_establish.proofs.Compatible.{compatible}
+use Rattle.mongo_establish.proofs.DerivationSteps.{KeyTaken, KeySpent, taken_more, spent_more, taken_after, spent_after}
+use Rattle.mongo_establish.proofs.HelloPlan.{greeted}
+use Rattle.mongo_establish.proofs.Validated.{user_no_row}
+
+-- ---- by SCRAM
+
+kept_entry : (key : SaltedKey) (first last : Ledgers) → (HasEntry first.cache key × SameEntries first last) ⊎ Adds (entries_of first.cache) (entries_of last.cache) (key, salted_of key) → HasEntry last.cache key
+kept_entry key first last (inl had) = (had.0.0, subst (λ entries. Contains entries (key, had.0.0)) (sym had.1) had.0.1)
+kept_entry key first last (inr adds) = (salted_of key, (adds (key, salted_of key)).1 (inr refl))
+
+kept_others : (key : SaltedKey) (first last : Ledgers) → (HasEntry first.cache key × SameEntries first last) ⊎ Adds (entries_of first.cache) (entries_of last.cache) (key, salted_of key) → SameEntries first last ⊎ Adds (entries_of first.cache) (entries_of last.cache) (key, salted_of key)
+kept_others key first last (inl had) = inl had.1
+kept_others key first last (inr adds) = inr adds
+
+accepted_takes : (handed : Handed) (document : List ℕ) (old new : State) (before after : ℤ) (first last : Ledgers) (is : Accepted handed document old new before after first last) → TakesKey (key_by handed is.challenge) first last
+accepted_takes handed document old new before after first last is = record {
+  derived = is.derived;
+  entry = kept_entry (key_by handed is.challenge) first last is.kept;
+  others = kept_others (key_by handed is.challenge) first last is.kept;
+}
+
+closing_takes : (handed : Handed) (kind : ErrorKind) (old new : State) (before after : ℤ) (first last : Ledgers) (is : StoppedClosing handed kind old new before after first last)
+    → RefusedTakes (Some (key_by handed is.challenge)) first last ⊎ ((kind ≡ OutOfMemory) × CostsNothing first last)
+closing_takes handed kind old new before after first last is =
+    elim is.derived [
+      | inl derived ↦ inl (record { derived = derived; entries = is.entries })
+      | inr memory ↦ inr (memory.0, record { counts = memory.1; entries = is.entries })
+    ]
+
+opening_reached : (version : ScramVersion) (asked : Asked) (credential : Credential) (greeting : Greeting) (c : Challenge) (old middle : State) (before between : ℤ) → HasNone (InvalidRow (speculative_reply asked greeting) (mechanism_of version) credential)
+    → Reached (opening (handed_by version asked credential greeting)) c old middle before between → Reached (derivation_by (mechanism_of version) asked credential greeting) (Some (key_by (handed_by version asked credential greeting) c)) old middle before between
+unfolding derivation_by
+opening_reached Sha1 asked credential greeting c old middle before between none r =
+    let handed = handed_by Sha1 asked credential greeting in
+    reached_unless _ _ (Some (key_by handed c)) old middle before between none (reached_both (opening handed) (λ challenge. ending (Some (key_by handed challenge))) c (Some (key_by handed c)) old middle middle before between between r (reached_ending (Some (key_by handed c)) middle between))
+opening_reached Sha256 asked credential greeting c old middle before between none r =
+    let handed = handed_by Sha256 asked credential greeting in
+    reached_unless _ _ (Some (key_by handed c)) old middle before between none (reached_both (opening handed) (λ challenge. ending (Some (key_by handed challenge))) c (Some (key_by handed c)) old middle middle before between between r (reached_ending (Some (key_by handed c)) middle between))
+
+opening_stopped : (version : ScramVersion) (asked : Asked) (credential : Credential) (greeting : Greeting) (kind : ErrorKind) (old new : State) (before after : ℤ) → HasNone (InvalidRow (speculative_reply asked greeting) (mechanism_of version) credential)
+    → Stopped (opening (handed_by version asked credential greeting)) kind old new before after → Stopped (derivation_by (mechanism_of version) asked credential greeting) kind old new before after
+unfolding derivation_by
+opening_stopped Sha1 asked credential greeting kind old new before after none s =
+    let handed = handed_by Sha1 asked credential greeting in
+    stopped_unless _ _ kind old new before after none (stopped_first (opening handed) (λ challenge. ending (Some (key_by handed challenge))) kind old new before after s)
+opening_stopped Sha256 asked credential greeting kind old new before after none s =
+    let handed = handed_by Sha256 asked credential greeting in
+    stopped_unless _ _ kind old new before after none (stopped_first (opening handed) (λ challenge. ending (Some (key_by handed challenge))) kind old new before after s)
+
+module _ (version : ScramVersion) (asked : Asked) (credential : Credential) (greeting : Greeting) (none : HasNone (InvalidRow (speculative_reply asked greeting) (mechanism_of version) credential)) where
+  abbrev handed : Handed
+  handed = handed_by version asked credential greeting
+
+  scram_takes : (document : List ℕ) (old new : State) (before after : ℤ) (first last : Ledgers) → Accepted handed document old new before after first last → KeyTaken (derivation_by (mechanism_of version) asked credential greeting) old before first last
+  scram_takes document old new before after first last is = record {
+    key = Some (key_by handed is.challenge);
+    middle = is.middle;
+    between = is.between;
+    reached = opening_reached version asked credential greeting is.challenge old is.middle before is.between none is.opened;
+    takes = accepted_takes handed document old new before after first last is;
+  }
+
+  scram_spends : (kind : ErrorKind) (old new : State) (before after : ℤ) (first last : Ledgers) → StoppedLogin handed kind old new before after first last → KeySpent (derivation_by (mechanism_of version) asked credential greeting) kind old new before after first last
+  scram_spends kind old new before after first last is =
+      elim is [
+        | inl early ↦ inl (record { stopped = opening_stopped version asked credential greeting kind old new before after none early.0; nothing = early.1 })
+        | inr late ↦ inr (record {
+          key = Some (key_by handed late.challenge);
+          middle = late.middle;
+          between = late.between;
+          reached = opening_reached version asked credential greeting late.challenge old late.middle before late.between none late.opened;
+          takes = closing_takes handed kind old new before after first last late;
+        })
+      ]
+
+-- ---- a hello that could be made has no row of a SCRAM login
+
+-- a value that isn't absent
+there : {X : Type 0} (o : Option X) → (o ≡ None → ⊥) → (x : X) × (o ≡ Some x)
+there None some = absurd (some refl)
+there (Some x) some = (x, refl)
+
+is_there : {X : Type 0} (o : Option X) (x : X) → o ≡ Some x → IsSome o
+is_there o x is = subst IsSome (sym is) refl
+
+absent : {X : Type 0} (o : Option X) → (IsSome o → ⊥) → o ≡ None
+absent None none = refl
+absent (Some x) none = absurd (none refl)
+
+-- a credential without a row has a user
+user_in : (credential : Credential) → HasNone (CredentialRow credential) → (user : User) × IsUser credential user
+user_in credential none =
+    let username = there credential.username (none (Authentication NoUsername)) in
+    let named = is_there credential.username username.0 username.1 in
+    let password = there credential.password (λ is. none (Authentication NoPassword) (named, is)) in
+    let properties = absent credential.mechanism_properties (λ given. none (Authentication PropertiesGiven) (named, is_there credential.password password.0 password.1, given)) in
+    let user : User = record { username = username.0; password = password.0; source = unwrap_or credential.source (codes "admin") } in
+    (user, record { username = username.1; password = password.1; properties = properties; source = refl })
+
+scram_row : (mechanism : AuthMechanism) (credential : Credential) → IsScram mechanism → HasNone (MechanismRow mechanism credential) → HasNone (CredentialRow credential)
+scram_row ScramSha1 credential scram none = none
+scram_row ScramSha256 credential scram none = none
+scram_row mechanism credential scram none = absurd scram
+
+made_row : (given : Option AuthMechanism) (reply : Option (List ℕ)) (description : StreamDescription) (mechanism : AuthMechanism) (credential : Credential) → IsMechanism given reply description mechanism → IsScram mechanism → HasNone (MechanismRow (mechanism_before given) credential) → HasNone (CredentialRow credential)
+made_row (Some given) reply description mechanism credential is scram none = scram_row given credential (subst IsScram is scram) none
+made_row None reply description mechanism credential is scram none = none
+
+taken : (credential : Credential) (reply : Option (List ℕ)) (description : StreamDescription) (mechanism : AuthMechanism) → IsMechanism credential.mechanism reply description mechanism → HasNone (HelloRow (Some credential)) → IsScram mechanism → HasNone (InvalidRow reply mechanism credential)
+taken credential reply description mechanism is made scram =
+    let user = user_in credential (made_row credential.mechanism reply description mechanism credential is scram made) in
+    user_no_row reply mechanism credential user.0 scram user.1
+
+-- ---- by its mechanism
+
+-- without a key
+nothing_taken : (old : State) (before : ℤ) (first last : Ledgers) → CostsNothing first last → KeyTaken (ending None) old before first last
+nothing_taken old before first last nothing = record { key = None; middle = old; between = before; reached = reached_ending None old before; takes = nothing }
+
+nothing_spent : (kind : ErrorKind) (old new : State) (before after : ℤ) (first last : Ledgers) → CostsNothing first last → KeySpent (ending None) kind old new before after first last
+nothing_spent kind old new before after first last nothing = inr (record { key = None; middle = old; between = before; reached = reached_ending None old before; takes = inl nothing })
+
+taken_by : (mechanism : AuthMechanism) (asked : Asked) (credential : Credential) (greeting : Greeting) (old new : State) (before after : ℤ) (first last : Ledgers) → (IsScram mechanism → HasNone (InvalidRow (speculative_reply asked greeting) mechanism credential))
+    → AcceptedCosts mechanism asked credential greeting old new before after first last → KeyTaken (derivation_by mechanism asked credential greeting) old before first last
+unfolding derivation_by
+taken_by ScramSha1 asked credential greeting old new before after first last none c = scram_takes Sha1 asked credential greeting (none tt) c.document old new before after first last c.accepted
+taken_by ScramSha256 asked credential greeting old new before after first last none c = scram_takes Sha256 asked credential greeting (none tt) c.document old new before after first last c.accepted
+taken_by mechanism asked credential greeting old new before after first last none c = nothing_taken old before first last c
+
+spent_by : (mechanism : AuthMechanism) (asked : Asked) (credential : Credential) (greeting : Greeting) (kind : ErrorKind) (old new : State) (before after : ℤ) (first last : Ledgers) → (IsScram mechanism → HasNone (InvalidRow (speculative_reply asked greeting) mechanism credential))
+    → StoppedCosts mechanism asked credential greeting kind old new before after first last → KeySpent (derivation_by mechanism asked credential greeting) kind old new before after first last
+unfolding derivation_by
+spent_by ScramSha1 asked credential greeting kind old new before after first last none c = scram_spends Sha1 asked credential greeting (none tt) kind old new before after first last c
+spent_by ScramSha256 asked credential greeting kind old new before after first last none c = scram_spends Sha256 asked credential greeting (none tt) kind old new before after first last c
+spent_by mechanism asked credential greeting kind old new before after first last none c = nothing_spent kind old new before after first last c
+
+-- the mechanism doesn't take the credential
+row_spent : (mechanism : AuthMechanism) (asked : Asked) (credential : Credential) (greeting : Greeting) (kind : ErrorKind) (old new : State) (before after : ℤ) (first last : Ledgers) → (IsScram mechanism → HasNone (InvalidRow (speculative_reply asked greeting) mechanism credential))
+    → InvalidRow (speculative_reply asked greeting) mechanism credential kind → CostsNothing first last → KeySpent (derivation_by mechanism asked credential greeting) kind old new before after first last
+unfolding derivation_by
+row_spent ScramSha1 asked credential greeting kind old new before after first last none row nothing = absurd (none tt kind row)
+row_spent ScramSha256 asked credential greeting kind old new before after first last none row nothing = absurd (none tt kind row)
+row_spent mechanism asked credential greeting kind old new before after first last none row nothing = nothing_spent kind old new before after first last nothing
+
+-- ---- a login
+
+login_taken : (who : Option Credential) (asked : Asked) (greeting : Greeting) (old new : State) (before after : ℤ) (first last : Ledgers) → HasNone (HelloRow who) → LoginCostsOf who asked greeting old new before after first last → KeyTaken (derivation_of who asked greeting) old before first last
+login_taken None asked greeting old new before after first last made c = nothing_taken old before first last c
+login_taken (Some credential) asked greeting old new before after first last made c =
+    let none = taken credential (speculative_reply asked greeting) greeting.description c.mechanism c.is_mechanism made in
+    taken_more (derivation_by c.mechanism asked credential greeting) (derivation_of (Some credential) asked greeting) old before first last (λ past turn h. (c.mechanism, c.is_mechanism, h))
+    (taken_by c.mechanism asked credential greeting old new before after first last none c.costs)
+
+login_spent : (who : Option Credential) (asked : Asked) (greeting : Greeting) (kind : ErrorKind) (old new : State) (before after : ℤ) (first last : Ledgers) → HasNone (HelloRow who) → StoppedLoginCostsOf who asked greeting kind old new before after first last → KeySpent (derivation_of who asked greeting) kind old new before after first last
+login_spent None asked greeting kind old new before after first last made c = nothing_spent kind old new before after first last c
+login_spent (Some credential) asked greeting kind old new before after first last made c =
+    let none = taken credential (speculative_reply asked greeting) greeting.description c.mechanism c.is_mechanism made in
+    spent_more (derivation_by c.mechanism asked credential greeting) (derivation_of (Some credential) asked greeting) kind old new before after first last (λ past turn h. (c.mechanism, c.is_mechanism, h))
+    (elim c.costs [
+      | inl row ↦ row_spent c.mechanism asked credential greeting kind old new before after first last none row.0 row.1
+      | inr stopped ↦ spent_by c.mechanism asked credential greeting kind old new before after first last none stopped
+    ])
+
+-- ---- a handshake
+
+who_made : (holds : Bool) (credential : Option Credential) → HasNone (HelloRow credential) → HasNone (HelloRow (if holds then credential else None))
+who_made true credential made = made
+who_made false credential made = λ kind row. row
+
+-- a hello that was answered could be made
+hello_made : (asked : Asked) (greeting : Greeting) (old middle : State) (before between : ℤ) → Reached (hello_plan asked) greeting old middle before between → HasNone (HelloRow (logging_in asked greeting))
+hello_made asked greeting old middle before between r =
+    who_made (holds_users greeting.description.initial_server_type) asked.credential (greeted asked r.events greeting (record { follows = r.talked.follows; answer_is = r.answer_is })).made
+
+pub handshake_taken : (asked : Asked) (old new : State) (after : ℤ) (first last : Ledgers) → HandshakeCosts asked old new after first last → KeyTaken (derivation_plan asked) old asked.first_id first last
+unfolding derivation_plan login_derivation
+handshake_taken asked old new after first last h =
+    taken_after (hello_plan asked) (login_derivation asked) h.greeting old h.middle asked.first_id h.between first last h.hello
+    (login_taken (logging_in asked h.greeting) asked h.greeting h.middle new h.between after first last (hello_made asked h.greeting old h.middle asked.first_id h.between h.hello) h.login)
+
+pub handshake_spent : (asked : Asked) (kind : ErrorKind) (old new : State) (after : ℤ) (first last : Ledgers) → StoppedHandshakeCosts asked kind old new after first last → KeySpent (derivation_plan asked) kind old new asked.first_id after first last
+unfolding derivation_plan login_derivation
+handshake_spent asked kind old new after first last s =
+    elim s [
+      | inl h ↦ inl (record { stopped = stopped_first (hello_plan asked) (login_derivation asked) kind old new asked.first_id after h.hello; nothing = h.nothing })
+      | inr l ↦
+          spent_after (hello_plan asked) (login_derivation asked) l.greeting kind old l.middle new asked.first_id l.between after first last l.hello
+          (login_spent (logging_in asked l.greeting) asked l.greeting kind l.middle new l.between after first last (hello_made asked l.greeting old l.middle asked.first_id l.between l.hello) l.login)
+    ]
+
+-- ---- over told bytes
+
+takes_led : (asked : Asked) (bytes : List ℕ) (old : State) (first last : Ledgers) → KeyTaken (derivation_plan asked) old asked.first_id first last → old.left ≡ Some bytes → TakesAsLed asked bytes (λ key. AcceptedTakes key first last)
+takes_led asked bytes old first last a is =
+    let l = reached_led (derivation_plan asked) a.key old a.middle asked.first_id a.between bytes a.reached is in
+    record { key = a.key; leads = record { outcome = ends a.key; commands = l.commands; taken = l.taken; unread = l.unread; leads = l.leads; key_is = refl }; taken = a.takes }
+
+-- memory ran out, or the bytes lead to the key
+spends_led : (asked : Asked) (kind : ErrorKind) (bytes : List ℕ) (old new : State) (after : ℤ) (first last : Ledgers) → KeySpent (derivation_plan asked) kind old new asked.first_id after first last → old.left ≡ Some bytes → (Rose old.read_faults new.read_faults → ⊥) → (Rose old.write_faults new.write_faults → ⊥)
+    → (kind ≡ OutOfMemory) ⊎ TakesAsLed asked bytes (λ key. RefusedTakes key first last)
+spends_led asked kind bytes old new after first last s is unfailed unwritten =
+    elim s [
+      | inl early ↦ elim (stopped_led (derivation_plan asked) kind old new asked.first_id after bytes early.stopped is unfailed unwritten) [
+        | inl memory ↦ inl memory
+        | inr l ↦ inr (record { key = None; leads = record { outcome = refuses kind; commands = l.commands; taken = l.taken; unread = l.unread; leads = l.leads; key_is = refl }; taken = early.nothing })
+      ]
+      | inr late ↦ elim late.takes [
+        | inl takes ↦
+            let l = reached_led (derivation_plan asked) late.key old late.middle asked.first_id late.between bytes late.reached is in
+            inr (record { key = late.key; leads = record { outcome = ends late.key; commands = l.commands; taken = l.taken; unread = l.unread; leads = l.leads; key_is = refl }; taken = takes })
+        | inr memory ↦ inl memory.0
+      ]
+    ]
+
+-- a handshake that was accepted: the connection is ready, or its server named no service
+pub pooled_led : (r : Result PooledConnection EstablishError) (asked : Asked) (old new : State) (after : ℤ) (first last : Ledgers) → HandshakeCosts asked old new after first last → IfErr r (λ e. e.cause.kind ≡ IncompatibleServer) → CostsAsLed r asked old new first last
+pooled_led (Ok pooled) asked old new after first last h unnamed = record { over = λ bytes is unfailed unwritten. takes_led asked bytes old first last (handshake_taken asked old new after first last h) is }
+pooled_led (Err e) asked old new after first last h unnamed = record { over = λ bytes is unfailed unwritten. inr (inl (record { kind_is = unnamed; led = takes_led asked bytes old first last (handshake_taken asked old new after first last h) is })) }
+
+pub unnamed_kind : (r : Result PooledConnection EstablishError) (connection : Connection) (pool : PoolGeneration) → IfErr r (UnnamedService connection pool) → IfErr r (λ e. e.cause.kind ≡ IncompatibleServer)
+unnamed_kind (Ok pooled) connection pool u = tt
+unnamed_kind (Err e) connection pool u = u.kind_is
+
+-- one that was refused
+pub refused_led : (e : EstablishError) (asked : Asked) (old new : State) (after : ℤ) (first last : Ledgers) → EstablishmentCosts {T = PooledConnection} (Err e) asked old new after first last → (e.cause.kind ≡ IncompatibleServer → ⊥) → CostsAsLed {T = PooledConnection} (Err e) asked old new first last
+refused_led e asked old new after first last costs other = record {
+  over = λ bytes is unfailed unwritten.
+      elim costs.refused [
+        | inl s ↦ elim (spends_led asked e.cause.kind bytes old new after first last (handshake_spent asked e.cause.kind old new after first last s) is unfailed unwritten) [
+          | inl memory ↦ inl memory
+          | inr led ↦ inr (inr (record { other = other; led = led }))
+        ]
+        | inr unnamed ↦ absurd (other unnamed.0)
+      ];
+}
+
+pub refused_compatible : (e : EstablishError) (cause : Error) (asked : Asked) (opened connection : Connection) (old new : State) (after : ℤ) → e.cause ≡ cause → StoppedHandshake asked opened connection cause.kind old new after → e.cause.kind ≡ IncompatibleServer → ⊥
+refused_compatible e cause asked opened connection old new after same s is = compatible asked opened connection cause.kind old new after s (sym (ap (λ (c : Error). c.kind) same) ∙ is)

@@ -1,0 +1,57 @@
+-- Which key a login derives from, by the replies up to the one that asks for it.
+use Rattle.std.specs.Prelude.{◌≡◌, ℕ, Option, None, Some, List}
+use Rattle.mongo_command.specs.Conversation.{Said, Turn, ends, Plan, ending, unless, reading, followed_by, Leads}
+use Rattle.mongo_sasl.specs.declared.credential.Credential.{Credential}
+use Rattle.mongo_sasl.specs.declared.mechanism.AuthMechanism.{AuthMechanism}
+use Rattle.mongo_sasl.specs.declared.mechanism.AuthMechanism.TheVariants.{ScramSha1, ScramSha256}
+use Rattle.mongo_scram.specs.declared.cache.SaltedKey.{SaltedKey}
+use Rattle.mongo_scram.specs.declared.scram_version.ScramVersion.{ScramVersion}
+use Rattle.mongo_scram.specs.declared.scram_version.ScramVersion.TheVariants.{Sha1, Sha256}
+use Rattle.mongo_scram.specs.Costs.{key_by}
+use Rattle.mongo_scram.specs.Plan.{opening}
+use Rattle.mongo_establish.specs.Asked.{Asked}
+use Rattle.mongo_establish.specs.Greeting.{Greeting}
+use Rattle.mongo_establish.specs.Login.{logging_in, speculative_reply, IsMechanism, InvalidRow, handed_by}
+use Rattle.mongo_establish.specs.Plan.{hello_plan}
+
+-- ---- the plan
+
+-- SCRAM's opening ends with the key, whose password is usable
+abbrev pub scram_derivation : ScramVersion → Asked → Credential → Greeting → Plan (Option SaltedKey)
+scram_derivation version asked credential greeting =
+    followed_by (opening (handed_by version asked credential greeting)) (λ challenge. ending (Some (key_by (handed_by version asked credential greeting) challenge)))
+
+-- another mechanism derives from none
+unfoldable pub derivation_by : AuthMechanism → Asked → Credential → Greeting → Plan (Option SaltedKey)
+derivation_by ScramSha1 asked credential greeting = unless (InvalidRow (speculative_reply asked greeting) ScramSha1 credential) (scram_derivation Sha1 asked credential greeting)
+derivation_by ScramSha256 asked credential greeting = unless (InvalidRow (speculative_reply asked greeting) ScramSha256 credential) (scram_derivation Sha256 asked credential greeting)
+derivation_by mechanism asked credential greeting = ending None
+
+-- nor does a server where nobody logs in ask for one
+abbrev pub derivation_of : Option Credential → Asked → Greeting → Plan (Option SaltedKey)
+derivation_of None asked greeting = ending None
+derivation_of (Some credential) asked greeting =
+    reading (IsMechanism credential.mechanism (speculative_reply asked greeting) greeting.description) (λ mechanism. derivation_by mechanism asked credential greeting)
+
+unfoldable pub login_derivation : Asked → Greeting → Plan (Option SaltedKey)
+login_derivation asked greeting = derivation_of (logging_in asked greeting) asked greeting
+
+-- the hello, and then the login up to its key
+unfoldable pub derivation_plan : Asked → Plan (Option SaltedKey)
+derivation_plan asked = followed_by (hello_plan asked) (login_derivation asked)
+
+-- ---- what reply bytes call for
+
+-- a login that is refused before it derives has no key
+abbrev pub key_in : Turn (Option SaltedKey) → Option SaltedKey
+key_in (ends key) = key
+key_in turn = None
+
+-- The reply bytes lead to a derivation from this key, or to none.
+pub record LeadsToKey (asked : Asked) (bytes : List ℕ) (key : Option SaltedKey) : Type 0 where
+  pub outcome : Turn (Option SaltedKey)
+  pub commands : List Said
+  pub taken : List ℕ
+  pub unread : List ℕ
+  pub leads : Leads (derivation_plan asked) bytes outcome commands taken unread
+  pub key_is : key ≡ key_in outcome

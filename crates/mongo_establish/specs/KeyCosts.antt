@@ -1,0 +1,62 @@
+-- What an establishment takes of the counter and of the cache of salted passwords over told bytes, by the key that they lead to.
+use Rattle.std.specs.Prelude.{◌≡◌, ℕ, ◌⊎◌, Option, None, Some, Result, Ok, Err, List}
+use Rattle.mongo_wire.specs.declared.error.ErrorKind.{ErrorKind}
+use Rattle.mongo_wire.specs.declared.error.ErrorKind.TheVariants.{IncompatibleServer, OutOfMemory}
+use Rattle.mongo_wire.specs.Outside.{State, Rose}
+use Rattle.mongo_scram.specs.declared.cache.SaltedKey.{SaltedKey}
+use Rattle.mongo_scram.specs.Cache.{entries_of, Adds}
+use Rattle.mongo_scram.specs.Costs.{Ledgers, HasEntry, Derives, SameEntries, CostsNothing}
+use Rattle.mongo_scram.specs.Entry.{salted_of}
+use Rattle.mongo_establish.specs.declared.establisher.EstablishError.{EstablishError}
+use Rattle.mongo_establish.specs.Asked.{Asked}
+use Rattle.mongo_establish.specs.Derivation.{LeadsToKey}
+
+-- ---- what a key costs
+
+-- The key was derived where it had no entry, and has one now; the entries are those that were there, or these and that one.
+pub record TakesKey (key : SaltedKey) (first last : Ledgers) : Type 0 where
+  pub derived : Derives key first last
+  pub entry : HasEntry last.cache key
+  pub others : SameEntries first last ⊎ Adds (entries_of first.cache) (entries_of last.cache) (key, salted_of key)
+
+-- the key was derived where it had no entry, and isn't put in
+pub record SpendsKey (key : SaltedKey) (first last : Ledgers) : Type 0 where
+  pub derived : Derives key first last
+  pub entries : SameEntries first last
+
+-- a login that was accepted; without a key it takes nothing
+abbrev pub AcceptedTakes : Option SaltedKey → Ledgers → Ledgers → Type 0
+AcceptedTakes None first last = CostsNothing first last
+AcceptedTakes (Some key) first last = TakesKey key first last
+
+-- a login that was refused
+abbrev pub RefusedTakes : Option SaltedKey → Ledgers → Ledgers → Type 0
+RefusedTakes None first last = CostsNothing first last
+RefusedTakes (Some key) first last = SpendsKey key first last
+
+-- ---- over told bytes
+
+-- the bytes lead to this key, and it was taken so
+pub record TakesAsLed (asked : Asked) (bytes : List ℕ) (takes : Option SaltedKey → Type 0) : Type 0 where
+  pub key : Option SaltedKey
+  pub leads : LeadsToKey asked bytes key
+  pub taken : takes key
+
+-- the server names no service: the login's key was put in
+pub record UnnamedOver (asked : Asked) (kind : ErrorKind) (bytes : List ℕ) (first last : Ledgers) : Type 0 where
+  pub kind_is : kind ≡ IncompatibleServer
+  pub led : TakesAsLed asked bytes (λ key. AcceptedTakes key first last)
+
+-- the handshake was refused: the login's key, if it came so far, was derived and isn't put in
+pub record RefusedOver (asked : Asked) (kind : ErrorKind) (bytes : List ℕ) (first last : Ledgers) : Type 0 where
+  pub other : kind ≡ IncompatibleServer → ⊥
+  pub led : TakesAsLed asked bytes (λ key. RefusedTakes key first last)
+
+-- what an establishment costs over these bytes, unless memory ran out
+abbrev pub CostsOver : {T : Type 0} → Result T EstablishError → Asked → List ℕ → Ledgers → Ledgers → Type 0
+CostsOver (Ok pooled) asked bytes first last = TakesAsLed asked bytes (λ key. AcceptedTakes key first last)
+CostsOver (Err e) asked bytes first last = (e.cause.kind ≡ OutOfMemory) ⊎ (UnnamedOver asked e.cause.kind bytes first last ⊎ RefusedOver asked e.cause.kind bytes first last)
+
+-- where a link tells its bytes and doesn't fail, they decide what an establishment costs
+pub record CostsAsLed {T : Type 0} (result : Result T EstablishError) (asked : Asked) (old new : State) (first last : Ledgers) : Type 0 where
+  pub over : (bytes : List ℕ) → old.left ≡ Some bytes → (Rose old.read_faults new.read_faults → ⊥) → (Rose old.write_faults new.write_faults → ⊥) → CostsOver result asked bytes first last
