@@ -6,12 +6,12 @@ use Rattle.mongo_establish.specs.declared.establisher.EstablishError.{EstablishE
 use Rattle.mongo_establish.specs.declared.establisher.PooledConnection.{PooledConnection}
 use Rattle.mongo_establish.specs.Asked.{Asked, asked_for}
 use Rattle.mongo_scram.specs.Costs.{Ledgers}
-use Rattle.mongo_establish.specs.Costs.{EstablishmentCosts}
+use Rattle.mongo_establish.specs.KeyCosts.{CostsAsLed}
 use Rattle.mongo_establish.specs.Establisher.{options_of_establisher}
 use Rattle.mongo_establish.specs.Established.{Established}
 use Rattle.mongo_establish.specs.Stopped.{StoppedIn}
 use Rattle.mongo_settings.specs.declared.rehearsal.login.Login.{Login}
-use Rattle.mongo_settings.specs.Login.{asked_by, IsMade, IsStopped, TakesSteps}
+use Rattle.mongo_settings.specs.Login.{asked_by, IsMade, IsStopped}
 
 -- what it asks for with this credential
 abbrev pub asked_with : Login → Option Credential → Asked
@@ -31,6 +31,6 @@ pub stopped : (login : Login) (credential : Option Credential) (old new : State)
 stopped login credential old new after (Ok pooled) same s = tt
 stopped login credential old new after (Err refusal) same s = record { after = after; stopped = same_asked login credential (λ asked. StoppedIn refusal.handshake_phase asked refusal.cause.kind old new after) same s }
 
-pub takes : (login : Login) (credential : Option Credential) (old new : State) (after : ℤ) (first last : Ledgers) (r : Result PooledConnection EstablishError) → credential ≡ login.credential
-    → EstablishmentCosts r (asked_with login credential) old new after first last → TakesSteps r (asked_by login) old new first last
-takes login credential old new after first last r same costs = record { after = after; costs = same_asked login credential (λ asked. EstablishmentCosts r asked old new after first last) same costs }
+pub led : (login : Login) (credential : Option Credential) (old new : State) (first last : Ledgers) (r : Result PooledConnection EstablishError) → credential ≡ login.credential
+    → CostsAsLed r (asked_with login credential) old new first last → CostsAsLed r (asked_by login) old new first last
+led login credential old new first last r same costs = same_asked login credential (λ asked. CostsAsLed r asked old new first last) same costs

@@ -18,4 +18,3 @@ mod Sharing
 mod LoginsRead
 pub mod Outcomes
 mod Taking
-mod CostsLed

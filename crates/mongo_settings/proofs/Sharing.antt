@@ -9,7 +9,7 @@ use Rattle.mongo_scram.specs.declared.cache.SaltedCache.{SaltedCache}
 use Rattle.mongo_scram.specs.declared.cache.SaltedKey.{SaltedKey}
 use Rattle.mongo_scram.specs.Cache.{entries_of, rounds_of, Adds}
 use Rattle.mongo_scram.specs.Entry.{salted_of}
-use Rattle.mongo_settings.specs.Costs.{TakesKey}
+use Rattle.mongo_establish.specs.KeyCosts.{TakesKey}
 use Rattle.mongo_scram.specs.Costs.{HasEntry, Ledgers, Counts, SameEntries, Derives}
 use Rattle.mongo_settings.specs.declared.settings.Settings.{Settings}
 use Rattle.mongo_settings.specs.declared.rehearsal.Rehearsal.{Rehearsal}

@@ -10,7 +10,7 @@ use Rattle.mongo_scram.specs.Costs.{Ledgers}
 use Rattle.mongo_establish.specs.declared.establisher.EstablishError.{EstablishError}
 use Rattle.mongo_establish.specs.declared.establisher.PooledConnection.{PooledConnection}
 use Rattle.mongo_establish.specs.Asked.{Asked}
-use Rattle.mongo_settings.specs.Costs.{AcceptedTakes, RefusedTakes, TakesAsLed, UnnamedOver, RefusedOver, CostsOver, CostsAsLed}
+use Rattle.mongo_establish.specs.KeyCosts.{AcceptedTakes, RefusedTakes, TakesAsLed, UnnamedOver, RefusedOver, CostsOver, CostsAsLed}
 use Rattle.mongo_settings.specs.declared.settings.Settings.{Settings}
 use Rattle.mongo_settings.specs.declared.rehearsal.Rehearsal.{Rehearsal}
 use Rattle.mongo_settings.specs.Outcome.{asked_of}

@@ -13,8 +13,6 @@ pub mod Outcome
 pub mod Rehearsal
 pub mod Login
 pub mod Telling
-pub mod Derivation
-pub mod Costs
 pub mod Rounds
 pub mod Batch
 pub mod Logins

@@ -1,10 +1,8 @@
 -- A login that is ready, and how the establishment of its connection ended.
-use Rattle.std.specs.Prelude.{◌≡◌, ℤ, Result, List, []}
+use Rattle.std.specs.Prelude.{◌≡◌, ℤ, List, []}
 use Rattle.mongo_wire.specs.Outside.{State}
 use Rattle.mongo_wire.specs.declared.memory_link.MemoryLink.{MemoryLink}
 use Rattle.mongo_wire.specs.Memory.{bytes_left, bytes_written}
-use Rattle.mongo_scram.specs.Costs.{Ledgers}
-use Rattle.mongo_establish.specs.Costs.{EstablishmentCosts}
 use Rattle.mongo_establish.specs.declared.establisher.PooledConnection.{PooledConnection}
 use Rattle.mongo_establish.specs.declared.establisher.EstablishError.{EstablishError}
 use Rattle.mongo_establish.specs.Asked.{Asked, asked_for}
@@ -35,8 +33,3 @@ pub record IsMade (asked : Asked) (old new : State) (pooled : PooledConnection) 
 pub record IsStopped (asked : Asked) (old new : State) (refusal : EstablishError) : Type 0 where
   pub after : ℤ
   pub stopped : StoppedIn refusal.handshake_phase asked refusal.cause.kind old new after
-
--- what it took of the counter and of the cache
-pub record TakesSteps (ended : Result PooledConnection EstablishError) (asked : Asked) (old new : State) (first last : Ledgers) : Type 0 where
-  pub after : ℤ
-  pub costs : EstablishmentCosts ended asked old new after first last

@@ -4,7 +4,7 @@ use Rattle.mongo_scram.specs.declared.cache.SaltedKey.{SaltedKey}
 use Rattle.mongo_scram.specs.Costs.{Ledgers}
 use Rattle.mongo_establish.specs.declared.establisher.PooledConnection.{PooledConnection}
 use Rattle.mongo_establish.specs.declared.establisher.EstablishError.{EstablishError}
-use Rattle.mongo_settings.specs.Costs.{AcceptedTakes, RefusedTakes}
+use Rattle.mongo_establish.specs.KeyCosts.{AcceptedTakes, RefusedTakes}
 use Rattle.mongo_settings.specs.declared.settings.Settings.{Settings}
 use Rattle.mongo_settings.specs.declared.rehearsal.Rehearsal.{Rehearsal}
 use Rattle.mongo_settings.specs.Rehearsal.{IsRehearsal}

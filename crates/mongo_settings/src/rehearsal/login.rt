@@ -4,9 +4,10 @@ ghost use Rattle.mongo_meta.specs.Options.{metadata_of};
 ghost use Rattle.mongo_scram.specs.Cache.{entries_of, rounds_of};
 ghost use Rattle.mongo_scram.specs.Costs.{ledgers};
 ghost use Rattle.mongo_establish.specs.Establisher.{options_of_establisher};
+ghost use Rattle.mongo_establish.specs.KeyCosts.{CostsAsLed};
 ghost use Rattle.mongo_establish.specs.Options.{options_of};
 ghost use Rattle.mongo_establish.specs.Speculation.{SpeaksFor};
-ghost use Rattle.mongo_settings.specs.Login.{asked_by, IsReady, IsMade, IsStopped, TakesSteps};
+ghost use Rattle.mongo_settings.specs.Login.{asked_by, IsReady, IsMade, IsStopped};
 
 use crate::settings::Settings;
 use mongo_establish::{
@@ -108,7 +109,7 @@ pub fn connect<L: Link, G: Ledger>(
     requires spoken { SpeaksFor login.credential }
     ensures made { IfOk result (IsMade (asked_by login) (L.state link.old) (L.state link.new)) }
     ensures stopped { IfErr result (IsStopped (asked_by login) (L.state link.old) (L.state link.new)) }
-    ensures takes { TakesSteps result (asked_by login) (L.state link.old) (L.state link.new) (ledgers steps.old state.old.salted) (ledgers steps.new state.new.salted) }
+    ensures led { CostsAsLed result (asked_by login) (L.state link.old) (L.state link.new) (ledgers steps.old state.old.salted) (ledgers steps.new state.new.salted) }
     ensures steps { steps.old ≤ steps.new }
 {
     let Login {

@@ -1,4 +1,4 @@
-use Rattle.mongo_settings.proofs.Connecting.{made, stopped, takes}
+use Rattle.mongo_settings.proofs.Connecting.{made, stopped, led}
 use Rattle.mongo_settings.proofs.rehearsal.login.connect.Goals as goal
 
 pub returns-clause-made : goal.returns-clause-made
@@ -7,5 +7,5 @@ returns-clause-made g c = made c.args.login _ _ _ _ c.establish_connection.resul
 pub returns-clause-stopped : goal.returns-clause-stopped
 returns-clause-stopped g c = stopped c.args.login _ _ _ _ c.establish_connection.result c.as_ref.ensures.value c.establish_connection.ensures.refused
 
-pub returns-clause-takes : goal.returns-clause-takes
-returns-clause-takes g c = takes c.args.login _ _ _ _ _ _ c.establish_connection.result c.as_ref.ensures.value c.establish_connection.ensures.costs
+pub returns-clause-led : goal.returns-clause-led
+returns-clause-led g c = led c.args.login _ _ _ _ _ c.establish_connection.result c.as_ref.ensures.value c.establish_connection.ensures.led
