@@ -9,9 +9,11 @@
 
 mod client_first;
 mod establisher;
+mod first_round;
 mod generation;
 mod handshaker;
 mod hello;
+mod login;
 mod login_state;
 mod options;
 
@@ -19,7 +21,7 @@ pub use client_first::{ClientFirst, build_speculative_client_first};
 pub use establisher::{
     ConnectionEstablisher, EstablishError, HandshakePhase, PendingConnection, PooledConnection,
 };
-pub use generation::{ConnectionGeneration, Generations, PoolGeneration, ServiceGeneration};
+pub use generation::{ConnectionGeneration, Generations, PoolGeneration};
 pub use handshaker::Handshaker;
 pub use login_state::{LoginInputs, LoginState, Nonces};
 pub use mongo_bson::{BsonFault, Bytes, ObjectId, Text, Texts};

@@ -1,41 +1,61 @@
-use Rattle.std.proofs.Common.{rules, option_copied, ap, ◌∙◌, Err}
+use Rattle.std.proofs.Common.{rules, ap, ◌∙◌, option_copied, Err}
 use Rattle.std.proofs.lemmas.Result.{err_from_is_err_and}
+use Rattle.mongo_scram.proofs.Derived.{costs_nothing}
 use Rattle.mongo_establish.specs.Handshaker.{options_in}
-use Rattle.mongo_establish.proofs.Shaking.{unmade_stopped, unbuilt_stopped, unrun_stopped, undescribed_stopped, login_stopped, shook, err_of, ok_of, if_err_of}
+use Rattle.mongo_establish.proofs.Shaking.{unmade_stopped, unmade_costs, ungreeted_stopped, ungreeted_costs, login_stopped, login_stopped_costs, shook, shook_costs, err_of, ok_of, if_err_of}
 use Rattle.mongo_establish.proofs.handshaker.Handshaker.handshake.Goals as goal
 
 pub returns-in_err-first-clause-refused : goal.returns-in_err-first-clause-refused
 returns-in_err-first-clause-refused g c =
     unmade_stopped c.args.connection.now (options_in c.args.self.now) (option_copied c.args.credential) c.args.inputs.now.nonces c.args.state.now.ids c.requires.undescribed _ _ (search rules)
 
-pub returns-in_err-hello-clause-refused : goal.returns-in_err-hello-clause-refused
-returns-in_err-hello-clause-refused g c =
-    unbuilt_stopped c.args.connection.now (options_in c.args.self.now) (option_copied c.args.credential) c.args.inputs.now.nonces c.args.state.now.ids c.requires.undescribed
-    c.in_ok-first.ensures.made c.in_ok-first.first c.in_ok-first.ensures.first _ _ (search rules)
+pub returns-in_err-first-clause-costs : goal.returns-in_err-first-clause-costs
+returns-in_err-first-clause-costs g c =
+    let e = err_from_is_err_and c.from_residual.result c.from_residual.ensures.1 in
+    unmade_costs c.args.connection.now (options_in c.args.self.now) (option_copied c.args.credential) c.args.inputs.now.nonces c.args.state.now.ids c.requires.undescribed
+    _ c.in_err-first.field-0.0 _ _ (e.1 ∙ ap Err e.2) (costs_nothing _ _) c.in_err-first.ensures.refused
 
 pub returns-in_err-reply-clause-refused : goal.returns-in_err-reply-clause-refused
 returns-in_err-reply-clause-refused g c =
-    unrun_stopped c.args.connection.now (options_in c.args.self.now) (option_copied c.args.credential) c.args.inputs.now.nonces c.args.state.now.ids c.requires.undescribed
-    c.in_ok-first.ensures.made c.in_ok-first.first c.in_ok-first.ensures.first c.in_ok-hello.hello c.in_ok-hello.ensures.hello _ c.run_hello.new.connection _ _ _ c.run_hello.ensures.connection c.run_hello.ensures.counts (search (rules, c.in_err-reply.ensures.refused c.requires.faultless))
+    let e = err_from_is_err_and c.from_residual-in_err-reply.result c.from_residual-in_err-reply.ensures.1 in
+    ungreeted_stopped c.args.connection.now (options_in c.args.self.now) (option_copied c.args.credential) c.args.inputs.now.nonces c.args.state.now.ids
+    c.in_ok-first.ensures.made c.in_ok-first.first c.in_ok-first.ensures.first _ c.say_hello.new.connection _ _ _ (err_of _ c.in_err-reply.field-0.0 _ (e.1 ∙ ap Err e.2) (if_err_of c.say_hello.result c.in_err-reply.field-0.0 _ c.in_err-reply.was c.say_hello.ensures.refused))
 
-pub returns-in_err-describe-clause-refused : goal.returns-in_err-describe-clause-refused
-returns-in_err-describe-clause-refused g c =
-    let e = err_from_is_err_and c.from_residual-in_err-describe.result c.from_residual-in_err-describe.ensures.1 in
-    undescribed_stopped c.args.connection.now (options_in c.args.self.now) (option_copied c.args.credential) c.args.inputs.now.nonces c.args.state.now.ids c.requires.undescribed
-    c.in_ok-first.ensures.made c.in_ok-first.first c.in_ok-first.ensures.first c.in_ok-hello.hello c.in_ok-hello.ensures.hello _ _ _ c.in_ok-reply.reply c.in_ok-reply.ensures.reply c.run_hello.ensures.counts c.run_hello.new.connection c.run_hello.ensures.connection
-    _ c.describe.new.connection c.in_err-describe.ensures.undescribed (err_of _ c.in_err-describe.field-0.0 _ (e.1 ∙ ap Err e.2) c.in_err-describe.ensures.refused)
+pub returns-in_err-reply-clause-costs : goal.returns-in_err-reply-clause-costs
+returns-in_err-reply-clause-costs g c =
+    let e = err_from_is_err_and c.from_residual-in_err-reply.result c.from_residual-in_err-reply.ensures.1 in
+    ungreeted_costs c.args.connection.now (options_in c.args.self.now) (option_copied c.args.credential) c.args.inputs.now.nonces c.args.state.now.ids
+    c.in_ok-first.ensures.made c.in_ok-first.first c.in_ok-first.ensures.first _ c.in_err-reply.field-0.0 c.say_hello.new.connection _ _ _ _ (e.1 ∙ ap Err e.2) (costs_nothing _ _) (if_err_of c.say_hello.result c.in_err-reply.field-0.0 _ c.in_err-reply.was c.say_hello.ensures.refused)
 
 pub returns-in_err-log_in-clause-refused : goal.returns-in_err-log_in-clause-refused
 returns-in_err-log_in-clause-refused g c =
     let e = err_from_is_err_and c.from_residual-in_err-log_in.result c.from_residual-in_err-log_in.ensures.1 in
-    login_stopped c.args.connection.now (options_in c.args.self.now) (option_copied c.args.credential) c.args.inputs.now.nonces c.args.state.now.ids c.requires.undescribed
-    c.in_ok-first.ensures.made c.in_ok-first.first c.in_ok-first.ensures.first c.in_ok-hello.hello c.in_ok-hello.ensures.hello _ _ _ c.in_ok-reply.reply c.in_ok-reply.ensures.reply c.run_hello.ensures.counts c.run_hello.new.connection c.run_hello.ensures.connection
-    c.in_ok-reply.ensures.address c.describe.new.connection c.in_ok-describe.ensures.described c.first_round-round.result c.first_round-round.ensures.round
-    _ c.log_in.new.connection _ _ c.log_in.ensures.connection (err_of _ c.in_err-log_in.field-0.0 _ (e.1 ∙ ap Err e.2) (if_err_of c.log_in.result c.in_err-log_in.field-0.0 _ c.in_err-log_in.was c.log_in.ensures.refused))
+    login_stopped c.args.connection.now (options_in c.args.self.now) (option_copied c.args.credential) c.args.inputs.now.nonces c.args.state.now.ids
+    c.in_ok-first.ensures.made c.in_ok-first.first c.in_ok-first.ensures.first _ _ _ c.in_ok-reply.reply c.say_hello.new.connection c.in_ok-reply.ensures.greeted
+    c.answered_round-round.result c.answered_round-round.ensures.there c.answered_round-round.ensures.scram
+    _ c.log_in.new.connection _ _ _ _ c.log_in.ensures.connection (err_of _ c.in_err-log_in.field-0.0 _ (e.1 ∙ ap Err e.2) (if_err_of c.log_in.result c.in_err-log_in.field-0.0 _ c.in_err-log_in.was c.log_in.ensures.refused))
+
+pub returns-in_err-log_in-clause-costs : goal.returns-in_err-log_in-clause-costs
+returns-in_err-log_in-clause-costs g c =
+    let e = err_from_is_err_and c.from_residual-in_err-log_in.result c.from_residual-in_err-log_in.ensures.1 in
+    login_stopped_costs c.args.connection.now (options_in c.args.self.now) (option_copied c.args.credential) c.args.inputs.now.nonces c.args.state.now.ids
+    c.in_ok-first.ensures.made c.in_ok-first.first c.in_ok-first.ensures.first _ _ _ c.in_ok-reply.reply c.say_hello.new.connection c.in_ok-reply.ensures.greeted
+    c.answered_round-round.result c.answered_round-round.ensures.there c.answered_round-round.ensures.scram
+    _ c.in_err-log_in.field-0.0 _ _ _ _ (e.1 ∙ ap Err e.2) (if_err_of c.log_in.result c.in_err-log_in.field-0.0 _ c.in_err-log_in.was c.log_in.ensures.refused)
 
 pub returns-clause-shook : goal.returns-clause-shook
 returns-clause-shook g c =
-    shook c.args.connection.now (options_in c.args.self.now) (option_copied c.args.credential) c.args.inputs.now.nonces c.args.state.now.ids c.requires.undescribed
-    c.in_ok-first.ensures.made c.in_ok-first.first c.in_ok-first.ensures.first c.in_ok-hello.hello c.in_ok-hello.ensures.hello _ _ _ c.in_ok-reply.reply c.in_ok-reply.ensures.reply c.run_hello.ensures.counts c.run_hello.new.connection c.run_hello.ensures.connection
-    c.in_ok-reply.ensures.address c.describe.new.connection c.in_ok-describe.ensures.described c.first_round-round.result c.first_round-round.ensures.round
-    c.log_in.new.connection _ _ c.first_round-round.new.reply c.log_in.ensures.connection c.in_ok-log_in.ensures.faultless c.first_round-round.ensures.reply (ok_of c.log_in.result c.in_ok-log_in.field-0 c.in_ok-log_in.was c.log_in.ensures.logged_in)
+    shook c.args.connection.now (options_in c.args.self.now) (option_copied c.args.credential) c.args.inputs.now.nonces c.args.state.now.ids
+    c.in_ok-first.ensures.made c.in_ok-first.first c.in_ok-first.ensures.first _ _ _ c.in_ok-reply.reply c.say_hello.new.connection c.in_ok-reply.ensures.greeted
+    c.answered_round-round.result c.answered_round-round.ensures.there c.answered_round-round.ensures.scram
+    c.log_in.new.connection _ _ _ _ c.answered_round-round.new.reply c.log_in.ensures.connection c.in_ok-log_in.ensures.faultless c.answered_round-round.ensures.reply (ok_of c.log_in.result c.in_ok-log_in.field-0 c.in_ok-log_in.was c.log_in.ensures.logged_in)
+
+pub returns-clause-costs : goal.returns-clause-costs
+returns-clause-costs g c = record {
+  accepted =
+      shook_costs c.args.connection.now (options_in c.args.self.now) (option_copied c.args.credential) c.args.inputs.now.nonces c.args.state.now.ids
+      c.in_ok-first.ensures.made c.in_ok-first.first c.in_ok-first.ensures.first _ _ _ c.in_ok-reply.reply c.say_hello.new.connection c.in_ok-reply.ensures.greeted
+      c.answered_round-round.result c.answered_round-round.ensures.there c.answered_round-round.ensures.scram
+      _ _ _ _ (ok_of c.log_in.result c.in_ok-log_in.field-0 c.in_ok-log_in.was c.log_in.ensures.logged_in);
+  refused = tt;
+}

@@ -1,0 +1,9 @@
+use Rattle.std.proofs.Common.{rules, Some}
+use Rattle.mongo_establish.specs.Asked.{asked_over}
+use Rattle.mongo_establish.proofs.Conversing.{scram_converses}
+use Rattle.mongo_establish.proofs.login.by_scram.Goals as goal
+
+pub returns-clause-converses : goal.returns-clause-converses
+returns-clause-converses g c =
+    scram_converses c.args.version (asked_over c.args.connection.now c.args.options.now (Some c.args.credential.now) c.args.inputs.now.nonces c.args.state.now.ids) c.args.credential.now c.args.connection.now.stream_description c.args.round
+    _ (search rules) c.scram_round.result c.scram_round.ensures c.authenticate_stream.result _ _ _ _ _ _ _ c.authenticate_stream.ensures.accepted (c.authenticate_stream.ensures.refused c.requires.faultless)
