@@ -1,33 +1,26 @@
-ghost use Rattle.std.specs.Prelude.{◌≡◌, List, []};
-ghost use Rattle.mongo_establish.specs.Generation.{number_of};
+ghost use Rattle.std.specs.Prelude.{◌≡◌, [], IfOk, IfErr, OnOk, OnErr};
+ghost use Rattle.mongo_wire.specs.declared.error.ErrorKind.TheVariants.{OutOfMemory};
+ghost use Rattle.mongo_establish.specs.Generation.{number_of, SetsNumber};
 
 use mongo_bson::ObjectId;
 use mongo_command::StreamDescription;
+use mongo_wire::Error;
 use std::alloc::Global;
+use std::collections::BTreeMap;
 use std::marker::Model;
 
-/// The generation of the connections to one service behind a load balancer.
-#[derive(Clone, Copy, Debug, PartialEq)]
-pub struct ServiceGeneration {
-    /// The service.
-    pub service_id: ObjectId,
-    /// Its generation.
-    pub generation: u32,
-}
-
-/// The generations of the services behind a load balancer.
+/// The generations of the services behind a load balancer: a number for an id, in the order of the ids' bytes.
 #[derive(Debug, Drop)]
 pub struct Generations {
-    entries: Vec<ServiceGeneration>,
+    entries: BTreeMap<[u8; 12], u32>,
 }
 
 impl Model for Generations {
-    ghost use Rattle.std.specs.Prelude.{List};
-    ghost use Rattle.mongo_establish.specs.declared.generation.ServiceGeneration.{ServiceGeneration};
+    ghost use Rattle.std.specs.Prelude.{ℕ, List};
 
-    ghost Value = { List ServiceGeneration };
+    ghost Value = { List (List ℕ × ℕ) };
 
-    ghost view = { λ g. g.entries.items };
+    ghost view = { λ g. g.entries.entries };
 }
 
 impl Generations {
@@ -36,27 +29,36 @@ impl Generations {
         ensures { result ≡ [] }
     {
         Generations {
-            entries: Vec::new(alloc),
+            entries: BTreeMap::new(alloc),
         }
+    }
+
+    /// Sets the number of a service. Want of memory is the only refusal, and leaves the numbers as they were.
+    pub fn insert(&mut self, service_id: ObjectId, generation: u32) -> Result<(), Error>
+        ensures set { OnOk result (SetsNumber service_id generation self.old self.new) }
+        ensures unchanged { OnErr result (self.new ≡ self.old) }
+        ensures refused { IfErr result (λ e. e.kind ≡ OutOfMemory) }
+    {
+        self.entries.insert(service_id.0, generation)?;
+        Ok(())
     }
 
     /// The number of a service; None where it has none.
     pub fn get(&self, service_id: ObjectId) -> Option<u32>
         ensures { result ≡ number_of service_id self.now }
     {
-        number_of(&self.entries, service_id)
+        self.entries.get(&service_id.0).copied()
     }
-}
 
-fn number_of(entries: &[ServiceGeneration], service_id: ObjectId) -> Option<u32>
-    ensures { result ≡ number_of service_id entries.now }
-{
-    for entry in entries {
-        if entry.service_id == service_id {
-            return Some(entry.generation);
-        }
+    /// A copy. Want of memory is the only refusal.
+    pub fn try_clone(&self, _alloc: Global) -> Result<Generations, Error>
+        ensures copied { IfOk result (λ generations. generations ≡ self.now) }
+        ensures refused { IfErr result (λ e. e.kind ≡ OutOfMemory) }
+    {
+        Ok(Generations {
+            entries: self.entries.clone()?,
+        })
     }
-    None
 }
 
 /// The generation of a pool's connections: a number, or one for each service behind a load balancer.
@@ -83,8 +85,22 @@ pub enum ConnectionGeneration {
 }
 
 impl PoolGeneration {
-    ghost use Rattle.std.specs.Prelude.{◌≡◌, ◌↔◌, IsTrue};
+    ghost use Rattle.std.specs.Prelude.{◌≡◌, ◌↔◌, IsTrue, IfOk, IfErr};
+    ghost use Rattle.mongo_wire.specs.declared.error.ErrorKind.TheVariants.{OutOfMemory};
     ghost use Rattle.mongo_establish.specs.Generation.{NamesService, generation_of};
+
+    /// A copy. Want of memory is the only refusal.
+    pub fn try_clone(&self, alloc: Global) -> Result<PoolGeneration, Error>
+        ensures copied { IfOk result (λ generation. generation ≡ self.now) }
+        ensures refused { IfErr result (λ e. e.kind ≡ OutOfMemory) }
+    {
+        match self {
+            PoolGeneration::Normal(number) => Ok(PoolGeneration::Normal(*number)),
+            PoolGeneration::LoadBalanced(generations) => {
+                Ok(PoolGeneration::LoadBalanced(generations.try_clone(alloc)?))
+            }
+        }
+    }
 
     // The generation of a connection to the server that is described so.
     pub(crate) fn of_connection(&self, description: &StreamDescription) -> ConnectionGeneration

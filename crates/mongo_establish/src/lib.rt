@@ -19,7 +19,7 @@ pub use client_first::{ClientFirst, build_speculative_client_first};
 pub use establisher::{
     ConnectionEstablisher, EstablishError, HandshakePhase, PendingConnection, PooledConnection,
 };
-pub use generation::{ConnectionGeneration, Generations, PoolGeneration, ServiceGeneration};
+pub use generation::{ConnectionGeneration, Generations, PoolGeneration};
 pub use handshaker::Handshaker;
 pub use login_state::{LoginInputs, LoginState, Nonces};
 pub use mongo_bson::{BsonFault, Bytes, ObjectId, Text, Texts};
