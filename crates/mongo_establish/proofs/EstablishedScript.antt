@@ -69,6 +69,12 @@ established_by asked greeting old new after pooled r described generation =
       generation = generation;
     }
 
+-- its script is of this greeting
+pub script_greeting : (asked : Asked) (greeting : Greeting) (old new : State) (after : ℤ) (pooled : PooledConnection) (r : Reached (establishment_plan asked) greeting old new asked.first_id after) (described : IsDescribed asked pooled.connection greeting) (generation : pooled.generation ≡ generation_of asked.pending.generation greeting.description)
+    → (established_by asked greeting old new after pooled r described generation).script.greeting ≡ greeting
+unfolding established_by script_of
+script_greeting asked greeting old new after pooled r described generation = refl
+
 -- ---- what bytes lead to
 
 -- an end of a plan that asks nothing, over bytes that begin with its replies

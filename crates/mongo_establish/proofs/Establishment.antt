@@ -24,6 +24,7 @@ use Rattle.mongo_establish.proofs.EstablishedScript.{script_leads}
 
 -- whatever part was stopped, the establishment was
 pub stopped_whole : (phase : HandshakePhase) (asked : Asked) (kind : ErrorKind) (old new : State) (after : ℤ) → StoppedIn phase asked kind old new after → Stopped (establishment_plan asked) kind old new asked.first_id after
+unfolding handshake_plan establishment_plan
 stopped_whole (PreHello generation) asked kind old new after r =
     stopped_first (handshake_plan asked) (service_plan asked) kind old new asked.first_id after (stopped_first (hello_plan asked) (login_plan asked) kind old new asked.first_id after r.1)
 stopped_whole (PostHello generation) asked kind old new after r = r.stopped

@@ -25,12 +25,14 @@ one_no_service : (pool : PoolGeneration) (d : StreamDescription) → IsOne (NoSe
 one_no_service pool d a b p q = p.0 ∙ sym q.0
 
 pub one_handshake : (asked : Asked) → HasOneTurn (handshake_plan asked)
+unfolding handshake_plan
 one_handshake asked = one_followed (hello_plan asked) (login_plan asked) (one_hello asked) (one_login asked)
 
 one_service : (asked : Asked) (greeting : Greeting) → HasOneTurn (service_plan asked greeting)
 one_service asked greeting = one_unless _ _ (one_no_service asked.pending.generation greeting.description) (one_ending greeting)
 
 pub one_establishment : (asked : Asked) → HasOneTurn (establishment_plan asked)
+unfolding establishment_plan
 one_establishment asked = one_followed (handshake_plan asked) (service_plan asked) (one_handshake asked) (one_service asked)
 
 -- ---- the service
@@ -66,6 +68,7 @@ pub record IsEstablished (asked : Asked) (events : List Event) (greeting : Greet
   pub service : NamesService asked.pending.generation greeting.description
 
 handshake_ended : (asked : Asked) (events : List Event) (greeting : Greeting) → Ends (handshake_plan asked) events greeting → NamesService asked.pending.generation greeting.description → IsEstablished asked events greeting
+unfolding handshake_plan
 handshake_ended asked events greeting ended service =
     let both = ends_followed (hello_plan asked) (login_plan asked) events greeting (one_hello asked) ended in
     let hello = greeted asked both.front both.answer both.first in
@@ -83,6 +86,7 @@ handshake_ended asked events greeting ended service =
     }
 
 pub establishment_ended : (asked : Asked) (events : List Event) (greeting : Greeting) → Ends (establishment_plan asked) events greeting → IsEstablished asked events greeting
+unfolding establishment_plan
 establishment_ended asked events greeting ended =
     let both = ends_followed (handshake_plan asked) (service_plan asked) events greeting (one_handshake asked) ended in
     let service = service_ended asked both.answer greeting both.more both.second in
@@ -102,6 +106,7 @@ pub record ScriptEnds (asked : Asked) (script : Script) (s : IsScript asked scri
   pub whole : IsSendable (hello_said asked) → AreSendable (said_in more) → Ends (establishment_plan asked) (exchanged (hello_said asked) s.first_reply ∷ more) script.greeting
 
 established_ends : (asked : Asked) (greeting : Greeting) (first more : List Event) → Ends (hello_plan asked) first greeting → Ends (login_plan asked greeting) more greeting → NamesService asked.pending.generation greeting.description → Ends (establishment_plan asked) (first ++ more) greeting
+unfolding handshake_plan establishment_plan
 established_ends asked greeting first more hello login service =
     let named = named_service asked.pending.generation greeting.description service in
     let handshake : Ends (handshake_plan asked) (first ++ more) greeting = ends_both (hello_plan asked) (login_plan asked) first more greeting greeting hello login in

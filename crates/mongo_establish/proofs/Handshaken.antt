@@ -31,7 +31,7 @@ use Rattle.mongo_establish.specs.Speculation.{HelloRow}
 use Rattle.mongo_establish.specs.Stopped.{StoppedIn, StoppedAfterHello}
 use Rattle.mongo_establish.proofs.LoginAlike.{pending_over, reached_alike, stopped_alike}
 use Rattle.mongo_establish.proofs.EstablishmentPlan.{named_service}
-use Rattle.mongo_establish.proofs.EstablishedScript.{established_by}
+use Rattle.mongo_establish.proofs.EstablishedScript.{established_by, script_greeting}
 
 -- ---- the plans of a handshake
 
@@ -49,10 +49,12 @@ module _ (pending : PendingConnection) (options : HandshakerOptions) (credential
   abbrev over : Asked
   over = asked_over opened options credential nonces id
 
-  hello_reached : (greeting : Greeting) (old new : State) (after : ℤ) → Reached (hello_plan over) greeting old new id after → Reached (hello_plan wanted) greeting old new id after
+  pub hello_reached : (greeting : Greeting) (old new : State) (after : ℤ) → Reached (hello_plan over) greeting old new id after → Reached (hello_plan wanted) greeting old new id after
+  unfolding hello_plan
   hello_reached greeting old new after r = subst (λ address. Reached (hello_at wanted address) greeting old new id after) same r
 
-  hello_stopped : (kind : ErrorKind) (old new : State) (after : ℤ) → Stopped (hello_plan over) kind old new id after → Stopped (hello_plan wanted) kind old new id after
+  pub hello_stopped : (kind : ErrorKind) (old new : State) (after : ℤ) → Stopped (hello_plan over) kind old new id after → Stopped (hello_plan wanted) kind old new id after
+  unfolding hello_plan
   hello_stopped kind old new after s = subst (λ address. Stopped (hello_at wanted address) kind old new id after) same s
 
   login_reached : (greeting : Greeting) (old new : State) (before after : ℤ) → Reached (login_plan over greeting) greeting old new before after → Reached (login_plan wanted greeting) greeting old new before after
@@ -64,11 +66,13 @@ module _ (pending : PendingConnection) (options : HandshakerOptions) (credential
   -- ---- a handshake that was followed to its end
 
   handshake_reached : (connection : Connection) (old new : State) (after : ℤ) (reply : HelloReply) (s : ShookHands over opened connection old new after reply) → Reached (handshake_plan wanted) s.greeting old new id after
+  unfolding handshake_plan
   handshake_reached connection old new after reply s =
       reached_both (hello_plan wanted) (login_plan wanted) s.greeting s.greeting old s.middle new id s.between after (hello_reached s.greeting old s.middle s.between s.hello) (login_reached s.greeting s.middle new s.between after s.login)
 
   -- is a whole establishment, where a service that has to be named is
   pub shaken_established : (connection : Connection) (old new : State) (after : ℤ) (reply : HelloReply) (s : ShookHands over opened connection old new after reply) → NamesService pending.generation s.greeting.description → Reached (establishment_plan wanted) s.greeting old new id after
+  unfolding establishment_plan
   shaken_established connection old new after reply s named =
       reached_both (handshake_plan wanted) (service_plan wanted) s.greeting s.greeting old new new id after after (handshake_reached connection old new after reply s)
       (reached_unless _ _ s.greeting new new after after (named_service pending.generation s.greeting.description named) (reached_ending s.greeting new after))
@@ -88,6 +92,11 @@ module _ (pending : PendingConnection) (options : HandshakerOptions) (credential
       (subst (λ c. IsDescribed wanted c s.greeting) (sym p.connection_is) described)
       (p.generation_is ∙ ap (generation_of pending.generation) description)
 
+  pub established_greeting : (connection : Connection) (old new : State) (after : ℤ) (reply : HelloReply) (pooled : PooledConnection) (number : opened.id ≡ pending.id) (token : opened.oidc_token_gen_id ≡ 0) (s : ShookHands over opened connection old new after reply) (p : IsPooled connection pending.generation pooled)
+      → (established connection old new after reply pooled number token s p).script.greeting ≡ s.greeting
+  unfolding established
+  established_greeting connection old new after reply pooled number token s p = script_greeting wanted s.greeting old new after pooled _ _ _
+
   -- ---- a handshake that was stopped, and one whose server named no service
 
   late_phase : (phase : HandshakePhase) (description : StreamDescription) (kind : ErrorKind) (old new : State) (after : ℤ) → phase ≡ PostHello (generation_of pending.generation description) → StoppedAfterHello wanted (generation_of pending.generation description) kind old new after → StoppedIn phase wanted kind old new after
@@ -99,6 +108,7 @@ module _ (pending : PendingConnection) (options : HandshakerOptions) (credential
       subst (λ p. StoppedIn p wanted kind old new after) (sym early) (refl, hello_stopped kind old new after s.hello)
 
   stopped_login : (phase : HandshakePhase) (connection : Connection) (kind : ErrorKind) (old new : State) (after : ℤ) → phase ≡ phase_at connection.stream_description pending.generation → StoppedLogin over opened connection kind old new after → StoppedIn phase wanted kind old new after
+  unfolding handshake_plan establishment_plan
   stopped_login phase connection kind old new after is s =
       let hello = hello_reached s.greeting old s.middle s.between s.hello in
       let login = stopped_second (hello_plan wanted) (login_plan wanted) s.greeting kind old s.middle new id s.between after hello (login_stopped s.greeting kind s.middle new s.between after s.login) in
@@ -117,6 +127,7 @@ module _ (pending : PendingConnection) (options : HandshakerOptions) (credential
       elim s [ inl h ↦ stopped_hello phase connection kind old new after is h | inr l ↦ stopped_login phase connection kind old new after is l ]
 
   pub unnamed_stopped : (connection : Connection) (old new : State) (after : ℤ) (reply : HelloReply) (e : EstablishError) → ShookHands over opened connection old new after reply → UnnamedService connection pending.generation e → StoppedIn e.handshake_phase wanted e.cause.kind old new after
+  unfolding establishment_plan
   unnamed_stopped connection old new after reply e s u =
       let description : u.description ≡ s.greeting.description = same_description u.description s.greeting.description (sym u.described ∙ s.described.holds.description_is) in
       let unnamed : NoService pending.generation s.greeting.description e.cause.kind = (u.kind_is, subst (λ d. NamesService pending.generation d → ⊥) description u.unnamed) in

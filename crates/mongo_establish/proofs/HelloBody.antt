@@ -20,6 +20,7 @@ use Rattle.mongo_meta.specs.declared.client_metadata.ClientMetadata.{ClientMetad
 use Rattle.mongo_meta.specs.Client.{client_of}
 use Rattle.mongo_establish.specs.Client.{followed_by_element, with_document, common_hello, asking_mechanisms, speculating, introducing, hello_with}
 use Rattle.mongo_establish.specs.declared.options.HandshakerOptions.{HandshakerOptions}
+use Rattle.mongo_establish.specs.First.{IsUnmade}
 use Rattle.mongo_establish.specs.HelloBody.{BodyRefused}
 
 -- what stands between a document's length and its final zero has five bytes fewer
@@ -98,3 +99,13 @@ pub speculating_refused : {T : Type 0} (r : Result T Error) (options : Handshake
 speculating_refused r options credential login body is h =
     let speculates = speculating login (asking_mechanisms credential (common_hello options).body) in
     longer_refused r speculates (hello_with options credential login).body (introducing_longer options.metadata speculates) (subst (λ b. IfErr r (λ e. BodyRefused (speculating login b) e.kind)) is h)
+
+-- a login that can't be made can't be put into a hello
+pub unmade_refused : (options : HandshakerOptions) (credential : Option Credential) (login : Option (List ℕ)) (kind : ErrorKind) → IsUnmade login kind → BodyRefused (hello_with options credential login).body kind
+unmade_refused options credential None kind r = subst (BodyRefused (hello_with options credential None).body) (sym r) tt
+unmade_refused options credential (Some document) (InvalidArgument (Bson TooLong)) r =
+    let asking = asking_mechanisms credential (common_hello options).body in
+    let body = with_document (codes "speculativeAuthenticate") document asking in
+    omega (arith, holds_document (codes "speculativeAuthenticate") document asking, introducing_longer options.metadata body, r)
+unmade_refused options credential (Some document) OutOfMemory r = tt
+unmade_refused options credential (Some document) kind r = absurd r

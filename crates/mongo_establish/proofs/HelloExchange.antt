@@ -1,10 +1,11 @@
 -- The hello of a handshake is a step of its plan.
-use Rattle.std.proofs.Common.{◌≡◌, ℕ, ℤ, ◌-◌, ◌^◌, ◌<◌, ◌≤◌, ◌⊎◌, ◌∙◌, refl, ap, sym, subst, inl, inr, Option, None, Some, List, ◌++◌, length, flat_map, arith}
+use Rattle.std.proofs.Common.{◌≡◌, ℕ, ℤ, ◌-◌, ◌^◌, ◌<◌, ◌≤◌, ◌∙◌, refl, ap, sym, subst, inl, inr, Option, None, Some, Result, Ok, Err, IfErr, List, ◌++◌, length, flat_map, arith}
 use Rattle.std.proofs.lemmas.List.{length-append}
 use Rattle.mongo_bson.proofs.Enclosed.{length-enclosed}
 use Rattle.mongo_bson.specs.Document.{spell}
 use Rattle.mongo_bson.specs.Framed.{body_of}
 use Rattle.mongo_bson.specs.declared.fault.BsonFault.TheVariants.{TooLong}
+use Rattle.mongo_wire.specs.declared.error.Error.{Error}
 use Rattle.mongo_wire.specs.declared.error.ErrorKind.{ErrorKind}
 use Rattle.mongo_wire.specs.declared.error.ErrorKind.TheVariants.{InvalidArgument, InvalidResponse, Command as CommandFailed, OutOfMemory}
 use Rattle.mongo_wire.specs.declared.fault.ArgumentFault.TheVariants.{Bson}
@@ -19,28 +20,23 @@ use Rattle.mongo_command.specs.declared.server_address.ServerAddress.{ServerAddr
 use Rattle.mongo_command.specs.declared.stream_description.StreamDescription.{StreamDescription}
 use Rattle.mongo_command.specs.Command.{argument_elements, command_document}
 use Rattle.mongo_command.specs.Connection.{kept_fault, KeepsRest}
-use Rattle.mongo_command.specs.Conversation.{HasNone, Stopped, Reached, saying}
+use Rattle.mongo_command.specs.Conversation.{Plan, Stopped, Reached, plain_message}
 use Rattle.mongo_command.specs.Exchange.{command_message, frame_maximum, CountsStay}
 use Rattle.mongo_command.specs.Hello.{IsHelloResponse, HelloRefused, DescriptionRefused, TimeoutFits, description_of}
 use Rattle.mongo_command.specs.HelloExchange.{RunsHello, RunHelloRefused}
-use Rattle.mongo_command.proofs.Steps.{reached_ending, reached_unless, reached_reading, reached_saying, stopped_memory, stopped_row, stopped_unless, stopped_saying, stopped_later}
-use Rattle.mongo_establish.specs.Asked.{Asked}
-use Rattle.mongo_establish.specs.Client.{login_hello, hello_document}
-use Rattle.mongo_establish.specs.Established.{Greeted, hello_message}
-use Rattle.mongo_establish.specs.Greeting.{Greeting, Greets}
+use Rattle.mongo_command.proofs.Steps.{reached_ending, reached_unless, reached_reading, reached_saying, stopped_memory, stopped_row, stopped_saying, stopped_later}
+use Rattle.mongo_sasl.specs.declared.credential.Credential.{Credential}
+use Rattle.mongo_establish.specs.declared.options.HandshakerOptions.{HandshakerOptions}
+use Rattle.mongo_establish.specs.Client.{hello_with}
+use Rattle.mongo_establish.specs.Established.{Holds, GreetedBy, UngreetedBy}
+use Rattle.mongo_establish.specs.Greeting.{Greeting, Greets, greeting_in}
 use Rattle.mongo_establish.specs.HelloBody.{BodyRefused}
-use Rattle.mongo_establish.specs.Plan.{hello_said, after_hello, hello_plan}
+use Rattle.mongo_establish.specs.Plan.{hello_said_with, after_hello, hello_exchange}
 use Rattle.mongo_establish.specs.Reply.{HoldsReply}
-use Rattle.mongo_establish.specs.Speculation.{HelloRow}
 use Rattle.mongo_establish.proofs.HelloBody.{length_body}
 use Rattle.mongo_establish.proofs.HelloPlan.{no_row}
 
 -- ---- nothing was said
-
--- the hello can't be made for the credential, or memory ran out
-pub unmade : (asked : Asked) (kind : ErrorKind) (old : State) → HelloRow asked.credential kind ⊎ (kind ≡ OutOfMemory) → Stopped (hello_plan asked) kind old old asked.first_id asked.first_id
-unmade asked kind old (inl row) = stopped_row _ _ kind old asked.first_id row
-unmade asked kind old (inr memory) = stopped_memory (hello_plan asked) kind old asked.first_id memory
 
 same_counts : (old : State) → CountsStay old old
 same_counts old = record { reads = omega arith; ends = omega arith; writes = omega arith; told = refl; told_written = refl; flushed = omega arith }
@@ -51,18 +47,7 @@ document_longer c least =
     let more = flat_map spell (argument_elements c.target_db c.arguments) in
     omega (arith, length_body c.body least, length-append (body_of c.body) more, length-enclosed (body_of c.body ++ more))
 
--- its body would be too long, or memory ran out
-pub unbuilt : (asked : Asked) (kind : ErrorKind) (old : State) → HasNone (HelloRow asked.credential) → BodyRefused (login_hello asked).body kind → Stopped (hello_plan asked) kind old old asked.first_id asked.first_id
-unbuilt asked (InvalidArgument (Bson TooLong)) old none r =
-    let body : List ℕ = (login_hello asked).body in
-    let longer = document_longer (login_hello asked) (omega (arith, r)) in
-    let long : 2 ^ 31 - 1 < length (hello_document asked) = omega (arith, longer, r) in
-    stopped_unless _ _ (InvalidArgument (Bson TooLong)) old old asked.first_id asked.first_id none
-    (stopped_saying (hello_said asked) (after_hello asked.pending.address) (InvalidArgument (Bson TooLong)) old old asked.first_id asked.first_id None (inl (long, record { link = refl; ids = refl; kept_is = refl })) (same_counts old))
-unbuilt asked OutOfMemory old none r = stopped_memory (hello_plan asked) OutOfMemory old asked.first_id refl
-unbuilt asked kind old none r = absurd r
-
--- ---- the exchange
+-- ---- the reply
 
 -- a hello's reply that was refused
 no_hello : (address : ServerAddress) (kind : ErrorKind) (document : List ℕ) (new : State) (after : ℤ) → HelloRefused kind document → Stopped (after_hello address document) kind new new after after
@@ -71,57 +56,107 @@ no_hello address (InvalidResponse HelloFault) document new after h = stopped_row
 no_hello address OutOfMemory document new after h = stopped_memory _ OutOfMemory new after refl
 no_hello address kind document new after h = absurd h
 
-kind_stopped : (asked : Asked) (kind : ErrorKind) (old new : State) (after : ℤ) (kept : Option ErrorKind) → HasNone (HelloRow asked.credential) → CountsStay old new → RunHelloRefused kind first_maximum (hello_message asked) old new asked.first_id after kept → Stopped (hello_plan asked) kind old new asked.first_id after
-kind_stopped asked kind old new after kept none counts r =
-    let address = asked.pending.address in
-    stopped_unless _ _ kind old new asked.first_id after none (elim r [
-      | inl x ↦ stopped_saying (hello_said asked) (after_hello address) kind old new asked.first_id after kept x counts
-      | inr n ↦ stopped_later (hello_said asked) (after_hello address) n.document kind old new new asked.first_id after after n.exchanges counts (no_hello address kind n.document new after n.refused)
-    ])
-
--- before a description the first maximum holds
-pub maximum_before : (description : Option StreamDescription) → description ≡ None → frame_maximum description ≡ first_maximum
-maximum_before description none = ap frame_maximum none
-
--- it was refused
-pub unrun : (asked : Asked) (hello : Command) (description : Option StreamDescription) (kind : ErrorKind) (old new : State) (after : ℤ) (kept : Option ErrorKind) → HasNone (HelloRow asked.credential) → hello ≡ login_hello asked → description ≡ None → CountsStay old new
-    → RunHelloRefused kind (frame_maximum description) (command_message hello) old new asked.first_id after kept → Stopped (hello_plan asked) kind old new asked.first_id after
-unrun asked hello description kind old new after kept none made undescribed counts r =
-    kind_stopped asked kind old new after kept none counts
-    (subst (λ c. RunHelloRefused kind first_maximum (command_message c) old new asked.first_id after kept) made
-    (subst (λ most. RunHelloRefused kind most (command_message hello) old new asked.first_id after kept) (maximum_before description undescribed) r))
-
-pub hello_run : (asked : Asked) (hello : Command) (description : Option StreamDescription) (old new : State) (after : ℤ) (reply : HelloReply) → hello ≡ login_hello asked → description ≡ None → RunsHello (frame_maximum description) (command_message hello) old new asked.first_id after reply → RunsHello first_maximum (hello_message asked) old new asked.first_id after reply
-hello_run asked hello description old new after reply made undescribed r =
-    subst (λ c. RunsHello first_maximum (command_message c) old new asked.first_id after reply) made
-    (subst (λ most. RunsHello most (command_message hello) old new asked.first_id after reply) (maximum_before description undescribed) r)
-
--- a hello reply whose description isn't made
+-- one whose description isn't made
 no_description : (address : ServerAddress) (kind : ErrorKind) (reply : HelloReply) (new : State) (after : ℤ) → IsHelloResponse reply.raw_command_response reply.command_response reply.cluster_time → DescriptionRefused kind reply.command_response → Stopped (after_hello address reply.raw_command_response) kind new new after after
 no_description address (InvalidResponse SessionTimeout) reply new after reads h = stopped_row _ _ (InvalidResponse SessionTimeout) new after (record { response = reply.command_response; time = reply.cluster_time; reads = reads; passes = h })
 no_description address OutOfMemory reply new after reads h = stopped_memory _ OutOfMemory new after refl
 no_description address kind reply new after reads h = absurd h
 
-pub undescribed : (asked : Asked) (kind : ErrorKind) (old new : State) (after : ℤ) (reply : HelloReply) → HasNone (HelloRow asked.credential) → RunsHello first_maximum (hello_message asked) old new asked.first_id after reply → CountsStay old new → DescriptionRefused kind reply.command_response → Stopped (hello_plan asked) kind old new asked.first_id after
-undescribed asked kind old new after reply none run counts h =
-    let address = asked.pending.address in
-    stopped_unless _ _ kind old new asked.first_id after none
-    (stopped_later (hello_said asked) (after_hello address) reply.raw_command_response kind old new new asked.first_id after after run.exchanges counts (no_description address kind reply new after run.reads h))
-
--- ---- a reply that describes
-
--- what a hello's reply greets by
-unfoldable pub greeting_in : ServerAddress → HelloReply → Greeting
-greeting_in address reply = record { document = reply.raw_command_response; description = description_of address reply.command_response; speculative = reply.command_response.speculative_authenticate; connection_id = reply.command_response.connection_id }
-
-pub greeted_by : (asked : Asked) (old new : State) (after : ℤ) (reply : HelloReply) → HasNone (HelloRow asked.credential) → RunsHello first_maximum (hello_message asked) old new asked.first_id after reply → CountsStay old new → TimeoutFits reply.command_response → Reached (hello_plan asked) (greeting_in asked.pending.address reply) old new asked.first_id after
+-- one that describes
+describes : (address : ServerAddress) (reply : HelloReply) (new : State) (after : ℤ) → IsHelloResponse reply.raw_command_response reply.command_response reply.cluster_time → TimeoutFits reply.command_response → Reached (after_hello address reply.raw_command_response) (greeting_in address reply) new new after after
 unfolding greeting_in
-greeted_by asked old new after reply none run counts fits =
-    let address = asked.pending.address in
+describes address reply new after reads fits =
     let document = reply.raw_command_response in
     let response = reply.command_response in
     let greeting : Greeting = greeting_in address reply in
-    let greets : Greets address document greeting = (refl, record { response = response; time = reply.cluster_time; reads = run.reads; timeout_fits = fits; description_is = refl; speculative_is = refl; connection_id_is = refl }) in
-    reached_unless _ _ greeting old new asked.first_id after none
-    (reached_saying (hello_said asked) (after_hello address) document greeting old new new asked.first_id after after run.exchanges counts
-    (reached_unless _ _ greeting new new after after (λ kind. no_row document kind response reply.cluster_time run.reads fits) (reached_reading _ _ greeting greeting new new after after greets (reached_ending greeting new after))))
+    let greets : Greets address document greeting = (refl, record { response = response; time = reply.cluster_time; reads = reads; timeout_fits = fits; description_is = refl; speculative_is = refl; connection_id_is = refl }) in
+    reached_unless _ _ greeting new new after after (λ kind. no_row document kind response reply.cluster_time reads fits) (reached_reading _ _ greeting greeting new new after after greets (reached_ending greeting new after))
+
+-- before a description the first maximum holds
+maximum_before : (description : Option StreamDescription) → description ≡ None → frame_maximum description ≡ first_maximum
+maximum_before description none = ap frame_maximum none
+
+-- ---- the exchange
+
+module _ (options : HandshakerOptions) (credential : Option Credential) (login : Option (List ℕ)) (opened : Connection) (fresh : opened.stream_description ≡ None) where
+  abbrev plan : Plan Greeting
+  plan = hello_exchange options credential login opened.address
+
+  abbrev message : Message
+  message = plain_message (command_document (hello_with options credential login))
+
+  ungreeted : (connection : Connection) (kind : ErrorKind) (old new : State) (before after : ℤ) → KeepsRest opened connection → Stopped plan kind old new before after → UngreetedBy options credential login opened connection kind old new before after
+  ungreeted connection kind old new before after rest stopped = record { stopped = stopped; undescribed = rest.description ∙ fresh; rest = rest }
+
+  -- its body would be too long, or memory ran out
+  unbuilt : (kind : ErrorKind) (old : State) (before : ℤ) → BodyRefused (hello_with options credential login).body kind → Stopped plan kind old old before before
+  unbuilt (InvalidArgument (Bson TooLong)) old before r =
+      let hello = hello_with options credential login in
+      let longer = document_longer hello (omega (arith, r)) in
+      let long : 2 ^ 31 - 1 < length (command_document hello) = omega (arith, longer, r) in
+      stopped_saying (hello_said_with options credential login) (after_hello opened.address) (InvalidArgument (Bson TooLong)) old old before before None (inl (long, record { link = refl; ids = refl; kept_is = refl })) (same_counts old)
+  unbuilt OutOfMemory old before r = stopped_memory plan OutOfMemory old before refl
+  unbuilt kind old before r = absurd r
+
+  same_rest : KeepsRest opened opened
+  same_rest = record { address = refl; id = refl; description = refl; server_id = refl; token = refl }
+
+  pub unbuilt_stopped : (kind : ErrorKind) (old : State) (before : ℤ) → BodyRefused (hello_with options credential login).body kind → UngreetedBy options credential login opened opened kind old old before before
+  unbuilt_stopped kind old before r = ungreeted opened kind old old before before same_rest (unbuilt kind old before r)
+
+  pub unbuilt_greeting : {T : Type 0} (r : Result T Error) (old : State) (before : ℤ) → IfErr r (λ e. BodyRefused (hello_with options credential login).body e.kind) → IfErr r (λ e. UngreetedBy options credential login opened opened e.kind old old before before)
+  unbuilt_greeting (Ok x) old before h = tt
+  unbuilt_greeting (Err e) old before h = unbuilt_stopped e.kind old before h
+
+  module _ (hello : Command) (made : hello ≡ hello_with options credential login) where
+    refused_so : (kind : ErrorKind) (old new : State) (before after : ℤ) (kept : Option ErrorKind) → RunHelloRefused kind (frame_maximum opened.stream_description) (command_message hello) old new before after kept → RunHelloRefused kind first_maximum message old new before after kept
+    refused_so kind old new before after kept r =
+        subst (λ c. RunHelloRefused kind first_maximum (command_message c) old new before after kept) made
+        (subst (λ most. RunHelloRefused kind most (command_message hello) old new before after kept) (maximum_before opened.stream_description fresh) r)
+
+    unrun : (kind : ErrorKind) (old new : State) (before after : ℤ) (kept : Option ErrorKind) → CountsStay old new → RunHelloRefused kind first_maximum message old new before after kept → Stopped plan kind old new before after
+    unrun kind old new before after kept counts r =
+        let said = hello_said_with options credential login in
+        elim r [
+          | inl x ↦ stopped_saying said (after_hello opened.address) kind old new before after kept x counts
+          | inr n ↦ stopped_later said (after_hello opened.address) n.document kind old new new before after after n.exchanges counts (no_hello opened.address kind n.document new after n.refused)
+        ]
+
+    -- it was refused
+    pub unrun_greeting : {T : Type 0} (r : Result T Error) (connection : Connection) (old new : State) (before after : ℤ) → KeepsRest opened connection → CountsStay old new
+        → IfErr r (λ e. RunHelloRefused e.kind (frame_maximum opened.stream_description) (command_message hello) old new before after (kept_fault connection)) → IfErr r (λ e. UngreetedBy options credential login opened connection e.kind old new before after)
+    unrun_greeting (Ok x) connection old new before after rest counts h = tt
+    unrun_greeting (Err e) connection old new before after rest counts h =
+        ungreeted connection e.kind old new before after rest (unrun e.kind old new before after (kept_fault connection) counts (refused_so e.kind old new before after (kept_fault connection) h))
+
+    module _ (old new : State) (before after : ℤ) (reply : HelloReply) (runs : RunsHello (frame_maximum opened.stream_description) (command_message hello) old new before after reply) (counts : CountsStay old new) (ran : Connection) (rest : KeepsRest opened ran) where
+      runs_so : RunsHello first_maximum message old new before after reply
+      runs_so =
+          subst (λ c. RunsHello first_maximum (command_message c) old new before after reply) made
+          (subst (λ most. RunsHello most (command_message hello) old new before after reply) (maximum_before opened.stream_description fresh) runs)
+
+      -- its reply doesn't describe the server
+      pub undescribed_greeting : {T : Type 0} (r : Result T Error) (connection : Connection) → connection ≡ ran → IfErr r (λ e. DescriptionRefused e.kind reply.command_response) → IfErr r (λ e. UngreetedBy options credential login opened connection e.kind old new before after)
+      undescribed_greeting (Ok x) connection same h = tt
+      undescribed_greeting (Err e) connection same h =
+          ungreeted connection e.kind old new before after (subst (KeepsRest opened) (sym same) rest)
+          (stopped_later (hello_said_with options credential login) (after_hello opened.address) reply.raw_command_response e.kind old new new before after after runs_so.exchanges counts (no_description opened.address e.kind reply new after runs.reads h))
+
+      holds : (connection : Connection) → reply.server_address ≡ opened.address → HoldsReply ran connection reply → Holds opened connection (greeting_in opened.address reply)
+      unfolding greeting_in
+      holds connection at h = record {
+        address = h.address ∙ rest.address;
+        id = h.id ∙ rest.id;
+        description_is = h.description_is ∙ ap (λ address. Some (description_of address reply.command_response)) at;
+        server_id = h.server_id;
+        token = h.token ∙ rest.token;
+      }
+
+      -- it does
+      pub greeted : (connection : Connection) → reply.server_address ≡ opened.address → kept_fault ran ≡ None → HoldsReply ran connection reply → GreetedBy options credential login opened connection old new before after reply
+      greeted connection at faultless h = record {
+        address = at;
+        reads = runs.reads;
+        reached = reached_saying (hello_said_with options credential login) (after_hello opened.address) reply.raw_command_response (greeting_in opened.address reply) old new new before after after runs_so.exchanges counts (describes opened.address reply new after runs.reads h.fits);
+        described = record { holds = holds connection at h; faultless = h.fault ∙ faultless };
+      }

@@ -77,6 +77,7 @@ one_after_hello : (address : ServerAddress) (reply : List ℕ) → HasOneTurn (a
 one_after_hello address reply = one_unless _ _ (one_document_row reply) (one_reading _ _ (one_greeting address reply) one_ending)
 
 pub one_hello : (asked : Asked) → HasOneTurn (hello_plan asked)
+unfolding hello_plan
 one_hello asked = one_unless _ _ (one_hello_row asked.credential) (one_saying (hello_said asked) (after_hello asked.pending.address) (one_after_hello asked.pending.address))
 
 -- where the hello's plan ended, the hello could be made, it was said, and its reply greets
@@ -87,6 +88,7 @@ pub record IsGreeted (asked : Asked) (events : List Event) (greeting : Greeting)
   pub greets : Greets asked.pending.address reply greeting
 
 pub greeted : (asked : Asked) (events : List Event) (greeting : Greeting) → Ends (hello_plan asked) events greeting → IsGreeted asked events greeting
+unfolding hello_plan
 greeted asked events greeting ended =
     let address = asked.pending.address in
     let made = ends_unless (HelloRow asked.credential) (saying (hello_said asked) (after_hello address)) events greeting ended in
@@ -103,6 +105,7 @@ greeted asked events greeting ended =
 
 -- a hello that could be made and was said, and a reply that greets, are an end of it
 pub greeting_ends : (asked : Asked) (reply : List ℕ) (greeting : Greeting) → HasNone (HelloRow asked.credential) → IsSendable (hello_said asked) → Greets asked.pending.address reply greeting → Ends (hello_plan asked) (exchanged (hello_said asked) reply ∷ []) greeting
+unfolding hello_plan
 greeting_ends asked reply greeting made sendable greets = record {
   follows = (inr (made, refl), sendable, tt);
   answer_is = inr (made, inr (λ kind. no_row reply kind greets.1.response greets.1.time greets.1.reads greets.1.timeout_fits, (greeting, greets, refl)));

@@ -1,60 +1,61 @@
 -- What a login over a connection that holds a description answers.
-use Rattle.std.proofs.Common.{◌≡◌, ℕ, ℤ, ◌∙◌, refl, ap, subst, sym, Bool, true, false, Option, None, Some, Result, Ok, Err, List, [], is_some, not, IfErr, OnOk}
+use Rattle.std.proofs.Common.{◌≡◌, ℕ, ℤ, ◌∙◌, refl, ap, subst, sym, true, false, Option, None, Some, Result, Ok, Err, List, [], is_some, IfErr, OnOk}
 use Rattle.mongo_wire.specs.declared.error.Error.{Error}
 use Rattle.mongo_wire.specs.Outside.{State}
-use Rattle.mongo_command.specs.declared.server_api.ServerApi.{ServerApi}
+use Rattle.mongo_command.specs.declared.connection.Connection.{Connection}
 use Rattle.mongo_command.specs.declared.stream_description.StreamDescription.{StreamDescription}
-use Rattle.mongo_command.specs.Conversation.{HasNone, Reached, Stopped}
-use Rattle.mongo_command.specs.Exchange.{frame_maximum}
+use Rattle.mongo_command.specs.Conversation.{HasNone}
 use Rattle.mongo_sasl.specs.declared.credential.Credential.{Credential}
 use Rattle.mongo_sasl.specs.declared.mechanism.AuthMechanism.{AuthMechanism}
-use Rattle.mongo_sasl.specs.Validation.{IsValidated}
-use Rattle.mongo_scram.specs.declared.conversation.FirstRound.{FirstRound}
-use Rattle.mongo_scram.specs.declared.scram_version.ScramVersion.{ScramVersion}
-use Rattle.mongo_scram.specs.Base64.{base64_of}
-use Rattle.mongo_scram.specs.Client.{speculated_of, handed_to}
-use Rattle.mongo_scram.specs.Commands.{mechanism_of}
-use Rattle.mongo_scram.specs.Costs.{Ledgers, Accepted, StoppedLogin}
-use Rattle.mongo_establish.specs.Asked.{Asked}
-use Rattle.mongo_establish.specs.First.{IsRoundOf}
+use Rattle.mongo_scram.specs.Costs.{Ledgers, CostsNothing}
+use Rattle.mongo_establish.specs.declared.first_round.FirstRound.{FirstRound}
+use Rattle.mongo_establish.specs.declared.login_state.Nonces.{Nonces}
+use Rattle.mongo_establish.specs.declared.options.HandshakerOptions.{HandshakerOptions}
+use Rattle.mongo_establish.specs.Asked.{Asked, asked_over}
+use Rattle.mongo_establish.specs.First.{IsRoundBy, IsRoundOf}
 use Rattle.mongo_establish.specs.Greeting.{Greeting}
-use Rattle.mongo_establish.specs.Login.{holds_users, IsMechanism, IsScram, InvalidRow, speculated_by}
-use Rattle.mongo_establish.specs.LoggingIn.{LogsIn, LoginStops}
-use Rattle.mongo_establish.specs.Plan.{login_plan}
-use Rattle.mongo_establish.specs.Speculation.{SpeaksFor, HelloRow}
-use Rattle.mongo_establish.proofs.LoggedIn.{nobody, no_credential, no_users, is_scram, handed_same, invalid_stopped, accepted_login, stopped_login}
+use Rattle.mongo_establish.specs.Login.{holds_users, IsMechanism, HasConversation, InvalidRow}
+use Rattle.mongo_establish.specs.LoggingIn.{IsTaken, Converses, LogsIn, LoginStops}
+use Rattle.mongo_establish.specs.Speculation.{mechanism_before, SpeaksFor, HelloRow}
+use Rattle.mongo_establish.proofs.LoggedIn.{nobody, nobody_costs, no_credential, no_users, converses, went_by, invalid_stopped, invalid_costs, conversed_reached, conversed_costs, stopped_stopped, stopped_costs}
 
 same_description : (a b : StreamDescription) → Some a ≡ Some b → a ≡ b
 same_description a b e = cc
 
 -- the server holds no users
-pub empty_server : (asked : Asked) (description : StreamDescription) (held : Option StreamDescription) (old : State) (before : ℤ) → held ≡ Some description → holds_users description.initial_server_type ≡ false → (round : Option FirstRound) → LogsIn asked held round old old before before
-empty_server asked description held old before is empty round = record {
-  reached = λ greeting described r.
-      nobody asked greeting old before (no_users asked greeting (subst (λ d. holds_users d.initial_server_type ≡ false) (same_description description greeting.description (sym is ∙ described)) empty));
-}
+pub empty_server : (asked : Asked) (description : StreamDescription) (held : Option StreamDescription) (round : Option FirstRound) (old : State) (before : ℤ) (ledgers : Ledgers) → held ≡ Some description → holds_users description.initial_server_type ≡ false → CostsNothing ledgers ledgers → LogsIn asked held round old old before before ledgers ledgers
+empty_server asked description held round old before ledgers is empty nothing =
+    let none : (greeting : Greeting) → held ≡ Some greeting.description → holds_users greeting.description.initial_server_type ≡ false =
+    λ greeting described. subst (λ d. holds_users d.initial_server_type ≡ false) (same_description description greeting.description (sym is ∙ described)) empty in
+    record {
+      reached = λ greeting described r. nobody asked greeting old before (no_users asked greeting (none greeting described));
+      costs = λ greeting described r. nobody_costs asked greeting old before ledgers (no_users asked greeting (none greeting described)) nothing;
+    }
 
 -- there is no credential
-pub no_login : (asked : Asked) (held : Option StreamDescription) (round : Option FirstRound) (old : State) (before : ℤ) → asked.credential ≡ None → LogsIn asked held round old old before before
-no_login asked held round old before none = record { reached = λ greeting described r. nobody asked greeting old before (no_credential asked greeting none) }
-
-pub none_there : (round : Option FirstRound) (none : Bool) → is_some round ≡ not none → none ≡ true → is_some round ≡ false
-none_there round none is true_is = is ∙ ap not true_is
-
-pub some_there : (round : Option FirstRound) (none : Bool) → is_some round ≡ not none → none ≡ false → is_some round ≡ false → ⊥
-some_there round none is false_is gone = let no : false ≡ true = sym gone ∙ is ∙ ap not false_is in cc
+pub no_login : (asked : Asked) (held : Option StreamDescription) (round : Option FirstRound) (old : State) (before : ℤ) (ledgers : Ledgers) → asked.credential ≡ None → CostsNothing ledgers ledgers → LogsIn asked held round old old before before ledgers ledgers
+no_login asked held round old before ledgers none nothing = record {
+  reached = λ greeting described r. nobody asked greeting old before (no_credential asked greeting none);
+  costs = λ greeting described r. nobody_costs asked greeting old before ledgers (no_credential asked greeting none) nothing;
+}
 
 -- a reply that is there where a first round is
 reply_like : (round : Option FirstRound) → (reply : Option (List ℕ)) × (is_some reply ≡ is_some round)
 reply_like None = (None, refl)
 reply_like (Some round) = (Some [], refl)
 
-module _ (asked : Asked) (credential : Credential) (round : Option FirstRound) (mechanism : AuthMechanism) (description : StreamDescription) (held : Option StreamDescription) (is : held ≡ Some description) (who : asked.credential ≡ Some credential)
-    (at : (holds_users description.initial_server_type ≡ true) × ((reply : Option (List ℕ)) → is_some reply ≡ is_some round → IsMechanism credential.mechanism reply description mechanism)) (spoken : SpeaksFor asked.credential) (made : HasNone (HelloRow asked.credential)) where
-  pub by_scram : IsScram mechanism
-  by_scram =
+module _ (opened : Connection) (options : HandshakerOptions) (given : Option Credential) (nonces : Nonces) (id : ℤ) (credential : Credential) (who : given ≡ Some credential) (round : Option FirstRound) (mechanism : AuthMechanism) (description : StreamDescription) (is : opened.stream_description ≡ Some description)
+    (at : (holds_users description.initial_server_type ≡ true) × ((reply : Option (List ℕ)) → is_some reply ≡ is_some round → IsMechanism credential.mechanism reply description mechanism)) (spoken : SpeaksFor given) (made : HasNone (HelloRow given)) where
+  abbrev asked : Asked
+  asked = asked_over opened options given nonces id
+
+  abbrev held : Option StreamDescription
+  held = opened.stream_description
+
+  pub has_conversation : HasConversation mechanism
+  has_conversation =
       let reply = reply_like round in
-      is_scram reply.0 description mechanism credential (at.1 reply.0 reply.1) (subst SpeaksFor who spoken) (subst (λ c. HasNone (HelloRow c)) who made)
+      converses reply.0 description mechanism credential (at.1 reply.0 reply.1) (subst SpeaksFor who spoken) (subst (λ c. HasNone (HelloRow c)) who made)
 
   described_same : (greeting : Greeting) → held ≡ Some greeting.description → description ≡ greeting.description
   described_same greeting described = same_description description greeting.description (sym is ∙ described)
@@ -65,30 +66,45 @@ module _ (asked : Asked) (credential : Credential) (round : Option FirstRound) (
   mechanisms : (greeting : Greeting) → held ≡ Some greeting.description → (reply : Option (List ℕ)) → is_some reply ≡ is_some round → IsMechanism credential.mechanism reply greeting.description mechanism
   mechanisms greeting described reply like = subst (λ d. IsMechanism credential.mechanism reply d mechanism) (described_same greeting described) (at.1 reply like)
 
-  went : (greeting : Greeting) → IsRoundOf asked.credential asked greeting round → speculated_of round ≡ speculated_by credential asked greeting
+  went : (greeting : Greeting) → IsRoundOf asked.credential asked greeting round → IsRoundBy (mechanism_before credential.mechanism) credential asked greeting round
   went greeting r = subst (λ c. IsRoundOf c asked greeting round) who r
 
   -- the mechanism doesn't take the credential
-  pub log_in_invalid : {T : Type 0} (r : Result T Error) (old : State) (before : ℤ) → is_some round ≡ false → IfErr r (λ e. InvalidRow None mechanism credential e.kind)
-      → IfErr r (λ e. LoginStops asked held round e.kind old old before before)
-  log_in_invalid (Ok x) old before none h = tt
-  log_in_invalid (Err e) old before none h = record { stopped = λ greeting described r. invalid_stopped asked greeting credential round mechanism who (users greeting described) (went greeting r) (mechanisms greeting described) by_scram e.kind old before none h }
+  pub log_in_invalid : {T : Type 0} (r : Result T Error) (old : State) (before : ℤ) (ledgers : Ledgers) → CostsNothing ledgers ledgers → IfErr r (λ e. (is_some round ≡ false) × InvalidRow None mechanism credential e.kind)
+      → IfErr r (λ e. LoginStops asked held round e.kind old old before before ledgers ledgers)
+  log_in_invalid (Ok x) old before ledgers nothing h = tt
+  log_in_invalid (Err e) old before ledgers nothing h = record {
+    stopped = λ greeting described r. invalid_stopped asked greeting credential round mechanism who (users greeting described) (went greeting r) (mechanisms greeting described) has_conversation e.kind old before h.0 h.1;
+    costs = λ greeting described r. invalid_costs asked greeting credential round mechanism who (users greeting described) (went greeting r) (mechanisms greeting described) has_conversation e.kind old before ledgers h.0 h.1 nothing;
+  }
 
-  module _ (version : ScramVersion) (api : Option ServerApi) (is_version : mechanism ≡ mechanism_of version) (valid : is_some round ≡ false → IsValidated mechanism credential false (Ok tt)) (same_api : api ≡ asked.options.auth_options.server_api) where
-    pub log_in_accepted : {T : Type 0} (r : Result T Error) (old new : State) (before after : ℤ) (document : List ℕ) (first last : Ledgers) → OnOk r (Accepted (handed_to version credential api round (base64_of asked.nonces.second) asked.options.max_iterations (frame_maximum held)) document old new before after first last)
-        → OnOk r (LogsIn asked held round old new before after)
-    log_in_accepted (Ok x) old new before after document first last h = record {
-      reached = λ greeting described r.
-          let there = went greeting r in
-          accepted_login asked greeting credential round mechanism who (users greeting described) there (mechanisms greeting described) by_scram version is_version valid _ (handed_same version asked credential greeting api round held same_api there described) old new before after document first last h;
-    }
-    log_in_accepted (Err e) old new before after document first last h = tt
+  module _ (taken : IsTaken (is_some round) mechanism credential) where
+    -- its round is the conversation's
+    abbrev by_it : (greeting : Greeting) → held ≡ Some greeting.description → IsRoundOf asked.credential asked greeting round → IsRoundBy mechanism credential asked greeting round
+    by_it greeting described r = went_by asked greeting credential round mechanism who (users greeting described) (went greeting r) (mechanisms greeting described) has_conversation
 
-    pub log_in_stopped : {T : Type 0} (r : Result T Error) (old new : State) (before after : ℤ) (first last : Ledgers) → IfErr r (λ e. StoppedLogin (handed_to version credential api round (base64_of asked.nonces.second) asked.options.max_iterations (frame_maximum held)) e.kind old new before after first last)
-        → IfErr r (λ e. LoginStops asked held round e.kind old new before after)
-    log_in_stopped (Ok x) old new before after first last h = tt
-    log_in_stopped (Err e) old new before after first last h = record {
-      stopped = λ greeting described r.
-          let there = went greeting r in
-          stopped_login asked greeting credential round mechanism who (users greeting described) there (mechanisms greeting described) by_scram version is_version valid _ (handed_same version asked credential greeting api round held same_api there described) e.kind old new before after first last h;
-    }
+    abbrev this : Option Credential → Asked
+    this c = asked_over opened options c nonces id
+
+    here : (r : Result (Unit {0}) Error) (old new : State) (before after : ℤ) (early late : Ledgers) → Converses r mechanism (this (Some credential)) credential held round old new before after early late → Converses r mechanism asked credential held round old new before after early late
+    here r old new before after early late h = subst (λ c. Converses r mechanism (this c) credential held round old new before after early late) (sym who) h
+
+    -- its conversation was followed to its end
+    pub log_in_accepted : (r : Result (Unit {0}) Error) (old new : State) (before after : ℤ) (early late : Ledgers) → Converses r mechanism (this (Some credential)) credential held round old new before after early late → OnOk r (LogsIn asked held round old new before after early late)
+    log_in_accepted (Ok done) old new before after early late h =
+        let conversed = (here (Ok done) old new before after early late h).accepted in
+        record {
+          reached = λ greeting described r. conversed_reached asked greeting credential round mechanism who (users greeting described) (went greeting r) (mechanisms greeting described) has_conversation taken old new before after early late (conversed greeting described (by_it greeting described r));
+          costs = λ greeting described r. conversed_costs asked greeting credential round mechanism who (users greeting described) (went greeting r) (mechanisms greeting described) has_conversation taken old new before after early late (conversed greeting described (by_it greeting described r));
+        }
+    log_in_accepted (Err e) old new before after early late h = tt
+
+    -- it was stopped
+    pub log_in_stopped : (r : Result (Unit {0}) Error) (old new : State) (before after : ℤ) (early late : Ledgers) → Converses r mechanism (this (Some credential)) credential held round old new before after early late → IfErr r (λ e. LoginStops asked held round e.kind old new before after early late)
+    log_in_stopped (Ok done) old new before after early late h = tt
+    log_in_stopped (Err e) old new before after early late h =
+        let stopped = (here (Err e) old new before after early late h).refused in
+        record {
+          stopped = λ greeting described r. stopped_stopped asked greeting credential round mechanism who (users greeting described) (went greeting r) (mechanisms greeting described) has_conversation taken e.kind old new before after early late (stopped greeting described (by_it greeting described r));
+          costs = λ greeting described r. stopped_costs asked greeting credential round mechanism who (users greeting described) (went greeting r) (mechanisms greeting described) has_conversation taken e.kind old new before after early late (stopped greeting described (by_it greeting described r));
+        }

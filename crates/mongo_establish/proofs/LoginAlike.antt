@@ -1,5 +1,5 @@
 -- A login is the same for all connections and ids.
-use Rattle.std.proofs.Common.{ℤ, Option, None, Some, List}
+use Rattle.std.proofs.Common.{ℤ, Option, None, Some, List, inl, inr}
 use Rattle.mongo_wire.specs.declared.error.ErrorKind.{ErrorKind}
 use Rattle.mongo_wire.specs.Outside.{State}
 use Rattle.mongo_command.specs.declared.connection.Connection.{Connection}
@@ -7,15 +7,19 @@ use Rattle.mongo_command.specs.Conversation.{Event, Turn, Reached, Stopped}
 use Rattle.mongo_command.proofs.Steps.{reached_more, stopped_more}
 use Rattle.mongo_sasl.specs.declared.credential.Credential.{Credential}
 use Rattle.mongo_sasl.specs.declared.mechanism.AuthMechanism.{AuthMechanism}
-use Rattle.mongo_sasl.specs.declared.mechanism.AuthMechanism.TheVariants.{ScramSha1, ScramSha256}
+use Rattle.mongo_sasl.specs.declared.mechanism.AuthMechanism.TheVariants.{ScramSha1, ScramSha256, MongoDbX509, Plain}
+use Rattle.mongo_scram.specs.declared.scram_version.ScramVersion.{ScramVersion}
+use Rattle.mongo_scram.specs.declared.scram_version.ScramVersion.TheVariants.{Sha1, Sha256}
+use Rattle.mongo_scram.specs.Costs.{Ledgers}
 use Rattle.mongo_establish.specs.declared.establisher.PendingConnection.{PendingConnection}
 use Rattle.mongo_establish.specs.declared.generation.PoolGeneration.TheVariants.{Normal}
 use Rattle.mongo_establish.specs.declared.login_state.Nonces.{Nonces}
 use Rattle.mongo_establish.specs.declared.options.HandshakerOptions.{HandshakerOptions}
 use Rattle.mongo_establish.specs.Asked.{Asked, asked_for}
+use Rattle.mongo_establish.specs.Costs.{ScramAccepted, AcceptedCosts, StoppedCosts, LoginCostsOf, LoginCosts, StoppedLoginCostsOf, StoppedLoginCosts}
 use Rattle.mongo_establish.specs.Greeting.{Greeting}
 use Rattle.mongo_establish.specs.Login.{logging_in}
-use Rattle.mongo_establish.specs.Plan.{mechanism_plan, login_by, login_plan}
+use Rattle.mongo_establish.specs.Plan.{conversation, mechanism_plan, login_by, login_plan}
 
 -- what a handshake over a connection knows of it
 abbrev pub pending_over : Connection → PendingConnection
@@ -29,8 +33,11 @@ module _ (first second : PendingConnection) (options : HandshakerOptions) (crede
   that = asked_for second options credential nonces second_id
 
   mechanism_alike : (mechanism : AuthMechanism) (c : Credential) (greeting : Greeting) (past : List Event) (turn : Turn Greeting) → mechanism_plan mechanism this c greeting past turn → mechanism_plan mechanism that c greeting past turn
+  unfolding mechanism_plan conversation
   mechanism_alike ScramSha1 c greeting past turn h = h
   mechanism_alike ScramSha256 c greeting past turn h = h
+  mechanism_alike Plain c greeting past turn h = h
+  mechanism_alike MongoDbX509 c greeting past turn h = h
   mechanism_alike mechanism c greeting past turn h = absurd h
 
   login_alike : (who : Option Credential) (greeting : Greeting) (past : List Event) (turn : Turn Greeting) → login_by who this greeting past turn → login_by who that greeting past turn
@@ -38,7 +45,42 @@ module _ (first second : PendingConnection) (options : HandshakerOptions) (crede
   login_alike (Some c) greeting past turn h = (h.0, h.1, mechanism_alike h.0 c greeting past turn h.2)
 
   pub reached_alike : (greeting : Greeting) (old new : State) (before after : ℤ) → Reached (login_plan this greeting) greeting old new before after → Reached (login_plan that greeting) greeting old new before after
+  unfolding login_plan
   reached_alike greeting old new before after r = reached_more (login_plan this greeting) (login_plan that greeting) greeting old new before after (login_alike (logging_in that greeting) greeting) r
 
   pub stopped_alike : (greeting : Greeting) (kind : ErrorKind) (old new : State) (before after : ℤ) → Stopped (login_plan this greeting) kind old new before after → Stopped (login_plan that greeting) kind old new before after
+  unfolding login_plan
   stopped_alike greeting kind old new before after s = stopped_more (login_plan this greeting) (login_plan that greeting) kind old new before after (login_alike (logging_in that greeting) greeting) s
+
+  -- ---- and so is what it costs
+
+  scram_costs_alike : (version : ScramVersion) (c : Credential) (greeting : Greeting) (old new : State) (before after : ℤ) (early late : Ledgers) → ScramAccepted version this c greeting old new before after early late → ScramAccepted version that c greeting old new before after early late
+  scram_costs_alike version c greeting old new before after early late h = record { document = h.document; accepted = h.accepted }
+
+  accepted_costs_alike : (mechanism : AuthMechanism) (c : Credential) (greeting : Greeting) (old new : State) (before after : ℤ) (early late : Ledgers) → AcceptedCosts mechanism this c greeting old new before after early late → AcceptedCosts mechanism that c greeting old new before after early late
+  accepted_costs_alike ScramSha1 c greeting old new before after early late h = scram_costs_alike Sha1 c greeting old new before after early late h
+  accepted_costs_alike ScramSha256 c greeting old new before after early late h = scram_costs_alike Sha256 c greeting old new before after early late h
+  accepted_costs_alike mechanism c greeting old new before after early late h = h
+
+  stopped_costs_alike : (mechanism : AuthMechanism) (c : Credential) (greeting : Greeting) (kind : ErrorKind) (old new : State) (before after : ℤ) (early late : Ledgers) → StoppedCosts mechanism this c greeting kind old new before after early late → StoppedCosts mechanism that c greeting kind old new before after early late
+  stopped_costs_alike ScramSha1 c greeting kind old new before after early late h = h
+  stopped_costs_alike ScramSha256 c greeting kind old new before after early late h = h
+  stopped_costs_alike mechanism c greeting kind old new before after early late h = h
+
+  costs_of_alike : (who : Option Credential) (greeting : Greeting) (old new : State) (before after : ℤ) (early late : Ledgers) → LoginCostsOf who this greeting old new before after early late → LoginCostsOf who that greeting old new before after early late
+  costs_of_alike None greeting old new before after early late h = h
+  costs_of_alike (Some c) greeting old new before after early late h = record { mechanism = h.mechanism; is_mechanism = h.is_mechanism; costs = accepted_costs_alike h.mechanism c greeting old new before after early late h.costs }
+
+  pub costs_alike : (greeting : Greeting) (old new : State) (before after : ℤ) (early late : Ledgers) → LoginCosts this greeting old new before after early late → LoginCosts that greeting old new before after early late
+  costs_alike greeting old new before after early late h = costs_of_alike (logging_in that greeting) greeting old new before after early late h
+
+  stopped_costs_of_alike : (who : Option Credential) (greeting : Greeting) (kind : ErrorKind) (old new : State) (before after : ℤ) (early late : Ledgers) → StoppedLoginCostsOf who this greeting kind old new before after early late → StoppedLoginCostsOf who that greeting kind old new before after early late
+  stopped_costs_of_alike None greeting kind old new before after early late h = h
+  stopped_costs_of_alike (Some c) greeting kind old new before after early late h = record {
+    mechanism = h.mechanism;
+    is_mechanism = h.is_mechanism;
+    costs = elim h.costs [ inl row ↦ inl row | inr stopped ↦ inr (stopped_costs_alike h.mechanism c greeting kind old new before after early late stopped) ];
+  }
+
+  pub stopped_login_costs_alike : (greeting : Greeting) (kind : ErrorKind) (old new : State) (before after : ℤ) (early late : Ledgers) → StoppedLoginCosts this greeting kind old new before after early late → StoppedLoginCosts that greeting kind old new before after early late
+  stopped_login_costs_alike greeting kind old new before after early late h = stopped_costs_of_alike (logging_in that greeting) greeting kind old new before after early late h

@@ -1,36 +1,33 @@
 -- What a handshake over a connection answers, step by step.
-use Rattle.std.proofs.Common.{◌≡◌, ℕ, ℤ, ◌⊎◌, ◌∙◌, refl, ap, subst, sym, inl, inr, Option, None, Some, option_map, Result, Ok, Err, List, IfErr, OnOk}
+use Rattle.std.proofs.Common.{◌≡◌, ℕ, ℤ, ◌⊎◌, ◌∙◌, refl, ap, subst, sym, inl, inr, is_some, Option, None, Some, option_map, Result, Ok, Err, List, IfErr, OnOk}
 use Rattle.mongo_wire.specs.declared.error.Error.{Error}
 use Rattle.mongo_wire.specs.declared.error.ErrorKind.{ErrorKind}
-use Rattle.mongo_wire.specs.declared.error.ErrorKind.TheVariants.{OutOfMemory}
 use Rattle.mongo_wire.specs.Outside.{State}
-use Rattle.mongo_command.specs.declared.command.Command.{Command}
 use Rattle.mongo_command.specs.declared.connection.Connection.{Connection}
 use Rattle.mongo_command.specs.declared.hello.HelloReply.{HelloReply}
 use Rattle.mongo_command.specs.Connection.{kept_fault, KeepsRest}
-use Rattle.mongo_command.specs.Conversation.{HasNone, Reached, Stopped}
-use Rattle.mongo_command.specs.Exchange.{command_message, frame_maximum, CountsStay}
-use Rattle.mongo_command.specs.Hello.{DescriptionRefused, description_of}
-use Rattle.mongo_command.specs.HelloExchange.{RunsHello, RunHelloRefused}
+use Rattle.mongo_command.specs.Conversation.{HasNone, or_else, Reached, Stopped}
+use Rattle.mongo_command.specs.Hello.{description_of}
+use Rattle.mongo_command.proofs.Steps.{reached_unless, stopped_row, stopped_unless}
 use Rattle.mongo_sasl.specs.declared.credential.Credential.{Credential}
-use Rattle.mongo_scram.specs.declared.conversation.FirstRound.{FirstRound}
 use Rattle.mongo_scram.specs.Client.{speculated_of}
+use Rattle.mongo_scram.specs.Costs.{Ledgers, CostsNothing}
 use Rattle.mongo_establish.specs.declared.client_first.ClientFirst.{ClientFirst}
+use Rattle.mongo_establish.specs.declared.first_round.FirstRound.{FirstRound}
 use Rattle.mongo_establish.specs.declared.login_state.Nonces.{Nonces}
 use Rattle.mongo_establish.specs.declared.options.HandshakerOptions.{HandshakerOptions}
 use Rattle.mongo_establish.specs.Asked.{Asked, asked_over}
-use Rattle.mongo_establish.specs.Client.{hello_with, login_hello}
-use Rattle.mongo_establish.specs.Established.{Holds, IsReplyOf, ShookHands, StoppedHandshake, StoppedHello}
-use Rattle.mongo_establish.specs.First.{IsFirst, IsRoundOf, first_document, round_with}
-use Rattle.mongo_establish.specs.Greeting.{Greeting}
-use Rattle.mongo_establish.specs.HelloBody.{BodyRefused}
+use Rattle.mongo_establish.specs.Costs.{HandshakeCosts, StoppedHandshakeCosts, CostsOf}
+use Rattle.mongo_establish.specs.Established.{Holds, GreetedBy, UngreetedBy, IsReplyOf, ShookHands, StoppedHandshake}
+use Rattle.mongo_establish.specs.First.{IsFirst, IsUnmade, IsRoundOf, first_document, scram_round, round_with}
+use Rattle.mongo_establish.specs.Greeting.{Greeting, greeting_in}
 use Rattle.mongo_establish.specs.LoggingIn.{LogsIn, LoginStops}
-use Rattle.mongo_establish.specs.Plan.{hello_plan}
-use Rattle.mongo_establish.specs.Reply.{HoldsReply}
-use Rattle.mongo_establish.specs.Speculation.{HelloRow, left_in, speculation}
+use Rattle.mongo_establish.specs.Plan.{hello_exchange, hello_plan}
+use Rattle.mongo_establish.specs.Speculation.{HelloRow, answer_to, left_in, speculation}
 use Rattle.mongo_establish.proofs.FirstRounds.{first_speculation, round_of}
-use Rattle.mongo_establish.proofs.LoginAlike.{pending_over, reached_alike, stopped_alike}
-use Rattle.mongo_establish.proofs.HelloExchange.{unmade, unbuilt, unrun, hello_run, undescribed, greeting_in, greeted_by}
+use Rattle.mongo_establish.proofs.HelloBody.{unmade_refused}
+use Rattle.mongo_establish.proofs.HelloExchange.{unbuilt_stopped}
+use Rattle.mongo_establish.proofs.LoginAlike.{pending_over, reached_alike, stopped_alike, costs_alike, stopped_login_costs_alike}
 
 -- ---- results
 
@@ -43,108 +40,143 @@ ok_of {P = P} r x is h = subst (λ y. OnOk y P) is h
 pub if_err_of : {T : Type 0} (r : Result T Error) (e : Error) (P : Error → Type 0) → r ≡ Err e → IfErr r P → P e
 if_err_of r e P is h = subst (λ y. IfErr y P) is h
 
--- ---- connections
-
-same_rest : (connection : Connection) → KeepsRest connection connection
-same_rest connection = record { address = refl; id = refl; description = refl; server_id = refl; token = refl }
+-- what a refusal costs
+costs_of_err : {T : Type 0} (r : Result T Error) (e : Error) (asked : Asked) (old new : State) (after : ℤ) (early late : Ledgers) → r ≡ Err e → StoppedHandshakeCosts asked e.kind old new after early late → CostsOf r asked old new after early late
+costs_of_err r e asked old new after early late is h = subst (λ x. CostsOf x asked old new after early late) (sym is) (record { accepted = tt; refused = h })
 
 -- the reply after what it said to the login that went with the hello was taken out
 abbrev pub taken_out : HelloReply → Option (List ℕ) → HelloReply
 taken_out reply login = record reply { command_response = record reply.command_response { speculative_authenticate = left_in login reply.command_response.speculative_authenticate } }
 
-module _ (opened : Connection) (options : HandshakerOptions) (credential : Option Credential) (nonces : Nonces) (id : ℤ) (fresh : opened.stream_description ≡ None) where
+module _ (opened : Connection) (options : HandshakerOptions) (credential : Option Credential) (nonces : Nonces) (id : ℤ) where
   abbrev asked : Asked
   asked = asked_over opened options credential nonces id
 
-  stopped_early : (connection : Connection) (kind : ErrorKind) (old new : State) (after : ℤ) → KeepsRest opened connection → Stopped (hello_plan asked) kind old new id after → StoppedHandshake asked opened connection kind old new after
-  stopped_early connection kind old new after rest s = inl (record { hello = s; undescribed = rest.description ∙ fresh; rest = rest })
-
   -- ---- before the hello was said
 
-  pub unmade_stopped : {T : Type 0} (r : Result T Error) (old : State) → IfErr r (λ e. HelloRow credential e.kind ⊎ (e.kind ≡ OutOfMemory)) → IfErr r (λ e. StoppedHandshake asked opened opened e.kind old old id)
-  unmade_stopped (Ok x) old h = tt
-  unmade_stopped (Err e) old h = stopped_early opened e.kind old old id (same_rest opened) (unmade asked e.kind old h)
+  module _ (fresh : opened.stream_description ≡ None) where
+    abbrev NoFirst : ErrorKind → Type 0
+    NoFirst kind = or_else (HelloRow credential) (IsUnmade (speculation credential nonces.first)) kind
+
+    unmade : (kind : ErrorKind) (old : State) → NoFirst kind → Stopped (hello_plan asked) kind old old id id
+    unfolding hello_plan
+    unmade kind old (inl row) = stopped_row _ _ kind old id row
+    unmade kind old (inr none) =
+        let login = speculation credential nonces.first in
+        stopped_unless _ _ kind old old id id none.0 (unbuilt_stopped options credential login opened fresh kind old id (unmade_refused options credential login kind none.1)).stopped
+
+    same_rest : KeepsRest opened opened
+    same_rest = record { address = refl; id = refl; description = refl; server_id = refl; token = refl }
+
+    pub unmade_stopped : {T : Type 0} (r : Result T Error) (old : State) → IfErr r (λ e. NoFirst e.kind) → IfErr r (λ e. StoppedHandshake asked opened opened e.kind old old id)
+    unmade_stopped (Ok x) old h = tt
+    unmade_stopped (Err e) old h = inl (record { hello = unmade e.kind old h; undescribed = fresh; rest = same_rest })
+
+    pub unmade_costs : {T : Type 0} (r : Result T Error) (e : Error) (old : State) (ledgers : Ledgers) → r ≡ Err e → CostsNothing ledgers ledgers → NoFirst e.kind → CostsOf r asked old old id ledgers ledgers
+    unmade_costs r e old ledgers is nothing h = costs_of_err r e asked old old id ledgers ledgers is (inl (record { hello = unmade e.kind old h; nothing = nothing }))
+
+  -- ---- the hello
 
   module _ (made : HasNone (HelloRow credential)) (first : Option ClientFirst) (is_first : IsFirst credential nonces.first first) where
-    the_hello : hello_with options credential (option_map first_document first) ≡ login_hello asked
-    the_hello = ap (hello_with options credential) (first_speculation credential nonces.first first is_first)
+    abbrev sent : Option (List ℕ)
+    sent = option_map first_document first
 
-    pub unbuilt_stopped : {T : Type 0} (r : Result T Error) (old : State) → IfErr r (λ e. BodyRefused (hello_with options credential (option_map first_document first)).body e.kind) → IfErr r (λ e. StoppedHandshake asked opened opened e.kind old old id)
-    unbuilt_stopped (Ok x) old h = tt
-    unbuilt_stopped (Err e) old h = stopped_early opened e.kind old old id (same_rest opened) (unbuilt asked e.kind old made (subst (λ c. BodyRefused c.body e.kind) the_hello h))
+    stopped_so : (kind : ErrorKind) (old new : State) (after : ℤ) → Stopped (hello_exchange options credential sent opened.address) kind old new id after → Stopped (hello_plan asked) kind old new id after
+    unfolding hello_plan
+    stopped_so kind old new after s =
+        stopped_unless _ _ kind old new id after made (subst (λ login. Stopped (hello_exchange options credential login opened.address) kind old new id after) (first_speculation credential nonces.first first is_first) s)
 
-    -- ---- the hello
+    reached_so : (greeting : Greeting) (old new : State) (after : ℤ) → Reached (hello_exchange options credential sent opened.address) greeting old new id after → Reached (hello_plan asked) greeting old new id after
+    unfolding hello_plan
+    reached_so greeting old new after r =
+        reached_unless _ _ greeting old new id after made (subst (λ login. Reached (hello_exchange options credential login opened.address) greeting old new id after) (first_speculation credential nonces.first first is_first) r)
 
-    module _ (hello : Command) (hello_is : hello ≡ hello_with options credential (option_map first_document first)) where
-      pub unrun_stopped : {T : Type 0} (r : Result T Error) (connection : Connection) (old new : State) (after : ℤ) → KeepsRest opened connection → CountsStay old new
-          → IfErr r (λ e. RunHelloRefused e.kind (frame_maximum opened.stream_description) (command_message hello) old new id after (kept_fault connection)) → IfErr r (λ e. StoppedHandshake asked opened connection e.kind old new after)
-      unrun_stopped (Ok x) connection old new after rest counts h = tt
-      unrun_stopped (Err e) connection old new after rest counts h =
-          stopped_early connection e.kind old new after rest (unrun asked hello opened.stream_description e.kind old new after (kept_fault connection) made (hello_is ∙ the_hello) fresh counts h)
+    pub ungreeted_stopped : {T : Type 0} (r : Result T Error) (connection : Connection) (old new : State) (after : ℤ) → IfErr r (λ e. UngreetedBy options credential sent opened connection e.kind old new id after) → IfErr r (λ e. StoppedHandshake asked opened connection e.kind old new after)
+    ungreeted_stopped (Ok x) connection old new after h = tt
+    ungreeted_stopped (Err e) connection old new after h = inl (record { hello = stopped_so e.kind old new after h.stopped; undescribed = h.undescribed; rest = h.rest })
 
-      module _ (old middle : State) (between : ℤ) (reply : HelloReply) (runs : RunsHello (frame_maximum opened.stream_description) (command_message hello) old middle id between reply) (counts : CountsStay old middle) (ran : Connection) (rest : KeepsRest opened ran) where
-        pub undescribed_stopped : {T : Type 0} (r : Result T Error) (connection : Connection) → connection ≡ ran → IfErr r (λ e. DescriptionRefused e.kind reply.command_response) → IfErr r (λ e. StoppedHandshake asked opened connection e.kind old middle between)
-        undescribed_stopped (Ok x) connection same h = tt
-        undescribed_stopped (Err e) connection same h =
-            stopped_early connection e.kind old middle between (subst (KeepsRest opened) (sym same) rest) (undescribed asked e.kind old middle between reply made (hello_run asked hello opened.stream_description old middle between reply (hello_is ∙ the_hello) fresh runs) counts h)
+    pub ungreeted_costs : {T : Type 0} (r : Result T Error) (e : Error) (connection : Connection) (old new : State) (after : ℤ) (ledgers : Ledgers) → r ≡ Err e → CostsNothing ledgers ledgers → UngreetedBy options credential sent opened connection e.kind old new id after → CostsOf r asked old new after ledgers ledgers
+    ungreeted_costs r e connection old new after ledgers is nothing h = costs_of_err r e asked old new after ledgers ledgers is (inl (record { hello = stopped_so e.kind old new after h.stopped; nothing = nothing }))
 
-        -- ---- the login
+    -- ---- the login
 
-        module _ (at : reply.server_address ≡ opened.address) (described : Connection) (holds : HoldsReply ran described reply) (round : Option FirstRound) (round_is : speculated_of round ≡ round_with first reply.command_response.speculative_authenticate) where
-          greeting : Greeting
-          greeting = greeting_in opened.address reply
+    module _ (old middle : State) (between : ℤ) (reply : HelloReply) (described : Connection) (greeted : GreetedBy options credential sent opened described old middle id between reply) (round : Option FirstRound)
+        (there : is_some round ≡ is_some (answer_to sent reply.command_response.speculative_authenticate)) (scram : speculated_of (scram_round round) ≡ round_with first reply.command_response.speculative_authenticate) where
+      abbrev greeting : Greeting
+      greeting = greeting_in opened.address reply
 
-          greeted : Reached (hello_plan asked) greeting old middle id between
-          unfolding greeting
-          greeted = greeted_by asked old middle between reply made (hello_run asked hello opened.stream_description old middle between reply (hello_is ∙ the_hello) fresh runs) counts holds.fits
+      hello_reached : Reached (hello_plan asked) greeting old middle id between
+      hello_reached = reached_so greeting old middle between greeted.reached
 
-          held_description : described.stream_description ≡ Some greeting.description
-          unfolding greeting greeting_in
-          held_description = holds.description_is ∙ ap (λ address. Some (description_of address reply.command_response)) at
+      -- the login is asked anew, over the described connection
+      abbrev anew : Asked
+      anew = asked_over described options credential nonces between
 
-          -- the login is asked anew, over the described connection
-          abbrev anew : Asked
-          anew = asked_over described options credential nonces between
+      held_round : IsRoundOf credential anew greeting round
+      unfolding greeting_in
+      held_round = round_of credential anew (greeting_in opened.address reply) first round refl is_first there scram
 
-          held_round : IsRoundOf credential anew greeting round
-          unfolding greeting greeting_in
-          held_round = round_of credential anew (greeting_in opened.address reply) first round refl is_first round_is
-
-          held : (connection : Connection) → KeepsRest described connection → Holds opened connection greeting
-          unfolding greeting greeting_in
-          held connection later = record {
-            address = later.address ∙ holds.address ∙ rest.address;
-            id = later.id ∙ holds.id ∙ rest.id;
-            description_is = later.description ∙ held_description;
+      held : (connection : Connection) → KeepsRest described connection → Holds opened connection greeting
+      held connection later =
+          let holds = greeted.described.holds in
+          record {
+            address = later.address ∙ holds.address;
+            id = later.id ∙ holds.id;
+            description_is = later.description ∙ holds.description_is;
             server_id = later.server_id ∙ holds.server_id;
-            token = later.token ∙ holds.token ∙ rest.token;
+            token = later.token ∙ holds.token;
           }
 
-          pub login_stopped : {T : Type 0} (r : Result T Error) (connection : Connection) (new : State) (after : ℤ) → KeepsRest described connection
-              → IfErr r (λ e. LoginStops anew described.stream_description round e.kind middle new between after) → IfErr r (λ e. StoppedHandshake asked opened connection e.kind old new after)
-          login_stopped (Ok x) connection new after later h = tt
-          login_stopped (Err e) connection new after later h = inr (record { greeting = greeting; middle = middle; between = between; hello = greeted; login = stopped_alike (pending_over described) (pending_over opened) options credential nonces between id greeting e.kind middle new between after (h.stopped greeting held_description held_round); held = held connection later })
+      pub login_stopped : {T : Type 0} (r : Result T Error) (connection : Connection) (new : State) (after : ℤ) (early late : Ledgers) → KeepsRest described connection
+          → IfErr r (λ e. LoginStops anew described.stream_description round e.kind middle new between after early late) → IfErr r (λ e. StoppedHandshake asked opened connection e.kind old new after)
+      login_stopped (Ok x) connection new after early late later h = tt
+      login_stopped (Err e) connection new after early late later h = inr (record {
+        greeting = greeting;
+        middle = middle;
+        between = between;
+        hello = hello_reached;
+        login = stopped_alike (pending_over described) (pending_over opened) options credential nonces between id greeting e.kind middle new between after (h.stopped greeting greeted.described.holds.description_is held_round);
+        held = held connection later;
+      })
 
-          is_reply : (answer : HelloReply) → answer ≡ taken_out reply (option_map first_document first) → IsReplyOf asked greeting answer
-          unfolding greeting greeting_in
-          is_reply answer is =
-              subst (IsReplyOf asked (greeting_in opened.address reply)) (sym is) (record {
-                address = at;
-                description_is = ap (λ address. description_of address reply.command_response) (sym at);
-                connection_id = refl;
-                raw = refl;
-                reads = runs.reads;
-                speculative = ap (λ login. left_in login reply.command_response.speculative_authenticate) (first_speculation credential nonces.first first is_first);
-              })
+      pub login_stopped_costs : {T : Type 0} (r : Result T Error) (e : Error) (new : State) (after : ℤ) (early late : Ledgers) → r ≡ Err e → LoginStops anew described.stream_description round e.kind middle new between after early late → CostsOf r asked old new after early late
+      login_stopped_costs r e new after early late is h = costs_of_err r e asked old new after early late is (inr (record {
+        greeting = greeting;
+        middle = middle;
+        between = between;
+        hello = hello_reached;
+        login = stopped_login_costs_alike (pending_over described) (pending_over opened) options credential nonces between id greeting e.kind middle new between after early late (h.costs greeting greeted.described.holds.description_is held_round);
+      }))
 
-          pub shook : (connection : Connection) (new : State) (after : ℤ) (answer : HelloReply) → KeepsRest described connection → kept_fault connection ≡ None → answer ≡ taken_out reply (option_map first_document first)
-              → LogsIn anew described.stream_description round middle new between after → ShookHands asked opened connection old new after answer
-          shook connection new after answer later faultless is h = record {
-            greeting = greeting;
-            middle = middle;
-            between = between;
-            hello = greeted;
-            login = reached_alike (pending_over described) (pending_over opened) options credential nonces between id greeting middle new between after (h.reached greeting held_description held_round);
-            described = record { holds = held connection later; faultless = faultless };
-            reply_is = is_reply answer is;
-          }
+      is_reply : (answer : HelloReply) → answer ≡ taken_out reply sent → IsReplyOf asked greeting answer
+      unfolding greeting_in
+      is_reply answer is =
+          subst (IsReplyOf asked (greeting_in opened.address reply)) (sym is) (record {
+            address = greeted.address;
+            description_is = ap (λ address. description_of address reply.command_response) (sym greeted.address);
+            connection_id = refl;
+            raw = refl;
+            reads = greeted.reads;
+            speculative = ap (λ login. left_in login reply.command_response.speculative_authenticate) (first_speculation credential nonces.first first is_first);
+          })
+
+      pub shook : (connection : Connection) (new : State) (after : ℤ) (early late : Ledgers) (answer : HelloReply) → KeepsRest described connection → kept_fault connection ≡ None → answer ≡ taken_out reply sent
+          → LogsIn anew described.stream_description round middle new between after early late → ShookHands asked opened connection old new after answer
+      shook connection new after early late answer later faultless is h = record {
+        greeting = greeting;
+        middle = middle;
+        between = between;
+        hello = hello_reached;
+        login = reached_alike (pending_over described) (pending_over opened) options credential nonces between id greeting middle new between after (h.reached greeting greeted.described.holds.description_is held_round);
+        described = record { holds = held connection later; faultless = faultless };
+        reply_is = is_reply answer is;
+      }
+
+      pub shook_costs : (new : State) (after : ℤ) (early late : Ledgers) → LogsIn anew described.stream_description round middle new between after early late → HandshakeCosts asked old new after early late
+      shook_costs new after early late h = record {
+        greeting = greeting;
+        middle = middle;
+        between = between;
+        hello = hello_reached;
+        login = costs_alike (pending_over described) (pending_over opened) options credential nonces between id greeting middle new between after early late (h.costs greeting greeted.described.holds.description_is held_round);
+      }

@@ -1,6 +1,7 @@
 -- What a caller hands to one establishment.
-use Rattle.std.specs.Prelude.{ℤ, Option}
+use Rattle.std.specs.Prelude.{ℕ, ℤ, Option, None, []}
 use Rattle.mongo_command.specs.declared.connection.Connection.{Connection}
+use Rattle.mongo_command.specs.declared.server_address.ServerAddress.{ServerAddress}
 use Rattle.mongo_sasl.specs.declared.credential.Credential.{Credential}
 use Rattle.mongo_establish.specs.declared.establisher.PendingConnection.{PendingConnection}
 use Rattle.mongo_establish.specs.declared.generation.PoolGeneration.TheVariants.{Normal}
@@ -25,3 +26,7 @@ asked_for pending options credential nonces first_id = record { pending = pendin
 -- a handshake over this connection asks the same, and knows no pool
 abbrev pub asked_over : Connection → HandshakerOptions → Option Credential → Nonces → ℤ → Asked
 asked_over connection options credential nonces first_id = asked_for (record { id = connection.id; address = connection.address; generation = Normal 0 }) options credential nonces first_id
+
+-- monitoring asks for a hello alone, without nonces
+abbrev pub asked_alone : ServerAddress → ℕ → HandshakerOptions → ℤ → Asked
+asked_alone address id options first_id = asked_for (record { id = id; address = address; generation = Normal 0 }) options None (record { first = []; second = [] }) first_id

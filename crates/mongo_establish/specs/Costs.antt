@@ -1,11 +1,108 @@
--- What a handshake takes of the counter and of the cache of salted passwords.
-use Rattle.std.specs.Prelude.{ℕ, List, Contains}
-use Rattle.mongo_scram.specs.declared.cache.SaltedKey.{SaltedKey}
-use Rattle.mongo_scram.specs.Cache.{entries_of}
-use Rattle.mongo_scram.specs.Costs.{Ledgers, Counts}
+-- What an establishment takes of the counter and of the cache of salted passwords: what its SCRAM login takes, and nothing else.
+use Rattle.std.specs.Prelude.{◌≡◌, ℕ, ℤ, ◌⊎◌, Option, None, Some, Result, List, IfErr, OnOk}
+use Rattle.mongo_wire.specs.declared.error.Error.{Error}
+use Rattle.mongo_wire.specs.declared.error.ErrorKind.{ErrorKind}
+use Rattle.mongo_wire.specs.declared.error.ErrorKind.TheVariants.{IncompatibleServer}
+use Rattle.mongo_wire.specs.Outside.{State}
+use Rattle.mongo_command.specs.Conversation.{Reached, Stopped}
+use Rattle.mongo_sasl.specs.declared.credential.Credential.{Credential}
+use Rattle.mongo_sasl.specs.declared.mechanism.AuthMechanism.{AuthMechanism}
+use Rattle.mongo_sasl.specs.declared.mechanism.AuthMechanism.TheVariants.{ScramSha1, ScramSha256}
+use Rattle.mongo_scram.specs.declared.scram_version.ScramVersion.{ScramVersion}
+use Rattle.mongo_scram.specs.declared.scram_version.ScramVersion.TheVariants.{Sha1, Sha256}
+use Rattle.mongo_scram.specs.Costs.{Ledgers, CostsNothing, Accepted, StoppedLogin}
+use Rattle.mongo_establish.specs.declared.establisher.EstablishError.{EstablishError}
+use Rattle.mongo_establish.specs.Asked.{Asked}
+use Rattle.mongo_establish.specs.Greeting.{Greeting}
+use Rattle.mongo_establish.specs.Login.{logging_in, speculative_reply, IsMechanism, InvalidRow, handed_by}
+use Rattle.mongo_establish.specs.Plan.{hello_plan}
 
--- so many rounds were derived, counted by both; no entry is lost
-pub record CostsSome (first last : Ledgers) : Type 0 where
-  pub rounds : ℕ
-  pub counts : Counts rounds first last
-  pub kept : (entry : SaltedKey × List ℕ) → Contains (entries_of first.cache) entry → Contains (entries_of last.cache) entry
+-- ---- a login's conversation
+
+-- SCRAM's was accepted: its key was derived where it had no entry, and has one now
+pub record ScramAccepted (version : ScramVersion) (asked : Asked) (credential : Credential) (greeting : Greeting) (old new : State) (before after : ℤ) (first last : Ledgers) : Type 0 where
+  pub document : List ℕ
+  pub accepted : Accepted (handed_by version asked credential greeting) document old new before after first last
+
+-- what a mechanism's login costs that was accepted
+abbrev pub AcceptedCosts : AuthMechanism → Asked → Credential → Greeting → State → State → ℤ → ℤ → Ledgers → Ledgers → Type 0
+AcceptedCosts ScramSha1 asked credential greeting old new before after first last = ScramAccepted Sha1 asked credential greeting old new before after first last
+AcceptedCosts ScramSha256 asked credential greeting old new before after first last = ScramAccepted Sha256 asked credential greeting old new before after first last
+AcceptedCosts mechanism asked credential greeting old new before after first last = CostsNothing first last
+
+-- that was stopped: SCRAM derived its key where the opening had ended and the key had no entry; the entries stay
+abbrev pub StoppedCosts : AuthMechanism → Asked → Credential → Greeting → ErrorKind → State → State → ℤ → ℤ → Ledgers → Ledgers → Type 0
+StoppedCosts ScramSha1 asked credential greeting kind old new before after first last = StoppedLogin (handed_by Sha1 asked credential greeting) kind old new before after first last
+StoppedCosts ScramSha256 asked credential greeting kind old new before after first last = StoppedLogin (handed_by Sha256 asked credential greeting) kind old new before after first last
+StoppedCosts mechanism asked credential greeting kind old new before after first last = CostsNothing first last
+
+-- ---- a login
+
+-- the mechanism of a login, and what its conversation cost
+pub record MechanismCosts (credential : Credential) (asked : Asked) (greeting : Greeting) (old new : State) (before after : ℤ) (first last : Ledgers) : Type 0 where
+  pub mechanism : AuthMechanism
+  pub is_mechanism : IsMechanism credential.mechanism (speculative_reply asked greeting) greeting.description mechanism
+  pub costs : AcceptedCosts mechanism asked credential greeting old new before after first last
+
+-- of one that was stopped; nothing, where the mechanism didn't take the credential
+pub record StoppedMechanismCosts (credential : Credential) (asked : Asked) (greeting : Greeting) (kind : ErrorKind) (old new : State) (before after : ℤ) (first last : Ledgers) : Type 0 where
+  pub mechanism : AuthMechanism
+  pub is_mechanism : IsMechanism credential.mechanism (speculative_reply asked greeting) greeting.description mechanism
+  pub costs : (InvalidRow (speculative_reply asked greeting) mechanism credential kind × CostsNothing first last) ⊎ StoppedCosts mechanism asked credential greeting kind old new before after first last
+
+-- nothing, where nobody logs in
+abbrev pub LoginCostsOf : Option Credential → Asked → Greeting → State → State → ℤ → ℤ → Ledgers → Ledgers → Type 0
+LoginCostsOf None asked greeting old new before after first last = CostsNothing first last
+LoginCostsOf (Some credential) asked greeting old new before after first last = MechanismCosts credential asked greeting old new before after first last
+
+abbrev pub LoginCosts : Asked → Greeting → State → State → ℤ → ℤ → Ledgers → Ledgers → Type 0
+LoginCosts asked greeting old new before after first last = LoginCostsOf (logging_in asked greeting) asked greeting old new before after first last
+
+abbrev pub StoppedLoginCostsOf : Option Credential → Asked → Greeting → ErrorKind → State → State → ℤ → ℤ → Ledgers → Ledgers → Type 0
+StoppedLoginCostsOf None asked greeting kind old new before after first last = CostsNothing first last
+StoppedLoginCostsOf (Some credential) asked greeting kind old new before after first last = StoppedMechanismCosts credential asked greeting kind old new before after first last
+
+abbrev pub StoppedLoginCosts : Asked → Greeting → ErrorKind → State → State → ℤ → ℤ → Ledgers → Ledgers → Type 0
+StoppedLoginCosts asked greeting kind old new before after first last = StoppedLoginCostsOf (logging_in asked greeting) asked greeting kind old new before after first last
+
+-- ---- a handshake
+
+-- the hello was followed to its end, which costs nothing, and then the login
+pub record HandshakeCosts (asked : Asked) (old new : State) (after : ℤ) (first last : Ledgers) : Type 0 where
+  pub greeting : Greeting
+  pub middle : State
+  pub between : ℤ
+  pub hello : Reached (hello_plan asked) greeting old middle asked.first_id between
+  pub login : LoginCosts asked greeting middle new between after first last
+
+-- the hello was stopped
+pub record StoppedHelloCosts (asked : Asked) (kind : ErrorKind) (old new : State) (after : ℤ) (first last : Ledgers) : Type 0 where
+  pub hello : Stopped (hello_plan asked) kind old new asked.first_id after
+  pub nothing : CostsNothing first last
+
+-- the login was
+pub record LateCosts (asked : Asked) (kind : ErrorKind) (old new : State) (after : ℤ) (first last : Ledgers) : Type 0 where
+  pub greeting : Greeting
+  pub middle : State
+  pub between : ℤ
+  pub hello : Reached (hello_plan asked) greeting old middle asked.first_id between
+  pub login : StoppedLoginCosts asked greeting kind middle new between after first last
+
+abbrev pub StoppedHandshakeCosts : Asked → ErrorKind → State → State → ℤ → Ledgers → Ledgers → Type 0
+StoppedHandshakeCosts asked kind old new after first last = StoppedHelloCosts asked kind old new after first last ⊎ LateCosts asked kind old new after first last
+
+-- what a handshake costs by its answer
+pub record CostsOf {T : Type 0} (result : Result T Error) (asked : Asked) (old new : State) (after : ℤ) (first last : Ledgers) : Type 0 where
+  pub accepted : OnOk result (HandshakeCosts asked old new after first last)
+  pub refused : IfErr result (λ e. StoppedHandshakeCosts asked e.kind old new after first last)
+
+-- ---- an establishment
+
+-- the handshake was stopped, or its server named no service
+abbrev pub StoppedEstablishmentCosts : Asked → ErrorKind → State → State → ℤ → Ledgers → Ledgers → Type 0
+StoppedEstablishmentCosts asked kind old new after first last = StoppedHandshakeCosts asked kind old new after first last ⊎ ((kind ≡ IncompatibleServer) × HandshakeCosts asked old new after first last)
+
+-- what it costs by its answer
+pub record EstablishmentCosts {T : Type 0} (result : Result T EstablishError) (asked : Asked) (old new : State) (after : ℤ) (first last : Ledgers) : Type 0 where
+  pub accepted : OnOk result (HandshakeCosts asked old new after first last)
+  pub refused : IfErr result (λ e. StoppedEstablishmentCosts asked e.cause.kind old new after first last)

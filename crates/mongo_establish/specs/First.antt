@@ -1,25 +1,35 @@
 -- The client's first message that goes with a hello, and the first round that it begins.
-use Rattle.std.specs.Prelude.{◌≡◌, ℕ, Option, None, Some, option_map, List, ⊤}
+use Rattle.std.specs.Prelude.{◌≡◌, ℕ, Option, None, Some, is_some, option_map, List, ⊤}
+use Rattle.mongo_wire.specs.declared.error.ErrorKind.{ErrorKind}
+use Rattle.mongo_wire.specs.declared.error.ErrorKind.TheVariants.{OutOfMemory}
+use Rattle.mongo_command.specs.declared.command.Command.{Command}
 use Rattle.mongo_sasl.specs.declared.credential.Credential.{Credential}
 use Rattle.mongo_sasl.specs.declared.mechanism.AuthMechanism.{AuthMechanism}
-use Rattle.mongo_sasl.specs.declared.mechanism.AuthMechanism.TheVariants.{ScramSha1, ScramSha256}
+use Rattle.mongo_sasl.specs.declared.mechanism.AuthMechanism.TheVariants.{ScramSha1, ScramSha256, MongoDbX509}
+use Rattle.mongo_sasl.specs.Commands.{IsNotBuilt}
+use Rattle.mongo_sasl.specs.X509.{x509_body}
 use Rattle.mongo_scram.specs.declared.scram_version.ScramVersion.{ScramVersion}
 use Rattle.mongo_scram.specs.declared.scram_version.ScramVersion.TheVariants.{Sha1, Sha256}
 use Rattle.mongo_scram.specs.declared.messages.ClientFirst.{ClientFirst as ScramFirst}
-use Rattle.mongo_scram.specs.declared.conversation.FirstRound.{FirstRound}
+use Rattle.mongo_scram.specs.declared.conversation.FirstRound.{FirstRound as ScramRound}
 use Rattle.mongo_scram.specs.Client.{message_of, nonce_of, source_of, includes_db, speculated_of}
 use Rattle.mongo_scram.specs.Commands.{first_body}
 use Rattle.mongo_scram.specs.Plan.{Speculated}
 use Rattle.mongo_establish.specs.Asked.{Asked}
 use Rattle.mongo_establish.specs.Greeting.{Greeting}
-use Rattle.mongo_establish.specs.Login.{speculated_by}
+use Rattle.mongo_establish.specs.Login.{IsScram, speculative_reply, speculated_by}
 use Rattle.mongo_establish.specs.declared.client_first.ClientFirst.{ClientFirst}
-use Rattle.mongo_establish.specs.declared.client_first.ClientFirst.TheVariants.{Scram}
-use Rattle.mongo_establish.specs.Speculation.{mechanism_before, scram_speculation, speculative_message, speculative_nonce}
+use Rattle.mongo_establish.specs.declared.client_first.ClientFirst.TheVariants.{Scram, X509}
+use Rattle.mongo_establish.specs.declared.first_round.FirstRound.{FirstRound}
+use Rattle.mongo_establish.specs.declared.first_round.FirstRound.TheVariants.{Scram as ScramAnswered, X509 as X509Answered}
+use Rattle.mongo_establish.specs.Speculation.{mechanism_before, MechanismRow, HelloRow, speculation, speculation_by, scram_speculation, speculative_message, speculative_nonce}
+
+-- ---- the first message
 
 -- the document that carries it
 abbrev pub first_document : ClientFirst → List ℕ
 first_document (Scram version first) = first_body version (includes_db first) (source_of first) (message_of first)
+first_document (X509 command) = command.body
 
 -- a SCRAM login's first message says who logs in and its nonce
 pub record IsScramMessage (version : ScramVersion) (credential : Credential) (nonce : List ℕ) (also : ScramVersion) (first : ScramFirst) : Type 0 where
@@ -29,25 +39,49 @@ pub record IsScramMessage (version : ScramVersion) (credential : Credential) (no
   pub document : first_document (Scram also first) ≡ scram_speculation version credential nonce
 
 abbrev pub IsScramFirst : ScramVersion → Credential → List ℕ → Option ClientFirst → Type 0
-IsScramFirst version credential nonce None = ⊥
 IsScramFirst version credential nonce (Some (Scram also first)) = IsScramMessage version credential nonce also first
+IsScramFirst version credential nonce first = ⊥
+
+-- the body of X.509's command
+abbrev pub IsX509First : Credential → Option ClientFirst → Type 0
+IsX509First credential (Some (X509 command)) = command.body ≡ x509_body credential.username
+IsX509First credential first = ⊥
 
 -- the first message that goes with a hello, or none
 abbrev pub IsFirstOf : AuthMechanism → Credential → List ℕ → Option ClientFirst → Type 0
 IsFirstOf ScramSha1 credential nonce first = IsScramFirst Sha1 credential nonce first
 IsFirstOf ScramSha256 credential nonce first = IsScramFirst Sha256 credential nonce first
+IsFirstOf MongoDbX509 credential nonce first = IsX509First credential first
 IsFirstOf mechanism credential nonce first = first ≡ None
 
 abbrev pub IsFirst : Option Credential → List ℕ → Option ClientFirst → Type 0
 IsFirst None nonce first = first ≡ None
 IsFirst (Some credential) nonce first = IsFirstOf (mechanism_before credential.mechanism) credential nonce first
 
--- the first round that went with the hello: what the greeting answers to it
+-- why a first message can't be made for a credential that has one: its document would be too long, or memory ran out
+abbrev pub IsUnmade : Option (List ℕ) → ErrorKind → Type 0
+IsUnmade None kind = kind ≡ OutOfMemory
+IsUnmade (Some document) kind = IsNotBuilt document kind
+
+-- ---- the first round
+
+-- a round of SCRAM
+abbrev pub scram_round : Option FirstRound → Option ScramRound
+scram_round (Some (ScramAnswered round)) = Some round
+scram_round round = None
+
+-- what a round of SCRAM says by its first message, where it was answered
+abbrev pub round_with : Option ClientFirst → Option (List ℕ) → Option Speculated
+round_with (Some (Scram version first)) answer = option_map (λ reply. let s : Speculated = record { message = message_of first; nonce = nonce_of first; reply = reply } in s) answer
+round_with first answer = None
+
+-- A first round by the mechanism is there where the greeting answers to what went with the hello; a round of SCRAM is what it
+-- answers.
+pub record IsRoundBy (mechanism : AuthMechanism) (credential : Credential) (asked : Asked) (greeting : Greeting) (round : Option FirstRound) : Type 0 where
+  pub there : is_some round ≡ is_some (speculative_reply asked greeting)
+  pub scram : IsScram mechanism → speculated_of (scram_round round) ≡ speculated_by credential asked greeting
+
+-- the first round that went with the hello
 abbrev pub IsRoundOf : Option Credential → Asked → Greeting → Option FirstRound → Type 0
 IsRoundOf None asked greeting round = ⊤
-IsRoundOf (Some credential) asked greeting round = speculated_of round ≡ speculated_by credential asked greeting
-
--- the first round of a first message, where it was answered
-abbrev pub round_with : Option ClientFirst → Option (List ℕ) → Option Speculated
-round_with None answer = None
-round_with (Some (Scram version first)) answer = option_map (λ reply. let s : Speculated = record { message = message_of first; nonce = nonce_of first; reply = reply } in s) answer
+IsRoundOf (Some credential) asked greeting round = IsRoundBy (mechanism_before credential.mechanism) credential asked greeting round

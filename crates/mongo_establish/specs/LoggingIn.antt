@@ -1,19 +1,51 @@
 -- What a login did over a connection that holds a description, from a first round that went with the hello or without one.
-use Rattle.std.specs.Prelude.{◌≡◌, ℤ, Option, Some}
+use Rattle.std.specs.Prelude.{◌≡◌, ℤ, Bool, true, false, Option, Some, Result, Ok, IfErr, OnOk, ⊤}
+use Rattle.mongo_wire.specs.declared.error.Error.{Error}
 use Rattle.mongo_wire.specs.declared.error.ErrorKind.{ErrorKind}
 use Rattle.mongo_wire.specs.Outside.{State}
 use Rattle.mongo_command.specs.declared.stream_description.StreamDescription.{StreamDescription}
 use Rattle.mongo_command.specs.Conversation.{Reached, Stopped}
-use Rattle.mongo_scram.specs.declared.conversation.FirstRound.{FirstRound}
+use Rattle.mongo_sasl.specs.declared.credential.Credential.{Credential}
+use Rattle.mongo_sasl.specs.declared.mechanism.AuthMechanism.{AuthMechanism}
+use Rattle.mongo_sasl.specs.Validation.{IsValidated}
+use Rattle.mongo_scram.specs.Costs.{Ledgers}
+use Rattle.mongo_establish.specs.declared.first_round.FirstRound.{FirstRound}
 use Rattle.mongo_establish.specs.Asked.{Asked}
-use Rattle.mongo_establish.specs.First.{IsRoundOf}
+use Rattle.mongo_establish.specs.Costs.{AcceptedCosts, StoppedCosts, LoginCosts, StoppedLoginCosts}
+use Rattle.mongo_establish.specs.First.{IsRoundBy, IsRoundOf}
 use Rattle.mongo_establish.specs.Greeting.{Greeting}
-use Rattle.mongo_establish.specs.Plan.{login_plan}
+use Rattle.mongo_establish.specs.Plan.{conversation, login_plan}
 
--- the login of each greeting that says so was followed to its end
-pub record LogsIn (asked : Asked) (held : Option StreamDescription) (round : Option FirstRound) (old new : State) (before after : ℤ) : Type 0 where
-  pub reached : (greeting : Greeting) → held ≡ Some greeting.description → IsRoundOf asked.credential asked greeting round → Reached (login_plan asked greeting) greeting old new before after
+-- ---- a mechanism's conversation
+
+-- it was followed to its end, and cost this
+pub record Conversed (mechanism : AuthMechanism) (asked : Asked) (credential : Credential) (greeting : Greeting) (old new : State) (before after : ℤ) (first last : Ledgers) : Type 0 where
+  pub reached : Reached (conversation mechanism asked credential greeting) greeting old new before after
+  pub costs : AcceptedCosts mechanism asked credential greeting old new before after first last
 
 -- it was stopped
-pub record LoginStops (asked : Asked) (held : Option StreamDescription) (round : Option FirstRound) (kind : ErrorKind) (old new : State) (before after : ℤ) : Type 0 where
+pub record ConversationStopped (mechanism : AuthMechanism) (asked : Asked) (credential : Credential) (greeting : Greeting) (kind : ErrorKind) (old new : State) (before after : ℤ) (first last : Ledgers) : Type 0 where
+  pub stopped : Stopped (conversation mechanism asked credential greeting) kind old new before after
+  pub costs : StoppedCosts mechanism asked credential greeting kind old new before after first last
+
+-- what an answer means, by each greeting that says what the connection holds and what the first round is
+pub record Converses (result : Result (Unit {0}) Error) (mechanism : AuthMechanism) (asked : Asked) (credential : Credential) (held : Option StreamDescription) (round : Option FirstRound) (old new : State) (before after : ℤ) (first last : Ledgers) : Type 0 where
+  pub accepted : (greeting : Greeting) → held ≡ Some greeting.description → IsRoundBy mechanism credential asked greeting round → OnOk result (Conversed mechanism asked credential greeting old new before after first last)
+  pub refused : (greeting : Greeting) → held ≡ Some greeting.description → IsRoundBy mechanism credential asked greeting round → IfErr result (λ e. ConversationStopped mechanism asked credential greeting e.kind old new before after first last)
+
+-- ---- a login
+
+-- the mechanism takes the credential, where it is asked
+abbrev pub IsTaken : Bool → AuthMechanism → Credential → Type 0
+IsTaken true mechanism credential = ⊤
+IsTaken false mechanism credential = IsValidated mechanism credential false (Ok tt)
+
+-- the login of each greeting that says so was followed to its end
+pub record LogsIn (asked : Asked) (held : Option StreamDescription) (round : Option FirstRound) (old new : State) (before after : ℤ) (first last : Ledgers) : Type 0 where
+  pub reached : (greeting : Greeting) → held ≡ Some greeting.description → IsRoundOf asked.credential asked greeting round → Reached (login_plan asked greeting) greeting old new before after
+  pub costs : (greeting : Greeting) → held ≡ Some greeting.description → IsRoundOf asked.credential asked greeting round → LoginCosts asked greeting old new before after first last
+
+-- it was stopped
+pub record LoginStops (asked : Asked) (held : Option StreamDescription) (round : Option FirstRound) (kind : ErrorKind) (old new : State) (before after : ℤ) (first last : Ledgers) : Type 0 where
   pub stopped : (greeting : Greeting) → held ≡ Some greeting.description → IsRoundOf asked.credential asked greeting round → Stopped (login_plan asked greeting) kind old new before after
+  pub costs : (greeting : Greeting) → held ≡ Some greeting.description → IsRoundOf asked.credential asked greeting round → StoppedLoginCosts asked greeting kind old new before after first last

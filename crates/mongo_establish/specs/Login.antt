@@ -1,5 +1,5 @@
 -- The login that follows a hello, by the authentication specification: by which mechanism, and from where it goes on.
-use Rattle.std.specs.Prelude.{◌≡◌, ℕ, Bool, true, false, Option, None, Some, option_map, List, Err, if◌then◌else◌, ⊤}
+use Rattle.std.specs.Prelude.{◌≡◌, ℕ, Bool, true, false, Option, None, Some, is_some, option_map, List, Ok, Err, if◌then◌else◌, ⊤}
 use Rattle.mongo_wire.specs.declared.error.ErrorKind.{ErrorKind}
 use Rattle.mongo_wire.specs.declared.error.ErrorKind.TheVariants.{InvalidArgument}
 use Rattle.mongo_command.specs.declared.server_type.ServerType.{ServerType}
@@ -7,9 +7,11 @@ use Rattle.mongo_command.specs.declared.server_type.ServerType.TheVariants.{RsAr
 use Rattle.mongo_command.specs.declared.stream_description.StreamDescription.{StreamDescription}
 use Rattle.mongo_sasl.specs.declared.credential.Credential.{Credential}
 use Rattle.mongo_sasl.specs.declared.mechanism.AuthMechanism.{AuthMechanism}
-use Rattle.mongo_sasl.specs.declared.mechanism.AuthMechanism.TheVariants.{ScramSha1, ScramSha256}
+use Rattle.mongo_sasl.specs.declared.mechanism.AuthMechanism.TheVariants.{ScramSha1, ScramSha256, MongoDbX509, Plain}
 use Rattle.mongo_sasl.specs.Mechanism.{IsNegotiated}
+use Rattle.mongo_sasl.specs.Plain.{PlainHanded, plain_handed}
 use Rattle.mongo_sasl.specs.Validation.{IsValidated}
+use Rattle.mongo_sasl.specs.X509.{X509Handed, x509_handed}
 use Rattle.mongo_scram.specs.declared.scram_version.ScramVersion.{ScramVersion}
 use Rattle.mongo_scram.specs.Base64.{base64_of}
 use Rattle.mongo_scram.specs.Plan.{Handed, Speculated}
@@ -43,10 +45,25 @@ IsScram ScramSha1 = ⊤
 IsScram ScramSha256 = ⊤
 IsScram mechanism = ⊥
 
+-- a mechanism with a conversation
+abbrev pub HasConversation : AuthMechanism → Type 0
+HasConversation ScramSha1 = ⊤
+HasConversation ScramSha256 = ⊤
+HasConversation Plain = ⊤
+HasConversation MongoDbX509 = ⊤
+HasConversation mechanism = ⊥
+
 -- Why the mechanism doesn't take the credential. It isn't asked where the login that went with the hello was answered.
 abbrev pub InvalidRow : Option (List ℕ) → AuthMechanism → Credential → ErrorKind → Type 0
 InvalidRow None mechanism credential (InvalidArgument fault) = IsValidated mechanism credential false (Err fault)
 InvalidRow reply mechanism credential kind = ⊥
+
+-- the mechanism takes the credential, or isn't asked
+abbrev pub TakesCredential : Option (List ℕ) → AuthMechanism → Credential → Type 0
+TakesCredential None mechanism credential = IsValidated mechanism credential false (Ok tt)
+TakesCredential (Some reply) mechanism credential = ⊤
+
+-- ---- what each mechanism is handed
 
 -- the first round that went with the hello, where the server answered it
 abbrev pub speculated_by : Credential → Asked → Greeting → Option Speculated
@@ -63,3 +80,11 @@ handed_by version asked credential greeting = record {
   most = asked.options.max_iterations;
   maximum = greeting.description.max_message_size_bytes;
 }
+
+-- what PLAIN is handed
+abbrev pub plain_by : Asked → Credential → Greeting → PlainHanded
+plain_by asked credential greeting = plain_handed credential asked.options.auth_options.server_api greeting.description.max_message_size_bytes
+
+-- what X.509 is handed: whether the server answered its body in the hello
+abbrev pub x509_by : Asked → Credential → Greeting → X509Handed
+x509_by asked credential greeting = x509_handed credential asked.options.auth_options.server_api (is_some (speculative_reply asked greeting)) greeting.description.max_message_size_bytes

@@ -6,7 +6,8 @@ use Rattle.mongo_wire.specs.declared.error.ErrorKind.TheVariants.{Authentication
 use Rattle.mongo_wire.specs.declared.auth_fault.AuthFault.TheVariants.{MongoDbCr as MongoDbCrFault}
 use Rattle.mongo_sasl.specs.declared.credential.Credential.{Credential}
 use Rattle.mongo_sasl.specs.declared.mechanism.AuthMechanism.{AuthMechanism}
-use Rattle.mongo_sasl.specs.declared.mechanism.AuthMechanism.TheVariants.{MongoDbCr, ScramSha1, ScramSha256}
+use Rattle.mongo_sasl.specs.declared.mechanism.AuthMechanism.TheVariants.{MongoDbCr, ScramSha1, ScramSha256, MongoDbX509, Plain}
+use Rattle.mongo_sasl.specs.X509.{x509_body}
 use Rattle.mongo_scram.specs.declared.scram_version.ScramVersion.{ScramVersion}
 use Rattle.mongo_scram.specs.declared.scram_version.ScramVersion.TheVariants.{Sha1, Sha256}
 use Rattle.mongo_scram.specs.Base64.{base64_of}
@@ -41,10 +42,12 @@ speculative_message credential nonce = open_message (unwrap_or credential.userna
 abbrev pub scram_speculation : ScramVersion → Credential → List ℕ → List ℕ
 scram_speculation version credential nonce = first_body version true (unwrap_or credential.source (codes "admin")) (speculative_message credential nonce)
 
--- the document that goes with a hello: that of SCRAM's first message, which names the user's database too
+-- the document that goes with a hello: that of SCRAM's first message, which names the user's database too, or the body of
+-- X.509's one command
 abbrev pub speculation_by : AuthMechanism → Credential → List ℕ → Option (List ℕ)
 speculation_by ScramSha1 credential nonce = Some (scram_speculation Sha1 credential nonce)
 speculation_by ScramSha256 credential nonce = Some (scram_speculation Sha256 credential nonce)
+speculation_by MongoDbX509 credential nonce = Some (x509_body credential.username)
 speculation_by mechanism credential nonce = None
 
 abbrev pub speculation : Option Credential → List ℕ → Option (List ℕ)
@@ -66,6 +69,8 @@ abbrev pub IsSpoken : AuthMechanism → Type 0
 IsSpoken MongoDbCr = ⊤
 IsSpoken ScramSha1 = ⊤
 IsSpoken ScramSha256 = ⊤
+IsSpoken Plain = ⊤
+IsSpoken MongoDbX509 = ⊤
 IsSpoken mechanism = ⊥
 
 abbrev pub SpeaksFor : Option Credential → Type 0

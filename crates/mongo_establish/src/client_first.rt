@@ -1,12 +1,14 @@
-ghost use Rattle.std.specs.Prelude.{◌≡◌, ◌⊎◌, IfOk, IfErr, OnOk};
+ghost use Rattle.std.specs.Prelude.{◌≡◌, IfOk, IfErr, OnOk};
+ghost use Rattle.mongo_wire.specs.declared.error.ErrorKind.{ErrorKind};
 ghost use Rattle.mongo_wire.specs.declared.error.ErrorKind.TheVariants.{OutOfMemory};
-ghost use Rattle.mongo_establish.specs.Speculation.{MechanismRow};
+ghost use Rattle.mongo_command.specs.Conversation.{or_else};
+ghost use Rattle.mongo_establish.specs.Speculation.{MechanismRow, speculation_by};
 ghost use Rattle.mongo_scram.specs.User.{CredentialRow};
-ghost use Rattle.mongo_establish.specs.First.{IsFirstOf, IsScramFirst};
+ghost use Rattle.mongo_establish.specs.First.{IsFirstOf, IsScramFirst, IsUnmade};
 
 use mongo_bson::RawDocumentBuf;
-use mongo_command::ServerAddress;
-use mongo_sasl::{AuthMechanism, Credential};
+use mongo_command::{Command, ServerAddress};
+use mongo_sasl::{AuthMechanism, Credential, x509};
 use mongo_scram::ScramVersion;
 use mongo_wire::{AuthFault, Error, ErrorKind};
 use std::alloc::Global;
@@ -16,6 +18,8 @@ use std::alloc::Global;
 pub enum ClientFirst {
     /// That of SCRAM.
     Scram(ScramVersion, mongo_scram::ClientFirst),
+    /// That of X.509: the login's one command.
+    X509(Command),
 }
 
 impl ClientFirst {
@@ -32,6 +36,7 @@ impl ClientFirst {
     {
         match self {
             ClientFirst::Scram(version, first) => Ok(first.to_command(alloc, version)?.body),
+            ClientFirst::X509(command) => Ok(command.body.try_clone(alloc)?),
         }
     }
 }
@@ -39,7 +44,8 @@ impl ClientFirst {
 /// The first message of a login by this mechanism that goes with a hello to the address.
 ///
 /// In this order, for SCRAM: `NoUsername`, `NoPassword`, `PropertiesGiven` where the credential has no login by SCRAM. For
-/// MONGODB-CR, which isn't spoken here, `MongoDbCr`. None for a mechanism that sends none.
+/// MONGODB-CR, which isn't spoken here, `MongoDbCr`. For X.509 `Bson(TooLong)` where its body would pass 2147483647 bytes. None
+/// for a mechanism that sends none.
 pub fn build_speculative_client_first(
     alloc: Global,
     mechanism: &AuthMechanism,
@@ -49,11 +55,14 @@ pub fn build_speculative_client_first(
 ) -> Result<Option<ClientFirst>, Error>
     ensures first { IfOk result (IsFirstOf mechanism.now credential.now nonce.now) }
     ensures made { OnOk result ((kind : ErrorKind) → MechanismRow mechanism.now credential.now kind → ⊥) }
-    ensures refused { IfErr result (λ e. MechanismRow mechanism.now credential.now e.kind ⊎ (e.kind ≡ OutOfMemory)) }
+    ensures refused { IfErr result (λ e. or_else (MechanismRow mechanism.now credential.now) (IsUnmade (speculation_by mechanism.now credential.now nonce.now)) e.kind) }
 {
     match mechanism {
         AuthMechanism::ScramSha1 => scram_first(alloc, ScramVersion::Sha1, credential, nonce),
         AuthMechanism::ScramSha256 => scram_first(alloc, ScramVersion::Sha256, credential, nonce),
+        AuthMechanism::MongoDbX509 => Ok(Some(ClientFirst::X509(x509::build_client_first(
+            alloc, credential, None,
+        )?))),
         AuthMechanism::MongoDbCr => Err(Error {
             kind: ErrorKind::Authentication(AuthFault::MongoDbCr),
         }),
@@ -70,7 +79,7 @@ fn scram_first(
 ) -> Result<Option<ClientFirst>, Error>
     ensures first { IfOk result (IsScramFirst version credential.now nonce.now) }
     ensures made { OnOk result ((kind : ErrorKind) → CredentialRow credential.now kind → ⊥) }
-    ensures refused { IfErr result (λ e. CredentialRow credential.now e.kind ⊎ (e.kind ≡ OutOfMemory)) }
+    ensures refused { IfErr result (λ e. or_else (CredentialRow credential.now) (λ kind. kind ≡ OutOfMemory) e.kind) }
 {
     let info = version.client_auth_info(credential)?;
     let first = mongo_scram::ClientFirst::new(

@@ -9,9 +9,11 @@
 
 mod client_first;
 mod establisher;
+mod first_round;
 mod generation;
 mod handshaker;
 mod hello;
+mod login;
 mod login_state;
 mod options;
 

@@ -1,14 +1,19 @@
-ghost use Rattle.std.specs.Prelude.{◌≡◌, ◌<◌};
+ghost use Rattle.std.specs.Prelude.{◌≡◌, ◌<◌, option_copied};
+ghost use Rattle.mongo_establish.specs.Speculation.{SpeaksFor};
 
 mod describing;
 mod failing;
 mod frames;
+mod generations;
+mod logins;
+mod monitoring;
 mod refusing;
 
 use crate::{
-    ClientMetadata, ClientOptions, ConnectionEstablisher, EstablishError, EstablisherOptions,
-    HandshakePhase, Link, LoginInputs, LoginState, Moment, Nonces, PendingConnection,
-    PoolGeneration, PooledConnection, RequestIds, SaltedCache, ServerAddress, Text, TopologySpec,
+    ClientMetadata, ClientOptions, ConnectionEstablisher, Credential, EstablishError,
+    EstablisherOptions, HandshakePhase, Link, LoginInputs, LoginState, Moment, Nonces,
+    PendingConnection, PoolGeneration, PooledConnection, RequestIds, SaltedCache, ServerAddress,
+    Text, TopologySpec,
 };
 use mongo_bson::Bytes;
 use mongo_mac::Steps;
@@ -86,6 +91,23 @@ fn establish<L: Link, G: Ledger>(
     requires parts { blank.parts ≡ G.parts }
     requires has_a_part { 0 < G.parts }
 {
+    establish_as::<L, G>(blank, alloc, link, pending(alloc)?, None, first_id)
+}
+
+// Establishes a connection for a credential.
+fn establish_as<L: Link, G: Ledger>(
+    blank: Blank,
+    alloc: Global,
+    link: &mut L,
+    pending: PendingConnection,
+    credential: Option<&Credential>,
+    first_id: i32,
+) -> Result<Ended, Error>
+    requires name { blank.name ≡ G.name }
+    requires parts { blank.parts ≡ G.parts }
+    requires has_a_part { 0 < G.parts }
+    requires spoken { SpeaksFor (option_copied credential) }
+{
     let mut steps = Steps::<G>::new(blank);
     let mut state = LoginState {
         salted: SaltedCache::new(alloc),
@@ -102,13 +124,7 @@ fn establish<L: Link, G: Ledger>(
         moment,
     };
     let answer = establisher(alloc)?.establish_connection(
-        alloc,
-        pending(alloc)?,
-        link,
-        None,
-        &mut state,
-        &inputs,
-        &mut steps,
+        alloc, pending, link, credential, &mut state, &inputs, &mut steps,
     );
     Ok(Ended {
         answer,

@@ -1,0 +1,213 @@
+// The login that follows a hello.
+
+ghost use Rattle.std.specs.Prelude.{◌≡◌, ◌×◌, true, false, Option, None, Some, Ok, option_copied, is_some, IsSome, List, ℕ, MatchOption, IfErr, OnOk, OnErr};
+ghost use Rattle.mongo_wire.specs.declared.error.ErrorKind.{ErrorKind};
+ghost use Rattle.mongo_command.specs.Connection.{kept_fault, KeepsRest};
+ghost use Rattle.mongo_command.specs.Exchange.{CountsStay};
+ghost use Rattle.mongo_scram.specs.Cache.{entries_of};
+ghost use Rattle.mongo_scram.specs.Commands.{mechanism_of};
+ghost use Rattle.mongo_scram.specs.Costs.{ledgers};
+ghost use Rattle.mongo_establish.specs.Asked.{asked_over};
+ghost use Rattle.mongo_establish.specs.Login.{holds_users, HasConversation, IsMechanism, InvalidRow};
+ghost use Rattle.mongo_establish.specs.LoggingIn.{Converses, IsTaken, LogsIn, LoginStops};
+ghost use Rattle.mongo_establish.specs.Speculation.{HelloRow, SpeaksFor};
+
+use crate::first_round::{FirstRound, scram_round};
+use crate::{HandshakerOptions, LoginInputs, LoginState};
+use mongo_command::{Connection, StreamDescription};
+use mongo_mac::Steps;
+use mongo_sasl::{AuthMechanism, Credential, plain, x509};
+use mongo_scram::ScramVersion;
+use mongo_wire::{Error, ErrorKind, FrameBuffer, Link};
+use std::alloc::Global;
+use std::sync::ledger::Ledger;
+
+// Logs in where there is somebody who does, from the first round that went with the hello where there was one.
+pub(crate) fn log_in<L: Link, G: Ledger>(
+    alloc: Global,
+    options: &HandshakerOptions,
+    connection: &mut Connection,
+    link: &mut L,
+    credential: Option<&Credential>,
+    state: &mut LoginState,
+    round: Option<FirstRound>,
+    inputs: &LoginInputs,
+    steps: &mut Steps<G>,
+) -> Result<(), Error>
+    requires spoken { SpeaksFor (option_copied credential) }
+    requires made { (kind : ErrorKind) → HelloRow (option_copied credential) kind → ⊥ }
+    requires described { IsSome connection.old.stream_description }
+    requires faultless { kept_fault connection.old ≡ None }
+    ensures logged_in { OnOk result (LogsIn (asked_over connection.old options.now (option_copied credential.entry) inputs.now.nonces state.old.ids) connection.old.stream_description round
+        (L.state link.old) (L.state link.new) state.old.ids state.new.ids (ledgers steps.old state.old.salted) (ledgers steps.new state.new.salted)) }
+    ensures refused { IfErr result (λ e. LoginStops (asked_over connection.old options.now (option_copied credential.entry) inputs.now.nonces state.old.ids) connection.old.stream_description round e.kind
+        (L.state link.old) (L.state link.new) state.old.ids state.new.ids (ledgers steps.old state.old.salted) (ledgers steps.new state.new.salted)) }
+    ensures entries { OnErr result (entries_of state.new.salted ≡ entries_of state.old.salted) }
+    ensures connection { KeepsRest connection.old connection.new }
+    ensures faultless { OnOk result (kept_fault connection.new ≡ None) }
+    ensures counts { CountsStay (L.state link.old) (L.state link.new) }
+{
+    let Some(credential) = credential else {
+        return Ok(());
+    };
+    let Some(description) = &connection.stream_description else {
+        unreachable!()
+    };
+    let Some(mechanism) = mechanism_at(description, credential, round.is_some()) else {
+        return Ok(());
+    };
+    validate(mechanism, credential, round.is_some())?;
+    converse(
+        alloc, options, mechanism, connection, link, credential, state, round, inputs, steps,
+    )
+}
+
+// The conversation of a mechanism, which goes on from the first round where there was one.
+fn converse<L: Link, G: Ledger>(
+    alloc: Global,
+    options: &HandshakerOptions,
+    mechanism: AuthMechanism,
+    connection: &mut Connection,
+    link: &mut L,
+    credential: &Credential,
+    state: &mut LoginState,
+    round: Option<FirstRound>,
+    inputs: &LoginInputs,
+    steps: &mut Steps<G>,
+) -> Result<(), Error>
+    requires conversation { HasConversation mechanism }
+    requires faultless { kept_fault connection.old ≡ None }
+    ensures converses { Converses result mechanism (asked_over connection.old options.now (Some credential.now) inputs.now.nonces state.old.ids) credential.now connection.old.stream_description round
+        (L.state link.old) (L.state link.new) state.old.ids state.new.ids (ledgers steps.old state.old.salted) (ledgers steps.new state.new.salted) }
+    ensures entries { OnErr result (entries_of state.new.salted ≡ entries_of state.old.salted) }
+    ensures connection { KeepsRest connection.old connection.new }
+    ensures faultless { OnOk result (kept_fault connection.new ≡ None) }
+    ensures counts { CountsStay (L.state link.old) (L.state link.new) }
+{
+    let api = options.auth_options.server_api.as_ref();
+    let mut buffer = FrameBuffer::new(alloc);
+    match mechanism {
+        AuthMechanism::ScramSha1 => by_scram(
+            alloc,
+            options,
+            ScramVersion::Sha1,
+            connection,
+            link,
+            credential,
+            state,
+            round,
+            inputs,
+            steps,
+        ),
+        AuthMechanism::ScramSha256 => by_scram(
+            alloc,
+            options,
+            ScramVersion::Sha256,
+            connection,
+            link,
+            credential,
+            state,
+            round,
+            inputs,
+            steps,
+        ),
+        AuthMechanism::Plain => plain::authenticate_stream(
+            alloc,
+            connection,
+            link,
+            &mut state.ids,
+            &mut buffer,
+            credential,
+            api,
+        ),
+        AuthMechanism::MongoDbX509 => x509::authenticate_stream(
+            alloc,
+            connection,
+            link,
+            &mut state.ids,
+            &mut buffer,
+            credential,
+            api,
+            round.is_some(),
+        ),
+        _ => unreachable!(),
+    }
+}
+
+// The conversation of SCRAM.
+fn by_scram<L: Link, G: Ledger>(
+    alloc: Global,
+    options: &HandshakerOptions,
+    version: ScramVersion,
+    connection: &mut Connection,
+    link: &mut L,
+    credential: &Credential,
+    state: &mut LoginState,
+    round: Option<FirstRound>,
+    inputs: &LoginInputs,
+    steps: &mut Steps<G>,
+) -> Result<(), Error>
+    requires faultless { kept_fault connection.old ≡ None }
+    ensures converses { Converses result (mechanism_of version) (asked_over connection.old options.now (Some credential.now) inputs.now.nonces state.old.ids) credential.now connection.old.stream_description round
+        (L.state link.old) (L.state link.new) state.old.ids state.new.ids (ledgers steps.old state.old.salted) (ledgers steps.new state.new.salted) }
+    ensures entries { OnErr result (entries_of state.new.salted ≡ entries_of state.old.salted) }
+    ensures connection { KeepsRest connection.old connection.new }
+    ensures faultless { OnOk result (kept_fault connection.new ≡ None) }
+    ensures counts { CountsStay (L.state link.old) (L.state link.new) }
+{
+    let mut buffer = FrameBuffer::new(alloc);
+    version.authenticate_stream(
+        alloc,
+        connection,
+        link,
+        &mut state.ids,
+        &mut buffer,
+        credential,
+        options.auth_options.server_api.as_ref(),
+        scram_round(round),
+        &inputs.nonces.second,
+        options.max_iterations,
+        &mut state.salted,
+        steps,
+    )
+}
+
+// The mechanism of a login at the server that is described so; None where it holds no users. `speculated` says whether the
+// login that went with the hello was answered.
+fn mechanism_at(
+    description: &StreamDescription,
+    credential: &Credential,
+    speculated: bool,
+) -> Option<AuthMechanism>
+    ensures { MatchOption result (holds_users description.now.initial_server_type ≡ false)
+        (λ mechanism. (holds_users description.now.initial_server_type ≡ true) × ((reply : Option (List ℕ)) → is_some reply ≡ speculated → IsMechanism credential.now.mechanism reply description.now mechanism)) }
+{
+    if !description.initial_server_type.can_auth() {
+        return None;
+    }
+    match credential.mechanism {
+        Some(given) => Some(given),
+        None if speculated => Some(AuthMechanism::ScramSha256),
+        None => Some(AuthMechanism::from_stream_description(description)),
+    }
+}
+
+// Whether the mechanism takes the credential, which it isn't asked where the login that went with the hello was answered.
+fn validate(
+    mechanism: AuthMechanism,
+    credential: &Credential,
+    speculated: bool,
+) -> Result<(), Error>
+    ensures refused { IfErr result (λ e. (speculated ≡ false) × InvalidRow None mechanism credential.now e.kind) }
+    ensures taken { OnOk result (IsTaken speculated mechanism credential.now) }
+{
+    if speculated {
+        return Ok(());
+    }
+    match mechanism.validate_credential(credential, false) {
+        Ok(()) => Ok(()),
+        Err(fault) => Err(Error {
+            kind: ErrorKind::InvalidArgument(fault),
+        }),
+    }
+}
