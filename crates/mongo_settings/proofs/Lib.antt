@@ -10,6 +10,8 @@ mod PlainKeys
 mod Sent
 mod Spaced
 mod Spoken
+mod Connecting
+mod Counting
 mod Ready
 mod Rehearsing
 pub mod OneReport

@@ -195,7 +195,7 @@ fn each_refusal_has_its_cause(rt: HostRuntime) {
         ("{\"host\":\"a\",\"moment\":1}", SettingsError::NotBuilt),
         ("{\"host\":1,\"moment\":1}", SettingsError::NotBuilt),
         (
-            "{\"host\":1,\"credential\":{\"mechanism\":\"PLAIN\"}}",
+            "{\"host\":1,\"credential\":{\"mechanism\":\"MONGODB-AWS\"}}",
             SettingsError::NotBuilt,
         ),
         (
@@ -203,7 +203,7 @@ fn each_refusal_has_its_cause(rt: HostRuntime) {
             SettingsError::NotBuilt,
         ),
         (
-            "{\"hosts\":\"a\",\"credential\":{\"mechanism\":\"PLAIN\"}}",
+            "{\"hosts\":\"a\",\"credential\":{\"mechanism\":\"MONGODB-AWS\"}}",
             SettingsError::BadSettings,
         ),
         ("{\"host\":\"a\",\"port\":1.5}", SettingsError::BadSettings),
