@@ -11,6 +11,7 @@ mod Sent
 mod Spaced
 mod Spoken
 mod Connecting
+mod Counting
 mod Ready
 mod Rehearsing
 pub mod OneReport

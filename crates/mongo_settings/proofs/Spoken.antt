@@ -27,8 +27,8 @@ built_spoken : (mechanism : AuthMechanism) → mechanism_judged (Some mechanism)
 built_spoken MongoDbCr is = tt
 built_spoken ScramSha1 is = tt
 built_spoken ScramSha256 is = tt
-built_spoken MongoDbX509 is = cc
-built_spoken Plain is = cc
+built_spoken MongoDbX509 is = tt
+built_spoken Plain is = tt
 built_spoken MongoDbAws is = cc
 built_spoken MongoDbOidc is = cc
 

@@ -32,8 +32,8 @@ abbrev pub is_built : AuthMechanism → Bool
 is_built MongoDbCr = true
 is_built ScramSha1 = true
 is_built ScramSha256 = true
-is_built MongoDbX509 = false
-is_built Plain = false
+is_built MongoDbX509 = true
+is_built Plain = true
 is_built MongoDbAws = false
 is_built MongoDbOidc = false
 

@@ -20,7 +20,7 @@ later name = key_row name Later
 abbrev pub keys : List Key
 keys =
     built (codes "host") ∷ built (codes "replies") ∷ built (codes "port") ∷ built (codes "unix") ∷ built (codes "id") ∷ built (codes "generation")
-    ∷ later (codes "load_balanced") ∷ later (codes "generations") ∷ built (codes "app_name") ∷ built (codes "driver_info") ∷ built (codes "server_api")
+    ∷ built (codes "load_balanced") ∷ built (codes "generations") ∷ built (codes "app_name") ∷ built (codes "driver_info") ∷ built (codes "server_api")
     ∷ built (codes "os") ∷ built (codes "platform") ∷ built (codes "platform_short") ∷ built (codes "environment") ∷ built (codes "dockerenv")
     ∷ built (codes "credential") ∷ built (codes "nonces") ∷ later (codes "moment") ∷ built (codes "first_id") ∷ built (codes "max_iterations")
     ∷ later (codes "callback") ∷ later (codes "tokens") ∷ later (codes "aws") ∷ []

@@ -85,6 +85,7 @@ options_in d = do
   app_name ← optional (codes "app_name") as_str d
   driver_info ← optional (codes "driver_info") driver_info_in d
   server_api ← optional (codes "server_api") server_api_in d
+  load_balanced ← optional (codes "load_balanced") as_bool d
   os ← or_absent default_os (optional (codes "os") os_in d)
   platform ← or_absent default_platform (optional (codes "platform") as_str d)
   platform_short ← or_absent default_platform_short (optional (codes "platform_short") as_str d)
@@ -93,7 +94,7 @@ options_in d = do
     app_name = app_name;
     driver_info = driver_info;
     server_api = server_api;
-    load_balanced = false;
+    load_balanced = unwrap_or load_balanced false;
     os = os;
     platform = platform;
     platform_short = platform_short;

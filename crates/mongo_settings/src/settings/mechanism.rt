@@ -33,11 +33,12 @@ fn is_built(mechanism: AuthMechanism) -> bool
     ensures { result ≡ is_built mechanism }
 {
     match mechanism {
-        AuthMechanism::MongoDbCr | AuthMechanism::ScramSha1 | AuthMechanism::ScramSha256 => true,
-        AuthMechanism::MongoDbX509
-        | AuthMechanism::Plain
-        | AuthMechanism::MongoDbAws
-        | AuthMechanism::MongoDbOidc => false,
+        AuthMechanism::MongoDbCr
+        | AuthMechanism::ScramSha1
+        | AuthMechanism::ScramSha256
+        | AuthMechanism::MongoDbX509
+        | AuthMechanism::Plain => true,
+        AuthMechanism::MongoDbAws | AuthMechanism::MongoDbOidc => false,
     }
 }
 

@@ -24,6 +24,7 @@ impl SettingValue for ClientOptions {
         let app_name = optional::<Text>(alloc, value, "app_name")?;
         let driver_info = optional::<DriverInfo>(alloc, value, "driver_info")?;
         let server_api = optional::<ServerApi>(alloc, value, "server_api")?;
+        let load_balanced = optional::<bool>(alloc, value, "load_balanced")?;
         let os = os_or_default(alloc, value)?;
         let platform = text_or(alloc, value, "platform", "rattle / sync")?;
         let platform_short = text_or(alloc, value, "platform_short", "rattle")?;
@@ -32,7 +33,7 @@ impl SettingValue for ClientOptions {
             app_name,
             driver_info,
             server_api,
-            load_balanced: false,
+            load_balanced: load_balanced.unwrap_or(false),
             os,
             platform,
             platform_short,

@@ -1,10 +1,15 @@
 //! What settings say of the connection that is asked for.
+ghost use Rattle.std.specs.Prelude.{[]};
+ghost use Rattle.serde_json.specs.View.{members_view};
+ghost use Rattle.mongo_settings.specs.Kinds.{Means};
+ghost use Rattle.mongo_settings.specs.Pending.{service_in, with_members};
 
 use crate::settings::SettingsError;
 use crate::settings::reading::{SettingValue, optional};
+use hex::FromHex;
 use mongo_bson::Text;
-use mongo_establish::{PendingConnection, PoolGeneration, ServerAddress};
-use serde_json::Value;
+use mongo_establish::{Generations, ObjectId, PendingConnection, PoolGeneration, ServerAddress};
+use serde_json::{Map, Value};
 use std::alloc::Global;
 
 /// The keys of an object of settings that speak of the connection, together.
@@ -46,7 +51,8 @@ impl SettingValue for ServerAddress {
     }
 }
 
-/// The keys of an object of settings that say of which generation the pool's connections are.
+/// The keys of an object of settings that say of which generation the pool's connections are: one number for all, or behind
+/// a load balancer a number for each service.
 impl SettingValue for PoolGeneration {
     ghost use Rattle.mongo_settings.specs.Pending.{generation_in};
 
@@ -55,6 +61,51 @@ impl SettingValue for PoolGeneration {
     #[tactic(auto, unfolding(crate::specs::Pending::generation_in))]
     fn read(alloc: Global, value: &Value) -> Result<PoolGeneration, SettingsError> {
         let number = optional::<u32>(alloc, value, "generation")?;
-        Ok(PoolGeneration::Normal(number.unwrap_or(0)))
+        let load_balanced = optional::<bool>(alloc, value, "load_balanced")?;
+        let generations = optional::<Generations>(alloc, value, "generations")?;
+        if load_balanced.unwrap_or(false) {
+            Ok(PoolGeneration::LoadBalanced(generations.unwrap_or(Generations::new(alloc))))
+        } else {
+            Ok(PoolGeneration::Normal(number.unwrap_or(0)))
+        }
+    }
+}
+
+/// An object from the ids of services, each 24 hex digits, to their numbers. Of two keys that name one id the later counts.
+impl SettingValue for Generations {
+    ghost use Rattle.mongo_settings.specs.Pending.{generations_in};
+
+    ghost meaning = { generations_in };
+
+    fn read(alloc: Global, value: &Value) -> Result<Generations, SettingsError> {
+        match value.as_object() {
+            Some(members) => generations_of(alloc, members),
+            None => Err(SettingsError::BadSettings),
+        }
+    }
+}
+
+#[tactic(auto, unfolding(crate::specs::Pending::with_members))]
+fn generations_of(alloc: Global, members: &Map<String, Value>) -> Result<Generations, SettingsError>
+    ensures { Means (λ g. g) result (with_members [] (members_view members.now.entries)) }
+{
+    let mut generations = Generations::new(alloc);
+    for (key, value) in members.iter() {
+        let service_id = service_in(key.as_str())?;
+        let number = u32::read(alloc, value)?;
+        if generations.insert(service_id, number).is_err() {
+            return Err(SettingsError::OutOfMemory);
+        }
+    }
+    Ok(generations)
+}
+
+// The id of a service, by 24 hex digits of either case.
+fn service_in(text: &str) -> Result<ObjectId, SettingsError>
+    ensures { Means (λ id. id) result (service_in text.now) }
+{
+    match <[u8; 12] as FromHex>::from_hex(text) {
+        Ok(bytes) => Ok(ObjectId(bytes)),
+        Err(_) => Err(SettingsError::BadSettings),
     }
 }

@@ -1,6 +1,6 @@
 use super::{SettingsError, read};
 use mongo_bson::Text;
-use mongo_establish::{PoolGeneration, ServerAddress};
+use mongo_establish::{ObjectId, PoolGeneration, ServerAddress};
 use mongo_sasl::AuthMechanism;
 use std::test::Fail;
 
@@ -57,6 +57,36 @@ fn connections_are_read(rt: HostRuntime) -> Result<(), Fail> {
         assert_eq!(rt; its_port, port);
         assert_eq!(rt; settings.pending.id, id);
         assert_eq!(rt; its_number, number);
+    }
+    Ok(())
+}
+
+// Two ids and the pool's number for each. Of two keys that name one id the later in byte order counts.
+#[test]
+fn numbers_of_services_are_read(rt: HostRuntime) -> Result<(), Fail> {
+    const FIRST: ObjectId = ObjectId([0, 1, 2, 3, 4, 5, 6, 7, 8, 9, 10, 11]);
+    const SECOND: ObjectId = ObjectId([255, 1, 2, 3, 4, 5, 6, 7, 8, 9, 10, 11]);
+    for (generations, first, second) in [
+        ("{}", None, None),
+        ("{\"000102030405060708090a0b\":7}", Some(7), None),
+        (
+            "{\"000102030405060708090a0b\":8,\"000102030405060708090A0B\":7,\"ff0102030405060708090a0b\":0}",
+            Some(8),
+            Some(0),
+        ),
+    ] {
+        let text = format!(in rt.alloc();
+            "{{\"host\":\"h\",\"load_balanced\":true,\"generations\":{generations}}}"
+        )?;
+        let Ok(settings) = read(rt.alloc(), text.as_bytes()) else {
+            return Err(Fail::from("settings"));
+        };
+        let PoolGeneration::LoadBalanced(numbers) = &settings.pending.generation else {
+            return Err(Fail::from("numbers"));
+        };
+        assert_eq!(rt; numbers.get(FIRST), first);
+        assert_eq!(rt; numbers.get(SECOND), second);
+        assert!(rt; settings.options.load_balanced);
     }
     Ok(())
 }
@@ -119,6 +149,10 @@ fn another_kind_of_a_key_is_no_settings(rt: HostRuntime) {
         "\"port\":-1}",
         "\"id\":4294967296}",
         "\"generation\":true}",
+        "\"load_balanced\":0}",
+        "\"generations\":[]}",
+        "\"generations\":{\"00\":1}}",
+        "\"generations\":{\"000102030405060708090a0b\":-1}}",
         "\"nonces\":[]}",
         "\"nonces\":[\"00\",\"00\"]}",
         "\"first_id\":2147483648}",
@@ -161,7 +195,7 @@ fn each_refusal_has_its_cause(rt: HostRuntime) {
         ("{\"host\":\"a\",\"moment\":1}", SettingsError::NotBuilt),
         ("{\"host\":1,\"moment\":1}", SettingsError::NotBuilt),
         (
-            "{\"host\":1,\"credential\":{\"mechanism\":\"PLAIN\"}}",
+            "{\"host\":1,\"credential\":{\"mechanism\":\"MONGODB-AWS\"}}",
             SettingsError::NotBuilt,
         ),
         (
@@ -169,7 +203,7 @@ fn each_refusal_has_its_cause(rt: HostRuntime) {
             SettingsError::NotBuilt,
         ),
         (
-            "{\"hosts\":\"a\",\"credential\":{\"mechanism\":\"PLAIN\"}}",
+            "{\"hosts\":\"a\",\"credential\":{\"mechanism\":\"MONGODB-AWS\"}}",
             SettingsError::BadSettings,
         ),
         ("{\"host\":\"a\",\"port\":1.5}", SettingsError::BadSettings),
