@@ -1,5 +1,5 @@
 -- What logins of a batch share so far: their reports, their rounds, and the accepted keys that the cache holds.
-use Rattle.std.proofs.Common.{◌≡◌, ℕ, ◌+◌, ◌-◌, ◌^◌, ◌<◌, ◌⊎◌, ◌↔◌, ◌∙◌, refl, sym, ap, subst, inl, inr, arith, min, Bool, true, false, Option, None, Some, Result, Ok, Err, List, [], ◌∷◌, ◌++◌, map, flat_map, sum_by, Contains, OnOk, IfOk, append-nil, add-assoc, add-zero}
+use Rattle.std.proofs.Common.{◌≡◌, ℕ, ◌+◌, ◌-◌, ◌^◌, ◌<◌, ◌⊎◌, ◌↔◌, ◌∙◌, refl, sym, ap, subst, inl, inr, arith, min, Bool, true, false, Option, None, Some, Result, Ok, Err, List, [], ◌∷◌, ◌++◌, map, flat_map, sum_by, Contains, OnOk, IfOk, append-nil, add-zero}
 use Rattle.std.proofs.lemmas.List.{map-append}
 use Rattle.std.proofs.lemmas.List.Sums.{sum_by-append}
 use Rattle.std.proofs.lemmas.List.Elements.{Contains-append_left, Contains-push, Contains-push_cases}
@@ -113,6 +113,15 @@ taken_by false keys (Some key) first last t held = taken_key keys key first last
 counted-add : (a b : ℕ) → min (min a (2 ^ 64 - 1) + b) (2 ^ 64 - 1) ≡ min (a + b) (2 ^ 64 - 1)
 counted-add a b = omega arith
 
+steps-add : (a b c : ℕ) → a + b + c ≡ a + (b + c)
+steps-add a b c = omega arith
+
+none-add : (n : ℕ) → 0 + n ≡ n
+none-add n = omega arith
+
+sums-more : (logins : List Login) (login : Login) → rounds_of_all (logins ++ login ∷ []) ≡ rounds_of_all logins + login.rounds
+sums-more logins login = sum_by-append (λ (l : Login). l.rounds) logins (login ∷ []) ∙ ap (λ n. rounds_of_all logins + n) (none-add login.rounds)
+
 -- ---- what is shared
 
 pub record Shared (start : ℕ) (front : List Settings) (batch : Rehearsal) (now : Ledgers) : Type 0 where
@@ -125,6 +134,10 @@ pub record Shared (start : ℕ) (front : List Settings) (batch : Rehearsal) (now
   pub rounds_are : rounds_of now.cache ≡ counted (rounds_of_all logins)
   pub held : Holds now.cache (all_keys [] logins)
 
+none_are : AreLogins [] []
+unfolding AreLogins
+none_are = tt
+
 pub shared_none : (start : ℕ) (batch : Rehearsal) (now : Ledgers) → batch.status ≡ Accepted → batch.report.items ≡ [] → now.steps ≡ start → entries_of now.cache ≡ [] → rounds_of now.cache ≡ 0 → Shared start [] batch now
 shared_none start batch now status report steps entries rounds = record {
   logins = [];
@@ -135,10 +148,7 @@ shared_none start batch now status report steps entries rounds = record {
   steps_are = steps ∙ sym (add-zero start);
   rounds_are = rounds;
   held = holds_none now.cache entries;
-} where
-  none_are : AreLogins [] []
-  unfolding AreLogins
-  none_are = tt
+}
 
 pub shared_more : (start : ℕ) (front : List Settings) (settings : Settings) (old new : Rehearsal) (now later : Ledgers) → Shared start front old now → IsJoined settings now later old new → Shared start (front ++ settings ∷ []) new later
 shared_more start front settings old new now later s j =
@@ -148,14 +158,14 @@ shared_more start front settings old new now later s j =
     let taken = taken_by (logs_in report.outcome) keys t.key now later t.taken s.held in
     let login : Login = record { settings = settings; text = j.rehearsal.report.items; status = j.rehearsal.status; key = t.key; accepted = logs_in report.outcome; rounds = taken.rounds } in
     let is : IsLogin keys login = record { report = report; status_is = j.taking.rehearsal_is.status_is; accepted_is = refl; key_is = t.key_is; derived = taken.derived } in
-    let sums : rounds_of_all (s.logins ++ login ∷ []) ≡ rounds_of_all s.logins + taken.rounds = sum_by-append (λ (l : Login). l.rounds) s.logins (login ∷ []) ∙ ap (λ n. rounds_of_all s.logins + n) (add-zero taken.rounds) in
+    let sums = sums-more s.logins login in
     record {
       logins = s.logins ++ login ∷ [];
       settings_are = map-append (λ (l : Login). l.settings) s.logins (login ∷ []) ∙ ap (λ l. l ++ settings ∷ []) s.settings_are;
       are_logins = AreLogins-more [] s.logins login s.are_logins is;
       status_is = j.status ∙ ap (λ a. both a j.rehearsal.status) s.status_is ∙ sym (status-more s.logins login);
       report_is = j.report ∙ ap (λ r. r ++ j.rehearsal.report.items) s.report_is ∙ ap (λ r. flat_map (λ (l : Login). l.text) s.logins ++ r) (sym (append-nil j.rehearsal.report.items)) ∙ sym (flat_map-append (λ (l : Login). l.text) s.logins (login ∷ []));
-      steps_are = taken.counts.steps ∙ ap (λ n. n + taken.rounds) s.steps_are ∙ add-assoc start (rounds_of_all s.logins) taken.rounds ∙ ap (λ n. start + n) (sym sums);
+      steps_are = taken.counts.steps ∙ ap (λ n. n + taken.rounds) s.steps_are ∙ steps-add start (rounds_of_all s.logins) taken.rounds ∙ ap (λ n. start + n) (sym sums);
       rounds_are = taken.counts.rounds_are ∙ ap (λ n. min (n + taken.rounds) (2 ^ 64 - 1)) s.rounds_are ∙ counted-add (rounds_of_all s.logins) taken.rounds ∙ ap counted (sym sums);
       held = subst (Holds later.cache) (sym (all_keys-more [] s.logins login)) (holds_after (logs_in report.outcome) t.key now later keys t.taken s.held);
     }
