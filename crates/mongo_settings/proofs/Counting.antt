@@ -1,12 +1,12 @@
 -- No establishment counts steps back.
-use Rattle.std.proofs.Common.{◌≡◌, ℕ, ℤ, ◌+◌, ◌≤◌, ◌⊎◌, inl, inr, Option, None, Some, Result, Ok, Err, arith}
+use Rattle.std.proofs.Common.{ℕ, ℤ, ◌≤◌, inl, inr, Option, None, Some, Result, Ok, Err, arith}
 use Rattle.mongo_wire.specs.declared.error.ErrorKind.{ErrorKind}
 use Rattle.mongo_wire.specs.Outside.{State}
 use Rattle.mongo_sasl.specs.declared.credential.Credential.{Credential}
 use Rattle.mongo_sasl.specs.declared.mechanism.AuthMechanism.{AuthMechanism}
 use Rattle.mongo_sasl.specs.declared.mechanism.AuthMechanism.TheVariants.{MongoDbCr, ScramSha1, ScramSha256, MongoDbX509, Plain, MongoDbAws, MongoDbOidc}
 use Rattle.mongo_scram.specs.declared.cache.SaltedKey.{SaltedKey}
-use Rattle.mongo_scram.specs.Costs.{Ledgers, Counts, CostsNothing, Derives, StoppedLogin}
+use Rattle.mongo_scram.specs.Costs.{Ledgers, Counts, Derives, StoppedLogin}
 use Rattle.mongo_scram.specs.Plan.{Handed}
 use Rattle.mongo_establish.specs.declared.establisher.EstablishError.{EstablishError}
 use Rattle.mongo_establish.specs.Asked.{Asked}

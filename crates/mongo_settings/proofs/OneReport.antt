@@ -1,5 +1,5 @@
 -- Settings have one outcome and one report.
-use Rattle.std.proofs.Common.{◌≡◌, ℕ, ◌∙◌, ◌++◌, ap, subst, sym, refl, Some, Result, Ok, Err, List, [], ◌∷◌, length, take, drop, IfOk}
+use Rattle.std.proofs.Common.{◌≡◌, ℕ, ◌∙◌, ◌++◌, ap, subst, sym, refl, Result, Ok, Err, List, [], ◌∷◌, length, take, drop, IfOk}
 use Rattle.std.proofs.Math.Seq.{take-append_seam, drop-append_seam}
 use Rattle.std.specs.List.{AllByRecursion, concat}
 use Rattle.mongo_command.specs.Conversation.{IsSaid}

@@ -1,6 +1,5 @@
 -- A login that is made ready of settings asks for what they ask for.
-use Rattle.std.proofs.Common.{◌≡◌, ℤ, ◌∙◌, ap, Option}
-use Rattle.mongo_sasl.specs.declared.credential.Credential.{Credential}
+use Rattle.std.proofs.Common.{◌≡◌, ℤ, ◌∙◌, ap}
 use Rattle.mongo_establish.specs.declared.login_state.Nonces.{Nonces}
 use Rattle.mongo_establish.specs.declared.options.HandshakerOptions.{HandshakerOptions}
 use Rattle.mongo_establish.specs.Asked.{asked_for}

@@ -1,6 +1,5 @@
 -- A rehearsal's report, from what the establishment over reply bytes in memory answers.
-use Rattle.std.proofs.Common.{◌≡◌, ℕ, ℤ, ◌+◌, ◌-◌, ◌∙◌, ◌++◌, ap, subst, sym, arith, refl, inl, inr, Option, Some, Result, Ok, Err, List, [], length, length-append, IfOk, IfErr, IsSome}
-use Rattle.std.specs.List.{AllByRecursion, concat}
+use Rattle.std.proofs.Common.{◌≡◌, ℕ, ℤ, ◌+◌, ◌-◌, ◌∙◌, ◌++◌, ap, subst, sym, arith, refl, inl, inr, Some, Result, Ok, Err, List, [], length, length-append, IfOk, IfErr, IsSome}
 use Rattle.mongo_wire.specs.declared.error.ErrorKind.{ErrorKind}
 use Rattle.mongo_wire.specs.declared.memory_link.MemoryLink.{MemoryLink}
 use Rattle.mongo_wire.specs.Memory.{bytes_left, bytes_written}

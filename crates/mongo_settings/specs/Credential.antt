@@ -1,5 +1,5 @@
 -- Credentials as settings have them.
-use Rattle.std.specs.Prelude.{ℕ, Bool, true, false, Option, None, Some, option_and_then, List, [], ◌∷◌, codes, bytes_eq}
+use Rattle.std.specs.Prelude.{ℕ, Bool, true, false, Option, Some, option_and_then, List, [], ◌∷◌, codes, bytes_eq}
 use Rattle.std.specs.List.{find}
 use Rattle.serde_json.specs.Data.{Data}
 use Rattle.serde_json.specs.Find.{get, as_str}

@@ -1,5 +1,5 @@
 -- A login that is ready, and how the establishment of its connection ended.
-use Rattle.std.specs.Prelude.{◌≡◌, ℤ, List, []}
+use Rattle.std.specs.Prelude.{◌≡◌, ℤ, []}
 use Rattle.mongo_wire.specs.Outside.{State}
 use Rattle.mongo_wire.specs.declared.memory_link.MemoryLink.{MemoryLink}
 use Rattle.mongo_wire.specs.Memory.{bytes_left, bytes_written}

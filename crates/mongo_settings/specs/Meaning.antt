@@ -1,5 +1,5 @@
 -- What the keys of settings mean together.
-use Rattle.std.specs.Prelude.{◌≡◌, ℕ, ℤ, pos, Option, None, Some, unwrap_or, List, [], codes, replicate}
+use Rattle.std.specs.Prelude.{ℕ, ℤ, pos, Option, Some, unwrap_or, [], codes, replicate}
 use Rattle.serde_json.specs.Data.{Data}
 use Rattle.mongo_establish.specs.declared.login_state.Nonces.{Nonces}
 use Rattle.mongo_settings.specs.Kinds.{◌>>=◌, optional, joined_hex_in, nonces_in, int32_in, iterations_in}

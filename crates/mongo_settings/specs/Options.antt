@@ -1,5 +1,5 @@
 -- What settings say of the client: its options.
-use Rattle.std.specs.Prelude.{◌≡◌, ℕ, Bool, false, if◌then◌else◌, Option, None, Some, option_map, option_and_then, unwrap_or, List, [], ◌∷◌, codes, bytes_eq}
+use Rattle.std.specs.Prelude.{ℕ, false, if◌then◌else◌, Option, None, Some, option_and_then, unwrap_or, List, [], ◌∷◌, codes, bytes_eq}
 use Rattle.serde_json.specs.Data.{Data, Items, no_items, item}
 use Rattle.serde_json.specs.Find.{as_str, as_bool, as_array}
 use Rattle.mongo_command.specs.declared.server_api.ServerApi.{ServerApi}
