@@ -1,12 +1,13 @@
 -- How the logins of a task come out is decided by their reply bytes.
-use Rattle.std.proofs.Common.{◌≡◌, ℕ, ◌∙◌, ap, subst, sym, refl, List, [], ◌∷◌, map}
+use Rattle.std.proofs.Common.{◌≡◌, ◌≤◌, ℕ, ◌∙◌, ap, subst, sym, Result, Ok, Err, List, [], ◌∷◌, map, IfOk}
 use Rattle.std.specs.List.{concat}
 use Rattle.mongo_scram.specs.declared.cache.SaltedKey.{SaltedKey}
 use Rattle.mongo_settings.specs.declared.settings.Settings.{Settings}
 use Rattle.mongo_settings.specs.declared.rehearsal.RehearsalStatus.{RehearsalStatus}
 use Rattle.mongo_settings.specs.declared.rehearsal.RehearsalStatus.TheVariants.{Accepted, Refused}
 use Rattle.mongo_settings.specs.Outcome.{status_of}
-use Rattle.mongo_settings.specs.Rehearsal.{IsReport}
+use Rattle.mongo_settings.specs.declared.rehearsal.Rehearsal.{Rehearsal}
+use Rattle.mongo_settings.specs.Rehearsal.{IsReport, IsRehearsal}
 use Rattle.mongo_settings.specs.Batch.{Login, keys_with, AreLogins, both, status_of_all}
 use Rattle.mongo_settings.specs.Task.{Asks, one, many, Steps, Reports, LoginComesOut, AllComeOut, ComesOut}
 use Rattle.mongo_settings.proofs.OneReport.{accepted_status, refused_status}
@@ -20,11 +21,16 @@ unfolding AreLogins
 all_status keys [] status are out = sym out
 all_status keys (login ∷ others) status are out =
     let is = are.0 in
-    let first : login.status ≡ out.0 = is.status_is ∙ one_status login.settings login.text is.report out.0 out.2.0 in
-    let rest : status_of_all others ≡ out.1 = all_status (keys_with keys login) others out.1 are.1 out.2.1 in
-    ap (λ s. both s (status_of_all others)) first ∙ ap (both out.0) rest ∙ sym out.2.2
+    let first : login.status ≡ out.0 = is.status_is ∙ one_status login.settings login.text is.report out.0 out.2 in
+    let rest : status_of_all others ≡ out.1 = all_status (keys_with keys login) others out.1 are.1 out.3 in
+    ap (λ s. both s (status_of_all others)) first ∙ ap (both out.0) rest ∙ sym out.4
 
 -- a report says how its logins come out
 pub reports_status : (asks : Asks) (steps : Steps) (status other : RehearsalStatus) (text : List ℕ) → Reports asks steps status text → ComesOut asks other → status ≡ other
 reports_status (one settings) steps status other text r out = r.status_is ∙ one_status settings text r.report other out
 reports_status (many settings) steps status other text r out = r.status_is ∙ all_status [] r.batch.logins other r.batch.are_logins (subst (λ l. AllComeOut l other) (sym r.batch.settings_are) out)
+
+-- one login's report is that of its rehearsal
+pub reports_one : {E : Type 0} (settings : Settings) (steps : Steps) (r : Result Rehearsal E) → IfOk r (IsRehearsal settings) → steps.before ≤ steps.after → IfOk r (λ x. Reports (one settings) steps x.status x.report.items)
+reports_one settings steps (Ok x) is rise = record { report = is.report; status_is = is.status_is; steps_rise = rise }
+reports_one settings steps (Err e) is rise = tt
