@@ -3,6 +3,8 @@ ghost use Rattle.std.specs.Prelude.{◌≡◌, ◌<◌};
 mod describing;
 mod failing;
 mod frames;
+mod logging_in;
+mod long_replies;
 mod refusing;
 
 use crate::{
