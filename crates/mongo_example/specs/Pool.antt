@@ -1,0 +1,10 @@
+-- When a connection is ready for its pool.
+use Rattle.std.specs.Prelude.{◌≡◌, IsSome}
+use Rattle.mongo_establish.specs.declared.establisher.PendingConnection.{PendingConnection}
+use Rattle.mongo_establish.specs.declared.establisher.PooledConnection.{PooledConnection}
+
+-- it is the one that was asked for, and the server has said what it is
+pub record IsReady (pending : PendingConnection) (pooled : PooledConnection) : Type 0 where
+  pub address : pooled.connection.address ≡ pending.address
+  pub id : pooled.connection.id ≡ pending.id
+  pub described : IsSome pooled.connection.stream_description
