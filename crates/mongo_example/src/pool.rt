@@ -24,8 +24,9 @@ pub struct Pool {
 }
 
 impl Pool {
-    ghost use Rattle.std.specs.Prelude.{◌≡◌, IfOk};
+    ghost use Rattle.std.specs.Prelude.{◌≡◌, ◌+◌, ◌-◌, ◌^◌, min, IfOk, OnOk, OnErr};
     ghost use Rattle.mongo_establish.specs.declared.generation.PoolGeneration.TheVariants.{Normal};
+    ghost use Rattle.mongo_scram.specs.Cache.{rounds_of};
     ghost use Rattle.mongo_example.specs.Pool.{IsReady};
 
     /// A pool for `user` at `db.example.net`, of generation 7, that has made no connection. Want of memory is the only refusal.
@@ -63,6 +64,8 @@ impl Pool {
         ensures id { IfOk result (λ pending. pending.id ≡ self.old.next_id) }
         ensures address { IfOk result (λ pending. pending.address ≡ self.old.address) }
         ensures generation { IfOk result (λ pending. pending.generation ≡ Normal self.old.generation) }
+        ensures counted { OnOk result (self.new ≡ record self.old { next_id = min (self.old.next_id + 1) (2 ^ 32 - 1) }) }
+        ensures unchanged { OnErr result (self.new ≡ self.old) }
     {
         let address = self.address.try_clone(alloc)?;
         let id = self.next_id;
@@ -97,7 +100,9 @@ impl Pool {
     }
 
     /// How many rounds all logins of the pool derived.
-    pub fn rounds(&self) -> u64 {
+    pub fn rounds(&self) -> u64
+        ensures { result ≡ rounds_of self.now.state.salted }
+    {
         self.state.salted.rounds()
     }
 }

@@ -254,13 +254,12 @@ fn failed_at<G: Ledger>(
 #[test]
 fn a_login_tells_of_each_call_that_fails(rt: HostRuntime) -> Result<(), Fail> {
     let alloc = rt.alloc();
-    for login in 0..2 {
+    // a run for each byte and for each flush, and one that no call fails: that comes first, and puts the key into the cache
+    for (login, runs) in [(0, 1203), (1, 1346)] {
         let (said, heard) = both_ways(alloc, login)?;
         let both = (said.as_slice(), heard.as_slice());
         let mut state = new_state(alloc);
-        // a flush for each command, and a call past the last: the login of that one puts the key into the cache
-        let calls = said.len() + heard.len() + exchanges_of(login).len();
-        for call in (0..=calls).rev() {
+        for call in (0..runs).rev() {
             let end = failed_at::<Brand>(Blank::new(1), alloc, both, call, &mut state)?;
             let wanted = end_at(login, call, 4096, 1);
             assert_eq!(rt; end, Some(wanted), "login {login} at {call}");
