@@ -24,10 +24,11 @@ fn heard_with_verifier(alloc: Global, length: u32) -> Result<Vec<u8>, Error>
 {
     let mut heard = Vec::from_slice(alloc, NEGOTIATED)?;
     heard.extend_from_slice(CHALLENGE)?;
+    let reply = *ACCEPTED;
     heard.extend_from_slice(&length.to_le_bytes())?;
-    heard.extend_from_slice(&ACCEPTED[4..21])?;
+    heard.extend_from_slice(&reply[4..21])?;
     heard.extend_from_slice(&(length - 21).to_le_bytes())?;
-    heard.extend_from_slice(&ACCEPTED[25..73])?;
+    heard.extend_from_slice(&reply[25..73])?;
     heard.extend_from_slice(&(length - 79).to_le_bytes())?;
     heard.extend_from_slice(b"\0v=")?;
     push_letters(&mut heard, length - 81)?;
@@ -41,10 +42,11 @@ fn heard_with_filler(alloc: Global, length: u32) -> Result<Vec<u8>, Error>
     requires { 175 ≤ length }
 {
     let mut heard = Vec::from_slice(alloc, NEGOTIATED)?;
+    let reply = *CHALLENGE;
     heard.extend_from_slice(&length.to_le_bytes())?;
-    heard.extend_from_slice(&CHALLENGE[4..21])?;
+    heard.extend_from_slice(&reply[4..21])?;
     heard.extend_from_slice(&(length - 21).to_le_bytes())?;
-    heard.extend_from_slice(&CHALLENGE[25..161])?;
+    heard.extend_from_slice(&reply[25..161])?;
     heard.extend_from_slice(b"\x05filler\0")?;
     heard.extend_from_slice(&(length - 175).to_le_bytes())?;
     heard.push(0)?;
@@ -57,8 +59,9 @@ fn heard_with_filler(alloc: Global, length: u32) -> Result<Vec<u8>, Error>
 // The front of the same whose challenge is one byte longer than the server allows.
 fn heard_past_the_maximum(alloc: Global) -> Result<Vec<u8>, Error> {
     let mut heard = Vec::from_slice(alloc, NEGOTIATED)?;
+    let reply = *CHALLENGE;
     heard.extend_from_slice(&48_000_001u32.to_le_bytes())?;
-    heard.extend_from_slice(&CHALLENGE[4..])?;
+    heard.extend_from_slice(&reply[4..])?;
     Ok(heard)
 }
 
