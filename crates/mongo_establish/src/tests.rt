@@ -5,7 +5,9 @@ mod describing;
 mod failing;
 mod frames;
 mod generations;
+mod logging_in;
 mod logins;
+mod long_replies;
 mod monitoring;
 mod refusing;
 

@@ -1,0 +1,87 @@
+//! `mongo_example`: how a connection pool uses `mongo_establish`. It makes two connections of one pool, over replies that
+//! were recorded, and prints what a pool keeps of each.
+//!
+//! [`pool::Pool`] has what the connections of a pool share. [`Pool::establish`] is the call to read: a connection that it
+//! gives has a description, on which [`line_of`] relies.
+#![tactic(auto)]
+
+ghost use Rattle.std.specs.Prelude.{◌≡◌, ◌<◌, IsSome};
+
+mod pool;
+mod recorded;
+
+use mongo_establish::{Bytes, Error, MemoryLink, PooledConnection, ServerAddress};
+use mongo_mac::Steps;
+use pool::Pool;
+use recorded::recorded;
+use std::alloc::{AllocError, Global};
+use std::marker::Brand;
+use std::process::ExitCode;
+use std::sync::ledger::{Blank, Ledger};
+
+/// Prints the lines of two connections. Status 1 says that one was refused, or that they couldn't be printed.
+fn main(rt: HostRuntime) -> ExitCode {
+    match two_connections::<Brand>(rt.alloc(), Blank::new(1)) {
+        Ok(lines) => match print!(rt; "{lines}") {
+            Ok(()) => ExitCode::SUCCESS,
+            Err(_) => ExitCode::FAILURE,
+        },
+        Err(_) => ExitCode::FAILURE,
+    }
+}
+
+/// The lines of two connections that a pool makes one after another, with a counter of their own, of the ledger that
+/// `blank` opens.
+fn two_connections<G: Ledger>(alloc: Global, blank: Blank) -> Result<String, Error>
+    requires name { blank.name ≡ G.name }
+    requires parts { blank.parts ≡ G.parts }
+    requires has_a_part { 0 < G.parts }
+{
+    let mut steps = Steps::<G>::new(blank);
+    let mut pool = Pool::new(alloc)?;
+    let mut lines = String::new(alloc);
+    for place in 0..2 {
+        let server = recorded(place);
+        let mut link = MemoryLink::new(alloc, Bytes::from_slice(alloc, server.replies)?);
+        let pending = pool.next_pending(alloc)?;
+        let before = pool.rounds();
+        match pool.establish(alloc, pending, &mut link, &server.inputs, &mut steps) {
+            Ok(pooled) => {
+                let derived = pool.rounds().saturating_sub(before);
+                lines.push_str(line_of(alloc, &pooled, derived)?.as_str())?;
+            }
+            Err(refused) => return Err(refused.cause),
+        }
+    }
+    Ok(lines)
+}
+
+/// What a pool keeps of a connection that is ready for commands, and how many rounds its login derived.
+fn line_of(alloc: Global, pooled: &PooledConnection, derived: u64) -> Result<String, AllocError>
+    requires described { IsSome pooled.now.connection.stream_description }
+{
+    let connection = &pooled.connection;
+    let Some(description) = &connection.stream_description else {
+        unreachable!()
+    };
+    let place = place_of(alloc, &connection.address)?;
+    format!(in alloc;
+        "connection {} to {place}, generation {:?}\n  {:?}, documents of {} bytes, messages of {} bytes, {} writes in a batch\n  {derived} rounds derived\n",
+        connection.id,
+        pooled.generation,
+        description.initial_server_type,
+        description.max_bson_object_size,
+        description.max_message_size_bytes,
+        description.max_write_batch_size
+    )
+}
+
+/// An address as people write it.
+fn place_of(alloc: Global, address: &ServerAddress) -> Result<String, AllocError> {
+    match address {
+        ServerAddress::Tcp { host, port } => {
+            format!(in alloc; "{}:{}", host.as_str(), port.unwrap_or(27017))
+        }
+        ServerAddress::Unix { path } => format!(in alloc; "{}", path.as_str()),
+    }
+}

@@ -1,0 +1,143 @@
+ghost use Rattle.std.specs.Prelude.{◌≡◌, None, IfOk};
+
+use mongo_establish::{
+    ClientMetadata, ClientOptions, ConnectionEstablisher, Credential, Error, EstablishError,
+    EstablisherOptions, Link, LoginInputs, LoginState, PendingConnection, PoolGeneration,
+    PooledConnection, RequestIds, SaltedCache, ServerAddress, Text, TopologySpec,
+};
+use mongo_mac::Steps;
+use mongo_meta::{Environment, OsMetadata, Variables};
+use std::alloc::Global;
+use std::sync::ledger::Ledger;
+
+/// What the connections to one server share: how they are made, who logs in, and the keys of logins that were accepted.
+#[derive(Drop)]
+pub struct Pool {
+    establisher: ConnectionEstablisher,
+    address: ServerAddress,
+    credential: Credential,
+    state: LoginState,
+    generation: u32,
+    next_id: u32,
+    // the mechanism is negotiated
+    ghost negotiated: { credential.mechanism ≡ None },
+}
+
+impl Pool {
+    ghost use Rattle.std.specs.Prelude.{◌≡◌, ◌+◌, ◌-◌, ◌^◌, min, IfOk, OnOk, OnErr};
+    ghost use Rattle.mongo_establish.specs.declared.generation.PoolGeneration.TheVariants.{Normal};
+    ghost use Rattle.mongo_scram.specs.Cache.{rounds_of};
+    ghost use Rattle.mongo_example.specs.Pool.{IsReady};
+
+    /// A pool for `user` at `db.example.net`, of generation 7, that has made no connection. Want of memory is the only refusal.
+    pub fn new(alloc: Global) -> Result<Pool, Error> {
+        let options = options(alloc)?;
+        let metadata = ClientMetadata::from_options(alloc, &options)?;
+        let spec = TopologySpec {
+            options,
+            metadata,
+            max_iterations: 10_000_000,
+        };
+        let address = ServerAddress::Tcp {
+            host: Text::from_slice(alloc, "db.example.net")?,
+            port: None,
+        };
+        let credential = credential(alloc)?;
+        Ok(Pool {
+            establisher: ConnectionEstablisher::new(
+                alloc,
+                EstablisherOptions::from_spec(alloc, &spec)?,
+            )?,
+            address,
+            credential,
+            state: LoginState {
+                salted: SaltedCache::new(alloc),
+                ids: RequestIds::new(0),
+            },
+            generation: 7,
+            next_id: 1,
+        })
+    }
+
+    /// The connection that the pool makes next: its number is the pool's next. Want of memory is the only refusal.
+    pub fn next_pending(&mut self, alloc: Global) -> Result<PendingConnection, Error>
+        ensures id { IfOk result (λ pending. pending.id ≡ self.old.next_id) }
+        ensures address { IfOk result (λ pending. pending.address ≡ self.old.address) }
+        ensures generation { IfOk result (λ pending. pending.generation ≡ Normal self.old.generation) }
+        ensures counted { OnOk result (self.new ≡ record self.old { next_id = min (self.old.next_id + 1) (2 ^ 32 - 1) }) }
+        ensures unchanged { OnErr result (self.new ≡ self.old) }
+    {
+        let address = self.address.try_clone(alloc)?;
+        let id = self.next_id;
+        self.next_id = id.saturating_add(1);
+        Ok(PendingConnection {
+            id,
+            address,
+            generation: PoolGeneration::Normal(self.generation),
+        })
+    }
+
+    /// Makes a connection over a fresh link. Refusals: those of [`ConnectionEstablisher::establish_connection`].
+    pub fn establish<L: Link, G: Ledger>(
+        &mut self,
+        alloc: Global,
+        pending: PendingConnection,
+        link: &mut L,
+        inputs: &LoginInputs,
+        steps: &mut Steps<G>,
+    ) -> Result<PooledConnection, EstablishError>
+        ensures ready { IfOk result (IsReady pending) }
+    {
+        self.establisher.establish_connection(
+            alloc,
+            pending,
+            link,
+            Some(&self.credential),
+            &mut self.state,
+            inputs,
+            steps,
+        )
+    }
+
+    /// How many rounds all logins of the pool derived.
+    pub fn rounds(&self) -> u64
+        ensures { result ≡ rounds_of self.now.state.salted }
+    {
+        self.state.salted.rounds()
+    }
+}
+
+// Who logs in.
+fn credential(alloc: Global) -> Result<Credential, Error>
+    ensures { IfOk result (λ credential. credential.mechanism ≡ None) }
+{
+    let username = Text::from_slice(alloc, "user")?;
+    let password = Text::from_slice(alloc, "pencil")?;
+    Ok(
+        Credential::new()
+            .username(Some(username))
+            .password(Some(password)),
+    )
+}
+
+// What the client says of itself.
+fn options(alloc: Global) -> Result<ClientOptions, Error> {
+    Ok(ClientOptions {
+        app_name: None,
+        driver_info: None,
+        server_api: None,
+        load_balanced: false,
+        os: OsMetadata {
+            os_type: Text::from_slice(alloc, "linux")?,
+            name: None,
+            architecture: None,
+            version: None,
+        },
+        platform: Text::from_slice(alloc, "rattle / sync")?,
+        platform_short: Text::from_slice(alloc, "rattle")?,
+        environment: Environment {
+            variables: Variables::new(alloc),
+            dockerenv: false,
+        },
+    })
+}
