@@ -4,10 +4,10 @@ use Rattle.mongo_command.proofs.FieldAnswers.{refused, part_fault}
 use Rattle.mongo_command.proofs.hello_table.response_of.Goals as goal
 
 pub returns-in_err-set : goal.returns-in_err-set
-returns-in_err-set c = λ els are. part_fault IsHelloTable IsSetTable els els c.in_err-set.field-0.0 c.from_residual.result c.from_residual.ensures.1 (λ t is. (t, is.set)) (c.in_err-set.ensures els are)
+returns-in_err-set c = λ els are. part_fault IsHelloTable IsSetTable els els c.in_err-set.field-0.0 c.from_residual-in_err-set.result c.from_residual-in_err-set.ensures.1 (λ t is. (t, is.set)) (c.in_err-set.ensures els are)
 
 pub returns-in_err-is_writable_primary : goal.returns-in_err-is_writable_primary
-returns-in_err-is_writable_primary c = λ els are. refused IsHelloTable els _ _ _ _ c.from_residual-in_err-is_writable_primary.ensures.1 (λ t is. (t.is_writable_primary, is.is_writable_primary)) (c.in_err-is_writable_primary.ensures els are)
+returns-in_err-is_writable_primary c = λ els are. refused IsHelloTable els _ _ _ _ c.from_residual.ensures.1 (λ t is. (t.is_writable_primary, is.is_writable_primary)) (c.in_err-is_writable_primary.ensures els are)
 
 pub returns-in_err-is_master : goal.returns-in_err-is_master
 returns-in_err-is_master c = λ els are. refused IsHelloTable els _ _ _ _ c.from_residual-in_err-is_master.ensures.1 (λ t is. (t.is_master, is.is_master)) (c.in_err-is_master.ensures els are)

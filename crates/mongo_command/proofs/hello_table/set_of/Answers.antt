@@ -4,10 +4,10 @@ use Rattle.mongo_command.proofs.FieldAnswers.{refused, part_fault}
 use Rattle.mongo_command.proofs.hello_table.set_of.Goals as goal
 
 pub returns-in_err-server : goal.returns-in_err-server
-returns-in_err-server c = λ els are. part_fault IsSetTable IsServerTable els els c.in_err-server.field-0.0 c.from_residual.result c.from_residual.ensures.1 (λ t is. (t, is.server)) (c.in_err-server.ensures els are)
+returns-in_err-server c = λ els are. part_fault IsSetTable IsServerTable els els c.in_err-server.field-0.0 c.from_residual-in_err-server.result c.from_residual-in_err-server.ensures.1 (λ t is. (t, is.server)) (c.in_err-server.ensures els are)
 
 pub returns-in_err-hosts : goal.returns-in_err-hosts
-returns-in_err-hosts c = λ els are. refused IsSetTable els _ _ _ _ c.from_residual-in_err-hosts.ensures.1 (λ t is. (t.hosts, is.hosts)) (c.in_err-hosts.ensures els are)
+returns-in_err-hosts c = λ els are. refused IsSetTable els _ _ _ _ c.from_residual.ensures.1 (λ t is. (t.hosts, is.hosts)) (c.in_err-hosts.ensures els are)
 
 pub returns-in_err-passives : goal.returns-in_err-passives
 returns-in_err-passives c = λ els are. refused IsSetTable els _ _ _ _ c.from_residual-in_err-passives.ensures.1 (λ t is. (t.passives, is.passives)) (c.in_err-passives.ensures els are)
