@@ -45,7 +45,7 @@ unfolding value_judged
 value_judged-past_limit text past = rw (lt-leb (length text) limit past) refl
 
 pub judged-past_limit : (task : Task) (text : List ℕ) → limit < length text → judged_as task text ≡ Err BadSettings
-unfolding judged_as, judged, logins_judged
+unfolding judged_as judged logins_judged
 judged-past_limit Rehearse text past = rw (value_judged-past_limit text past) refl
 judged-past_limit Batch text past = rw (value_judged-past_limit text past) refl
 
