@@ -1,10 +1,15 @@
 //! A fresh link made into a described connection, by the handshake specification.
 //!
-//! The hello goes out as the first frame, with the client's metadata; one frame is taken as its reply, and what it says
-//! of the server becomes the connection's description. `specs/Script.antt` says which commands and replies such an
-//! establishment consists of; Ok of [`ConnectionEstablisher::establish_connection`] means that the bytes written and
-//! read are exactly those of a script. `specs/Plan.antt` says in which order an establishment goes and where it is
-//! refused. Want of memory may come in place of any answer that is a `Result`.
+//! The hello goes out as the first frame, with the client's metadata and with the first message of a login where its
+//! mechanism has one; one frame is taken as its reply, and what it says of the server becomes the connection's
+//! description. Then the credential's user logs in, by SCRAM, PLAIN or MONGODB-X509, unless the server holds no users or
+//! has answered X.509 in its hello. Behind a load balancer the server has to name its service, whose number in
+//! [`Generations`] is the connection's. A monitor says hello alone.
+//!
+//! `specs/Script.antt` says which commands and replies such an establishment consists of; Ok of
+//! [`ConnectionEstablisher::establish_connection`] means that the bytes written and read are exactly those of a script.
+//! `specs/Plan.antt` says in which order an establishment goes and where it is refused, `specs/Costs.antt` what it takes of
+//! the counter and of the cache of salted passwords. Want of memory may come in place of any answer that is a `Result`.
 #![tactic(auto)]
 
 mod client_first;
