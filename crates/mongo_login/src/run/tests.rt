@@ -1,3 +1,4 @@
+mod logins;
 mod vectors;
 
 use super::run_counted;
