@@ -13,7 +13,7 @@ mod recorded;
 use mongo_establish::{Bytes, Error, MemoryLink, PooledConnection, ServerAddress};
 use mongo_mac::Steps;
 use pool::Pool;
-use recorded::recorded;
+use recorded::recording_at;
 use std::alloc::{AllocError, Global};
 use std::marker::Brand;
 use std::process::ExitCode;
@@ -41,7 +41,7 @@ fn two_connections<G: Ledger>(alloc: Global, blank: Blank) -> Result<String, Err
     let mut pool = Pool::new(alloc)?;
     let mut lines = String::new(alloc);
     for place in 0..2 {
-        let server = recorded(place);
+        let server = recording_at(place);
         let mut link = MemoryLink::new(alloc, Bytes::from_slice(alloc, server.replies)?);
         let pending = pool.next_pending(alloc)?;
         let before = pool.rounds();

@@ -10,15 +10,15 @@ pub struct Recorded {
 }
 
 /// The first connection, or the second.
-pub fn recorded(place: u8) -> Recorded {
+pub fn recording_at(place: u8) -> Recorded {
     match place {
-        0 => recorded_by(FIRST, 0),
-        _ => recorded_by(SECOND, 2),
+        0 => recording_of(FIRST, 0),
+        _ => recording_of(SECOND, 2),
     }
 }
 
 // The replies to a login whose nonces are 32 times this byte, and 32 times the byte after it.
-fn recorded_by(replies: &'static [u8], byte: u8) -> Recorded {
+fn recording_of(replies: &'static [u8], byte: u8) -> Recorded {
     let Some(moment) = Moment::new(0) else {
         unreachable!()
     };
