@@ -1,6 +1,6 @@
 //! The commands, by the words after the program's name.
 ghost use Rattle.std.specs.Prelude.{◌≡◌, map, string_bytes};
-ghost use Rattle.mongo_login.specs.Words.{task_in};
+ghost use Rattle.mongo_login.specs.Words.{task_named, task_in};
 
 use mongo_settings::Task;
 
