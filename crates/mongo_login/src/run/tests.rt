@@ -43,14 +43,14 @@ fn status_of(
 
 // How `rehearse` ends on this text, and what it wrote.
 fn run_on(alloc: Global, text: &[u8]) -> Result<(Status, Vec<u8>), Fail> {
+    run_as(alloc, "rehearse", text)
+}
+
+// How a task ends on this text, and what it wrote.
+fn run_as(alloc: Global, task: &str, text: &[u8]) -> Result<(Status, Vec<u8>), Fail> {
     let mut source = link(alloc, text, &[])?;
     let mut sink = link(alloc, &[], &[])?;
-    let status = status_of(
-        alloc,
-        words_of(alloc, &["rehearse"])?,
-        &mut source,
-        &mut sink,
-    );
+    let status = status_of(alloc, words_of(alloc, &[task])?, &mut source, &mut sink);
     Ok((status, Vec::from_slice(alloc, sink.written())?))
 }
 
@@ -113,6 +113,32 @@ fn faults_and_words_decide_too(rt: HostRuntime) -> Result<(), Fail> {
             status_of(alloc, words_of(alloc, list)?, &mut source, &mut sink),
             want
         );
+    }
+    Ok(())
+}
+
+#[test]
+fn batches_are_judged_login_by_login(rt: HostRuntime) -> Result<(), Fail> {
+    let alloc = rt.alloc();
+    for (text, want, written) in [
+        ("{\"logins\":[]}", Status::Done, "rounds 0\n"),
+        ("{\"logins\":{}}", Status::BadSettings, ""),
+        ("{\"host\":\"a\"}", Status::BadSettings, ""),
+        ("{\"logins\":[],\"host\":\"a\"}", Status::BadSettings, ""),
+        (
+            "{\"logins\":[{\"host\":\"a\",\"moment\":1},{}]}",
+            Status::NotBuilt,
+            "",
+        ),
+        (
+            "{\"logins\":[{},{\"host\":\"a\",\"moment\":1}]}",
+            Status::BadSettings,
+            "",
+        ),
+    ] {
+        let (status, output) = run_as(alloc, "batch", text.as_bytes())?;
+        assert_eq!(rt; status, want, "at {text}");
+        assert_eq!(rt; output.as_slice(), written.as_bytes(), "at {text}");
     }
     Ok(())
 }
