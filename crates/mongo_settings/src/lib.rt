@@ -1,8 +1,9 @@
 //! Settings of a login that is rehearsed, and the report of it.
 //!
-//! Settings are the text of one JSON object ([`read`]), or such an object alone ([`settings_of`]), as a list of them has.
-//! [`rehearse`] runs one establishment over the reply bytes that settings hand in and writes its report, line by line.
-//! `specs/Report.antt` says which lines a report has, and `specs/Rehearsal.antt` which report settings have: exactly one.
+//! Settings are one JSON object ([`settings_of`]). [`Logins::read`] reads the text of one such object, or of a batch of them.
+//! [`Logins::rehearse`] runs an establishment over the reply bytes that each hands in and writes its report, line by line; those of
+//! a batch share one cache of salted passwords. `specs/Report.antt` says which lines a report has, `specs/Rehearsal.antt` which
+//! report settings have: exactly one, and `specs/Batch.antt` which a batch has.
 //! Want of memory may come in place of any answer that is a `Result`.
 #![tactic(auto)]
 
