@@ -1,2 +1,3 @@
 mod Front
+mod Naming
 mod Ends

@@ -11,7 +11,10 @@ use Rattle.mongo_settings.specs.Settings.{limit}
 use Rattle.mongo_settings.specs.Task.{Asks, judged_as, Steps, Reports, ComesOut}
 use Rattle.mongo_login.specs.declared.status.Status.{Status}
 use Rattle.mongo_login.specs.declared.status.Status.TheVariants.{Done, Refused, BadSettings, Usage, SourceFault, SinkFault, NoMemory, NotBuilt}
-use Rattle.mongo_login.specs.Words.{task_in}
+use Rattle.mongo_login.specs.declared.words.Command.{Command}
+use Rattle.mongo_login.specs.declared.words.Command.TheVariants.{Rehearse, Generate}
+use Rattle.mongo_login.specs.Generated.{TellsLogins}
+use Rattle.mongo_login.specs.Words.{Names, NamesNone}
 
 -- the number that the process ends with
 abbrev pub code_of_status : Status → ℕ
@@ -124,22 +127,58 @@ module _ {S K : Type 0} (source : S → State) (sink : K → State) where
   TaskEnds task steps run NoMemory = RanOut task steps run
   TaskEnds task steps run NotBuilt = IsUnbuilt task run
 
-  -- the words name no task: nothing is read or written
+  -- what was made of so many logins was written whole; nothing was read
+  pub record MadeLogins (count : ℕ) (steps : Steps) (run : Run S K) : Type 0 where
+    pub unread : run.source_after ≡ run.source
+    pub text : List ℕ
+    pub tells : TellsLogins count steps text
+    pub written : Appends (sink run.sink).written (sink run.sink_after).written text
+    pub flushed : IsFlushed (sink run.sink_after).written (sink run.sink_after).flushed
+
+  -- a front of it was written
+  pub record WroteFront (count : ℕ) (steps : Steps) (run : Run S K) : Type 0 where
+    pub text : List ℕ
+    pub tells : TellsLogins count steps text
+    pub front : AppendsFront (sink run.sink).written (sink run.sink_after).written text
+
+  -- the sink failed
+  pub record WriteFailed (count : ℕ) (steps : Steps) (run : Run S K) : Type 0 where
+    pub rose : Rose (sink run.sink).write_faults (sink run.sink_after).write_faults
+    pub unread : run.source_after ≡ run.source
+    pub wrote : WroteFront count steps run
+
+  -- memory ran out, before anything was written or while it was
+  pub record MadeNone (count : ℕ) (steps : Steps) (run : Run S K) : Type 0 where
+    pub unread : run.source_after ≡ run.source
+    pub wrote : (run.sink_after ≡ run.sink) ⊎ WroteFront count steps run
+
+  -- how the making of so many logins ends; no login of its own can be refused
+  abbrev pub GenerateEnds : ℕ → Steps → Run S K → Status → Type 0
+  GenerateEnds count steps run Done = MadeLogins count steps run
+  GenerateEnds count steps run SinkFault = WriteFailed count steps run
+  GenerateEnds count steps run NoMemory = MadeNone count steps run
+  GenerateEnds count steps run status = ⊥
+
+  abbrev pub CommandEnds : Command → Steps → Run S K → Status → Type 0
+  CommandEnds (Rehearse task) steps run status = TaskEnds task steps run status
+  CommandEnds (Generate count) steps run status = GenerateEnds count steps run status
+
+  -- the words name no command: nothing is read or written
   pub record IsUsage (words : List (List ℕ)) (run : Run S K) : Type 0 where
-    pub no_task : task_in words ≡ None
+    pub no_command : NamesNone words
     pub unread : run.source_after ≡ run.source
     pub unwritten : run.sink_after ≡ run.sink
 
-  -- the words name a task that ends so
-  pub record RanTask (words : List (List ℕ)) (steps : Steps) (run : Run S K) (status : Status) : Type 0 where
-    pub task : Task
-    pub task_is : task_in words ≡ Some task
-    pub ends : TaskEnds task steps run status
+  -- the words name a command that ends so
+  pub record RanCommand (words : List (List ℕ)) (steps : Steps) (run : Run S K) (status : Status) : Type 0 where
+    pub command : Command
+    pub named : Names words command
+    pub ends : CommandEnds command steps run status
 
   -- how a run ends
   abbrev pub RunEnds : List (List ℕ) → Steps → Run S K → Status → Type 0
   RunEnds words steps run Usage = IsUsage words run
-  RunEnds words steps run status = RanTask words steps run status
+  RunEnds words steps run status = RanCommand words steps run status
 
   -- ---- what decides
 
@@ -159,9 +198,14 @@ TextDecides (Err Bad) result = EndsAs BadSettings result
 TextDecides (Err Unbuilt) result = EndsAs NotBuilt result
 TextDecides (Err OutOfMemory) result = ⊤
 
+-- a task ends as its text asks, and logins that are made are all accepted
+abbrev pub CommandDecides : {S K : Type 0} → (S → State) → (K → State) → Command → Run S K → Status → Type 0
+CommandDecides source sink (Rehearse task) run result = GaveInput (source run.source) (λ input. TextDecides (judged_as task input) result)
+CommandDecides source sink (Generate count) run result = EndsAs Done result
+
 -- Where nothing fails, the words and the text decide; want of memory may stand in its place.
 abbrev pub IsDecided : {S K : Type 0} → (S → State) → (K → State) → List (List ℕ) → Run S K → Status → Type 0
-IsDecided source sink words run result = (task : Task) → task_in words ≡ Some task → Unfailed source sink run → GaveInput (source run.source) (λ input. TextDecides (judged_as task input) result)
+IsDecided source sink words run result = (command : Command) → Names words command → Unfailed source sink run → CommandDecides source sink command run result
 
 -- a run counts steps only where it makes a connection
 abbrev pub StepsAfter : Status → ℕ → ℕ → Type 0

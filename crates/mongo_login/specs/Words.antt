@@ -1,13 +1,28 @@
 -- The commands, by the words after the program's name.
-use Rattle.std.specs.Prelude.{ℕ, Option, None, Some, if◌then◌else◌, List, [], ◌∷◌, codes, bytes_eq}
+use Rattle.std.specs.Prelude.{◌≡◌, ℕ, ◌≤◌, List, [], ◌∷◌, codes, decimal}
 use Rattle.mongo_settings.specs.declared.task.Task.{Task}
-use Rattle.mongo_settings.specs.declared.task.Task.TheVariants.{Rehearse, Batch}
+use Rattle.mongo_settings.specs.declared.task.Task.TheVariants as task
+use Rattle.mongo_login.specs.declared.words.Command.{Command}
+use Rattle.mongo_login.specs.declared.words.Command.TheVariants.{Rehearse, Generate}
 
-abbrev pub task_named : List ℕ → Option Task
-task_named name = if bytes_eq name (codes "rehearse") then Some Rehearse else (if bytes_eq name (codes "batch") then Some Batch else None)
+abbrev pub task_name : Task → List ℕ
+task_name task.Rehearse = codes "rehearse"
+task_name task.Batch = codes "batch"
 
--- one word, the name of a task
-abbrev pub task_in : List (List ℕ) → Option Task
-task_in [] = None
-task_in (word ∷ []) = task_named word
-task_in (word ∷ other ∷ others) = None
+-- how many logins one run makes at most
+abbrev pub most_logins : ℕ
+most_logins = 1000
+
+-- the word is the number in decimal digits, without a sign or a leading zero
+pub record IsCount (word : List ℕ) (count : ℕ) : Type 0 where
+  pub digits : word ≡ decimal count
+  pub some : 1 ≤ count
+  pub within : count ≤ most_logins
+
+-- a task's name alone, or `generate` and a number
+abbrev pub Names : List (List ℕ) → Command → Type 0
+Names words (Rehearse task) = words ≡ task_name task ∷ []
+Names words (Generate count) = (word : List ℕ) × (words ≡ codes "generate" ∷ word ∷ []) × IsCount word count
+
+abbrev pub NamesNone : List (List ℕ) → Type 0
+NamesNone words = (command : Command) → Names words command → ⊥

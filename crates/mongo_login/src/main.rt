@@ -5,6 +5,7 @@
 //! it is [`run::run`], and its clauses say what each end means.
 #![tactic(auto)]
 
+mod generated;
 mod input;
 mod output;
 mod run;

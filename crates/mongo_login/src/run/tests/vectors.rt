@@ -137,40 +137,6 @@ const LEVELS: [Vector; 2] = [
     },
 ];
 
-// Runs whose logins are left out: the same bytes up to the hello's reply, and what the format says of them.
-const WITHOUT_LOGIN: [Vector; 5] = [
-    Vector {
-        name: "bytes-after-the-script",
-        replies: "560000000100000000000000dd070000000000000041000000016f6b00000000000000f03f106d617842736f6e4f626a65637453697a650000000001106d61784d65737361676553697a65427974657300006cdc020000000000000000000000",
-        status: Status::Done,
-        lines: "read 86\nok\ntype Standalone\nwire - -\nmechs -\nsession -\nsizes 16777216 100000 48000000\nhello-ok false\nservice -\ngeneration normal 0\nserver-id -\n",
-    },
-    Vector {
-        name: "negotiated-sha1-login",
-        replies: "f10000000100000000000000dd0700000000000000dc000000016f6b00000000000000f03f106d617842736f6e4f626a65637453697a650000000001106d61784d65737361676553697a65427974657300006cdc020869735772697461626c655072696d6172790001027365744e616d65000400000072733000106d696e5769726556657273696f6e0000000000106d61785769726556657273696f6e0019000000106c6f676963616c53657373696f6e54696d656f75744d696e75746573001e000000047361736c537570706f727465644d6563687300180000000230000c000000534352414d2d5348412d31000000",
-        status: Status::Done,
-        lines: "read 241\nok\ntype RsPrimary\nwire 0 25\nmechs 1 534352414d2d5348412d31\nsession 1800\nsizes 16777216 100000 48000000\nhello-ok false\nservice -\ngeneration normal 0\nserver-id -\n",
-    },
-    Vector {
-        name: "last-byte-missing",
-        replies: "560000000100000000000000dd070000000000000041000000016f6b00000000000000f03f106d617842736f6e4f626a65637453697a650000000001106d61784d65737361676553697a65427974657300006cdc02",
-        status: Status::Refused,
-        lines: "read 85\nrefused\nphase PreHello\nkind EndOfInput\nreason -\ncode -\ntext -\n",
-    },
-    Vector {
-        name: "maximum-zero",
-        replies: "f10000000100000000000000dd0700000000000000dc000000016f6b00000000000000f03f106d617842736f6e4f626a65637453697a650000000001106d61784d65737361676553697a65427974657300000000000869735772697461626c655072696d6172790001027365744e616d65000400000072733000106d696e5769726556657273696f6e0000000000106d61785769726556657273696f6e0019000000106c6f676963616c53657373696f6e54696d656f75744d696e75746573001e000000047361736c537570706f727465644d6563687300180000000230000c000000534352414d2d5348412d31000000",
-        status: Status::Done,
-        lines: "read 241\nok\ntype RsPrimary\nwire 0 25\nmechs 1 534352414d2d5348412d31\nsession 1800\nsizes 16777216 100000 0\nhello-ok false\nservice -\ngeneration normal 0\nserver-id -\n",
-    },
-    Vector {
-        name: "maximum-negative",
-        replies: "f10000000100000000000000dd0700000000000000dc000000016f6b00000000000000f03f106d617842736f6e4f626a65637453697a650000000001106d61784d65737361676553697a65427974657300ffffffff0869735772697461626c655072696d6172790001027365744e616d65000400000072733000106d696e5769726556657273696f6e0000000000106d61785769726556657273696f6e0019000000106c6f676963616c53657373696f6e54696d656f75744d696e75746573001e000000047361736c537570706f727465644d6563687300180000000230000c000000534352414d2d5348412d31000000",
-        status: Status::Done,
-        lines: "read 241\nok\ntype RsPrimary\nwire 0 25\nmechs 1 534352414d2d5348412d31\nsession 1800\nsizes 16777216 100000 -1\nhello-ok false\nservice -\ngeneration normal 0\nserver-id -\n",
-    },
-];
-
 fn settings(alloc: Global, replies: &str) -> Result<Vec<u8>, AllocError> {
     let mut text = Vec::from_slice(alloc, b"{\"host\": \"localhost\", \"replies\": [\"")?;
     text.extend_from_slice(replies.as_bytes())?;
@@ -189,7 +155,7 @@ fn compared(alloc: Global, vector: &Vector) -> Result<(Status, Vec<u8>, Vec<u8>)
 
 #[test]
 fn each_run_prints_its_report(rt: HostRuntime) -> Result<(), Fail> {
-    for vectors in [&FRAMES[..], &HELLOS[..], &LEVELS[..], &WITHOUT_LOGIN[..]] {
+    for vectors in [&FRAMES[..], &HELLOS[..], &LEVELS[..]] {
         for vector in vectors {
             let (status, report, wanted) = compared(rt.alloc(), vector)?;
             assert_eq!(rt; status, vector.status, "at {}", vector.name);

@@ -1,0 +1,177 @@
+"""What the scripts over real streams share: building a program of this repository, BSON and OP_MSG read for a person's eyes, and a
+relay between a socket and a program. Python's standard library alone."""
+import os
+import selectors
+import struct
+import subprocess
+import sys
+
+TOP = os.path.dirname(os.path.realpath(__file__))
+
+
+def built(name):
+    """The path of a proved program, which is proved and built first where a source changed. Ends with 70 where it can't be."""
+    if subprocess.run([os.path.join(TOP, 'build'), name], stdout=sys.stderr).returncode:
+        sys.exit(70)
+    return os.path.join(TOP, 'crates', name, 'out', name)
+
+
+# ---- documents and frames, to be looked at
+
+def document(raw, at=0):
+    """The elements of a BSON document that begins at a place, as text, and the place after it."""
+    end = at + struct.unpack_from('<i', raw, at)[0]
+    at += 4
+    parts = []
+    while raw[at]:
+        kind = raw[at]
+        zero = raw.index(0, at + 1)
+        key = raw[at + 1:zero].decode('utf-8', 'replace')
+        value, at = element(raw, kind, zero + 1)
+        parts.append(f'{key}: {value}')
+    return '{' + ', '.join(parts) + '}', end
+
+
+def element(raw, kind, at):
+    """A value as text, and the place after it."""
+    def number(form):
+        return str(struct.unpack_from('<' + form, raw, at)[0]), at + struct.calcsize('<' + form)
+    if kind == 0x01:
+        return number('d')
+    if kind in (0x02, 0x0D, 0x0E):
+        length = struct.unpack_from('<i', raw, at)[0]
+        return repr(raw[at + 4:at + 3 + length].decode('utf-8', 'replace')), at + 4 + length
+    if kind in (0x03, 0x04):
+        return document(raw, at)
+    if kind == 0x05:
+        length = struct.unpack_from('<i', raw, at)[0]
+        piece = raw[at + 5:at + 5 + length]
+        shown = repr(piece.decode('ascii')) if piece and all(32 <= byte < 127 for byte in piece) else piece.hex()
+        return f'binary {shown}', at + 5 + length
+    if kind in (0x06, 0x0A):
+        return 'null', at
+    if kind == 0x07:
+        return f'ObjectId {raw[at:at + 12].hex()}', at + 12
+    if kind == 0x08:
+        return ('true' if raw[at] else 'false'), at + 1
+    if kind == 0x09:
+        return f'date {struct.unpack_from("<q", raw, at)[0]}', at + 8
+    if kind == 0x10:
+        return number('i')
+    if kind == 0x11:
+        seconds, increment = struct.unpack_from('<II', raw, at)[::-1]
+        return f'timestamp {seconds}, {increment}', at + 8
+    if kind == 0x12:
+        return number('q')
+    raise ValueError(f'kind {kind:#x}')
+
+
+def shown(frame):
+    """A whole frame as text: its header and its document."""
+    length, request, response, code = struct.unpack_from('<iiii', frame)
+    head = f'{length} bytes, request {request}, response to {response}'
+    try:
+        if code == 2013:
+            body = document(frame, 21)[0] if frame[20] == 0 else 'a document sequence first'
+            return f'OP_MSG, {head}: {body}'
+        if code == 2004:
+            return f'OP_QUERY, {head}: {document(frame, frame.index(0, 20) + 9)[0]}'
+        if code == 1:
+            return f'OP_REPLY, {head}: {document(frame, 36)[0]}'
+    except (ValueError, IndexError, struct.error):
+        pass
+    return f'op code {code}, {head}: {frame[16:].hex()}'
+
+
+class Tracer:
+    """Says each whole frame of one direction as its bytes come."""
+
+    def __init__(self, arrow, say):
+        self.arrow, self.say, self.held = arrow, say, b''
+
+    def take(self, piece):
+        self.held += piece
+        while len(self.held) >= 4:
+            length = struct.unpack_from('<i', self.held)[0]
+            if length < 16 or len(self.held) < length:
+                return
+            self.say(f'{self.arrow} {shown(self.held[:length])}')
+            self.held = self.held[length:]
+
+
+# ---- a program between its settings and a socket
+
+class Closed(Exception):
+    """The time was up."""
+
+
+def relay(program, first_line, sock, seconds=None, trace=None):
+    """Runs a program whose standard input is one line and then what the socket gives, and whose standard output goes to the socket.
+    Gives its status and what it wrote to standard error. `Closed` where nothing came for so many seconds."""
+    out, back = Tracer('->', trace) if trace else None, Tracer('<-', trace) if trace else None
+    with subprocess.Popen([program], stdin=subprocess.PIPE, stdout=subprocess.PIPE, stderr=subprocess.PIPE, bufsize=0) as running, selectors.DefaultSelector() as ready:
+        said = b''
+        try:
+            running.stdin.write(first_line + b'\n')
+            ready.register(running.stdout, selectors.EVENT_READ)
+            ready.register(running.stderr, selectors.EVENT_READ)
+            ready.register(sock, selectors.EVENT_READ)
+            open_streams = 2
+            while open_streams:
+                waiting = getattr(sock, 'pending', lambda: 0)() > 0
+                events = [key.fileobj for key, _ in ready.select(0 if waiting else seconds)]
+                if waiting and sock not in events:
+                    events.append(sock)
+                if not events:
+                    raise Closed
+                for stream in events:
+                    if stream is sock:
+                        if not from_socket(sock, running.stdin, back):
+                            ready.unregister(sock)
+                        continue
+                    piece = os.read(stream.fileno(), 65536)
+                    if not piece:
+                        ready.unregister(stream)
+                        open_streams -= 1
+                    elif stream is running.stderr:
+                        said += piece
+                    else:
+                        if out:
+                            out.take(piece)
+                        send(sock, piece)
+            return running.wait(), said.decode('utf-8', 'replace')
+        finally:
+            if running.poll() is None:
+                running.kill()
+
+
+def from_socket(sock, stdin, tracer):
+    """Hands on what the socket has. False where it has ended, and the program's input then too."""
+    try:
+        piece = sock.recv(65536)
+    except (BlockingIOError, InterruptedError):
+        return True
+    except OSError:
+        piece = b''
+    except Exception as fault:  # a TLS stream that wants another turn
+        if type(fault).__name__ in ('SSLWantReadError', 'SSLWantWriteError'):
+            return True
+        raise
+    try:
+        if piece:
+            if tracer:
+                tracer.take(piece)
+            stdin.write(piece)
+            return True
+        stdin.close()
+    except (BrokenPipeError, ValueError):
+        pass
+    return False
+
+
+def send(sock, piece):
+    """Sends a piece; a peer that has gone is told by the end of its stream."""
+    try:
+        sock.sendall(piece)
+    except OSError:
+        pass
