@@ -13,7 +13,7 @@ mod Spoken
 mod Connecting
 mod Counting
 mod Ready
-mod Rehearsing
+pub mod Rehearsing
 pub mod OneReport
 mod Sharing
 mod LoginsRead

@@ -1,10 +1,11 @@
--- A rehearsal's report, from what the establishment over reply bytes in memory answers.
-use Rattle.std.proofs.Common.{◌≡◌, ℕ, ℤ, ◌+◌, ◌-◌, ◌∙◌, ◌++◌, ap, subst, sym, arith, refl, inl, inr, Some, Result, Ok, Err, List, [], length, length-append, IfOk, IfErr, IsSome}
+-- A rehearsal's report, from what the establishment over told bytes answers.
+use Rattle.std.proofs.Common.{◌≡◌, ℕ, ℤ, ◌+◌, ◌-◌, ◌⊎◌, ◌∙◌, ◌++◌, ap, subst, sym, arith, refl, inl, inr, None, Some, Option, Result, Ok, Err, List, [], ◌∷◌, length, length-append, IfOk, IfErr, IsSome}
+use Rattle.std.proofs.lemmas.List.{append_cancel_left}
+use Rattle.std.specs.Io.KnownBytes.{Appends, Consumes}
+use Rattle.std.specs.List.{concat}
 use Rattle.mongo_wire.specs.declared.error.ErrorKind.{ErrorKind}
-use Rattle.mongo_wire.specs.declared.memory_link.MemoryLink.{MemoryLink}
-use Rattle.mongo_wire.specs.Memory.{bytes_left, bytes_written}
-use Rattle.mongo_wire.specs.Outside.{State, Rose}
-use Rattle.mongo_command.specs.Conversation.{IsSaid}
+use Rattle.mongo_wire.specs.Outside.{State, Rose, IsFlushed}
+use Rattle.mongo_command.specs.Conversation.{Said, IsSaid, IsFlushedAfter}
 use Rattle.mongo_establish.specs.declared.establisher.EstablishError.{EstablishError}
 use Rattle.mongo_establish.specs.declared.establisher.HandshakePhase.{HandshakePhase}
 use Rattle.mongo_establish.specs.declared.establisher.PooledConnection.{PooledConnection}
@@ -19,17 +20,18 @@ use Rattle.mongo_settings.specs.Report.{sent_lines, read_line, accepted_lines, r
 use Rattle.mongo_settings.specs.Outcome.{asked_of, accepted, refused}
 use Rattle.mongo_settings.specs.Login.{IsMade, IsStopped}
 use Rattle.mongo_settings.specs.Telling.{TellsMade, IsReported, TellsRefused, Tells}
-use Rattle.mongo_settings.specs.Rehearsal.{IsRehearsal}
+use Rattle.mongo_settings.specs.Rehearsal.{IsRehearsal, LeftAs}
 use Rattle.mongo_settings.specs.Rounds.{is_after_login}
 use Rattle.mongo_settings.specs.Takes.{Rehearses}
 
 -- ---- the link
 
--- A link in memory gave these bytes; nothing had been written to it, and it doesn't fail. This was written and this is left.
+-- A link had these bytes left and some written, and doesn't fail. This was written after these, and this is left.
 pub record Replayed (replies output left : List ℕ) (old new : State) : Type 0 where
-  pub fresh : old.written ≡ Some []
+  pub front : List ℕ
+  pub before : old.written ≡ Some front
   pub given : old.left ≡ Some replies
-  pub written_is : new.written ≡ Some output
+  pub written_is : new.written ≡ Some (front ++ output)
   pub left_is : new.left ≡ Some left
   pub unfailed : Rose old.read_faults new.read_faults → ⊥
   pub unwritten : Rose old.write_faults new.write_faults → ⊥
@@ -48,84 +50,117 @@ taken_length bytes taken rest left whole is =
 same_some : (a b : List ℕ) → Some a ≡ Some b → a ≡ b
 same_some a b e = cc
 
+-- what was written after what was there is what was appended
+appended : (front output sent : List ℕ) (old new : Option (List ℕ)) → old ≡ Some front → new ≡ Some (front ++ output) → Appends old new sent → output ≡ sent
+appended front output sent old new before is grown =
+    let joined : front ++ output ≡ front ++ sent = subst (λ o. Appends (Some front) o sent) is (subst (λ o. Appends o new sent) before grown) in
+    append_cancel_left front output sent joined
+
+consumed : (bytes taken rest : List ℕ) (old new : Option (List ℕ)) → old ≡ Some bytes → new ≡ Some rest → bytes ≡ taken ++ rest → Consumes old new taken
+consumed bytes taken rest old new given is joined = rw (given, is) joined
+
+-- where anything was written, all of it is flushed
+flushed_after : (commands : List Said) (id : ℤ) (sent bytes : List ℕ) (old new : State) → IsSaid commands id sent → sent ≡ bytes → IsFlushedAfter commands old new → (bytes ≡ []) ⊎ IsFlushed new.written new.flushed
+flushed_after [] id sent bytes old new said same flushed = inl (sym same ∙ said)
+flushed_after (command ∷ commands) id sent bytes old new said same flushed = inr flushed
+
+-- an establishment that ended so is rehearsed, and its link is left as the report says
+pub record Replays (settings : Settings) (ended : Result PooledConnection EstablishError) (old new : State) (x : Rehearsal) : Type 0 where
+  pub rehearses : Rehearses settings ended x
+  pub left_as : LeftAs settings x.report.items rehearses.rehearsal_is.report old new
+
 -- ---- a connection that was made
 
 pub described : (asked : Asked) (old new : State) (ended : Result PooledConnection EstablishError) → IfOk ended (IsMade asked old new) → IfOk ended (λ pooled. IsSome pooled.connection.stream_description)
 described asked old new (Ok pooled) made = rw made.established.connection.description_is refl
 described asked old new (Err refusal) made = tt
 
-made : (settings : Settings) (old new : State) (pooled : PooledConnection) (link : MemoryLink) (total : ℕ) (x : Rehearsal)
-    → IsMade (asked_of settings) old new pooled → Replayed settings.replies (bytes_written link) (bytes_left link) old new → total ≡ length settings.replies → TellsMade link total pooled x → Rehearses settings (Ok pooled) x
-made settings old new pooled link total x m p total_is tells =
+made : (settings : Settings) (old new : State) (pooled : PooledConnection) (output left : List ℕ) (taken : ℕ) (x : Rehearsal)
+    → IsMade (asked_of settings) old new pooled → Replayed settings.replies output left old new → taken ≡ length settings.replies - length left → TellsMade output taken pooled x → Replays settings (Ok pooled) old new x
+made settings old new pooled output left taken x m p taken_is tells =
     let e = m.established in
-    let sent : bytes_written link ≡ e.sent = rw (p.fresh, p.written_is) at e.written in
+    let sent : output ≡ e.sent = appended p.front output e.sent old.written new.written p.before p.written_is e.written in
     let f = Framed-from_sent _ _ e.script.commands (asked_of settings).first_id e.sent e.is_written in
     let t = e.taken settings.replies p.given in
     let g = e.script.greeting in
-    let rest : bytes_left link ≡ t.rest = same_some (bytes_left link) t.rest (sym p.left_is ∙ t.left_is) in
-    let count : total - length (bytes_left link) ≡ length t.taken = ap (λ n. n - length (bytes_left link)) total_is ∙ taken_length settings.replies t.taken t.rest (bytes_left link) t.joined rest in
+    let rest : left ≡ t.rest = same_some left t.rest (sym p.left_is ∙ t.left_is) in
+    let count : taken ≡ length t.taken = taken_is ∙ taken_length settings.replies t.taken t.rest left t.joined rest in
     record {
-      rehearsal_is = record {
-        report = record {
-          outcome = accepted (record { script = e.script; taken = t.taken; unread = t.rest });
-          is_outcome = record { is_script = e.is_script; joined = t.joined; is_taken = t.is_taken };
-          frames = f.frames;
-          each_frame = f.each;
-          sent = subst (IsWritten (asked_of settings) e.script) f.joined e.is_written;
-          text_is = (tells.text g.description e.connection.description_is).told f.frames f.each (sent ∙ f.joined)
-              ∙ ap (λ n. sent_lines f.frames ++ (read_line n ++ accepted_lines g.description pooled.generation pooled.connection.server_id)) count
-              ∙ ap (λ generation. sent_lines f.frames ++ (read_line (length t.taken) ++ accepted_lines g.description generation pooled.connection.server_id)) e.generation
-              ∙ ap (λ i. sent_lines f.frames ++ (read_line (length t.taken) ++ accepted_lines g.description (generation_of (asked_of settings).pending.generation g.description) i)) e.connection.server_id;
+      rehearses = record {
+        rehearsal_is = record {
+          report = record {
+            outcome = accepted (record { script = e.script; taken = t.taken; unread = t.rest });
+            is_outcome = record { is_script = e.is_script; joined = t.joined; is_taken = t.is_taken };
+            frames = f.frames;
+            each_frame = f.each;
+            sent = subst (IsWritten (asked_of settings) e.script) f.joined e.is_written;
+            text_is = (tells.text g.description e.connection.description_is).told f.frames f.each (sent ∙ f.joined)
+                ∙ ap (λ n. sent_lines f.frames ++ (read_line n ++ accepted_lines g.description pooled.generation pooled.connection.server_id)) count
+                ∙ ap (λ generation. sent_lines f.frames ++ (read_line (length t.taken) ++ accepted_lines g.description generation pooled.connection.server_id)) e.generation
+                ∙ ap (λ i. sent_lines f.frames ++ (read_line (length t.taken) ++ accepted_lines g.description (generation_of (asked_of settings).pending.generation g.description) i)) e.connection.server_id;
+          };
+          status_is = tells.status;
         };
-        status_is = tells.status;
+        logs_in_is = refl;
       };
-      logs_in_is = refl;
+      left_as = record {
+        written = subst (Appends old.written new.written) f.joined e.written;
+        flushed = inr e.flushed;
+        taken = consumed settings.replies t.taken t.rest old.left new.left p.given t.left_is t.joined;
+      };
     }
 
 -- ---- a refusal
 
-told_refusal : (settings : Settings) (kind : ErrorKind) (phase : HandshakePhase) (old new : State) (after : ℤ) (link : MemoryLink) (total : ℕ) (refusal : EstablishError) (x : Rehearsal)
+told_refusal : (settings : Settings) (kind : ErrorKind) (phase : HandshakePhase) (old new : State) (after : ℤ) (output left : List ℕ) (taken : ℕ) (refusal : EstablishError) (x : Rehearsal)
     → refusal.cause.kind ≡ kind → refusal.handshake_phase ≡ phase → RefusedBy phase (asked_of settings) settings.replies kind old new after
-    → Replayed settings.replies (bytes_written link) (bytes_left link) old new → total ≡ length settings.replies → TellsRefused link total refusal x → Rehearses settings (Err refusal) x
-told_refusal settings kind phase old new after link total refusal x kind_is phase_is r p total_is tells =
+    → Replayed settings.replies output left old new → taken ≡ length settings.replies - length left → TellsRefused output taken refusal x → Replays settings (Err refusal) old new x
+told_refusal settings kind phase old new after output left taken refusal x kind_is phase_is r p taken_is tells =
     let l = r.left_by in
     let first = r.refusal in
-    let sent : bytes_written link ≡ l.sent = rw (p.fresh, p.written_is) at l.written in
+    let sent : output ≡ l.sent = appended p.front output l.sent old.written new.written p.before p.written_is l.written in
     let f = Framed-from_said first.commands (asked_of settings).first_id l.sent l.sent_is in
-    let rest : bytes_left link ≡ first.unread = same_some (bytes_left link) first.unread (sym p.left_is ∙ l.left) in
-    let count : total - length (bytes_left link) ≡ length first.taken = ap (λ n. n - length (bytes_left link)) total_is ∙ taken_length settings.replies first.taken first.unread (bytes_left link) r.joined rest in
+    let rest : left ≡ first.unread = same_some left first.unread (sym p.left_is ∙ l.left) in
+    let count : taken ≡ length first.taken = taken_is ∙ taken_length settings.replies first.taken first.unread left r.joined rest in
     record {
-      rehearsal_is = record {
-        report = record {
-          outcome = refused first;
-          is_outcome = r.is_refusal;
-          frames = f.frames;
-          each_frame = f.each;
-          sent = subst (IsSaid first.commands (asked_of settings).first_id) f.joined l.sent_is;
-          text_is = tells.text.told f.frames f.each (sent ∙ f.joined)
-              ∙ ap (λ n. sent_lines f.frames ++ (read_line n ++ refused_lines refusal.handshake_phase refusal.cause.kind)) count
-              ∙ ap (λ p. sent_lines f.frames ++ (read_line (length first.taken) ++ refused_lines p refusal.cause.kind)) (phase_is ∙ sym r.phase_is)
-              ∙ ap (λ k. sent_lines f.frames ++ (read_line (length first.taken) ++ refused_lines first.phase k)) (kind_is ∙ sym r.kind_is);
+      rehearses = record {
+        rehearsal_is = record {
+          report = record {
+            outcome = refused first;
+            is_outcome = r.is_refusal;
+            frames = f.frames;
+            each_frame = f.each;
+            sent = subst (IsSaid first.commands (asked_of settings).first_id) f.joined l.sent_is;
+            text_is = tells.text.told f.frames f.each (sent ∙ f.joined)
+                ∙ ap (λ n. sent_lines f.frames ++ (read_line n ++ refused_lines refusal.handshake_phase refusal.cause.kind)) count
+                ∙ ap (λ p. sent_lines f.frames ++ (read_line (length first.taken) ++ refused_lines p refusal.cause.kind)) (phase_is ∙ sym r.phase_is)
+                ∙ ap (λ k. sent_lines f.frames ++ (read_line (length first.taken) ++ refused_lines first.phase k)) (kind_is ∙ sym r.kind_is);
+          };
+          status_is = tells.status;
         };
-        status_is = tells.status;
+        logs_in_is = ap is_after_login (r.kind_is ∙ sym kind_is);
       };
-      logs_in_is = ap is_after_login (r.kind_is ∙ sym kind_is);
+      left_as = record {
+        written = subst (Appends old.written new.written) f.joined l.written;
+        flushed = flushed_after first.commands (asked_of settings).first_id l.sent (concat f.frames) old new l.sent_is f.joined l.flushed;
+        taken = consumed settings.replies first.taken first.unread old.left new.left p.given l.left r.joined;
+      };
     }
 
-unmade : (settings : Settings) (old new : State) (refusal : EstablishError) (link : MemoryLink) (total : ℕ) (x : Rehearsal)
-    → IsStopped (asked_of settings) old new refusal → Replayed settings.replies (bytes_written link) (bytes_left link) old new → total ≡ length settings.replies → TellsRefused link total refusal x → Rehearses settings (Err refusal) x
-unmade settings old new refusal link total x s p total_is tells =
+unmade : (settings : Settings) (old new : State) (refusal : EstablishError) (output left : List ℕ) (taken : ℕ) (x : Rehearsal)
+    → IsStopped (asked_of settings) old new refusal → Replayed settings.replies output left old new → taken ≡ length settings.replies - length left → TellsRefused output taken refusal x → Replays settings (Err refusal) old new x
+unmade settings old new refusal output left taken x s p taken_is tells =
     elim (stopped_refusal refusal.handshake_phase (asked_of settings) refusal.cause.kind old new s.after settings.replies s.stopped p.given p.unfailed p.unwritten) [
       | inl memory ↦ absurd (subst IsReported memory tells.reported)
-      | inr r ↦ told_refusal settings refusal.cause.kind refusal.handshake_phase old new s.after link total refusal x refl refl r p total_is tells
+      | inr r ↦ told_refusal settings refusal.cause.kind refusal.handshake_phase old new s.after output left taken refusal x refl refl r p taken_is tells
     ]
 
 -- ---- either
 
 -- however an establishment ended, what is told of it is the report
-pub rehearsed : {E : Type 0} (settings : Settings) (asked : Asked) (old new : State) (link : MemoryLink) (total : ℕ) (ended : Result PooledConnection EstablishError) (r : Result Rehearsal E)
+pub rehearsed : {E : Type 0} (settings : Settings) (asked : Asked) (old new : State) (output left : List ℕ) (taken : ℕ) (ended : Result PooledConnection EstablishError) (r : Result Rehearsal E)
     → asked ≡ asked_of settings → IfOk ended (IsMade asked old new) → IfErr ended (IsStopped asked old new)
-    → Replayed settings.replies (bytes_written link) (bytes_left link) old new → total ≡ length settings.replies → IfOk r (Tells link total ended) → IfOk r (Rehearses settings ended)
-rehearsed settings asked old new link total (Ok pooled) (Ok x) same m s p total_is tells = made settings old new pooled link total x (subst (λ a. IsMade a old new pooled) same m) p total_is tells
-rehearsed settings asked old new link total (Err refusal) (Ok x) same m s p total_is tells = unmade settings old new refusal link total x (subst (λ a. IsStopped a old new refusal) same s) p total_is tells
-rehearsed settings asked old new link total ended (Err error) same m s p total_is tells = tt
+    → Replayed settings.replies output left old new → taken ≡ length settings.replies - length left → IfOk r (Tells output taken ended) → IfOk r (Replays settings ended old new)
+rehearsed settings asked old new output left taken (Ok pooled) (Ok x) same m s p taken_is tells = made settings old new pooled output left taken x (subst (λ a. IsMade a old new pooled) same m) p taken_is tells
+rehearsed settings asked old new output left taken (Err refusal) (Ok x) same m s p taken_is tells = unmade settings old new refusal output left taken x (subst (λ a. IsStopped a old new refusal) same s) p taken_is tells
+rehearsed settings asked old new output left taken ended (Err error) same m s p taken_is tells = tt

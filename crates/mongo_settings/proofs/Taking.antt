@@ -2,8 +2,6 @@
 use Rattle.std.proofs.Common.{◌≡◌, ℕ, ◌⊎◌, ◌∙◌, ap, subst, sym, refl, inl, inr, Bool, true, false, Option, Some, Result, Ok, Err, List, IfOk}
 use Rattle.mongo_wire.specs.declared.error.ErrorKind.{ErrorKind}
 use Rattle.mongo_wire.specs.declared.error.ErrorKind.TheVariants.{IncompatibleServer, OutOfMemory}
-use Rattle.mongo_wire.specs.declared.memory_link.MemoryLink.{MemoryLink}
-use Rattle.mongo_wire.specs.Memory.{bytes_left, bytes_written}
 use Rattle.mongo_wire.specs.Outside.{State}
 use Rattle.mongo_scram.specs.declared.cache.SaltedKey.{SaltedKey}
 use Rattle.mongo_scram.specs.Costs.{Ledgers}
@@ -16,9 +14,9 @@ use Rattle.mongo_settings.specs.declared.rehearsal.Rehearsal.{Rehearsal}
 use Rattle.mongo_settings.specs.Outcome.{asked_of}
 use Rattle.mongo_settings.specs.Rehearsal.{IsRehearsal}
 use Rattle.mongo_settings.specs.Rounds.{is_after_login, logs_in}
-use Rattle.mongo_settings.specs.Takes.{TakesBy, logged_in, Rehearses, Takes, IsTaking}
+use Rattle.mongo_settings.specs.Takes.{TakesBy, logged_in, Takes, IsTaking}
 use Rattle.mongo_settings.specs.Telling.{IsReported, Tells}
-use Rattle.mongo_settings.proofs.Rehearsing.{Replayed}
+use Rattle.mongo_settings.proofs.Rehearsing.{Replayed, Replays}
 
 before_login : (kind : ErrorKind) → (kind ≡ IncompatibleServer → ⊥) → is_after_login kind ≡ false
 before_login IncompatibleServer other = absurd (other refl)
@@ -33,24 +31,24 @@ takes_over settings first last (Err e) (inl memory) reported = absurd (subst IsR
 takes_over settings first last (Err e) (inr (inl unnamed)) reported = subst (λ b. Takes settings b first last) (sym (ap is_after_login unnamed.kind_is)) (took settings true first last unnamed.led)
 takes_over settings first last (Err e) (inr (inr refused)) reported = subst (λ b. Takes settings b first last) (sym (before_login e.cause.kind refused.other)) (took settings false first last refused.led)
 
-told_cause : (link : MemoryLink) (total : ℕ) (ended : Result PooledConnection EstablishError) (x : Rehearsal) → Tells link total ended x → (e : EstablishError) → ended ≡ Err e → IsReported e.cause.kind
-told_cause link total (Ok pooled) x tells e is = cc
-told_cause link total (Err refusal) x tells e is = subst (λ (r : Result PooledConnection EstablishError). caused r) is tells.reported where
+told_cause : (written : List ℕ) (count : ℕ) (ended : Result PooledConnection EstablishError) (x : Rehearsal) → Tells written count ended x → (e : EstablishError) → ended ≡ Err e → IsReported e.cause.kind
+told_cause written count (Ok pooled) x tells e is = cc
+told_cause written count (Err refusal) x tells e is = subst (λ (r : Result PooledConnection EstablishError). caused r) is tells.reported where
   caused : Result PooledConnection EstablishError → Type 0
   caused (Ok pooled) = IsReported OutOfMemory
   caused (Err error) = IsReported error.cause.kind
 
 -- the rehearsal and what it takes
-pub taking : {E : Type 0} (settings : Settings) (asked : Asked) (old new : State) (first last : Ledgers) (link : MemoryLink) (total : ℕ) (ended : Result PooledConnection EstablishError) (r : Result Rehearsal E)
-    → asked ≡ asked_of settings → CostsAsLed ended asked old new first last → Replayed settings.replies (bytes_written link) (bytes_left link) old new
-    → IfOk r (Tells link total ended) → IfOk r (Rehearses settings ended) → IfOk r (IsTaking settings first last)
-taking settings asked old new first last link total ended (Ok x) same costs p tells is =
+pub taking : {E : Type 0} (settings : Settings) (asked : Asked) (old new : State) (first last : Ledgers) (output left : List ℕ) (count : ℕ) (ended : Result PooledConnection EstablishError) (r : Result Rehearsal E)
+    → asked ≡ asked_of settings → CostsAsLed ended asked old new first last → Replayed settings.replies output left old new
+    → IfOk r (Tells output count ended) → IfOk r (Replays settings ended old new) → IfOk r (IsTaking settings first last)
+taking settings asked old new first last output left count ended (Ok x) same costs p tells is =
     let over = (subst (λ a. CostsAsLed ended a old new first last) same costs).over settings.replies p.given p.unfailed p.unwritten in
     record {
-      rehearsal_is = is.rehearsal_is;
-      takes = subst (λ b. Takes settings b first last) (sym is.logs_in_is) (takes_over settings first last ended over (told_cause link total ended x tells));
+      rehearsal_is = is.rehearses.rehearsal_is;
+      takes = subst (λ b. Takes settings b first last) (sym is.rehearses.logs_in_is) (takes_over settings first last ended over (told_cause output count ended x tells));
     }
-taking settings asked old new first last link total ended (Err error) same costs p tells is = tt
+taking settings asked old new first last output left count ended (Err error) same costs p tells is = tt
 
 -- the rehearsal alone
 pub alone : {E : Type 0} (settings : Settings) (first last : Ledgers) (r : Result Rehearsal E) → IfOk r (IsTaking settings first last) → IfOk r (IsRehearsal settings)

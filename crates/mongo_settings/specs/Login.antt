@@ -1,8 +1,6 @@
 -- A login that is ready, and how the establishment of its connection ended.
-use Rattle.std.specs.Prelude.{◌≡◌, ℤ, []}
+use Rattle.std.specs.Prelude.{◌≡◌, ℤ}
 use Rattle.mongo_wire.specs.Outside.{State}
-use Rattle.mongo_wire.specs.declared.memory_link.MemoryLink.{MemoryLink}
-use Rattle.mongo_wire.specs.Memory.{bytes_left, bytes_written}
 use Rattle.mongo_establish.specs.declared.establisher.PooledConnection.{PooledConnection}
 use Rattle.mongo_establish.specs.declared.establisher.EstablishError.{EstablishError}
 use Rattle.mongo_establish.specs.Asked.{Asked, asked_for}
@@ -17,12 +15,10 @@ use Rattle.mongo_settings.specs.Outcome.{asked_of}
 unfoldable pub asked_by : Login → Asked
 asked_by login = asked_for login.pending (options_of_establisher login.establisher) login.credential login.inputs.nonces login.ids
 
--- The login asks for what the settings ask for, and the link gives their reply bytes; nothing was written to it.
-pub record IsReady (settings : Settings) (login : Login) (link : MemoryLink) : Type 0 where
+-- the login asks for what the settings ask for
+pub record IsReady (settings : Settings) (login : Login) : Type 0 where
   pub asked : asked_by login ≡ asked_of settings
   pub credential : login.credential ≡ settings.credential
-  pub replies : bytes_left link ≡ settings.replies
-  pub unwritten : bytes_written link ≡ []
 
 -- the connection was made
 pub record IsMade (asked : Asked) (old new : State) (pooled : PooledConnection) : Type 0 where

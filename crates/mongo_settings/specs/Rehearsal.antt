@@ -1,6 +1,8 @@
--- The report of settings, and what a rehearsal answers.
-use Rattle.std.specs.Prelude.{◌≡◌, ℕ, List, ◌++◌, length}
+-- The report of settings, what a rehearsal answers, and how it leaves its link.
+use Rattle.std.specs.Prelude.{◌≡◌, ℕ, ◌⊎◌, List, [], ◌++◌, length}
+use Rattle.std.specs.Io.KnownBytes.{Appends, Consumes}
 use Rattle.std.specs.List.{AllByRecursion, concat}
+use Rattle.mongo_wire.specs.Outside.{State, IsFlushed}
 use Rattle.mongo_establish.specs.Generation.{generation_of}
 use Rattle.mongo_settings.specs.declared.settings.Settings.{Settings}
 use Rattle.mongo_settings.specs.declared.rehearsal.Rehearsal.{Rehearsal}
@@ -31,3 +33,9 @@ pub record IsReport (settings : Settings) (text : List ℕ) : Type 0 where
 pub record IsRehearsal (settings : Settings) (rehearsal : Rehearsal) : Type 0 where
   pub report : IsReport settings rehearsal.report.items
   pub status_is : rehearsal.status ≡ status_of report.outcome
+
+-- The link is left as the report says: exactly its frames were written, and flushed; exactly what its outcome takes was read.
+pub record LeftAs (settings : Settings) (text : List ℕ) (report : IsReport settings text) (old new : State) : Type 0 where
+  pub written : Appends old.written new.written (concat report.frames)
+  pub flushed : (concat report.frames ≡ []) ⊎ IsFlushed new.written new.flushed
+  pub taken : Consumes old.left new.left (taken_by report.outcome)

@@ -4,7 +4,8 @@
 //! [`Logins::rehearse`] runs an establishment over the reply bytes that each hands in and writes its report, line by line; those of
 //! a batch share one cache of salted passwords. `specs/Report.antt` says which lines a report has, `specs/Rehearsal.antt` which
 //! report settings have: exactly one, and `specs/Batch.antt` which a batch has.
-//! Want of memory may come in place of any answer that is a `Result`.
+//! Over another link than one in memory, [`read`] reads the settings of one login, [`prepare`] makes it ready, [`connect`] makes its
+//! connection and [`report_outcome`] writes the report. Want of memory may come in place of any answer that is a `Result`.
 #![tactic(auto)]
 
 mod batch;
@@ -13,6 +14,9 @@ mod report;
 mod settings;
 mod task;
 
-pub use rehearsal::{Rehearsal, RehearsalStatus};
-pub use settings::{LIMIT, Settings, SettingsError, settings_of};
+pub use rehearsal::{
+    Login, Rehearsal, RehearsalStatus, connect, new_state, prepare, report_outcome,
+};
+pub use report::line::{begin_line, end_line, push_hex, push_number, push_word};
+pub use settings::{LIMIT, Settings, SettingsError, read, settings_of};
 pub use task::{Logins, Task};

@@ -1,4 +1,4 @@
-//! One establishment over reply bytes in memory, and the report of it.
+//! One establishment, over reply bytes in memory or another link, and the report of it.
 ghost use Rattle.std.specs.Prelude.{◌≡◌, ◌≤◌, ℕ, List, IfOk};
 ghost use Rattle.mongo_scram.specs.Costs.{ledgers};
 ghost use Rattle.mongo_establish.specs.Speculation.{SpeaksFor};
@@ -9,13 +9,12 @@ mod login;
 mod telling;
 
 use crate::settings::Settings;
-pub(crate) use login::new_state;
-use login::{connect, prepare};
-use mongo_establish::LoginState;
+pub use login::{Login, connect, new_state, prepare};
+use mongo_establish::{LoginState, MemoryLink};
 use mongo_mac::Steps;
 use std::alloc::{AllocError, Global};
 use std::sync::ledger::Ledger;
-use telling::report;
+pub use telling::report_outcome;
 
 /// How a rehearsal came out.
 #[derive(Clone, Copy, Debug, PartialEq, Eq)]
@@ -78,8 +77,10 @@ pub(crate) fn rehearse_with<G: Ledger>(
     ensures taking { IfOk result (IsTaking settings (ledgers steps.old state.old.salted) (ledgers steps.new state.new.salted)) }
     ensures steps { steps.old ≤ steps.new }
 {
-    let (login, mut link) = prepare(alloc, settings)?;
+    let (login, replies) = prepare(alloc, settings)?;
+    let mut link = MemoryLink::new(alloc, replies);
     let total = link.left().len();
     let ended = connect(alloc, login, &mut link, state, steps);
-    report(alloc, &link, total, &ended)
+    let taken = total.saturating_sub(link.left().len());
+    report_outcome(alloc, link.written(), taken, &ended)
 }

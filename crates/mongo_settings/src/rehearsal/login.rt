@@ -10,9 +10,10 @@ ghost use Rattle.mongo_establish.specs.Speculation.{SpeaksFor};
 ghost use Rattle.mongo_settings.specs.Login.{asked_by, IsReady, IsMade, IsStopped};
 
 use crate::settings::Settings;
+use mongo_bson::Bytes;
 use mongo_establish::{
     ClientMetadata, ClientOptions, ConnectionEstablisher, Credential, Error, EstablishError,
-    EstablisherOptions, Link, LoginInputs, LoginState, MemoryLink, Moment, Nonces,
+    EstablisherOptions, Link, LoginInputs, LoginState, Moment, Nonces,
     PendingConnection, PooledConnection, RequestIds, SaltedCache, TopologySpec,
 };
 use mongo_mac::Steps;
@@ -34,9 +35,10 @@ pub struct Login {
     pub ids: RequestIds,
 }
 
-/// Makes the login of the settings ready, and the link that gives their reply bytes.
-pub fn prepare(alloc: Global, settings: Settings) -> Result<(Login, MemoryLink), AllocError>
-    ensures { IfOk result (λ ready. IsReady settings ready.0 ready.1) }
+/// Makes the login of the settings ready, and hands on their reply bytes.
+pub fn prepare(alloc: Global, settings: Settings) -> Result<(Login, Bytes), AllocError>
+    ensures login { IfOk result (λ ready. IsReady settings ready.0) }
+    ensures replies { IfOk result (λ ready. ready.1 ≡ settings.replies) }
 {
     let Settings {
         pending,
@@ -57,7 +59,7 @@ pub fn prepare(alloc: Global, settings: Settings) -> Result<(Login, MemoryLink),
         inputs: inputs(nonces),
         ids: RequestIds::new(first_id),
     };
-    Ok((login, MemoryLink::new(alloc, replies)))
+    Ok((login, replies))
 }
 
 // The establisher of a client with these options. Want of memory is the only refusal.

@@ -1,4 +1,4 @@
-use Rattle.std.proofs.Common.{rules, ◌∙◌, ap, refl, drop, FitsSigned}
+use Rattle.std.proofs.Common.{rules, ◌∙◌, refl, FitsSigned}
 use Rattle.std.specs.Int.{w32}
 use Rattle.std.proofs.lemmas.Int.{to_z-of_z}
 use Rattle.mongo_establish.specs.Establisher.{options_of_establisher}
@@ -6,14 +6,12 @@ use Rattle.mongo_settings.specs.Login.{asked_by}
 use Rattle.mongo_settings.proofs.Ready.{asked_for-settings}
 use Rattle.mongo_settings.proofs.rehearsal.login.prepare.Goals as goal
 
-pub returns : goal.returns
+pub returns-clause-login : goal.returns-clause-login
 unfolding asked_by
-returns c =
+returns-clause-login c =
     let settings = c.args.settings in
     let fits : FitsSigned w32 settings.first_id = search rules in
     record {
       asked = asked_for-settings settings (options_of_establisher c.in-Ok.establisher) c.inputs.result.nonces c.new.result c.in-Ok.ensures.options c.inputs.ensures (c.new.ensures ∙ to_z-of_z w32 settings.first_id fits);
       credential = refl;
-      replies = ap (λ n. drop n c.new-2.result.input.items) c.new-2.ensures.at ∙ c.new-2.ensures.input;
-      unwritten = c.new-2.ensures.output;
     }

@@ -1,0 +1,5 @@
+use Rattle.std.proofs.Common.{◌∙◌, sym}
+use Rattle.mongo_connect.proofs.recording.RecordingSink.flush.Goals as goal
+
+pub invariant_of-self-clause-counted : goal.invariant_of-self-clause-counted
+invariant_of-self-clause-counted g c = λ bytes rest o s. c.args.self.now.counted bytes rest o (sym c.flush.ensures.on.unread.left ∙ s)

@@ -1,0 +1,53 @@
+-- What an establishment over a link does, and what is told of it.
+use Rattle.std.specs.Prelude.{◌≡◌, ℕ, ◌^◌, ◌<◌, ◌⊎◌, Some, Result, List, length, IfOk, IfErr}
+use Rattle.std.specs.Io.KnownBytes.{append_known}
+use Rattle.mongo_wire.specs.Outside.{State, Rose}
+use Rattle.mongo_establish.specs.declared.establisher.PooledConnection.{PooledConnection}
+use Rattle.mongo_establish.specs.declared.establisher.EstablishError.{EstablishError}
+use Rattle.mongo_settings.specs.declared.settings.Settings.{Settings}
+use Rattle.mongo_settings.specs.declared.rehearsal.Rehearsal.{Rehearsal}
+use Rattle.mongo_settings.specs.Login.{IsMade, IsStopped}
+use Rattle.mongo_settings.specs.Outcome.{asked_of}
+use Rattle.mongo_settings.specs.Rehearsal.{IsRehearsal, LeftAs}
+use Rattle.mongo_settings.specs.Telling.{Tells}
+use Rattle.mongo_connect.specs.Recording.{IsTakenCount}
+use Rattle.mongo_connect.specs.Settings.{with_replies}
+
+-- The connection that settings ask for was made, or was stopped as the establishment says: by its replies' refusal, a fault of
+-- the link, an end, or want of memory.
+pub record Attempted (settings : Settings) (ended : Result PooledConnection EstablishError) (old new : State) : Type 0 where
+  pub made : IfOk ended (IsMade (asked_of settings) old new)
+  pub stopped : IfErr ended (IsStopped (asked_of settings) old new)
+
+-- the report tells how it ended, by all that was written and how many bytes were taken
+pub record IsTold (settings : Settings) (old new : State) (rehearsal : Rehearsal) : Type 0 where
+  pub ended : Result PooledConnection EstablishError
+  pub attempted : Attempted settings ended old new
+  pub written : List ℕ
+  pub appended : new.written ≡ append_known old.written written
+  pub taken : ℕ
+  pub counted : IsTakenCount old.left new.left taken
+  pub tells : Tells written taken ended rehearsal
+
+-- no report was made: nothing was done, or what was done isn't told
+abbrev pub IsUntold : Settings → State → State → Type 0
+IsUntold settings old new = (new ≡ old) ⊎ ((ended : Result PooledConnection EstablishError) × Attempted settings ended old new)
+
+-- ---- a link that tells its bytes
+
+-- These bytes are left, fewer of them than 64 bits count, and what was written is told too.
+pub record Told (link : State) (bytes : List ℕ) : Type 0 where
+  pub left : link.left ≡ Some bytes
+  pub fits : length bytes < 2 ^ 64
+  pub before : List ℕ
+  pub written : link.written ≡ Some before
+
+-- it didn't fail
+pub record Faultless (old new : State) : Type 0 where
+  pub reads : Rose old.read_faults new.read_faults → ⊥
+  pub writes : Rose old.write_faults new.write_faults → ⊥
+
+-- The report is the one that the settings have with these reply bytes, and the link is left as it says.
+pub record Rehearses (settings : Settings) (bytes : List ℕ) (old new : State) (rehearsal : Rehearsal) : Type 0 where
+  pub rehearsal_is : IsRehearsal (with_replies settings bytes) rehearsal
+  pub left_as : LeftAs (with_replies settings bytes) rehearsal.report.items rehearsal_is.report old new

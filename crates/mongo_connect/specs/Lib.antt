@@ -1,0 +1,5 @@
+pub mod Connecting
+pub mod Input
+pub mod Recording
+pub mod Run
+pub mod Settings

@@ -1,0 +1,62 @@
+//! Reading the line of settings from a source.
+ghost use Rattle.std.specs.Prelude.{◌≡◌, ◌×◌, ◌+◌, ℕ, List, None, Some, IfOk, OnErr, IsErrOf, option_to_list};
+ghost use Rattle.std.specs.Io.KnownBytes.{Consumes, IsAtEnd, Keeps};
+ghost use Rattle.mongo_wire.specs.Outside.{ReadsOn, Rose, ConsumesAtMost};
+ghost use Rattle.mongo_settings.specs.Settings.{limit};
+ghost use Rattle.mongo_connect.specs.Input.{line_of, after_line};
+
+use mongo_settings::LIMIT;
+use mongo_wire::{Failed, Source};
+use std::alloc::Global;
+
+/// Why a source wasn't read.
+#[derive(Clone, Copy, Debug, PartialEq, Eq)]
+pub enum InputError {
+    /// The source failed. Its count of read faults rose.
+    Fault,
+    /// Memory ran out.
+    OutOfMemory,
+}
+
+/// Reads the first line of a source, without its line feed, a byte at a time: nothing after the line feed is read.
+///
+/// An end before a line feed ends the line too. Of a line that is longer than settings may be, 4194304 bytes, one byte more than
+/// that is read and handed on. `Fault` where the source failed.
+pub fn read_line<S: Source>(alloc: Global, source: &mut S) -> Result<Vec<u8>, InputError>
+    ensures line { (input : List ℕ) → (S.state source.old).left ≡ Some input → IfOk result (λ line. line.items ≡ line_of input) }
+    ensures left { (input : List ℕ) → (S.state source.old).left ≡ Some input → IfOk result (λ line. (S.state source.new).left ≡ Some (after_line input)) }
+    ensures failed { IsErrOf result InputError.Fault → Rose (S.state source.old).read_faults (S.state source.new).read_faults }
+    ensures at_most { ConsumesAtMost (S.state source.old).left (S.state source.new).left (limit + 1) }
+    ensures on { ReadsOn (S.state source.old) (S.state source.new) }
+{
+    let mut held = Vec::new(alloc);
+    'reading: while held.len() <= LIMIT {
+        match read_byte(source) {
+            Ok(Some(b'\n')) => return Ok(held),
+            Ok(Some(byte)) => {
+                if held.push(byte).is_err() {
+                    return Err(InputError::OutOfMemory);
+                }
+            }
+            Ok(None) => return Ok(held),
+            Err(_) => return Err(InputError::Fault),
+        }
+    }
+    Ok(held)
+}
+
+// Reads the next byte of a source. None at its end.
+fn read_byte<S: Source>(source: &mut S) -> Result<Option<u8>, Failed>
+    ensures byte { IfOk result (λ next. Consumes (S.state source.old).left (S.state source.new).left (option_to_list next)) }
+    ensures end { IfOk result (λ next. next ≡ None → IsAtEnd (S.state source.new).left) }
+    ensures failed { OnErr result (Rose (S.state source.old).read_faults (S.state source.new).read_faults) }
+    ensures kept { OnErr result (Keeps (S.state source.old).left (S.state source.new).left) }
+    ensures on { ReadsOn (S.state source.old) (S.state source.new) }
+{
+    let mut byte = [0u8; 1];
+    match source.read(&mut byte) {
+        Ok(0) => Ok(None),
+        Ok(_) => Ok(Some(byte[0])),
+        Err(failed) => Err(failed),
+    }
+}

@@ -1,0 +1,87 @@
+//! The top call.
+ghost use Rattle.std.specs.Prelude.{◌≡◌, ◌<◌, ℕ, length};
+ghost use Rattle.mongo_connect.specs.Run.{run_of, Ends, RunEnds, IsDecided, StepsAfter};
+
+use crate::connecting::connect_over;
+use crate::input::{InputError, read_line};
+use crate::output::write_report;
+use crate::settings::read_settings;
+use crate::status::Status;
+use mongo_establish::{Link, Sink, SinkError};
+use mongo_mac::Steps;
+use mongo_settings::SettingsError;
+use std::alloc::Global;
+use std::sync::ledger::{Blank, Ledger};
+
+/// The program's one call: reads settings from the first line of `link`, makes the connection that they ask for over what follows,
+/// and writes the report of it to `report`.
+///
+/// It takes no words. The whole report is made before its first byte is written.
+pub fn run<L: Link, K: Sink, G: Ledger>(
+    alloc: Global,
+    words: Vec<String>,
+    link: &mut L,
+    report: &mut K,
+    steps: &mut Steps<G>,
+) -> Status
+    // How it ends, a row a status: done, what was printed, sent and taken are exactly those of the settings' one report.
+    ensures ends { RunEnds L.state K.state (length words.items) (run_of link.old link.new report.old report.new) result }
+    // Where nothing fails, the words, the line and what follows it decide.
+    ensures decided { IsDecided L.state K.state (length words.items) (run_of link.old link.new report.old report.new) result }
+    ensures steps { StepsAfter result steps.old steps.new }
+{
+    if words.is_empty() {
+        run_line(alloc, link, report, steps)
+    } else {
+        Status::Usage
+    }
+}
+
+/// [`run`] with a counter of its own, of the ledger that `blank` opens.
+pub fn run_counted<L: Link, K: Sink, G: Ledger>(
+    alloc: Global,
+    words: Vec<String>,
+    link: &mut L,
+    report: &mut K,
+    blank: Blank,
+) -> Status
+    requires name { blank.name ≡ G.name }
+    requires parts { blank.parts ≡ G.parts }
+    requires has_a_part { 0 < G.parts }
+    ensures ends { RunEnds L.state K.state (length words.items) (run_of link.old link.new report.old report.new) result }
+    ensures decided { IsDecided L.state K.state (length words.items) (run_of link.old link.new report.old report.new) result }
+{
+    let mut steps = Steps::<G>::new(blank);
+    run(alloc, words, link, report, &mut steps)
+}
+
+// Makes the connection that the first line of the link asks for.
+fn run_line<L: Link, K: Sink, G: Ledger>(
+    alloc: Global,
+    link: &mut L,
+    report: &mut K,
+    steps: &mut Steps<G>,
+) -> Status
+    ensures ends { Ends L.state K.state (run_of link.old link.new report.old report.new) result }
+    ensures steps { StepsAfter result steps.old steps.new }
+{
+    let line = match read_line(alloc, link) {
+        Ok(line) => line,
+        Err(InputError::Fault) => return Status::LinkFault,
+        Err(InputError::OutOfMemory) => return Status::NoMemory,
+    };
+    let settings = match read_settings(alloc, line.as_slice()) {
+        Ok(settings) => settings,
+        Err(SettingsError::BadSettings) => return Status::BadSettings,
+        Err(SettingsError::NotBuilt) => return Status::NotBuilt,
+        Err(SettingsError::OutOfMemory) => return Status::NoMemory,
+    };
+    let Ok(rehearsal) = connect_over(alloc, settings, link, steps) else {
+        return Status::NoMemory;
+    };
+    match write_report(report, rehearsal.report.as_slice()) {
+        Ok(()) => Status::after(rehearsal.status),
+        Err(SinkError::Failed) => Status::SinkFault,
+        Err(SinkError::OutOfMemory) => Status::NoMemory,
+    }
+}
