@@ -54,6 +54,7 @@ impl ServerUser {
         ensures cost { OnOk result (steps.new ≡ steps.old + count) }
         ensures no_cost { IfErr result (λ e. e.kind ≢ OutOfMemory → steps.new ≡ steps.old) }
         ensures at_most { steps.new ≤ steps.old + count }
+        ensures rises { steps.old ≤ steps.new }
     {
         let salted = version.compute_salted_password(
             username,

@@ -1,0 +1,21 @@
+-- What comes of a login.
+use Rattle.std.specs.Prelude.{ℕ, List}
+use Rattle.mongo_server.specs.declared.server_core.ServerCore.{ServerCore}
+use Rattle.mongo_server.specs.Acceptance.{Accepts}
+use Rattle.mongo_server.specs.Exchange.{Exchange, first_of, close_of, final_of}
+use Rattle.mongo_server.specs.Server.{IsOwed, IsTaken}
+use Rattle.mongo_generate.specs.declared.acceptance.Acceptance.{Acceptance}
+use Rattle.mongo_generate.specs.Replies.{AreReplies}
+
+-- the last messages of an exchange
+abbrev pub acceptance_of : Exchange → Acceptance
+acceptance_of x = record { client_final = close_of x; server_final = final_of x }
+
+-- the server has taken the client's last message, and owes its own
+abbrev pub IsTakenBy : ServerCore → Acceptance → Type 0
+IsTakenBy server acceptance = IsTaken server acceptance.client_final × IsOwed server acceptance.server_final
+
+-- the bytes are the replies of the exchange, which its client accepts
+pub record IsHeard (x : Exchange) (bytes : List ℕ) : Type 0 where
+  pub replies : AreReplies (first_of x) (final_of x) bytes
+  pub accepts : Accepts x (final_of x)

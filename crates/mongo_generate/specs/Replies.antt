@@ -1,0 +1,65 @@
+-- A server's two replies to a login: that to the hello, which answers the login that went with it, and that to the command
+-- after it.
+use Rattle.std.specs.Prelude.{◌≡◌, ℕ, ℤ, pos, ◌≤ℤ◌, Bool, true, false, List, [], ◌∷◌, ◌++◌, length, codes}
+use Rattle.std.specs.Int.{to_le_bytes, w64}
+use Rattle.mongo_bson.specs.Document.{Element}
+use Rattle.mongo_command.specs.Literal.{document_element, truth_element, int32_element, document_of}
+use Rattle.mongo_sasl.specs.Commands.{generic_element}
+use Rattle.mongo_wire.specs.declared.memory_link.MemoryLink.{MemoryLink}
+use Rattle.mongo_wire.specs.Frame.{Frame, IsFrame}
+use Rattle.mongo_wire.specs.Memory.{bytes_written}
+
+-- `ok: 1.0`
+abbrev pub ok_element : Element
+ok_element = record { kind = 0x01; key = codes "ok"; value = to_le_bytes w64 0x3FF0000000000000 }
+
+-- the greatest frame that the server takes
+abbrev pub server_maximum : ℤ
+server_maximum = pos 48000000
+
+-- what a round of a conversation says
+abbrev pub round_elements : Bool → List ℕ → List Element
+round_elements done payload = int32_element (codes "conversationId") (pos 1) ∷ truth_element (codes "done") done ∷ generic_element (codes "payload") payload ∷ []
+
+abbrev pub speculative_elements : List ℕ → List Element
+speculative_elements server_first = round_elements false server_first
+
+abbrev pub hello_elements : List ℕ → List Element
+hello_elements server_first =
+    ok_element
+    ∷ int32_element (codes "maxBsonObjectSize") (pos 16777216)
+    ∷ int32_element (codes "maxMessageSizeBytes") server_maximum
+    ∷ document_element (codes "speculativeAuthenticate") (document_of (speculative_elements server_first))
+    ∷ []
+
+abbrev pub final_elements : List ℕ → List Element
+final_elements server_final = ok_element ∷ round_elements true server_final
+
+-- a standalone server's answer to a hello, with its first message
+unfoldable pub hello_reply : List ℕ → List ℕ
+hello_reply server_first = document_of (hello_elements server_first)
+
+-- the end of the login, with its last
+unfoldable pub final_reply : List ℕ → List ℕ
+final_reply server_final = document_of (final_elements server_final)
+
+-- the bytes are a frame of this document, within a maximum
+pub record IsReply (document : List ℕ) (maximum : ℤ) (frame : List ℕ) : Type 0 where
+  pub parts : Frame
+  pub is_frame : IsFrame frame parts
+  pub body_is : parts.body ≡ document
+  pub within : pos (length frame) ≤ℤ maximum
+
+-- the frame of such a reply was written to the link
+pub record WritesReply (document : List ℕ) (old new : MemoryLink) : Type 0 where
+  pub frame : List ℕ
+  pub is_reply : IsReply document server_maximum frame
+  pub written : bytes_written new ≡ bytes_written old ++ frame
+
+-- the bytes are the frames of the two replies
+pub record AreReplies (server_first server_final bytes : List ℕ) : Type 0 where
+  pub hello : List ℕ
+  pub final : List ℕ
+  pub joined : bytes ≡ hello ++ final
+  pub hello_is : IsReply (hello_reply server_first) server_maximum hello
+  pub final_is : IsReply (final_reply server_final) server_maximum final

@@ -1,0 +1,69 @@
+ghost use Rattle.std.specs.Prelude.{◌≡◌, IfOk};
+ghost use Rattle.mongo_establish.specs.Establisher.{options_of_establisher};
+ghost use Rattle.mongo_generate.specs.Options.{client_options, handshaker_options};
+
+use mongo_bson::{BsonFault, Text};
+use mongo_establish::{
+    ClientMetadata, ClientOptions, ConnectionEstablisher, Error, EstablisherOptions, TopologySpec,
+};
+use mongo_meta::{Environment, OsMetadata, Variables};
+use std::alloc::{AllocError, Global};
+
+// The most iterations by which a login derives its key.
+const MOST_ITERATIONS: u32 = 10_000_000;
+
+/// A client that says no more of itself than it has to, and takes 10000000 iterations at most.
+#[derive(Debug, Drop)]
+pub struct Client {
+    pub(crate) establisher: ConnectionEstablisher,
+    pub ghost options: { options_of_establisher establisher ≡ handshaker_options },
+}
+
+impl Client {
+    /// The client. Its hello is built once, for all of its logins.
+    pub fn new(alloc: Global) -> Result<Client, AllocError> {
+        match establisher(alloc) {
+            Ok(establisher) => Ok(Client { establisher }),
+            Err(_) => Err(AllocError),
+        }
+    }
+}
+
+// Want of memory is the only refusal.
+#[tactic(auto, unfolding(crate::specs::Options::handshaker_options))]
+fn establisher(alloc: Global) -> Result<ConnectionEstablisher, Error>
+    ensures options { IfOk result (λ establisher. options_of_establisher establisher ≡ handshaker_options) }
+{
+    let options = client_options(alloc)?;
+    let metadata = ClientMetadata::from_options(alloc, &options)?;
+    let spec = TopologySpec {
+        options,
+        metadata,
+        max_iterations: MOST_ITERATIONS,
+    };
+    ConnectionEstablisher::new(alloc, EstablisherOptions::from_spec(alloc, &spec)?)
+}
+
+// What the client says of itself. Want of memory is the only refusal.
+fn client_options(alloc: Global) -> Result<ClientOptions, BsonFault>
+    ensures options { IfOk result (λ options. options ≡ client_options) }
+{
+    Ok(ClientOptions {
+        app_name: None,
+        driver_info: None,
+        server_api: None,
+        load_balanced: false,
+        os: OsMetadata {
+            os_type: Text::from_slice(alloc, "linux")?,
+            name: None,
+            architecture: Some(Text::from_slice(alloc, "x86_64")?),
+            version: None,
+        },
+        platform: Text::from_slice(alloc, "rattle / sync")?,
+        platform_short: Text::from_slice(alloc, "rattle")?,
+        environment: Environment {
+            variables: Variables::new(alloc),
+            dockerenv: false,
+        },
+    })
+}

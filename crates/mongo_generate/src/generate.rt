@@ -1,0 +1,79 @@
+ghost use Rattle.std.specs.Prelude.{◌≡◌, ◌+◌, ◌≤◌, Some, IfOk, OnOk};
+ghost use Rattle.mongo_scram.specs.Costs.{ledgers};
+ghost use Rattle.mongo_establish.specs.KeyCosts.{TakesKey};
+ghost use Rattle.mongo_generate.specs.Acceptance.{acceptance_of};
+ghost use Rattle.mongo_generate.specs.Generated.{exchange_at, IsGenerated};
+ghost use Rattle.mongo_generate.specs.Login.{key_of};
+
+use crate::{Acceptance, Client, Login, generated_server};
+use mongo_establish::{LoginState, RequestIds, SaltedCache};
+use mongo_mac::Steps;
+use sha2::{Digest, Sha256};
+use std::alloc::{AllocError, Global};
+use std::sync::ledger::Ledger;
+
+/// What came of logins.
+#[derive(Clone, Copy, Debug)]
+pub struct Generated {
+    /// How many there were.
+    pub logins: u32,
+    /// How many of them both sides accepted.
+    pub accepted: u32,
+    /// The rounds of Hi that the client derived.
+    pub rounds: u64,
+    /// The SHA-256 of all last messages, joined: login after login, the client's and then the server's.
+    pub digest: [u8; 32],
+}
+
+/// Makes the logins of the numbers below `count`, one after another with one cache of salted passwords, each against a
+/// server of its own. There are 1000 at most.
+///
+/// Both sides accept each of them. Want of memory is the only refusal.
+pub fn generate<G: Ledger>(
+    alloc: Global,
+    count: u32,
+    steps: &mut Steps<G>,
+) -> Result<Generated, AllocError>
+    requires { count ≤ 1000 }
+    ensures generated { IfOk result (IsGenerated count steps.old steps.new) }
+    ensures steps { steps.old ≤ steps.new }
+{
+    let client = Client::new(alloc)?;
+    let mut state = LoginState {
+        salted: SaltedCache::new(alloc),
+        ids: RequestIds::new(0),
+    };
+    let mut accepted = 0;
+    let mut hasher = Sha256::new();
+    for number in 0..count {
+        if let Some(acceptance) = log_in_numbered(alloc, &client, number, &mut state, steps)? {
+            accepted += 1;
+            hasher.update(acceptance.client_final.as_bytes());
+            hasher.update(acceptance.server_final.as_bytes());
+        }
+    }
+    Ok(Generated {
+        logins: count,
+        accepted,
+        rounds: state.salted.rounds(),
+        digest: hasher.finalize(),
+    })
+}
+
+// The login of this number, against the server that knows its user.
+fn log_in_numbered<G: Ledger>(
+    alloc: Global,
+    client: &Client,
+    number: u32,
+    state: &mut LoginState,
+    steps: &mut Steps<G>,
+) -> Result<Option<Acceptance>, AllocError>
+    ensures accepted { IfOk result (λ met. met ≡ Some (acceptance_of (exchange_at number))) }
+    // The server derives the key, and then the client does where it has no entry.
+    ensures takes { OnOk result (TakesKey (key_of (exchange_at number)) (ledgers (steps.old + 4096) state.old.salted) (ledgers steps.new state.new.salted)) }
+    ensures steps { steps.old ≤ steps.new }
+{
+    let login = Login::generated(alloc, number)?;
+    let mut server = generated_server(alloc, number, steps)?;
+    client.log_in(alloc, &login, &mut server, state, steps)
+}

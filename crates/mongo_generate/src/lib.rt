@@ -1,0 +1,30 @@
+//! Logins by SCRAM (RFC 5802, over SHA-1 and SHA-256) in memory: a client of `mongo_establish` and a server of
+//! `mongo_server`, which both accept.
+//!
+//! 1. [`Login`] is who logs in, and by which nonce. [`Login::generated`] is the login of a number, and [`generated_server`]
+//!    the server that knows its user.
+//! 2. [`Client::log_in`] hands the server's two messages to the client, as the replies of a link in memory, and the
+//!    client's last message, as it was written to that link, back to the server.
+//! 3. [`generate`] makes so many logins one after another, with one cache of salted passwords, and answers how many both
+//!    sides accepted, the rounds of Hi that were derived, and one digest of all last messages.
+//!
+//! Proved: where a login and a server are of one exchange, both sides accept, or memory runs out; `generate` answers the
+//! numbers and the digest that `specs/Generated.antt` gives.
+#![tactic(auto)]
+
+mod acceptance;
+mod client;
+mod generate;
+mod generated;
+mod log_in;
+mod login;
+mod replies;
+#[cfg(test)]
+mod tests;
+mod written;
+
+pub use acceptance::Acceptance;
+pub use client::Client;
+pub use generate::{Generated, generate};
+pub use generated::generated_server;
+pub use login::Login;

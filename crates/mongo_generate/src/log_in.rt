@@ -1,0 +1,143 @@
+//! One login: a client against a server.
+ghost use Rattle.std.specs.Prelude.{◌≡◌, IfOk, OnOk, MatchOption};
+ghost use Rattle.mongo_establish.specs.declared.generation.PoolGeneration.TheVariants.{Normal};
+ghost use Rattle.mongo_server.specs.Exchange.{Exchange};
+ghost use Rattle.mongo_server.specs.Server.{Serves, HasBegun};
+ghost use Rattle.mongo_generate.specs.Acceptance.{IsHeard};
+ghost use Rattle.mongo_generate.specs.Login.{LogsIn};
+
+use crate::replies::replies_of;
+use crate::written::client_final;
+use crate::{Acceptance, Client, Login};
+use mongo_bson::Bytes;
+use mongo_establish::{
+    ErrorKind, LoginState, MemoryLink, PendingConnection, PoolGeneration, RequestIds,
+    ServerAddress, Text,
+};
+use mongo_mac::Steps;
+use mongo_server::{ServerCore, ServerFault};
+use std::alloc::{AllocError, Global};
+use std::sync::ledger::Ledger;
+
+impl Client {
+    ghost use Rattle.std.specs.Prelude.{◌≡◌, ◌≤◌, Some, IfSome, IfOk, OnOk, MatchOption};
+    ghost use Rattle.mongo_scram.specs.Costs.{ledgers};
+    ghost use Rattle.mongo_establish.specs.KeyCosts.{TakesKey};
+    ghost use Rattle.mongo_server.specs.Exchange.{Exchange, close_of};
+    ghost use Rattle.mongo_server.specs.Server.{Serves};
+    ghost use Rattle.mongo_generate.specs.Acceptance.{acceptance_of, IsTakenBy, IsHeard};
+    ghost use Rattle.mongo_generate.specs.Login.{LogsIn, key_of};
+    ghost use Rattle.mongo_generate.specs.Written.{Carries};
+
+    /// Establishes a connection over a link in memory whose replies carry the server's messages: hello with the login that
+    /// goes with it, and the last round. The client's last message, as it was written, is then the server's to judge. None
+    /// where either side refuses. The ids of the commands begin at 0.
+    ///
+    /// A server of the login's exchange, and its client, accept: the answer is their last messages. Want of memory is the
+    /// only refusal.
+    pub fn log_in<G: Ledger>(
+        &self,
+        alloc: Global,
+        login: &Login,
+        server: &mut ServerCore,
+        state: &mut LoginState,
+        steps: &mut Steps<G>,
+    ) -> Result<Option<Acceptance>, AllocError>
+        // Where both are of one exchange, both accept.
+        ensures accepted { (x : Exchange) → LogsIn x login.now → Serves server.old x → IfOk result (λ met. met ≡ Some (acceptance_of x)) }
+        // Its key is derived where it has no entry, and has one then.
+        ensures takes { (x : Exchange) → LogsIn x login.now → Serves server.old x → OnOk result (TakesKey (key_of x) (ledgers steps.old state.old.salted) (ledgers steps.new state.new.salted)) }
+        // Whatever the server, what is answered it has taken, and owes.
+        ensures taken { IfOk result (λ met. IfSome met (IsTakenBy server.new)) }
+        ensures serves { (x : Exchange) → Serves server.old x → Serves server.new x }
+        ensures steps { steps.old ≤ steps.new }
+    {
+        let Some(replies) = heard(alloc, login, server)? else {
+            return Ok(None);
+        };
+        let Some(written) = self.establish(alloc, login, replies, state, steps)? else {
+            return Ok(None);
+        };
+        let Some(client_final) = client_final(alloc, written.as_bytes())? else {
+            return Ok(None);
+        };
+        match server.last(alloc, client_final.as_bytes()) {
+            Ok(server_final) => Ok(Some(Acceptance {
+                client_final,
+                server_final,
+            })),
+            Err(ServerFault::OutOfMemory) => Err(AllocError),
+            Err(_) => Ok(None),
+        }
+    }
+
+    // Logs in over a link that gives these replies. The bytes that were written, or None where the client refuses.
+    fn establish<G: Ledger>(
+        &self,
+        alloc: Global,
+        login: &Login,
+        replies: Bytes,
+        state: &mut LoginState,
+        steps: &mut Steps<G>,
+    ) -> Result<Option<Bytes>, AllocError>
+        ensures written { (x : Exchange) → LogsIn x login.now → IsHeard x replies → IfOk result (λ written. MatchOption written ⊥ (Carries (close_of x))) }
+        ensures takes { (x : Exchange) → LogsIn x login.now → IsHeard x replies → OnOk result (TakesKey (key_of x) (ledgers steps.old state.old.salted) (ledgers steps.new state.new.salted)) }
+        ensures steps { steps.old ≤ steps.new }
+    {
+        let pending = pending(alloc)?;
+        let mut link = MemoryLink::new(alloc, replies);
+        state.ids = RequestIds::new(0);
+        match self.establisher.establish_connection(
+            alloc,
+            pending,
+            &mut link,
+            Some(&login.credential),
+            state,
+            &login.inputs,
+            steps,
+        ) {
+            Ok(_) => match Bytes::from_slice(alloc, link.written()) {
+                Ok(written) => Ok(Some(written)),
+                Err(_) => Err(AllocError),
+            },
+            Err(refusal) => match refusal.cause.kind {
+                ErrorKind::OutOfMemory => Err(AllocError),
+                _ => Ok(None),
+            },
+        }
+    }
+}
+
+// The replies of a server that heard the client's first message, or None where it refuses that.
+fn heard(alloc: Global, login: &Login, server: &mut ServerCore) -> Result<Option<Bytes>, AllocError>
+    ensures heard { (x : Exchange) → LogsIn x login.now → Serves server.old x → IfOk result (λ replies. MatchOption replies ⊥ (IsHeard x)) }
+    ensures begun { (x : Exchange) → LogsIn x login.now → Serves server.old x → OnOk result (HasBegun server.new x) }
+    ensures serves { (x : Exchange) → Serves server.old x → Serves server.new x }
+{
+    let first = match server.first(alloc, login.client_first.as_bytes()) {
+        Ok(first) => first,
+        Err(ServerFault::OutOfMemory) => return Err(AllocError),
+        Err(_) => return Ok(None),
+    };
+    let Ok(last) = server.expected_final(alloc) else {
+        return Err(AllocError);
+    };
+    match replies_of(alloc, first.as_bytes(), last.as_bytes()) {
+        Ok(replies) => Ok(Some(replies)),
+        Err(_) => Err(AllocError),
+    }
+}
+
+// A connection to `localhost`.
+fn pending(alloc: Global) -> Result<PendingConnection, AllocError>
+    ensures generation { IfOk result (λ pending. pending.generation ≡ Normal 0) }
+{
+    let Ok(host) = Text::from_slice(alloc, "localhost") else {
+        return Err(AllocError);
+    };
+    Ok(PendingConnection {
+        id: 0,
+        address: ServerAddress::Tcp { host, port: None },
+        generation: PoolGeneration::Normal(0),
+    })
+}
