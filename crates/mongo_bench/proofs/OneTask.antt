@@ -14,8 +14,8 @@ use Rattle.mongo_bench.specs.declared.task.Direction.TheVariants.{Write, Read, R
 use Rattle.mongo_bench.specs.declared.task.FrameSize.{FrameSize}
 use Rattle.mongo_bench.specs.declared.task.FrameSize.TheVariants.{Small, Middle, Large}
 use Rattle.mongo_bench.specs.declared.task.Task.{Task}
-use Rattle.mongo_bench.specs.declared.task.Task.TheVariants.{Derive, Walk, Document, Frames, Insert}
-use Rattle.mongo_bench.specs.Task.{Asks, name_of_hash, name_of_pass, name_of_shape, name_of_direction, name_of_size}
+use Rattle.mongo_bench.specs.declared.task.Task.TheVariants.{Derive, Walk, Document, Frames, Insert, Login}
+use Rattle.mongo_bench.specs.Task.{Asks, name_of_hash, name_of_login, name_of_pass, name_of_shape, name_of_direction, name_of_size}
 
 one_hash : (h k : Hash) → name_of_hash h ≡ name_of_hash k → h ≡ k
 one_hash Sha1 Sha1 same = refl
@@ -61,6 +61,17 @@ one_size Middle Large same = cc
 one_size Large Small same = cc
 one_size Large Middle same = cc
 one_size Large Large same = refl
+
+one_login : (h k : Hash) → name_of_login h ≡ name_of_login k → h ≡ k
+one_login Sha1 Sha1 same = refl
+one_login Sha1 Sha256 same = cc
+one_login Sha256 Sha1 same = cc
+one_login Sha256 Sha256 same = refl
+
+-- no pass is called as the task that logs in
+pub no_pass_logs_in : (p : Pass) → name_of_pass p ≡ codes "login" → ⊥
+no_pass_logs_in Iterate same = cc
+no_pass_logs_in Readable same = cc
 
 -- no hash is called as the task that prints a document
 pub no_hash : (h : Hash) → name_of_hash h ≡ codes "document" → ⊥
@@ -132,3 +143,18 @@ one_task words (Insert n) (Walk p s m) t u = not_two (codes "insert") (decimal n
 one_task words (Walk p s m) (Insert n) t u = not_two (codes "insert") (decimal n) (name_of_pass p) (name_of_shape s) (decimal m) (sym u.0 ∙ t.0)
 one_task words (Insert n) (Frames d s m) t u = two_not_four (codes "insert") (decimal n) (codes "frames") (name_of_direction d) (name_of_size s) (decimal m) (sym t.0 ∙ u.0)
 one_task words (Frames d s m) (Insert n) t u = two_not_four (codes "insert") (decimal n) (codes "frames") (name_of_direction d) (name_of_size s) (decimal m) (sym u.0 ∙ t.0)
+one_task words (Login h m) (Login k n) t u =
+    let all = three_same (codes "login") (name_of_login h) (decimal m) (codes "login") (name_of_login k) (decimal n) (sym t.0 ∙ u.0) in
+    ap (λ x. Login x m) (one_login h k all.1) ∙ ap (Login k) (same_count m n t.2 u.2 all.2)
+one_task words (Login h m) (Walk p s n) t u =
+    absurd (no_pass_logs_in p (three_same (name_of_pass p) (name_of_shape s) (decimal n) (codes "login") (name_of_login h) (decimal m) (sym u.0 ∙ t.0)).0)
+one_task words (Walk p s n) (Login h m) t u =
+    absurd (no_pass_logs_in p (three_same (name_of_pass p) (name_of_shape s) (decimal n) (codes "login") (name_of_login h) (decimal m) (sym t.0 ∙ u.0)).0)
+one_task words (Login h m) (Derive k n) t u = not_two (name_of_hash k) (decimal n) (codes "login") (name_of_login h) (decimal m) (sym u.0 ∙ t.0)
+one_task words (Derive k n) (Login h m) t u = not_two (name_of_hash k) (decimal n) (codes "login") (name_of_login h) (decimal m) (sym t.0 ∙ u.0)
+one_task words (Login h m) (Document s) t u = not_two (codes "document") (name_of_shape s) (codes "login") (name_of_login h) (decimal m) (sym u.0 ∙ t.0)
+one_task words (Document s) (Login h m) t u = not_two (codes "document") (name_of_shape s) (codes "login") (name_of_login h) (decimal m) (sym t.0 ∙ u.0)
+one_task words (Login h m) (Insert n) t u = not_two (codes "insert") (decimal n) (codes "login") (name_of_login h) (decimal m) (sym u.0 ∙ t.0)
+one_task words (Insert n) (Login h m) t u = not_two (codes "insert") (decimal n) (codes "login") (name_of_login h) (decimal m) (sym t.0 ∙ u.0)
+one_task words (Login h m) (Frames d s n) t u = three_not_four (codes "login") (name_of_login h) (decimal m) (codes "frames") (name_of_direction d) (name_of_size s) (decimal n) (sym t.0 ∙ u.0)
+one_task words (Frames d s n) (Login h m) t u = three_not_four (codes "login") (name_of_login h) (decimal m) (codes "frames") (name_of_direction d) (name_of_size s) (decimal n) (sym u.0 ∙ t.0)

@@ -1,3 +1,4 @@
+pub mod Login
 pub mod Status
 pub mod Task
 pub mod Work

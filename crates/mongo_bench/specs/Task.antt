@@ -1,5 +1,5 @@
 -- The tasks of the benchmark: the words that ask for each, and what it prints.
-use Rattle.std.specs.Prelude.{◌≡◌, ◌≤◌, ◌<◌, ◌^◌, ◌⊎◌, ℕ, List, [], ◌∷◌, ◌++◌, codes, Option}
+use Rattle.std.specs.Prelude.{◌≡◌, ◌+◌, ◌≤◌, ◌<◌, ◌^◌, ◌⊎◌, ℕ, List, [], ◌∷◌, ◌++◌, codes, Option}
 use Rattle.std.specs.Fmt.{decimal}
 use Rattle.std.specs.Io.KnownBytes.{Appends}
 use Rattle.hex.specs.Hex.{encode_lower}
@@ -7,6 +7,8 @@ use Rattle.mongo_bson.specs.Framed.{IsFramed}
 use Rattle.mongo_bson.specs.Document.{IsReadable, maximum_depth}
 use Rattle.mongo_mac.specs.Digests.{sha1, sha256}
 use Rattle.mongo_mac.specs.Hi.{hi_of}
+use Rattle.mongo_bench.specs.declared.run.Status.{Status}
+use Rattle.mongo_bench.specs.declared.run.Status.TheVariants.{Done, Usage}
 use Rattle.mongo_bench.specs.declared.task.Hash.{Hash}
 use Rattle.mongo_bench.specs.declared.task.Hash.TheVariants.{Sha1, Sha256}
 use Rattle.mongo_bench.specs.declared.task.Pass.{Pass}
@@ -18,7 +20,7 @@ use Rattle.mongo_bench.specs.declared.task.Direction.TheVariants.{Write, Read, R
 use Rattle.mongo_bench.specs.declared.task.FrameSize.{FrameSize}
 use Rattle.mongo_bench.specs.declared.task.FrameSize.TheVariants.{Small, Middle, Large}
 use Rattle.mongo_bench.specs.declared.task.Task.{Task}
-use Rattle.mongo_bench.specs.declared.task.Task.TheVariants.{Derive, Walk, Document, Frames, Insert}
+use Rattle.mongo_bench.specs.declared.task.Task.TheVariants.{Derive, Walk, Document, Frames, Insert, Login}
 
 -- the password and the salt of each derivation, those of RFC 5802, section 5
 abbrev pub password : List ℕ
@@ -36,6 +38,10 @@ IsCount text count = (1 ≤ count) × (count < 2 ^ 32) × (text ≡ decimal coun
 abbrev pub name_of_hash : Hash → List ℕ
 name_of_hash Sha1 = codes "hi-sha1"
 name_of_hash Sha256 = codes "hi-sha256"
+
+abbrev pub name_of_login : Hash → List ℕ
+name_of_login Sha1 = codes "SHA1"
+name_of_login Sha256 = codes "SHA256"
 
 abbrev pub name_of_pass : Pass → List ℕ
 name_of_pass Iterate = codes "iterate"
@@ -69,6 +75,7 @@ count_of (Walk pass shape count) = count
 count_of (Document shape) = 1
 count_of (Frames direction size count) = count
 count_of (Insert count) = count
+count_of (Login hash count) = count
 
 -- the words that ask for a task
 abbrev pub words_of : Task → List (List ℕ)
@@ -77,6 +84,7 @@ words_of (Walk pass shape count) = name_of_pass pass ∷ name_of_shape shape ∷
 words_of (Document shape) = codes "document" ∷ name_of_shape shape ∷ []
 words_of (Frames direction size count) = codes "frames" ∷ name_of_direction direction ∷ name_of_size size ∷ decimal count ∷ []
 words_of (Insert count) = codes "insert" ∷ decimal count ∷ []
+words_of (Login hash count) = codes "login" ∷ name_of_login hash ∷ decimal count ∷ []
 
 abbrev pub Asks : List (List ℕ) → Task → Type 0
 Asks words task = (words ≡ words_of task) × (1 ≤ count_of task) × (count_of task < 2 ^ 32)
@@ -85,10 +93,14 @@ Asks words task = (words ≡ words_of task) × (1 ≤ count_of task) × (count_o
 abbrev pub AsksNothing : List (List ℕ) → Type 0
 AsksNothing words = (task : Task) → ¬ (Asks words task)
 
--- the steps that a task counts: those of a derivation
-abbrev pub steps_of : Task → ℕ
-steps_of (Derive hash count) = count
-steps_of other = 0
+-- the steps that a task counts: those of a derivation; those of logins, the user's key once for the server and once for the
+-- client, however many there are
+abbrev pub Costs : Task → Status → ℕ → ℕ → Type 0
+Costs (Derive hash count) status old new = new ≡ old + count
+Costs (Login hash count) Done old new = new ≡ old + 8192
+Costs (Login hash count) Usage old new = new ≡ old
+Costs (Login hash count) status old new = old ≤ new
+Costs task status old new = new ≡ old
 
 -- the bytes that a derivation gives
 abbrev pub derived_by : Hash → ℕ → List ℕ
@@ -109,14 +121,15 @@ Tells Readable document text =
 abbrev pub Told : Pass → List ℕ → Option (List ℕ) → Option (List ℕ) → Type 0
 Told pass document old new = (text : List ℕ) × Tells pass document text × Appends old new text
 
--- what a task prints: a derivation its line, a walk what its pass tells of a document, a document its bytes, and frames
--- and commands a number
+-- what a task prints: a derivation its line, a walk what its pass tells of a document, a document its bytes, frames
+-- and commands a number, and logins how many were accepted, all of them
 abbrev pub Prints : Task → List ℕ → Type 0
 Prints (Derive hash count) text = text ≡ line_of hash count
 Prints (Walk pass shape count) text = (document : List ℕ) × IsFramed document × Tells pass document text
 Prints (Document shape) text = IsFramed text
 Prints (Frames direction size count) text = (length : ℕ) × (text ≡ decimal length ++ codes "\n")
 Prints (Insert count) text = (length : ℕ) × (text ≡ decimal length ++ codes "\n")
+Prints (Login hash count) text = text ≡ decimal count ++ codes "\n"
 
 -- what was written grew by what the task prints
 abbrev pub Printed : Task → Option (List ℕ) → Option (List ℕ) → Type 0

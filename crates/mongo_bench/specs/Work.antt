@@ -6,30 +6,33 @@ use Rattle.mongo_bench.specs.declared.task.Pass.TheVariants.{Iterate, Readable}
 use Rattle.mongo_bench.specs.declared.task.Direction.{Direction}
 use Rattle.mongo_bench.specs.declared.task.Direction.TheVariants.{Write, Read, ReadOwned}
 use Rattle.mongo_bench.specs.declared.task.Task.{Task}
-use Rattle.mongo_bench.specs.declared.task.Task.TheVariants.{Derive, Walk, Document, Frames, Insert}
+use Rattle.mongo_bench.specs.declared.task.Task.TheVariants.{Derive, Walk, Document, Frames, Insert, Login}
 
 abbrev pub only_iterated : ℕ → Work
-only_iterated n = record { iterated = n; judged = 0; written = 0; read = 0; read_owned = 0; built = 0 }
+only_iterated n = record { iterated = n; judged = 0; written = 0; read = 0; read_owned = 0; built = 0; logged_in = 0 }
 
 abbrev pub only_judged : ℕ → Work
-only_judged n = record { iterated = 0; judged = n; written = 0; read = 0; read_owned = 0; built = 0 }
+only_judged n = record { iterated = 0; judged = n; written = 0; read = 0; read_owned = 0; built = 0; logged_in = 0 }
 
 abbrev pub only_written : ℕ → Work
-only_written n = record { iterated = 0; judged = 0; written = n; read = 0; read_owned = 0; built = 0 }
+only_written n = record { iterated = 0; judged = 0; written = n; read = 0; read_owned = 0; built = 0; logged_in = 0 }
 
 abbrev pub only_read : ℕ → Work
-only_read n = record { iterated = 0; judged = 0; written = 0; read = n; read_owned = 0; built = 0 }
+only_read n = record { iterated = 0; judged = 0; written = 0; read = n; read_owned = 0; built = 0; logged_in = 0 }
 
 abbrev pub only_read_owned : ℕ → Work
-only_read_owned n = record { iterated = 0; judged = 0; written = 0; read = 0; read_owned = n; built = 0 }
+only_read_owned n = record { iterated = 0; judged = 0; written = 0; read = 0; read_owned = n; built = 0; logged_in = 0 }
 
 abbrev pub only_built : ℕ → Work
-only_built n = record { iterated = 0; judged = 0; written = 0; read = 0; read_owned = 0; built = n }
+only_built n = record { iterated = 0; judged = 0; written = 0; read = 0; read_owned = 0; built = n; logged_in = 0 }
+
+abbrev pub only_logged_in : ℕ → Work
+only_logged_in n = record { iterated = 0; judged = 0; written = 0; read = 0; read_owned = 0; built = 0; logged_in = n }
 
 abbrev pub nothing_done : Work
 nothing_done = only_iterated 0
 
--- what a task does: so many passes over a document, frames or commands, and nothing of another kind
+-- what a task does: so many passes over a document, frames, commands or logins, and nothing of another kind
 abbrev pub work_of_pass : Pass → ℕ → Work
 work_of_pass Iterate count = only_iterated count
 work_of_pass Readable count = only_judged count
@@ -45,3 +48,4 @@ work_of (Walk pass shape count) = work_of_pass pass count
 work_of (Document shape) = nothing_done
 work_of (Frames direction size count) = work_of_frames direction count
 work_of (Insert count) = only_built count
+work_of (Login hash count) = only_logged_in count

@@ -9,11 +9,15 @@
 //!   prints how many bytes the last one had. `bench/frames` measures them.
 //! - `insert COUNT` builds COUNT times the command of an insert of 1,000 documents with every argument that a command can
 //!   carry, and prints how many bytes its document has. `bench/command` measures it.
+//! - `login SHA1|SHA256 COUNT` makes COUNT logins of one user by SCRAM against a server core, over links in memory and with one
+//!   cache, and prints how many both sides accepted. `bench/login` measures it.
 #![tactic(auto)]
 
 mod documents;
 mod frames;
 mod insert;
+mod login;
+mod peers;
 mod run;
 mod task;
 #[cfg(test)]

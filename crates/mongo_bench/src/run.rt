@@ -2,11 +2,12 @@ ghost use Rattle.std.specs.Prelude.{◌≡◌, ◌≢◌, ◌<◌, ◌≤◌, �
 ghost use Rattle.hex.specs.Hex.{encode_lower};
 ghost use Rattle.std.specs.Io.KnownBytes.{Appends};
 ghost use Rattle.mongo_bench.specs.Status.{code_of};
-ghost use Rattle.mongo_bench.specs.Task.{Asks, AsksNothing, Printed, steps_of, derived_by};
+ghost use Rattle.mongo_bench.specs.Task.{Asks, AsksNothing, Printed, Costs, derived_by};
 ghost use Rattle.mongo_bench.specs.Work.{nothing_done, work_of};
 
 use crate::frames::run_frames;
 use crate::insert::run_inserts;
+use crate::login::run_logins;
 use crate::task::{Hash, PASSWORD, SALT, Task, task_of};
 use crate::walking::{run_document, run_walk};
 use crate::work::Work;
@@ -94,7 +95,7 @@ pub fn run<W: Write, G: Ledger>(
     ensures work { (task : Task) → Asks (map string_bytes words.now) task → result.status ≡ Status.Done →
         result.work ≡ work_of task }
     ensures cost { (task : Task) → Asks (map string_bytes words.now) task →
-        steps.new ≡ steps.old + steps_of task }
+        Costs task result.status steps.old steps.new }
     ensures usage { (result.status ≡ Status.Usage) ↔ AsksNothing (map string_bytes words.now) }
     ensures usage_does_nothing { result.status ≡ Status.Usage →
         (out.new ≡ out.old) × (steps.new ≡ steps.old) }
@@ -112,6 +113,7 @@ pub fn run<W: Write, G: Ledger>(
         Task::Document(shape) => run_document(alloc, shape, out),
         Task::Frames(direction, size, count) => run_frames(alloc, direction, size, count, out),
         Task::Insert(count) => run_inserts(alloc, count, out),
+        Task::Login(hash, count) => run_logins(alloc, hash, count, out, steps),
     }
 }
 

@@ -1,5 +1,5 @@
-ghost use Rattle.std.specs.Prelude.{◌≡◌, ◌≢◌, ◌∷◌, [], ℕ, MatchOption, map, slice_index, string_bytes};
-ghost use Rattle.mongo_bench.specs.Task.{Asks, AsksNothing, IsCount, bytes_of, name_of_direction, name_of_hash, name_of_pass, name_of_shape, name_of_size};
+ghost use Rattle.std.specs.Prelude.{◌≡◌, ◌≢◌, ◌∷◌, [], ℕ, MatchOption, codes, map, slice_index, string_bytes};
+ghost use Rattle.mongo_bench.specs.Task.{Asks, AsksNothing, IsCount, bytes_of, name_of_direction, name_of_hash, name_of_login, name_of_pass, name_of_shape, name_of_size};
 
 /// The password of each derivation (RFC 5802, section 5).
 pub const PASSWORD: &[u8] = b"pencil";
@@ -86,6 +86,8 @@ pub enum Task {
     Frames(Direction, FrameSize, u32),
     /// So many times the command of an insert.
     Insert(u32),
+    /// So many logins of one user by SCRAM over this hash.
+    Login(Hash, u32),
 }
 
 /// The task that `words` ask for: its name, the shape of its document or the direction and size of its frames where it
@@ -96,7 +98,7 @@ pub fn task_of(words: &[String]) -> Option<Task>
 {
     match words {
         [name, word] => task_of_two(name.as_str(), word.as_str()),
-        [name, shape, count] => walk_of(name.as_str(), shape.as_str(), count.as_str()),
+        [name, kind, count] => task_of_three(name.as_str(), kind.as_str(), count.as_str()),
         [name, direction, size, count] => frames_of(
             name.as_str(),
             direction.as_str(),
@@ -121,8 +123,27 @@ fn task_of_two(name: &str, word: &str) -> Option<Task>
     Some(Task::Derive(hash, count_of(word)?))
 }
 
-// The task of three words: passes over a document.
+// The task of three words: logins, or passes over a document.
+fn task_of_three(name: &str, kind: &str, count: &str) -> Option<Task>
+    ensures { MatchOption result (AsksNothing (name.now ∷ kind.now ∷ count.now ∷ [])) (Asks (name.now ∷ kind.now ∷ count.now ∷ [])) }
+{
+    if name == "login" {
+        return login_of(kind, count);
+    }
+    walk_of(name, kind, count)
+}
+
+// Logins by the hash of that name.
+fn login_of(kind: &str, count: &str) -> Option<Task>
+    ensures { MatchOption result (AsksNothing (codes "login" ∷ kind.now ∷ count.now ∷ [])) (Asks (codes "login" ∷ kind.now ∷ count.now ∷ [])) }
+{
+    let hash = login_hash_of(kind)?;
+    Some(Task::Login(hash, count_of(count)?))
+}
+
+// Passes over a document.
 fn walk_of(name: &str, shape: &str, count: &str) -> Option<Task>
+    requires { name.now ≢ codes "login" }
     ensures { MatchOption result (AsksNothing (name.now ∷ shape.now ∷ count.now ∷ [])) (Asks (name.now ∷ shape.now ∷ count.now ∷ [])) }
 {
     let pass = pass_of(name)?;
@@ -149,6 +170,17 @@ fn hash_of(name: &str) -> Option<Hash>
     match name {
         "hi-sha1" => Some(Hash::Sha1),
         "hi-sha256" => Some(Hash::Sha256),
+        _ => None,
+    }
+}
+
+// The hash of the logins of that name.
+fn login_hash_of(name: &str) -> Option<Hash>
+    ensures { MatchOption result ((hash : Hash) → name.now ≢ name_of_login hash) (λ hash. name.now ≡ name_of_login hash) }
+{
+    match name {
+        "SHA1" => Some(Hash::Sha1),
+        "SHA256" => Some(Hash::Sha256),
         _ => None,
     }
 }

@@ -7,7 +7,7 @@ use std::test::Fail;
 // SHA-1: the salted password of the exchange in RFC 5802, section 5. SHA-256: Python's `hashlib`. The document that is too
 // deep has 101 levels and one element on each but the last; 100 levels are readable. The insert: pymongo's encoding of the
 // same values.
-const LINES: [(&[&str], &str); 10] = [
+const LINES: [(&[&str], &str); 12] = [
     (
         &["hi-sha1", "4096"],
         "1d96ee3a529b5a5f9e47c01f229a2cb8a6e15f7d\n",
@@ -24,6 +24,8 @@ const LINES: [(&[&str], &str); 10] = [
     (&["frames", "read", "10000", "3"], "10000\n"),
     (&["frames", "read-owned", "10000", "3"], "10000\n"),
     (&["insert", "2"], "98307\n"),
+    (&["login", "SHA1", "2"], "2\n"),
+    (&["login", "SHA256", "2"], "2\n"),
 ];
 
 #[test]

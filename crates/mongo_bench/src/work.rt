@@ -1,12 +1,19 @@
-ghost use Rattle.std.specs.Prelude.{◌≡◌, ◌+◌, ◌-◌, ◌^◌, ◌<◌, ◌≤◌, ◌↔◌, IsTrue, OnOk, IfOk};
+ghost use Rattle.std.specs.Prelude.{◌≡◌, ◌+◌, ◌-◌, ◌^◌, ◌<◌, ◌≤◌, ◌↔◌, [], IsTrue, OnOk, IfOk};
 ghost use Rattle.mongo_bson.specs.Document.{IsReadable, maximum_depth};
-ghost use Rattle.mongo_bench.specs.Work.{nothing_done, only_built, only_iterated, only_judged, only_read, only_read_owned, only_written};
+ghost use Rattle.mongo_scram.specs.Cache.{entries_of};
+ghost use Rattle.mongo_scram.specs.Costs.{ledgers};
+ghost use Rattle.mongo_establish.specs.KeyCosts.{TakesKey};
+ghost use Rattle.mongo_bench.specs.Login.{key_for};
+ghost use Rattle.mongo_bench.specs.Work.{nothing_done, only_built, only_iterated, only_judged, only_logged_in, only_read, only_read_owned, only_written};
 
 use crate::insert::insert_document;
+use crate::peers::Peers;
 use crate::walking::elements_in;
 use mongo_bson::RawDocument;
+use mongo_mac::Steps;
 use mongo_wire::{Error, FrameBuffer, Message, RequestIds, StdSink, StdSource, read_frame};
-use std::alloc::Global;
+use std::alloc::{AllocError, Global};
+use std::sync::ledger::Ledger;
 
 /// How often each thing that is measured was done. Only the private calls of this module count, each after it has done its
 /// one thing once, so a count says how often it was done.
@@ -24,6 +31,8 @@ pub struct Work {
     read_owned: u32,
     /// Commands of an insert built.
     built: u32,
+    /// Logins made that both sides accepted.
+    logged_in: u32,
 }
 
 /// What the last of many passes gave, and what was done in all.
@@ -114,6 +123,30 @@ pub fn build(alloc: Global, count: u32) -> Result<Passed<usize>, Error>
     Ok(Passed { last, work })
 }
 
+/// Logs in so often, and gives how many logins both sides accepted.
+pub fn log_in<G: Ledger>(
+    alloc: Global,
+    peers: &mut Peers,
+    count: u32,
+    steps: &mut Steps<G>,
+) -> Result<Passed<usize>, AllocError>
+    requires empty { entries_of peers.old.state.salted ≡ [] }
+    requires some { 1 ≤ count }
+    ensures accepted { IfOk result (λ passed. passed.last ≡ count) }
+    ensures work { IfOk result (λ passed. passed.work ≡ only_logged_in count) }
+    ensures cost { OnOk result (steps.new ≡ steps.old + 4096) }
+    ensures steps { steps.old ≤ steps.new }
+{
+    let mut work = Work::nothing();
+    'passes: while work.logged_in < count {
+        work.log_in(alloc, peers, steps)?;
+    }
+    Ok(Passed {
+        last: work.logged_in as usize,
+        work,
+    })
+}
+
 impl Work {
     /// Nothing yet.
     pub fn nothing() -> Work
@@ -126,6 +159,7 @@ impl Work {
             read: 0,
             read_owned: 0,
             built: 0,
+            logged_in: 0,
         }
     }
 
@@ -204,6 +238,24 @@ impl Work {
         let document = insert_document(alloc)?;
         self.built += 1;
         Ok(document.as_bytes().len())
+    }
+
+    // One login that both sides accepted.
+    fn log_in<G: Ledger>(
+        &mut self,
+        alloc: Global,
+        peers: &mut Peers,
+        steps: &mut Steps<G>,
+    ) -> Result<(), AllocError>
+        requires { self.old.logged_in < 2 ^ 32 - 1 }
+        ensures work { OnOk result (self.new ≡ record self.old { logged_in = self.old.logged_in + 1 }) }
+        ensures takes { OnOk result (TakesKey (key_for peers.old.hash) (ledgers steps.old peers.old.state.salted) (ledgers steps.new peers.new.state.salted)) }
+        ensures hash { peers.new.hash ≡ peers.old.hash }
+        ensures steps { steps.old ≤ steps.new }
+    {
+        peers.log_in(alloc, steps)?;
+        self.logged_in += 1;
+        Ok(())
     }
 }
 

@@ -1,5 +1,5 @@
 use Rattle.std.proofs.Common.{◌≡◌, ◌∙◌}
-use Rattle.mongo_bench.specs.declared.task.Task.TheVariants.{Derive, Walk, Frames, Insert}
+use Rattle.mongo_bench.specs.declared.task.Task.TheVariants.{Derive, Walk, Frames, Insert, Login}
 use Rattle.mongo_bench.proofs.OneTask.{one_task}
 use Rattle.mongo_bench.proofs.run.run.Goals as goal
 
@@ -27,3 +27,18 @@ pub returns-in-Insert-clause-work : goal.returns-in-Insert-clause-work
 returns-in-Insert-clause-work g c = λ task asked done.
     let same : task ≡ Insert c.in-Insert.count = one_task _ task c.in-Some.task asked c.in-Some.ensures ∙ c.in-Insert.is in
     rw same (c.run_inserts.ensures.work done)
+
+pub returns-in-Login-clause-done : goal.returns-in-Login-clause-done
+returns-in-Login-clause-done g c = λ task asked done.
+    let same : task ≡ Login c.in-Login.hash c.in-Login.count = one_task _ task c.in-Some.task asked c.in-Some.ensures ∙ c.in-Login.is in
+    rw same (c.run_logins.ensures.done done)
+
+pub returns-in-Login-clause-work : goal.returns-in-Login-clause-work
+returns-in-Login-clause-work g c = λ task asked done.
+    let same : task ≡ Login c.in-Login.hash c.in-Login.count = one_task _ task c.in-Some.task asked c.in-Some.ensures ∙ c.in-Login.is in
+    rw same (c.run_logins.ensures.work done)
+
+pub returns-in-Login-clause-cost : goal.returns-in-Login-clause-cost
+returns-in-Login-clause-cost g c = λ task asked.
+    let same : task ≡ Login c.in-Login.hash c.in-Login.count = one_task _ task c.in-Some.task asked c.in-Some.ensures ∙ c.in-Login.is in
+    rw same c.run_logins.ensures.cost

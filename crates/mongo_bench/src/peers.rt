@@ -1,0 +1,88 @@
+ghost use Rattle.std.specs.Prelude.{◌≡◌};
+ghost use Rattle.mongo_generate.specs.Generated.{exchange_at};
+ghost use Rattle.mongo_generate.specs.Login.{LogsIn};
+ghost use Rattle.mongo_server.specs.Server.{Serves};
+ghost use Rattle.mongo_bench.specs.Login.{number_of};
+
+use crate::task::Hash;
+use mongo_establish::{LoginState, RequestIds, SaltedCache};
+use mongo_generate::{Client, Login, generated_server};
+use mongo_mac::Steps;
+use mongo_server::ServerCore;
+use std::alloc::{AllocError, Global};
+use std::sync::ledger::Ledger;
+
+/// A client that logs in as one user again and again, and the server that knows this user.
+#[derive(Drop)]
+pub struct Peers {
+    hash: Hash,
+    client: Client,
+    login: Login,
+    server: ServerCore,
+    state: LoginState,
+    ghost logs_in: { LogsIn (exchange_at (number_of hash)) login },
+    ghost serves: { Serves server (exchange_at (number_of hash)) },
+}
+
+impl Peers {
+    ghost use Rattle.std.specs.Prelude.{◌≡◌, ◌+◌, ◌≤◌, [], IfOk, OnOk};
+    ghost use Rattle.mongo_scram.specs.Cache.{entries_of};
+    ghost use Rattle.mongo_scram.specs.Costs.{ledgers};
+    ghost use Rattle.mongo_establish.specs.KeyCosts.{TakesKey};
+    ghost use Rattle.mongo_bench.specs.Login.{key_for};
+
+    /// The user of the first generated login over this hash, whose server derives its keys by 4096 steps. Nothing is kept from
+    /// one login to the next yet.
+    pub fn new<G: Ledger>(
+        alloc: Global,
+        hash: Hash,
+        steps: &mut Steps<G>,
+    ) -> Result<Peers, AllocError>
+        ensures hash { IfOk result (λ peers. peers.hash ≡ hash) }
+        ensures empty { IfOk result (λ peers. entries_of peers.state.salted ≡ []) }
+        ensures cost { OnOk result (steps.new ≡ steps.old + 4096) }
+        ensures steps { steps.old ≤ steps.new }
+    {
+        let number = number_of(hash);
+        let client = Client::new(alloc)?;
+        let login = Login::generated(alloc, number)?;
+        let server = generated_server(alloc, number, steps)?;
+        let state = LoginState {
+            salted: SaltedCache::new(alloc),
+            ids: RequestIds::new(0),
+        };
+        Ok(Peers {
+            hash,
+            client,
+            login,
+            server,
+            state,
+        })
+    }
+
+    /// One login more, which both sides accept. Want of memory is the only refusal.
+    pub fn log_in<G: Ledger>(
+        &mut self,
+        alloc: Global,
+        steps: &mut Steps<G>,
+    ) -> Result<(), AllocError>
+        ensures takes { OnOk result (TakesKey (key_for self.old.hash) (ledgers steps.old self.old.state.salted) (ledgers steps.new self.new.state.salted)) }
+        ensures hash { self.new.hash ≡ self.old.hash }
+        ensures steps { steps.old ≤ steps.new }
+    {
+        match self.client.log_in(alloc, &self.login, &mut self.server, &mut self.state, steps)? {
+            Some(_acceptance) => Ok(()),
+            None => unreachable!(),
+        }
+    }
+}
+
+// The number of the first generated login over this hash.
+fn number_of(hash: Hash) -> u32
+    ensures { result ≡ number_of hash }
+{
+    match hash {
+        Hash::Sha1 => 0,
+        Hash::Sha256 => 1,
+    }
+}
