@@ -2,6 +2,7 @@
 relay between a socket and a program. Python's standard library alone."""
 import os
 import selectors
+import ssl
 import struct
 import subprocess
 import sys
@@ -138,7 +139,7 @@ def relay(program, first_line, sock, seconds=None, trace=None):
                     else:
                         if out:
                             out.take(piece)
-                        send(sock, piece)
+                        send(sock, piece, seconds)
             return running.wait(), said.decode('utf-8', 'replace')
         finally:
             if running.poll() is None:
@@ -146,17 +147,15 @@ def relay(program, first_line, sock, seconds=None, trace=None):
 
 
 def from_socket(sock, stdin, tracer):
-    """Hands on what the socket has. False where it has ended, and the program's input then too."""
+    """Hands on what the socket has. False where it has ended, and the program's input then too. It doesn't wait: what makes a TLS
+    stream ready may be a record of TLS itself, with nothing for the program in it."""
+    sock.setblocking(False)
     try:
         piece = sock.recv(65536)
-    except (BlockingIOError, InterruptedError):
+    except (BlockingIOError, InterruptedError, ssl.SSLWantReadError, ssl.SSLWantWriteError):
         return True
     except OSError:
         piece = b''
-    except Exception as fault:  # a TLS stream that wants another turn
-        if type(fault).__name__ in ('SSLWantReadError', 'SSLWantWriteError'):
-            return True
-        raise
     try:
         if piece:
             if tracer:
@@ -169,8 +168,9 @@ def from_socket(sock, stdin, tracer):
     return False
 
 
-def send(sock, piece):
+def send(sock, piece, seconds):
     """Sends a piece; a peer that has gone is told by the end of its stream."""
+    sock.settimeout(seconds)
     try:
         sock.sendall(piece)
     except OSError:
