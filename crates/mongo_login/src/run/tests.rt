@@ -1,4 +1,5 @@
 mod logins;
+mod million;
 mod vectors;
 
 use super::run_counted;
