@@ -1,1 +1,4 @@
+mod Ends
+mod FirstLine
+mod Recalled
 mod Recorded

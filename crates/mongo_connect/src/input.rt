@@ -1,5 +1,5 @@
 //! Reading the line of settings from a source.
-ghost use Rattle.std.specs.Prelude.{◌≡◌, ◌×◌, ◌+◌, ℕ, List, None, Some, IfOk, OnErr, IsErrOf, option_to_list};
+ghost use Rattle.std.specs.Prelude.{◌≡◌, ◌+◌, ℕ, List, None, Some, IfOk, OnErr, IsErrOf, option_to_list};
 ghost use Rattle.std.specs.Io.KnownBytes.{Consumes, IsAtEnd, Keeps};
 ghost use Rattle.mongo_wire.specs.Outside.{ReadsOn, Rose, ConsumesAtMost};
 ghost use Rattle.mongo_settings.specs.Settings.{limit};

@@ -2,6 +2,9 @@
 ghost use Rattle.std.specs.Prelude.{◌≡◌, ◌<◌, ℕ, length};
 ghost use Rattle.mongo_connect.specs.Run.{run_of, Ends, RunEnds, IsDecided, StepsAfter};
 
+#[cfg(test)]
+mod tests;
+
 use crate::connecting::connect_over;
 use crate::input::{InputError, read_line};
 use crate::output::write_report;

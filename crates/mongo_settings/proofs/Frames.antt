@@ -24,32 +24,37 @@ front_length-front frame more counts =
     let room : length frame ≤ length (frame ++ more) = omega (arith, length-append frame more) in
     ap (fitting_length (length (frame ++ more))) number ∙ fitting_length-fits _ _ counts.header room
 
--- no bytes are left of frames exactly where no frame is found
-pub no_frames : (later : List (List ℕ)) → AllByRecursion CountsItself later → front_length (concat later) ≡ None → later ≡ []
-no_frames [] each none = refl
-no_frames (frame ∷ later) each none = let found = front_length-front frame (concat later) each.0 in cc
+-- no whole frame is left before bytes that begin with none exactly where none is found
+pub no_frames : (later : List (List ℕ)) (tail : List ℕ) → AllByRecursion CountsItself later → front_length (concat later ++ tail) ≡ None → later ≡ []
+no_frames [] tail each none = refl
+no_frames (frame ∷ later) tail each none =
+    let found = front_length-front frame (concat later ++ tail) each.0 in
+    let split = append_assoc frame (concat later) tail in
+    cc
 
 -- the first frame, the frames after it
-pub record Next (later : List (List ℕ)) (n : ℕ) : Type 0 where
+pub record Next (later : List (List ℕ)) (tail : List ℕ) (n : ℕ) : Type 0 where
   pub frame : List ℕ
   pub others : List (List ℕ)
   pub both : later ≡ frame ∷ others
   pub each : AllByRecursion CountsItself others
-  pub front : take n (concat later) ≡ frame
-  pub back : drop n (concat later) ≡ concat others
+  pub front : take n (concat later ++ tail) ≡ frame
+  pub back : drop n (concat later ++ tail) ≡ concat others ++ tail
 
-pub next_frame : (later : List (List ℕ)) (n : ℕ) → AllByRecursion CountsItself later → front_length (concat later) ≡ Some n → Next later n
-next_frame [] n each found = cc
-next_frame (frame ∷ others) n each found =
-    let here = front_length-front frame (concat others) each.0 in
+pub next_frame : (later : List (List ℕ)) (tail : List ℕ) (n : ℕ) → AllByRecursion CountsItself later → front_length tail ≡ None → front_length (concat later ++ tail) ≡ Some n → Next later tail n
+next_frame [] tail n each cut found = cc
+next_frame (frame ∷ others) tail n each cut found =
+    let more = concat others ++ tail in
+    let split : (frame ++ concat others) ++ tail ≡ frame ++ more = append_assoc frame (concat others) tail in
+    let here = front_length-front frame more each.0 in
     let is : length frame ≡ n = cc in
     record {
       frame = frame;
       others = others;
       both = refl;
       each = each.1;
-      front = subst (λ m. take m (frame ++ concat others) ≡ frame) is (take-append_seam frame (concat others));
-      back = subst (λ m. drop m (frame ++ concat others) ≡ concat others) is (drop-append_seam frame (concat others));
+      front = ap (take n) split ∙ subst (λ m. take m (frame ++ more) ≡ frame) is (take-append_seam frame more);
+      back = ap (drop n) split ∙ subst (λ m. drop m (frame ++ more) ≡ more) is (drop-append_seam frame more);
     }
 
 -- a frame's line and the lines of those after it are the lines of all

@@ -1,7 +1,6 @@
 -- The settings of a batch's values, one after another.
-use Rattle.std.proofs.Common.{◌≡◌, ℕ, suc, ◌<◌, ◌+◌, ◌∙◌, refl, sym, ap, subst, Result, Ok, Err, List, [], ◌∷◌, ◌++◌, length, get_or, drop, add-one, drop-cons, append-nil}
+use Rattle.std.proofs.Common.{◌≡◌, ℕ, suc, ◌<◌, ◌+◌, ◌∙◌, refl, sym, ap, Result, Ok, Err, List, [], ◌∷◌, ◌++◌, length, get_or, drop, add-one, drop-cons, append-nil}
 use Rattle.std.proofs.lemmas.List.{append_assoc}
-use Rattle.serde_json.specs.Data.{Data, Items}
 use Rattle.serde_json.specs.View.{view, items_view}
 use Rattle.serde_json.specs.declared.value.Value.{Value}
 use Rattle.mongo_settings.specs.Settings.{◌>>=◌, settings_of, Refuses}

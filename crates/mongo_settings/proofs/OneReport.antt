@@ -1,5 +1,5 @@
 -- Settings have one outcome and one report.
-use Rattle.std.proofs.Common.{◌≡◌, ℕ, ◌∙◌, ◌++◌, ap, subst, sym, refl, Result, Ok, Err, List, [], ◌∷◌, length, take, drop, IfOk}
+use Rattle.std.proofs.Common.{◌≡◌, ℕ, ◌∙◌, ◌++◌, ap, subst, sym, refl, Result, Ok, Err, List, [], ◌∷◌, length, take, drop, append-nil, IfOk}
 use Rattle.std.proofs.Math.Seq.{take-append_seam, drop-append_seam}
 use Rattle.std.specs.List.{AllByRecursion, concat}
 use Rattle.mongo_command.specs.Conversation.{IsSaid}
@@ -17,11 +17,12 @@ use Rattle.mongo_settings.proofs.Frames.{no_frames, next_frame, front_length-fro
 
 -- frames that tell their lengths are told by their bytes
 one_framing : (frames others : List (List ℕ)) → AllByRecursion CountsItself frames → AllByRecursion CountsItself others → concat frames ≡ concat others → frames ≡ others
-one_framing [] others each also joined = sym (no_frames others also (ap front_length (sym joined) ∙ refl))
+one_framing [] others each also joined = sym (no_frames others [] also (ap front_length (append-nil (concat others) ∙ sym joined)))
 one_framing (frame ∷ frames) others each also joined =
-    let next = next_frame others (length frame) also (ap front_length (sym joined) ∙ front_length-front frame (concat frames) each.0) in
-    let first : frame ≡ next.frame = sym (take-append_seam frame (concat frames)) ∙ ap (take (length frame)) joined ∙ next.front in
-    let rest : concat frames ≡ concat next.others = sym (drop-append_seam frame (concat frames)) ∙ ap (drop (length frame)) joined ∙ next.back in
+    let same : frame ++ concat frames ≡ concat others ++ [] = joined ∙ sym (append-nil (concat others)) in
+    let next = next_frame others [] (length frame) also refl (ap front_length (sym same) ∙ front_length-front frame (concat frames) each.0) in
+    let first : frame ≡ next.frame = sym (take-append_seam frame (concat frames)) ∙ ap (take (length frame)) same ∙ next.front in
+    let rest : concat frames ≡ concat next.others = sym (drop-append_seam frame (concat frames)) ∙ ap (drop (length frame)) same ∙ next.back ∙ append-nil (concat next.others) in
     ap (λ f. f ∷ frames) first ∙ ap (λ l. next.frame ∷ l) (one_framing frames next.others each.1 next.each rest) ∙ sym next.both
 
 -- what two outcomes agree in

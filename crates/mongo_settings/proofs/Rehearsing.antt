@@ -1,5 +1,5 @@
 -- A rehearsal's report, from what the establishment over told bytes answers.
-use Rattle.std.proofs.Common.{◌≡◌, ℕ, ℤ, ◌+◌, ◌-◌, ◌⊎◌, ◌∙◌, ◌++◌, ap, subst, sym, arith, refl, inl, inr, None, Some, Option, Result, Ok, Err, List, [], ◌∷◌, length, length-append, IfOk, IfErr, IsSome}
+use Rattle.std.proofs.Common.{◌≡◌, ℕ, ℤ, ◌+◌, ◌-◌, ◌⊎◌, ◌∙◌, ◌++◌, ap, subst, sym, arith, refl, inl, inr, Some, Option, Result, Ok, Err, List, [], ◌∷◌, length, length-append, append-nil, IfOk, IfErr, IsSome}
 use Rattle.std.proofs.lemmas.List.{append_cancel_left}
 use Rattle.std.specs.Io.KnownBytes.{Appends, Consumes}
 use Rattle.std.specs.List.{concat}
@@ -20,7 +20,7 @@ use Rattle.mongo_settings.specs.Report.{sent_lines, read_line, accepted_lines, r
 use Rattle.mongo_settings.specs.Outcome.{asked_of, accepted, refused}
 use Rattle.mongo_settings.specs.Login.{IsMade, IsStopped}
 use Rattle.mongo_settings.specs.Telling.{TellsMade, IsReported, TellsRefused, Tells}
-use Rattle.mongo_settings.specs.Rehearsal.{IsRehearsal, LeftAs}
+use Rattle.mongo_settings.specs.Rehearsal.{LeftAs}
 use Rattle.mongo_settings.specs.Rounds.{is_after_login}
 use Rattle.mongo_settings.specs.Takes.{Rehearses}
 
@@ -55,6 +55,10 @@ appended : (front output sent : List ℕ) (old new : Option (List ℕ)) → old 
 appended front output sent old new before is grown =
     let joined : front ++ output ≡ front ++ sent = subst (λ o. Appends (Some front) o sent) is (subst (λ o. Appends o new sent) before grown) in
     append_cancel_left front output sent joined
+
+-- whole frames leave nothing over
+whole_frames : (output : List ℕ) (frames : List (List ℕ)) → output ≡ concat frames → output ≡ concat frames ++ []
+whole_frames output frames joined = joined ∙ sym (append-nil (concat frames))
 
 consumed : (bytes taken rest : List ℕ) (old new : Option (List ℕ)) → old ≡ Some bytes → new ≡ Some rest → bytes ≡ taken ++ rest → Consumes old new taken
 consumed bytes taken rest old new given is joined = rw (given, is) joined
@@ -94,7 +98,7 @@ made settings old new pooled output left taken x m p taken_is tells =
             frames = f.frames;
             each_frame = f.each;
             sent = subst (IsWritten (asked_of settings) e.script) f.joined e.is_written;
-            text_is = (tells.text g.description e.connection.description_is).told f.frames f.each (sent ∙ f.joined)
+            text_is = (tells.text g.description e.connection.description_is).told f.frames [] f.each refl (whole_frames output f.frames (sent ∙ f.joined))
                 ∙ ap (λ n. sent_lines f.frames ++ (read_line n ++ accepted_lines g.description pooled.generation pooled.connection.server_id)) count
                 ∙ ap (λ generation. sent_lines f.frames ++ (read_line (length t.taken) ++ accepted_lines g.description generation pooled.connection.server_id)) e.generation
                 ∙ ap (λ i. sent_lines f.frames ++ (read_line (length t.taken) ++ accepted_lines g.description (generation_of (asked_of settings).pending.generation g.description) i)) e.connection.server_id;
@@ -131,7 +135,7 @@ told_refusal settings kind phase old new after output left taken refusal x kind_
             frames = f.frames;
             each_frame = f.each;
             sent = subst (IsSaid first.commands (asked_of settings).first_id) f.joined l.sent_is;
-            text_is = tells.text.told f.frames f.each (sent ∙ f.joined)
+            text_is = tells.text.told f.frames [] f.each refl (whole_frames output f.frames (sent ∙ f.joined))
                 ∙ ap (λ n. sent_lines f.frames ++ (read_line n ++ refused_lines refusal.handshake_phase refusal.cause.kind)) count
                 ∙ ap (λ p. sent_lines f.frames ++ (read_line (length first.taken) ++ refused_lines p refusal.cause.kind)) (phase_is ∙ sym r.phase_is)
                 ∙ ap (λ k. sent_lines f.frames ++ (read_line (length first.taken) ++ refused_lines first.phase k)) (kind_is ∙ sym r.kind_is);

@@ -1,10 +1,9 @@
 -- What logins of a batch share so far: their reports, their rounds, and the accepted keys that the cache holds.
-use Rattle.std.proofs.Common.{◌≡◌, ℕ, ◌+◌, ◌-◌, ◌^◌, ◌<◌, ◌⊎◌, ◌↔◌, ◌∙◌, refl, sym, ap, subst, inl, inr, arith, min, Bool, true, false, Option, None, Some, Result, Ok, Err, List, [], ◌∷◌, ◌++◌, map, flat_map, sum_by, Contains, OnOk, IfOk, append-nil, add-zero}
+use Rattle.std.proofs.Common.{◌≡◌, ℕ, ◌+◌, ◌-◌, ◌^◌, ◌⊎◌, ◌↔◌, ◌∙◌, refl, sym, ap, subst, inl, inr, arith, min, Bool, true, false, Option, None, Some, List, [], ◌∷◌, ◌++◌, map, flat_map, Contains, append-nil, add-zero}
 use Rattle.std.proofs.lemmas.List.{map-append}
 use Rattle.std.proofs.lemmas.List.Sums.{sum_by-append}
 use Rattle.std.proofs.lemmas.List.Elements.{Contains-append_left, Contains-push, Contains-push_cases}
 use Rattle.std.proofs.lemmas.Grind.{flat_map-append}
-use Rattle.std.specs.Prelude.{⊤}
 use Rattle.mongo_scram.specs.declared.cache.SaltedCache.{SaltedCache}
 use Rattle.mongo_scram.specs.declared.cache.SaltedKey.{SaltedKey}
 use Rattle.mongo_scram.specs.Cache.{entries_of, rounds_of, Adds}
@@ -16,7 +15,7 @@ use Rattle.mongo_settings.specs.declared.rehearsal.Rehearsal.{Rehearsal}
 use Rattle.mongo_settings.specs.declared.rehearsal.RehearsalStatus.{RehearsalStatus}
 use Rattle.mongo_settings.specs.declared.rehearsal.RehearsalStatus.TheVariants.{Accepted, Refused}
 use Rattle.mongo_settings.specs.Rounds.{Derived, logs_in, keys_after}
-use Rattle.mongo_settings.specs.Batch.{Login, IsLogin, keys_with, AreLogins, both, status_of_all, rounds_of_all, counted, rounds_line, batch_text}
+use Rattle.mongo_settings.specs.Batch.{Login, IsLogin, keys_with, AreLogins, both, status_of_all, rounds_of_all, counted, rounds_line}
 use Rattle.mongo_settings.specs.Takes.{TakesBy, IsJoined}
 use Rattle.mongo_settings.specs.Task.{ReportsMany, steps_of}
 

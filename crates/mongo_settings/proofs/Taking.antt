@@ -1,19 +1,18 @@
 -- What a rehearsal takes, from what its establishment cost over the reply bytes.
-use Rattle.std.proofs.Common.{◌≡◌, ℕ, ◌⊎◌, ◌∙◌, ap, subst, sym, refl, inl, inr, Bool, true, false, Option, Some, Result, Ok, Err, List, IfOk}
+use Rattle.std.proofs.Common.{◌≡◌, ℕ, ap, subst, sym, refl, inl, inr, Bool, true, false, Result, Ok, Err, List, IfOk}
 use Rattle.mongo_wire.specs.declared.error.ErrorKind.{ErrorKind}
 use Rattle.mongo_wire.specs.declared.error.ErrorKind.TheVariants.{IncompatibleServer, OutOfMemory}
 use Rattle.mongo_wire.specs.Outside.{State}
-use Rattle.mongo_scram.specs.declared.cache.SaltedKey.{SaltedKey}
 use Rattle.mongo_scram.specs.Costs.{Ledgers}
 use Rattle.mongo_establish.specs.declared.establisher.EstablishError.{EstablishError}
 use Rattle.mongo_establish.specs.declared.establisher.PooledConnection.{PooledConnection}
 use Rattle.mongo_establish.specs.Asked.{Asked}
-use Rattle.mongo_establish.specs.KeyCosts.{AcceptedTakes, RefusedTakes, TakesAsLed, UnnamedOver, RefusedOver, CostsOver, CostsAsLed}
+use Rattle.mongo_establish.specs.KeyCosts.{TakesAsLed, CostsOver, CostsAsLed}
 use Rattle.mongo_settings.specs.declared.settings.Settings.{Settings}
 use Rattle.mongo_settings.specs.declared.rehearsal.Rehearsal.{Rehearsal}
 use Rattle.mongo_settings.specs.Outcome.{asked_of}
 use Rattle.mongo_settings.specs.Rehearsal.{IsRehearsal}
-use Rattle.mongo_settings.specs.Rounds.{is_after_login, logs_in}
+use Rattle.mongo_settings.specs.Rounds.{is_after_login}
 use Rattle.mongo_settings.specs.Takes.{TakesBy, logged_in, Takes, IsTaking}
 use Rattle.mongo_settings.specs.Telling.{IsReported, Tells}
 use Rattle.mongo_settings.proofs.Rehearsing.{Replayed, Replays}

@@ -1,5 +1,5 @@
 -- The logins of a batch: the text of one JSON object whose one key is `logins`, an array of settings.
-use Rattle.std.specs.Prelude.{ℕ, Option, None, Some, Result, Ok, Err, List, [], ◌∷◌, codes, ⊤}
+use Rattle.std.specs.Prelude.{ℕ, Result, Ok, List, [], ◌∷◌, codes}
 use Rattle.serde_json.specs.Data.{Data, Items, no_items, item}
 use Rattle.serde_json.specs.Find.{as_array}
 use Rattle.mongo_settings.specs.Kinds.{object_of, required}

@@ -13,8 +13,8 @@ use crate::settings::Settings;
 use mongo_bson::Bytes;
 use mongo_establish::{
     ClientMetadata, ClientOptions, ConnectionEstablisher, Credential, Error, EstablishError,
-    EstablisherOptions, Link, LoginInputs, LoginState, Moment, Nonces,
-    PendingConnection, PooledConnection, RequestIds, SaltedCache, TopologySpec,
+    EstablisherOptions, Link, LoginInputs, LoginState, Moment, Nonces, PendingConnection,
+    PooledConnection, RequestIds, SaltedCache, TopologySpec,
 };
 use mongo_mac::Steps;
 use std::alloc::{AllocError, Global};

@@ -1,5 +1,5 @@
 //! The lines of the bytes that went over the link.
-ghost use Rattle.std.specs.Prelude.{◌≡◌, ◌++◌, ℕ, List, OnOk};
+ghost use Rattle.std.specs.Prelude.{◌≡◌, ◌++◌, ℕ, None, List, OnOk};
 ghost use Rattle.std.specs.List.{AllByRecursion, concat};
 ghost use Rattle.mongo_settings.specs.Report.{CountsItself, front_length, sent_line, sent_lines, read_line};
 
@@ -10,7 +10,7 @@ use std::alloc::AllocError;
 ///
 /// The frames are told apart by the lengths that they begin with. What isn't frames at the end is left out.
 pub fn push_sent(out: &mut Vec<u8>, written: &[u8]) -> Result<(), AllocError>
-    ensures { OnOk result ((frames : List (List ℕ)) → AllByRecursion CountsItself frames → written.now ≡ concat frames
+    ensures { OnOk result ((frames : List (List ℕ)) (rest : List ℕ) → AllByRecursion CountsItself frames → front_length rest ≡ None → written.now ≡ concat frames ++ rest
         → out.new.items ≡ out.old.items ++ sent_lines frames) }
 {
     let mut rest = written;

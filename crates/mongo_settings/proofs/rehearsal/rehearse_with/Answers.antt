@@ -1,5 +1,5 @@
-use Rattle.std.proofs.Common.{◌-◌, ◌∙◌, ap, refl, Some, [], drop, length}
-use Rattle.mongo_wire.specs.Memory.{bytes_left, bytes_written}
+use Rattle.std.proofs.Common.{◌≡◌, ◌-◌, ◌∙◌, ap, sym, refl, Some, [], drop, length}
+use Rattle.mongo_wire.specs.Memory.{bytes_left}
 use Rattle.mongo_settings.proofs.Rehearsing.{Replayed, described, rehearsed, never_rose}
 use Rattle.mongo_settings.proofs.Taking.{taking}
 use Rattle.mongo_settings.proofs.rehearsal.rehearse_with.Goals as goal
@@ -10,4 +10,24 @@ report_outcome-requires g c = record { described = described _ _ _ c.connect-end
 pub returns-clause-taking : goal.returns-clause-taking
 returns-clause-taking g c =
     let settings = c.args.settings in
-    ?
+    let ready = c.in_ok-login.ensures in
+    let new = c.new-link in
+    let link = c.connect-ended.new.link in
+    let ended = c.connect-ended.result in
+    let written = c.written.result.now in
+    let taken = c.saturating_sub-taken.result in
+    let given : bytes_left new.result ≡ settings.replies = ap (λ n. drop n new.result.input.items) new.ensures.at ∙ new.ensures.input ∙ ready.replies in
+    let replayed : Replayed settings.replies written (bytes_left link) _ _ = record {
+      front = [];
+      before = ap Some new.ensures.output;
+      given = ap Some given;
+      written_is = ap Some (sym c.written.ensures);
+      left_is = refl;
+      unfailed = never_rose;
+      unwritten = never_rose;
+    } in
+    let count : taken ≡ length settings.replies - length (bytes_left link) = c.saturating_sub-taken.ensures
+    ∙ ap (λ l. length l - length c.left.result.now) (c.left-total.ensures ∙ given)
+    ∙ ap (λ l. length settings.replies - length l) c.left.ensures in
+    taking settings _ _ _ _ _ written (bytes_left link) taken ended c.report_outcome.result ready.login.asked c.connect-ended.ensures.led replayed c.report_outcome.ensures.told
+    (rehearsed settings _ _ _ written (bytes_left link) taken ended c.report_outcome.result ready.login.asked c.connect-ended.ensures.made c.connect-ended.ensures.stopped replayed count c.report_outcome.ensures.told)

@@ -1,0 +1,146 @@
+-- What the ends of a run mean, from what its steps answer.
+use Rattle.std.proofs.Common.{◌≡◌, ℕ, ◌+◌, ◌-◌, ◌^◌, ◌<◌, ◌≤◌, ◌⊎◌, ◌∙◌, refl, ap, subst, sym, inl, inr, arith, Option, Some, Result, Ok, Err, List, length, drop, IfOk}
+use Rattle.std.proofs.Common.{length-drop}
+use Rattle.std.proofs.lemmas.Bool.Decides.{nat_tests}
+use Rattle.std.specs.Io.KnownBytes.{Appends, Consumes}
+use Rattle.std.specs.List.{concat, before_first, after_first, position_or_len}
+use Rattle.mongo_wire.specs.Outside.{State, Rose, ReadsOn, Unwritten, AppendsFront, ConsumesAtMost, IsFlushed}
+use Rattle.mongo_settings.specs.declared.settings.Settings.{Settings}
+use Rattle.mongo_settings.specs.declared.settings.SettingsError.{SettingsError}
+use Rattle.mongo_settings.specs.declared.settings.SettingsError.TheVariants.{BadSettings as Bad, NotBuilt as Unbuilt, OutOfMemory}
+use Rattle.mongo_settings.specs.declared.rehearsal.Rehearsal.{Rehearsal}
+use Rattle.mongo_settings.specs.declared.rehearsal.RehearsalStatus.{RehearsalStatus}
+use Rattle.mongo_settings.specs.declared.rehearsal.RehearsalStatus.TheVariants as rehearsal
+use Rattle.mongo_settings.specs.Settings.{limit}
+use Rattle.mongo_settings.specs.Outcome.{taken_by, status_of}
+use Rattle.mongo_settings.specs.Task.{one, steps_of, LoginComesOut}
+use Rattle.mongo_settings.proofs.Outcomes.{reports_status}
+use Rattle.mongo_connect.specs.declared.status.Status.{Status}
+use Rattle.mongo_connect.specs.declared.status.Status.TheVariants.{Done, Refused, BadSettings, Usage, LinkFault, SinkFault, NoMemory, NotBuilt}
+use Rattle.mongo_connect.specs.Connecting.{IsTold, IsUntold, Told, Faultless, Rehearses}
+use Rattle.mongo_connect.specs.Input.{is_line_feed, line_of, after_line}
+use Rattle.mongo_connect.specs.Settings.{line_judged, with_replies}
+use Rattle.mongo_connect.specs.Run.{status_after, Connected, LineRead, Asked, Attempt, Run, GaveInput, Reported, IsRefusedLine, IsSilent, LinkFailed, ReportedFront, SinkFailed, Unreported, Ends, IsUsage, RanLine, RunEnds, Unfailed, EndsAs, LineDecides, IsDecided}
+
+-- ---- after the line
+
+-- what follows a line is no more than its input
+after_line_short : (input : List ℕ) → length input < 2 ^ 64 → length (after_line input) < 2 ^ 64
+unfolding after_line
+after_line_short input fits = grind (arith, nat_tests, length-drop (position_or_len is_line_feed input + 1) input, length-drop (limit + 1) input)
+
+told_after : (input line : List ℕ) (old middle : State) → LineRead line old middle → Told old input → Told middle (after_line input)
+told_after input line old middle read told = record {
+  left = read.left input told.left;
+  fits = after_line_short input told.fits;
+  before = told.before;
+  written = read.on.unwritten.written ∙ told.written;
+}
+
+-- a fault after the line is one of the run
+faultless_after : (old middle new : State) → ReadsOn old middle → Faultless old new → Faultless middle new
+faultless_after old middle new on f = record {
+  reads = λ rose. f.reads (rose_before old.read_faults middle.read_faults new.read_faults on.faults_stay rose);
+  writes = λ rose. f.writes (rose_before old.write_faults middle.write_faults new.write_faults (stays old.write_faults middle.write_faults on.unwritten.writes) rose);
+} where
+  rose_before : (a b c : ℕ) → a ≤ b → Rose b c → Rose a c
+  rose_before a b c le rose = omega arith
+  stays : (a b : ℕ) → b ≡ a → a ≤ b
+  stays a b e = omega arith
+
+-- what the settings of the line asked for, over told bytes
+connected : (input line : List ℕ) (settings : Settings) (old middle new : State) (x : Rehearsal) → LineRead line old middle → line_judged line ≡ Ok settings
+    → ((bytes : List ℕ) → Told middle bytes → Faultless middle new → Rehearses settings bytes middle new x) → Told old input → Faultless old new → Connected input x old new
+connected input line settings old middle new x read judged rehearses told f =
+    let r = rehearses (after_line input) (told_after input line old middle read told) (faultless_after old middle new read.on f) in
+    record {
+      settings = settings;
+      settings_are = ap line_judged (sym (read.line_is input told.left)) ∙ judged;
+      report = r.rehearsal_is.report;
+      status_is = r.rehearsal_is.status_is;
+      written = subst (λ w. Appends w new.written (concat r.rehearsal_is.report.frames)) read.on.unwritten.written r.left_as.written;
+      flushed = r.left_as.flushed;
+      taken = subst (λ l. Consumes l new.left (taken_by r.rehearsal_is.report.outcome)) (read.left input told.left) r.left_as.taken;
+    }
+
+pub attempt : (line : List ℕ) (settings : Settings) (old middle new : State) (x : Rehearsal) → LineRead line old middle → line_judged line ≡ Ok settings → IsTold settings middle new x
+    → ((bytes : List ℕ) → Told middle bytes → Faultless middle new → Rehearses settings bytes middle new x) → Attempt x old new
+attempt line settings old middle new x read judged told rehearses = record {
+  told = record { line = line; middle = middle; line_read = read; settings = settings; settings_are = judged; done = told };
+  connected = λ input is f. connected input line settings old middle new x read judged rehearses is f;
+}
+
+-- ---- judgements
+
+one_settings : (judgement : Result Settings SettingsError) (settings others : Settings) → judgement ≡ Ok settings → judgement ≡ Ok others → others ≡ settings
+one_settings judgement settings others p q = cc
+
+ok_error : (judgement : Result Settings SettingsError) (settings : Settings) (error : SettingsError) → judgement ≡ Ok settings → judgement ≡ Err error → ⊥
+ok_error judgement settings error p q = cc
+
+bad_unbuilt : (judgement : Result Settings SettingsError) → judgement ≡ Err Bad → judgement ≡ Err Unbuilt → ⊥
+bad_unbuilt judgement p q = cc
+
+module _ {L K : Type 0} (link : L → State) (sink : K → State) (run : Run L K) where
+  -- ---- each end
+
+  pub ends_refused : (line : List ℕ) (error : SettingsError) → LineRead line (link run.link) (link run.link_after) → line_judged line ≡ Err error → run.sink_after ≡ run.sink → IsRefusedLine link sink error run
+  ends_refused line error read judged unreported = record {
+    judged_so = λ input is. ap line_judged (sym (read.line_is input is)) ∙ judged;
+    left = read.left;
+    unwritten = read.on.unwritten;
+    unreported = unreported;
+  }
+
+  reported_end : (status : RehearsalStatus) → Reported link sink status run → Ends link sink run (status_after status)
+  reported_end rehearsal.Accepted r = r
+  reported_end rehearsal.Refused r = r
+
+  pub ends_reported : (x : Rehearsal) → Attempt x (link run.link) (link run.link_after) → Appends (sink run.sink).written (sink run.sink_after).written x.report.items → IsFlushed (sink run.sink_after).written (sink run.sink_after).flushed
+      → Ends link sink run (status_after x.status)
+  ends_reported x a written flushed = reported_end x.status (record { rehearsal = x; status_is = refl; attempt = a; written = written; flushed = flushed })
+
+  -- an end on the line is an end of a run without words
+  pub run_ends : (words : ℕ) (status : Status) → words ≡ 0 → Ends link sink run status → RunEnds link sink words run status
+  run_ends words Done is e = record { none = is; ends = e }
+  run_ends words Refused is e = record { none = is; ends = e }
+  run_ends words BadSettings is e = record { none = is; ends = e }
+  run_ends words Usage is e = absurd e
+  run_ends words LinkFault is e = record { none = is; ends = e }
+  run_ends words SinkFault is e = record { none = is; ends = e }
+  run_ends words NoMemory is e = record { none = is; ends = e }
+  run_ends words NotBuilt is e = record { none = is; ends = e }
+
+  -- ---- what decides
+
+  reported_decides : (status : RehearsalStatus) (settings : Settings) (input : List ℕ) (r : Reported link sink status run) → Connected input r.rehearsal (link run.link) (link run.link_after) → line_judged (line_of input) ≡ Ok settings
+      → LineDecides (Ok settings) (after_line input) (status_after status)
+  reported_decides status settings input r c known other out =
+      let same : c.settings ≡ settings = one_settings (line_judged (line_of input)) settings c.settings known c.settings_are in
+      let replied = with_replies c.settings (after_line input) in
+      let out_so : LoginComesOut replied other = subst (λ s. LoginComesOut (with_replies s (after_line input)) other) (sym same) out in
+      let rises : 0 ≤ 0 = omega arith in
+      let ends : status ≡ other = reports_status (one replied) (steps_of 0 0) status other r.rehearsal.report.items (record { report = c.report; status_is = sym r.status_is ∙ c.status_is; steps_rise = rises }) out_so in
+      inl (ap status_after ends)
+
+  settle : (result : Status) (input : List ℕ) (judgement : Result Settings SettingsError) → Ends link sink run result → Unfailed link sink run → Told (link run.link) input → line_judged (line_of input) ≡ judgement → LineDecides judgement (after_line input) result
+  settle Done input (Ok settings) e u told known = reported_decides rehearsal.Accepted settings input e (e.attempt.connected input told u.link_faultless) known
+  settle Done input (Err error) e u told known = absurd (ok_error _ _ error (e.attempt.connected input told u.link_faultless).settings_are known)
+  settle Refused input (Ok settings) e u told known = reported_decides rehearsal.Refused settings input e (e.attempt.connected input told u.link_faultless) known
+  settle Refused input (Err error) e u told known = absurd (ok_error _ _ error (e.attempt.connected input told u.link_faultless).settings_are known)
+  settle BadSettings input (Ok settings) e u told known = absurd (ok_error _ settings Bad known (e.judged_so input told.left))
+  settle BadSettings input (Err Bad) e u told known = inl refl
+  settle BadSettings input (Err Unbuilt) e u told known = absurd (bad_unbuilt _ (e.judged_so input told.left) known)
+  settle NotBuilt input (Ok settings) e u told known = absurd (ok_error _ settings Unbuilt known (e.judged_so input told.left))
+  settle NotBuilt input (Err Bad) e u told known = absurd (bad_unbuilt _ known (e.judged_so input told.left))
+  settle NotBuilt input (Err Unbuilt) e u told known = inl refl
+  settle NoMemory input (Ok settings) e u told known = λ status out. inr refl
+  settle NoMemory input (Err Bad) e u told known = inr refl
+  settle NoMemory input (Err Unbuilt) e u told known = inr refl
+  settle result input (Err OutOfMemory) e u told known = tt
+  settle Usage input judgement e u told known = absurd e
+  settle LinkFault input judgement e u told known = absurd (u.link_faultless.reads e.rose)
+  settle SinkFault input judgement e u told known = absurd (u.writes e.rose)
+
+  pub decided : (words : ℕ) (result : Status) → Ends link sink run result → IsDecided link sink words run result
+  decided words result e none u input told = settle result input (line_judged (line_of input)) e u told refl

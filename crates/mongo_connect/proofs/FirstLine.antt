@@ -1,0 +1,116 @@
+-- What was read of an input up to a line feed, its end or the limit is its first line, and what is left follows that.
+use Rattle.std.proofs.Common.{◌≡◌, ℕ, suc, ◌+◌, ◌<◌, ◌≤◌, ◌∙◌, Bool, true, false, not, cond, Option, None, Some, List, [], ◌∷◌, ◌++◌, length, take, drop, refl, sym, ap, subst, arith, append-nil, append_assoc, length-append}
+use Rattle.std.proofs.Math.Seq.{take-append-add, drop-append-add, take-append_seam, drop-append_seam}
+use Rattle.std.proofs.lemmas.Bool.{le-leb, lt-leb}
+use Rattle.std.proofs.lemmas.List.{take_all}
+use Rattle.std.specs.Option.{option_to_list}
+use Rattle.std.specs.Io.KnownBytes.{Consumes, IsAtEnd}
+use Rattle.std.proofs.KnownBytes.{Consumes-trans}
+use Rattle.mongo_wire.specs.Outside.{ConsumesAtMost}
+use Rattle.std.specs.List.{position_or_len, before_first, after_first}
+use Rattle.mongo_settings.specs.Settings.{limit}
+use Rattle.mongo_connect.specs.Input.{is_line_feed, line_of, after_line}
+
+-- no line feed stands in the bytes
+abbrev pub IsUnbroken : List ℕ → Type 0
+IsUnbroken held = position_or_len is_line_feed held ≡ length held
+
+-- the first line feed stands after bytes that have none
+past_byte : (b : Bool) (held rest n m : ℕ) → cond (not b) (1 + held) 0 ≡ suc n → (held ≡ n → rest ≡ n + m) → cond (not b) (1 + rest) 0 ≡ suc n + m
+past_byte true held rest n m e more = absurd (omega arith)
+past_byte false held rest n m e more = let is = more (omega arith) in omega arith
+
+past : (held rest : List ℕ) → IsUnbroken held → position_or_len is_line_feed (held ++ rest) ≡ length held + position_or_len is_line_feed rest
+past [] rest unbroken = omega arith
+past (byte ∷ held) rest unbroken = past_byte (is_line_feed byte) (position_or_len is_line_feed held) (position_or_len is_line_feed (held ++ rest)) (length held) (position_or_len is_line_feed rest) unbroken (λ e. past held rest e)
+
+pub IsUnbroken-push : (held : List ℕ) (byte : ℕ) → IsUnbroken held → is_line_feed byte ≡ false → IsUnbroken (held ++ byte ∷ [])
+IsUnbroken-push held byte unbroken other =
+    let one : position_or_len is_line_feed (byte ∷ []) ≡ 1 = ap (λ b. cond (not b) 1 0) other in
+    let all = past held (byte ∷ []) unbroken in
+    omega (arith, length-append held (byte ∷ []))
+
+before : (held rest : List ℕ) → IsUnbroken held → before_first is_line_feed (held ++ rest) ≡ held ++ before_first is_line_feed rest
+before held rest unbroken = ap (λ n. take n (held ++ rest)) (past held rest unbroken) ∙ take-append-add held rest (position_or_len is_line_feed rest)
+
+after : (held rest : List ℕ) → IsUnbroken held → after_first is_line_feed (held ++ rest) ≡ after_first is_line_feed rest
+after held rest unbroken =
+    let place : position_or_len is_line_feed (held ++ rest) + 1 ≡ length held + (position_or_len is_line_feed rest + 1) = let e = past held rest unbroken in omega arith in
+    ap (λ n. drop n (held ++ rest)) place ∙ drop-append-add held rest (position_or_len is_line_feed rest + 1)
+
+-- a line within the limit, and what follows it
+pub record First (line rest input : List ℕ) : Type 0 where
+  pub line_is : line ≡ line_of input
+  pub rest_is : rest ≡ after_line input
+
+within : (line rest input : List ℕ) → before_first is_line_feed input ≡ line → after_first is_line_feed input ≡ rest → length line ≤ limit → First line rest input
+unfolding line_of after_line
+within line rest input before_is after_is short =
+    let room : length line ≤ limit + 1 = omega arith in
+    record {
+      line_is = sym (ap (take (limit + 1)) before_is ∙ take_all (limit + 1) line room);
+      rest_is = sym (rw (before_is, le-leb (length line) limit short) after_is);
+    }
+
+first_fed : (held rest : List ℕ) → IsUnbroken held → length held ≤ limit → First held rest (held ++ 10 ∷ rest)
+first_fed held rest unbroken short = within held rest (held ++ 10 ∷ rest) (before held (10 ∷ rest) unbroken ∙ append-nil held) (after held (10 ∷ rest) unbroken) short
+
+first_ended : (held : List ℕ) → IsUnbroken held → length held ≤ limit → First held [] (held ++ [])
+first_ended held unbroken short = within held [] (held ++ []) (before held [] unbroken ∙ append-nil held) (after held [] unbroken) short
+
+first_cut : (held rest : List ℕ) → IsUnbroken held → length held ≡ limit + 1 → First held rest (held ++ rest)
+unfolding line_of after_line
+first_cut held rest unbroken long =
+    let more = before_first is_line_feed rest in
+    let longer : limit < length (held ++ more) = omega (arith, length-append held more) in
+    record {
+      line_is = sym (rw (before held rest unbroken) (ap (λ n. take n (held ++ more)) (sym long) ∙ take-append_seam held more));
+      rest_is = sym (rw (before held rest unbroken, lt-leb (length (held ++ more)) limit longer) (ap (λ n. drop n (held ++ rest)) (sym long) ∙ drop-append_seam held rest));
+    }
+
+-- ---- what a source gave
+
+-- a told source had this line, and what follows it is left
+pub record Gave (old new : Option (List ℕ)) (line : List ℕ) : Type 0 where
+  pub line_is : (input : List ℕ) → old ≡ Some input → line ≡ line_of input
+  pub left : (input : List ℕ) → old ≡ Some input → new ≡ Some (after_line input)
+
+gave : (old new : Option (List ℕ)) (held given : List ℕ) → Consumes old new given → ((rest : List ℕ) → new ≡ Some rest → First held rest (given ++ rest)) → Gave old new held
+gave None new held given consumed first = record { line_is = λ input is. cc; left = λ input is. cc }
+gave (Some bytes) None held given consumed first = absurd consumed
+gave (Some bytes) (Some rest) held given consumed first =
+    let f = first rest refl in
+    record {
+      line_is = λ input is. let same : given ++ rest ≡ input = cc in f.line_is ∙ ap line_of same;
+      left = λ input is. let same : given ++ rest ≡ input = cc in ap Some (f.rest_is ∙ ap after_line same);
+    }
+
+pub gave_fed : (old new : Option (List ℕ)) (held : List ℕ) → Consumes old new (held ++ 10 ∷ []) → IsUnbroken held → length held ≤ limit → Gave old new held
+gave_fed old new held consumed unbroken short = gave old new held (held ++ 10 ∷ []) consumed (λ rest is. simp append_assoc (first_fed held rest unbroken short))
+
+pub gave_ended : (old new : Option (List ℕ)) (held : List ℕ) → Consumes old new held → IsAtEnd new → IsUnbroken held → length held ≤ limit → Gave old new held
+gave_ended old new held consumed end unbroken short = gave old new held held consumed (λ rest is. subst (λ r. First held r (held ++ r)) (sym (subst IsAtEnd is end)) (first_ended held unbroken short))
+
+pub gave_cut : (old new : Option (List ℕ)) (held : List ℕ) → Consumes old new held → IsUnbroken held → length held ≡ limit + 1 → Gave old new held
+gave_cut old new held consumed unbroken long = gave old new held held consumed (λ rest is. first_cut held rest unbroken long)
+
+-- the same, by the last byte that was read
+pub gave_line_feed : (old mid new : Option (List ℕ)) (held : List ℕ) (next : Option ℕ) (byte : ℕ) → Consumes old mid held → Consumes mid new (option_to_list next) → next ≡ Some byte → byte ≡ 10 → IsUnbroken held → length held ≤ limit → Gave old new held
+gave_line_feed old mid new held next byte front last is feed unbroken short =
+    let e : option_to_list next ≡ 10 ∷ [] = ap option_to_list is ∙ ap (λ b. b ∷ []) feed in
+    gave_fed old new held (Consumes-trans old mid new held (10 ∷ []) front (subst (Consumes mid new) e last)) unbroken short
+
+pub taken_line_feed : (old mid new : Option (List ℕ)) (held : List ℕ) (next : Option ℕ) → Consumes old mid held → Consumes mid new (option_to_list next) → length held ≤ limit → ConsumesAtMost old new (limit + 1)
+taken_line_feed old mid new held next front last short =
+    let all = Consumes-trans old mid new held (option_to_list next) front last in
+    let most : length (option_to_list next) ≤ 1 = one next in
+    (held ++ option_to_list next, omega (arith, length-append held (option_to_list next)), all)
+    where
+  one : (next : Option ℕ) → length (option_to_list next) ≤ 1
+  one None = omega arith
+  one (Some byte) = omega arith
+
+pub gave_end : (old mid new : Option (List ℕ)) (held : List ℕ) (next : Option ℕ) → Consumes old mid held → Consumes mid new (option_to_list next) → (next ≡ None → IsAtEnd new) → next ≡ None → IsUnbroken held → length held ≤ limit → Gave old new held
+gave_end old mid new held next front last end is unbroken short =
+    let e : held ++ option_to_list next ≡ held = ap (λ n. held ++ option_to_list n) is ∙ append-nil held in
+    gave_ended old new held (subst (Consumes old new) e (Consumes-trans old mid new held (option_to_list next) front last)) (end is) unbroken short

@@ -1,0 +1,90 @@
+-- What is told of an establishment over a link, from what was recorded of it; and that it is a rehearsal on the bytes that the link
+-- told.
+use Rattle.std.proofs.Common.{◌≡◌, ℕ, ◌-◌, ◌⊎◌, ◌∙◌, ap, subst, sym, arith, refl, inl, inr, Some, Result, Ok, Err, List, length, IfOk, IfErr, OnErr}
+use Rattle.std.specs.Io.KnownBytes.{append_known}
+use Rattle.mongo_wire.specs.Outside.{State}
+use Rattle.mongo_establish.specs.declared.establisher.PooledConnection.{PooledConnection}
+use Rattle.mongo_establish.specs.declared.establisher.EstablishError.{EstablishError}
+use Rattle.mongo_establish.specs.Asked.{Asked}
+use Rattle.mongo_establish.proofs.Establishment.{stopped_refusal}
+use Rattle.mongo_settings.specs.declared.settings.Settings.{Settings}
+use Rattle.mongo_settings.specs.declared.rehearsal.Rehearsal.{Rehearsal}
+use Rattle.mongo_settings.specs.Login.{IsMade, IsStopped}
+use Rattle.mongo_settings.specs.Outcome.{asked_of}
+use Rattle.mongo_settings.specs.Telling.{IsReported, Tells}
+use Rattle.mongo_settings.proofs.Rehearsing.{Replayed, rehearsed}
+use Rattle.mongo_connect.specs.Connecting.{Attempted, IsTold, IsUntold, Told, Faultless, Rehearses}
+use Rattle.mongo_connect.specs.Recording.{IsTakenCount}
+use Rattle.mongo_connect.specs.Settings.{with_replies}
+
+-- ---- what was recorded
+
+-- the establishment began where its recording did
+pub record Recorded (settings : Settings) (ended : Result PooledConnection EstablishError) (origin new : State) (written : List ℕ) (taken : ℕ) : Type 0 where
+  pub attempted : Attempted settings ended origin new
+  pub appended : new.written ≡ append_known origin.written written
+  pub counted : IsTakenCount origin.left new.left taken
+
+pub recorded : (settings : Settings) (asked : Asked) (origin start new : State) (ended : Result PooledConnection EstablishError) (written : List ℕ) (taken : ℕ)
+    → asked ≡ asked_of settings → start ≡ origin → IfOk ended (IsMade asked start new) → IfErr ended (IsStopped asked start new)
+    → new.written ≡ append_known origin.written written → IsTakenCount origin.left new.left taken → Recorded settings ended origin new written taken
+recorded settings asked origin start new ended written taken same begun made stopped appended counted = record {
+  attempted = record {
+    made = subst (λ s. IfOk ended (IsMade (asked_of settings) s new)) begun (subst (λ a. IfOk ended (IsMade a start new)) same made);
+    stopped = subst (λ s. IfErr ended (IsStopped (asked_of settings) s new)) begun (subst (λ a. IfErr ended (IsStopped a start new)) same stopped);
+  };
+  appended = appended;
+  counted = counted;
+}
+
+pub told_over : {E : Type 0} (settings : Settings) (origin old new : State) (ended : Result PooledConnection EstablishError) (written : List ℕ) (taken : ℕ) (r : Result Rehearsal E)
+    → origin ≡ old → Recorded settings ended origin new written taken → IfOk r (Tells written taken ended) → IfOk r (IsTold settings old new)
+told_over settings origin old new ended written taken (Ok x) is t tells =
+    subst (λ s. IsTold settings s new x) is (record { ended = ended; attempted = t.attempted; written = written; appended = t.appended; taken = taken; counted = t.counted; tells = tells })
+told_over settings origin old new ended written taken (Err e) is t tells = tt
+
+pub untold_over : {A E : Type 0} (settings : Settings) (origin old new : State) (ended : Result PooledConnection EstablishError) (written : List ℕ) (taken : ℕ) (r : Result A E)
+    → origin ≡ old → Recorded settings ended origin new written taken → OnErr r (IsUntold settings old new)
+untold_over settings origin old new ended written taken (Ok x) is t = tt
+untold_over settings origin old new ended written taken (Err e) is t = inr (ended, subst (λ s. Attempted settings ended s new) is t.attempted)
+
+-- ---- over told bytes
+
+same_asked : (settings : Settings) (bytes : List ℕ) → asked_of settings ≡ asked_of (with_replies settings bytes)
+unfolding asked_of
+same_asked settings bytes = refl
+
+-- bytes are left
+left_over : (settings : Settings) (bytes : List ℕ) (old new : State) (ended : Result PooledConnection EstablishError) (written : List ℕ) (taken : ℕ) (x : Rehearsal)
+    → Attempted settings ended old new → Told old bytes → Faultless old new → Tells written taken ended x → (left : List ℕ) × (new.left ≡ Some left)
+left_over settings bytes old new (Ok pooled) written taken x a t f tells =
+    let rest = a.made.established.taken bytes t.left in
+    (rest.rest, rest.left_is)
+left_over settings bytes old new (Err refusal) written taken x a t f tells =
+    elim (stopped_refusal refusal.handshake_phase (asked_of settings) refusal.cause.kind old new a.stopped.after bytes a.stopped.stopped t.left f.reads f.writes) [
+      | inl memory ↦ absurd (subst IsReported memory tells.reported)
+      | inr r ↦ (r.refusal.unread, r.left_by.left)
+    ]
+
+rehearses : (settings : Settings) (bytes : List ℕ) (old new : State) (x : Rehearsal) → IsTold settings old new x → Told old bytes → Faultless old new → Rehearses settings bytes old new x
+rehearses settings bytes old new x told t f =
+    let (left, left_is) = left_over settings bytes old new told.ended told.written told.taken x told.attempted t f told.tells in
+    let fits = t.fits in
+    let counted = told.counted bytes left t.left left_is in
+    let count : told.taken ≡ length bytes - length left = omega arith in
+    let replayed : Replayed bytes told.written left old new = record {
+      front = t.before;
+      before = t.written;
+      given = t.left;
+      written_is = told.appended ∙ ap (λ o. append_known o told.written) t.written;
+      left_is = left_is;
+      unfailed = f.reads;
+      unwritten = f.writes;
+    } in
+    let replays = rehearsed {E = ℕ} (with_replies settings bytes) (asked_of settings) old new told.written left told.taken told.ended (Ok x) (same_asked settings bytes) told.attempted.made told.attempted.stopped replayed count told.tells in
+    record { rehearsal_is = replays.rehearses.rehearsal_is; left_as = replays.left_as }
+
+pub rehearsed_over : {E : Type 0} (settings : Settings) (old new : State) (r : Result Rehearsal E) → IfOk r (IsTold settings old new)
+    → (bytes : List ℕ) → Told old bytes → Faultless old new → IfOk r (Rehearses settings bytes old new)
+rehearsed_over settings old new (Ok x) told bytes t f = rehearses settings bytes old new x told t f
+rehearsed_over settings old new (Err e) told bytes t f = tt
