@@ -4,7 +4,7 @@ use Rattle.mongo_server.specs.declared.server_core.ServerCore.{ServerCore}
 use Rattle.mongo_server.specs.Acceptance.{Accepts}
 use Rattle.mongo_server.specs.Exchange.{Exchange, first_of, close_of, final_of}
 use Rattle.mongo_server.specs.Server.{IsOwed, IsTaken}
-use Rattle.mongo_generate.specs.declared.acceptance.Acceptance.{Acceptance}
+use Rattle.mongo_generate.specs.declared.accepted.Acceptance.{Acceptance}
 use Rattle.mongo_generate.specs.Replies.{AreReplies}
 
 -- the last messages of an exchange

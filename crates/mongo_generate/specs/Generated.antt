@@ -5,7 +5,7 @@ use Rattle.mongo_scram.specs.declared.scram_version.ScramVersion.{ScramVersion}
 use Rattle.mongo_scram.specs.declared.scram_version.ScramVersion.TheVariants.{Sha1, Sha256}
 use Rattle.mongo_scram.specs.Base64.{base64_of}
 use Rattle.mongo_server.specs.Exchange.{Exchange, close_of, final_of}
-use Rattle.mongo_generate.specs.declared.generate.Generated.{Generated}
+use Rattle.mongo_generate.specs.declared.logins.Generated.{Generated}
 
 -- ---- the login of a number
 

@@ -11,7 +11,7 @@ use Rattle.mongo_scram.specs.Messages.{open_message}
 use Rattle.mongo_scram.specs.Validity.{least_count}
 use Rattle.mongo_server.specs.ClientMessages.{IsNonce}
 use Rattle.mongo_server.specs.Exchange.{Exchange, open_of}
-use Rattle.mongo_generate.specs.declared.login.Login.{Login}
+use Rattle.mongo_generate.specs.declared.user_login.Login.{Login}
 use Rattle.mongo_generate.specs.Options.{most_iterations}
 
 -- the credential of a user of the database `admin` whose mechanism is given

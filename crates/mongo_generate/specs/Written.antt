@@ -1,10 +1,17 @@
 -- What a client wrote: two frames, of which the second carries its last message.
 use Rattle.std.specs.Prelude.{◌≡◌, ℕ, pos, ◌≤ℤ◌, List, ◌++◌, length, codes}
 use Rattle.mongo_bson.specs.Document.{Element, IsDocument}
+use Rattle.mongo_bson.specs.declared.raw_value.RawValue.{RawValue}
+use Rattle.mongo_bson.specs.declared.raw_value.RawValue.TheVariants.{Binary}
 use Rattle.mongo_wire.specs.Bytes.{first_maximum}
 use Rattle.mongo_wire.specs.Frame.{Frame, IsFrame}
 use Rattle.mongo_command.specs.Field.{field_of, Required}
 use Rattle.mongo_sasl.specs.Reply.{ReadsGeneric}
+
+-- the value is a binary with these bytes
+abbrev pub IsContent : List ℕ → RawValue → Type 0
+IsContent content (Binary subtype bytes) = bytes.now ≡ content
+IsContent content value = ⊥
 
 -- the document's field `payload` is a binary with these bytes
 pub record CarriesPayload (payload document : List ℕ) : Type 0 where

@@ -12,19 +12,19 @@
 //! numbers and the digest that `specs/Generated.antt` gives.
 #![tactic(auto)]
 
-mod acceptance;
-mod client;
-mod generate;
-mod generated;
+mod accepted;
 mod log_in;
-mod login;
+mod logins;
+mod numbering;
+mod options;
 mod replies;
 #[cfg(test)]
 mod tests;
+mod user_login;
 mod written;
 
-pub use acceptance::Acceptance;
-pub use client::Client;
-pub use generate::{Generated, generate};
-pub use generated::generated_server;
-pub use login::Login;
+pub use accepted::Acceptance;
+pub use logins::{Generated, generate};
+pub use numbering::generated_server;
+pub use options::Client;
+pub use user_login::Login;

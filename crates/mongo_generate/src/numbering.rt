@@ -27,8 +27,8 @@ impl Login {
         ensures login { IfOk result (LogsIn (exchange_at number)) }
     {
         let (Ok(username), Ok(password)) = (
-            numbered(alloc, "u", number % 7),
-            numbered(alloc, "p", number % 3),
+            lettered(alloc, "u", number % 7),
+            lettered(alloc, "p", number % 3),
         ) else {
             return Err(AllocError);
         };
@@ -73,8 +73,8 @@ fn server_of<G: Ledger>(
     ensures cost { OnOk result (steps.new ≡ steps.old + 4096) }
     ensures steps { steps.old ≤ steps.new }
 {
-    let username = numbered(alloc, "u", number % 7)?;
-    let password = numbered(alloc, "p", number % 3)?;
+    let username = lettered(alloc, "u", number % 7)?;
+    let password = lettered(alloc, "p", number % 3)?;
     let user = ServerUser::new(
         alloc,
         version_at(number),
@@ -98,7 +98,7 @@ fn version_at(number: u32) -> ScramVersion
 }
 
 // A letter and a number.
-fn numbered(alloc: Global, letter: &str, number: u32) -> Result<Text, BsonFault>
+fn lettered(alloc: Global, letter: &str, number: u32) -> Result<Text, BsonFault>
     ensures text { IfOk result (λ text. text ≡ letter.now ++ decimal number) }
 {
     let mut text = Text::from_slice(alloc, letter)?;

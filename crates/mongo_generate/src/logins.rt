@@ -1,8 +1,10 @@
-ghost use Rattle.std.specs.Prelude.{◌≡◌, ◌+◌, ◌≤◌, Some, IfOk, OnOk};
+ghost use Rattle.std.specs.Prelude.{◌≡◌, ◌+◌, ◌-◌, ◌^◌, ◌<◌, ◌≤◌, ◌++◌, ℕ, List, Some, IfOk, OnOk};
+ghost use Rattle.sha2.specs.Hashers.{Holds256};
 ghost use Rattle.mongo_scram.specs.Costs.{ledgers};
 ghost use Rattle.mongo_establish.specs.KeyCosts.{TakesKey};
+ghost use Rattle.mongo_server.specs.Exchange.{Exchange};
 ghost use Rattle.mongo_generate.specs.Acceptance.{acceptance_of};
-ghost use Rattle.mongo_generate.specs.Generated.{exchange_at, IsGenerated};
+ghost use Rattle.mongo_generate.specs.Generated.{exchange_at, last_messages, IsGenerated};
 ghost use Rattle.mongo_generate.specs.Login.{key_of};
 
 use crate::{Acceptance, Client, Login, generated_server};
@@ -46,11 +48,8 @@ pub fn generate<G: Ledger>(
     let mut accepted = 0;
     let mut hasher = Sha256::new();
     for number in 0..count {
-        if let Some(acceptance) = log_in_numbered(alloc, &client, number, &mut state, steps)? {
-            accepted += 1;
-            hasher.update(acceptance.client_final.as_bytes());
-            hasher.update(acceptance.server_final.as_bytes());
-        }
+        let met = log_in_numbered(alloc, &client, number, &mut state, steps)?;
+        tally(met, &mut accepted, &mut hasher);
     }
     Ok(Generated {
         logins: count,
@@ -58,6 +57,19 @@ pub fn generate<G: Ledger>(
         rounds: state.salted.rounds(),
         digest: hasher.finalize(),
     })
+}
+
+// Counts a login that both sides accepted, and takes its last messages into the digest.
+fn tally(met: Option<Acceptance>, accepted: &mut u32, hasher: &mut Sha256)
+    requires few { accepted.old < 2 ^ 32 - 1 }
+    ensures counted { (x : Exchange) → met ≡ Some (acceptance_of x) → accepted.new ≡ accepted.old + 1 }
+    ensures digested { (x : Exchange) (before : List ℕ) → met ≡ Some (acceptance_of x) → Holds256 hasher.old before → Holds256 hasher.new (before ++ last_messages x) }
+{
+    if let Some(acceptance) = met {
+        *accepted += 1;
+        hasher.update(acceptance.client_final.as_bytes());
+        hasher.update(acceptance.server_final.as_bytes());
+    }
 }
 
 // The login of this number, against the server that knows its user.

@@ -1,0 +1,95 @@
+-- Documents that are written out, as the commands and replies of a login are.
+use Rattle.std.proofs.Common.{◌≡◌, ◌≢◌, ℕ, zero, suc, ℤ, ◌+◌, ◌-◌, ◌^◌, ◌<◌, ◌==◌, ◌&&◌, Bool, true, false, not, inl, inr, FitsSigned, List, [], ◌∷◌, ◌++◌, length, length-append, refl, sym, ap, ◌∙◌, false-eqb, arith}
+use Rattle.std.specs.Borrow.{Bor}
+use Rattle.std.specs.Int.{w32}
+use Rattle.std.specs.List.{AllByRecursion, flat_map}
+use Rattle.std.specs.Str.{IsUtf8, bytes_eq}
+use Rattle.std.proofs.lemmas.Bool.{false≢true}
+use Rattle.std.proofs.lemmas.Slice.Eq.{bytes_eq-Decides}
+use Rattle.mongo_bson.specs.Document.{Element, document, fixed, Shape, shape_of, IsCstring, IsElement, IsDocument, IsInside, IsReadable, HasDistinctKeys, IsWellFormed, spell}
+use Rattle.mongo_bson.specs.Framed.{IsFramed, body_of, enclosed}
+use Rattle.mongo_bson.specs.declared.raw_value.RawValue.TheVariants.{Str, Binary, Bool as Boolean, Int32}
+use Rattle.mongo_bson.proofs.Enclosed.{length-enclosed, body_of-enclosed, framed-enclosed}
+use Rattle.mongo_bson.proofs.ReadBack.{written_element}
+use Rattle.mongo_command.specs.Literal.{text_element, document_element, truth_element, int32_element, document_of}
+use Rattle.mongo_sasl.specs.Commands.{generic_element}
+
+-- ---- keys
+
+-- no byte is zero
+abbrev pub plain : List ℕ → Bool
+plain [] = true
+plain (b ∷ bs) = not (b == 0) && plain bs
+
+both_true : (a b : Bool) → (a && b) ≡ true → (a ≡ true) × (b ≡ true)
+both_true true b is = (refl, is)
+both_true false b is = absurd (false≢true is)
+
+not_true : (a : Bool) → not a ≡ true → false ≡ a
+not_true false is = refl
+not_true true is = absurd (false≢true is)
+
+without_zero : (bytes : List ℕ) → plain bytes ≡ true → AllByRecursion (λ b. b ≢ 0) bytes
+without_zero [] is = tt
+without_zero (b ∷ bs) is = let parts = both_true (not (b == 0)) (plain bs) is in (false-eqb b 0 (not_true (b == 0) parts.0), without_zero bs parts.1)
+
+pub cstring : (key : List ℕ) → IsUtf8 key → plain key ≡ true → IsCstring key
+cstring key utf8 is = record { utf8 = utf8; without_zero = without_zero key is }
+
+-- two keys that a test tells apart
+pub apart : (a b : List ℕ) → bytes_eq a b ≡ false → a ≢ b
+apart a b is same = false≢true (sym is ∙ (bytes_eq-Decides a b).1 same)
+
+-- ---- elements
+
+pub text_is_element : (key text : List ℕ) → IsCstring key → IsUtf8 text → length text < 2 ^ 31 - 1 → IsElement (text_element key text)
+text_is_element key text name utf8 short = written_element key (Str (record { ref_ptr = (0, 0); now = text })) name (utf8, short)
+
+pub number_is_element : (key : List ℕ) (number : ℤ) → IsCstring key → FitsSigned w32 number → IsElement (int32_element key number)
+number_is_element key number name fits = written_element key (Int32 number) name fits
+
+pub truth_is_element : (key : List ℕ) (truth : Bool) → IsCstring key → IsElement (truth_element key truth)
+truth_is_element key truth name = written_element key (Boolean truth) name tt
+
+pub binary_is_element : (key bytes : List ℕ) → IsCstring key → length bytes < 2 ^ 31 → IsElement (generic_element key bytes)
+binary_is_element key bytes name short = written_element key (Binary 0 (record { ref_ptr = (0, 0); now = bytes })) name short
+
+pub document_is_element : (key inner : List ℕ) → IsCstring key → IsFramed inner → IsElement (document_element key inner)
+document_is_element key inner name framed = record { shape = document; known = refl; key = name; value = framed }
+
+-- ---- documents
+
+-- how many bytes elements take: a kind byte and a zero each, the key and the value
+abbrev pub spelled_length : List Element → ℕ
+spelled_length [] = 0
+spelled_length (e ∷ es) = 2 + length e.key + length e.value + spelled_length es
+
+pub length-spelled : (es : List Element) → length (flat_map spell es) ≡ spelled_length es
+length-spelled [] = refl
+length-spelled (e ∷ es) = omega (arith, length-append (spell e) (flat_map spell es), length-append e.key (0 ∷ e.value), length-spelled es)
+
+pub length-document_of : (es : List Element) → length (document_of es) ≡ spelled_length es + 5
+length-document_of es = omega (arith, length-enclosed (flat_map spell es), length-spelled es)
+
+pub document_of-is : (es : List Element) → AllByRecursion IsElement es → spelled_length es + 5 < 2 ^ 31 → IsDocument (document_of es) es
+document_of-is es each short = record {
+  framed = framed-enclosed (flat_map spell es) (omega (arith, length-spelled es));
+  filled = body_of-enclosed (flat_map spell es) (omega (arith, length-spelled es));
+  each = each;
+}
+
+pub framed_document_of : (es : List Element) → spelled_length es + 5 < 2 ^ 31 → IsFramed (document_of es)
+framed_document_of es short = framed-enclosed (flat_map spell es) (omega (arith, length-spelled es))
+
+-- ---- levels
+
+-- no document is inside the element
+abbrev pub IsFlat : Element → Type 0
+IsFlat e = (d : List ℕ) → IsInside e d → ⊥
+
+pub flat_readable : (levels : ℕ) (b : List ℕ) (es : List Element) → IsDocument b es → AllByRecursion IsFlat es → IsReadable (suc levels) b
+unfolding IsReadable
+flat_readable levels b es is flat = (es, is, all_flat es flat) where
+  all_flat : (xs : List Element) → AllByRecursion IsFlat xs → AllByRecursion (λ e. (d : List ℕ) → IsInside e d → IsReadable levels d) xs
+  all_flat [] all = tt
+  all_flat (x ∷ xs) all = ((λ d inside. absurd (all.0 d inside)), all_flat xs all.1)

@@ -1,0 +1,4 @@
+pub mod Documents
+pub mod Payloads
+pub mod Keys
+pub mod SoFar

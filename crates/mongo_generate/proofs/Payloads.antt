@@ -1,0 +1,97 @@
+-- The payload of a document, as it is found.
+use Rattle.std.proofs.Common.{◌≡◌, ◌≢◌, ℕ, ℤ, pos, ◌≤ℤ◌, Bool, true, false, Option, None, Some, Result, Ok, Err, IfOk, MatchResult, List, [], ◌∷◌, ◌++◌, length, codes, append-nil, if◌then◌else◌, refl, sym, ap, ◌∙◌, subst, arith}
+use Rattle.std.specs.Borrow.{Bor}
+use Rattle.std.specs.List.{AllByRecursion}
+use Rattle.std.specs.Str.{bytes_eq}
+use Rattle.std.proofs.lemmas.Bool.{false≢true}
+use Rattle.std.proofs.lemmas.Slice.Eq.{bytes_eq-Decides}
+use Rattle.mongo_bson.specs.Document.{Element, IsDocument}
+use Rattle.mongo_bson.specs.Find.{FindsValue, HasNone, BreaksOff}
+use Rattle.mongo_bson.specs.Framed.{body_of}
+use Rattle.mongo_bson.specs.Value.{IsValue, has_variant}
+use Rattle.mongo_bson.specs.declared.raw_value.RawValue.{RawValue}
+use Rattle.mongo_bson.specs.declared.raw_value.RawValue.TheVariants.{Double, Str, Document, Array, Binary, ObjectId, Bool as Boolean, DateTime, Null, Int32, Int64, Other}
+use Rattle.mongo_bson.proofs.Found.{first_in_document, none_in_document, broken_no_document}
+use Rattle.mongo_wire.specs.declared.error.Error.{Error}
+use Rattle.mongo_wire.specs.declared.error.ErrorKind.{ErrorKind}
+use Rattle.mongo_wire.specs.declared.error.ErrorKind.TheVariants.{ReadFault, OutOfMemory}
+use Rattle.mongo_wire.specs.declared.message.Message.{Message}
+use Rattle.mongo_wire.specs.Frame.{Frame}
+use Rattle.mongo_wire.specs.Message.{ReadRefused, ReadsAgain, IsUnreadable}
+use Rattle.mongo_wire.specs.Outside.{Rose}
+use Rattle.mongo_command.specs.Field.{field_of, Required}
+use Rattle.mongo_sasl.specs.Reply.{ReadsGeneric}
+use Rattle.mongo_generate.specs.Written.{IsContent, CarriesPayload}
+
+-- ---- the field
+
+first_field : (key : List ℕ) (before after : List Element) (e : Element) → AllByRecursion (λ x. x.key ≢ key) before → e.key ≡ key → field_of key (before ++ e ∷ after) ≡ Some e
+first_field key [] after e other same = ap (λ b. if b then Some e else field_of key after) ((bytes_eq-Decides e.key key).1 same)
+first_field key (x ∷ xs) after e other same =
+    ap (λ b. if b then Some x else field_of key (xs ++ e ∷ after)) (differs x.key key other.0) ∙ first_field key xs after e other.1 same
+  where
+    differs : (a b : List ℕ) → a ≢ b → bytes_eq a b ≡ false
+    differs a b other = is_false (bytes_eq a b) (λ is. other ((bytes_eq-Decides a b).0 is)) where
+      is_false : (t : Bool) → (t ≡ true → ⊥) → t ≡ false
+      is_false true h = absurd (h refl)
+      is_false false h = refl
+
+no_field : (key : List ℕ) (es : List Element) → AllByRecursion (λ x. x.key ≢ key) es → field_of key es ≡ None
+no_field key [] other = refl
+no_field key (x ∷ xs) other = ap (λ b. if b then Some x else field_of key xs) (differs x.key key other.0) ∙ no_field key xs other.1
+  where
+    differs : (a b : List ℕ) → a ≢ b → bytes_eq a b ≡ false
+    differs a b other = is_false (bytes_eq a b) (λ is. other ((bytes_eq-Decides a b).0 is)) where
+      is_false : (t : Bool) → (t ≡ true → ⊥) → t ≡ false
+      is_false true h = absurd (h refl)
+      is_false false h = refl
+
+five : (kind : ℕ) → kind ≡ 5 → has_variant kind ≡ true
+five kind is = ap has_variant is
+
+-- a generic binary is read as one
+content_read : (e : Element) (value : RawValue) (payload : List ℕ) → ReadsGeneric e payload → IsValue e.kind e.value value → IsContent payload value
+content_read e (Binary subtype content) payload reads is = is.2 ∙ sym reads.2
+content_read e (Double bits) payload reads is = let k = sym reads.0 ∙ is.0 in absurd (omega (arith, k))
+content_read e (Str text) payload reads is = let k = sym reads.0 ∙ is.0 in absurd (omega (arith, k))
+content_read e (Document d) payload reads is = let k = sym reads.0 ∙ is.0 in absurd (omega (arith, k))
+content_read e (Array a) payload reads is = let k = sym reads.0 ∙ is.0 in absurd (omega (arith, k))
+content_read e (ObjectId id) payload reads is = let k = sym reads.0 ∙ is.0 in absurd (omega (arith, k))
+content_read e (Boolean b) payload reads is = let k = sym reads.0 ∙ is.0 in absurd (omega (arith, k))
+content_read e (DateTime t) payload reads is = let k = sym reads.0 ∙ is.0 in absurd (omega (arith, k))
+content_read e Null payload reads is = let k = sym reads.0 ∙ is in absurd (omega (arith, k))
+content_read e (Int32 n) payload reads is = let k = sym reads.0 ∙ is.0 in absurd (omega (arith, k))
+content_read e (Int64 n) payload reads is = let k = sym reads.0 ∙ is.0 in absurd (omega (arith, k))
+content_read e (Other kind content) payload reads is = absurd (false≢true (sym is.2 ∙ five e.kind reads.0))
+
+required : (found : Option Element) (e : Element) (payload : List ℕ) → found ≡ Some e → Required ReadsGeneric found payload → ReadsGeneric e payload
+unfolding Required
+required found e payload is reads = subst (λ f. Required ReadsGeneric f payload) is reads
+
+absent : (found : Option Element) (payload : List ℕ) → found ≡ None → Required ReadsGeneric found payload → ⊥
+unfolding Required
+absent found payload is reads = subst (λ f. Required ReadsGeneric f payload) is reads
+
+pub payload_found : (document payload : List ℕ) (value : RawValue) → CarriesPayload payload document → FindsValue (body_of document) (codes "payload") (Some value) → IsContent payload value
+payload_found document payload value carries found =
+    let e = found.0 in
+    let first = first_in_document document (codes "payload") e carries.elements carries.is_document found.1 in
+    let is = ap (field_of (codes "payload")) first.place ∙ first_field (codes "payload") first.before first.after e first.other found.1.key_is in
+    content_read e value payload (required (field_of (codes "payload") carries.elements) e payload is carries.payload_is) found.2
+
+pub payload_absent : (document payload : List ℕ) → CarriesPayload payload document → HasNone (body_of document) (codes "payload") → ⊥
+payload_absent document payload carries none =
+    absent (field_of (codes "payload") carries.elements) payload (no_field (codes "payload") carries.elements (none_in_document document (codes "payload") carries.elements carries.is_document none)) carries.payload_is
+
+pub payload_broken : (document payload : List ℕ) → CarriesPayload payload document → BreaksOff (body_of document) (codes "payload") → ⊥
+payload_broken document payload carries broken = broken_no_document document (codes "payload") carries.elements carries.is_document broken
+
+-- ---- reading
+
+-- a frame of a link that doesn't fail is read again, or memory runs out
+pub only_memory : (e : Error) (most : ℤ) (old new : Option (List ℕ)) (ends_old ends_new : ℕ) (parts : Frame) (rest : List ℕ) → ReadsAgain parts rest new (Err e) → ReadRefused e.kind most old new 0 0 ends_old ends_new → e.kind ≡ OutOfMemory
+only_memory e most old new ends_old ends_new parts rest again refused = by_kind e.kind again refused where
+  by_kind : (kind : ErrorKind) → IsUnreadable kind → ReadRefused kind most old new 0 0 ends_old ends_new → kind ≡ OutOfMemory
+  by_kind ReadFault u r = let rose = r.0 in absurd (omega arith)
+  by_kind OutOfMemory u r = refl
+  by_kind kind u r = absurd u

@@ -1,0 +1,94 @@
+ghost use Rattle.std.specs.Prelude.{◌≡◌, Some};
+ghost use Rattle.mongo_establish.specs.Speculation.{SpeaksFor};
+
+use mongo_bson::Text;
+use mongo_establish::{
+    AuthMechanism, Credential, Error, LoginInputs, Moment, Nonces, ScramVersion,
+};
+use mongo_scram::ClientFirst;
+use std::alloc::{AllocError, Global};
+
+/// A user who logs in by SCRAM, and the nonces of the login.
+#[derive(Drop)]
+pub struct Login {
+    pub(crate) credential: Credential,
+    pub(crate) inputs: LoginInputs,
+    // The client's first message.
+    pub(crate) client_first: Text,
+    pub ghost spoken: { SpeaksFor (Some credential) },
+}
+
+impl Login {
+    ghost use Rattle.std.specs.Prelude.{◌≡◌, IfOk};
+    ghost use Rattle.mongo_generate.specs.Login.{IsLogin, credential_by};
+
+    /// The login of a user of the database `admin`, by this version of SCRAM and these nonces.
+    pub fn new(
+        alloc: Global,
+        version: ScramVersion,
+        username: &str,
+        password: &str,
+        nonces: Nonces,
+    ) -> Result<Login, AllocError>
+        ensures login { IfOk result (IsLogin version username.now password.now nonces.first) }
+    {
+        match Login::of_user(alloc, version, username, password, nonces) {
+            Ok(login) => Ok(login),
+            Err(_) => Err(AllocError),
+        }
+    }
+
+    // Want of memory is the only refusal.
+    fn of_user(
+        alloc: Global,
+        version: ScramVersion,
+        username: &str,
+        password: &str,
+        nonces: Nonces,
+    ) -> Result<Login, Error>
+        ensures login { IfOk result (IsLogin version username.now password.now nonces.first) }
+    {
+        let first = ClientFirst::new(alloc, "admin", username, true, None, &nonces.first)?;
+        let client_first = Text::from_slice(alloc, first.message())?;
+        let username = Text::from_slice(alloc, username)?;
+        let password = Text::from_slice(alloc, password)?;
+        Ok(Login::with(version, username, password, client_first, nonces))
+    }
+
+    // The login with these parts. Its mechanism is given.
+    fn with(
+        version: ScramVersion,
+        username: Text,
+        password: Text,
+        client_first: Text,
+        nonces: Nonces,
+    ) -> Login
+        ensures credential { result.credential ≡ credential_by version username password }
+        ensures nonce { result.inputs.nonces.first ≡ nonces.first }
+        ensures first { result.client_first ≡ client_first }
+    {
+        let mechanism = match version {
+            ScramVersion::Sha1 => AuthMechanism::ScramSha1,
+            ScramVersion::Sha256 => AuthMechanism::ScramSha256,
+        };
+        let credential = Credential::new()
+            .username(Some(username))
+            .password(Some(password))
+            .mechanism(Some(mechanism));
+        Login {
+            credential,
+            inputs: inputs_of(nonces),
+            client_first,
+        }
+    }
+}
+
+// What is drawn for the login: its nonces. SCRAM doesn't ask for the time.
+fn inputs_of(nonces: Nonces) -> LoginInputs
+    ensures { result.nonces ≡ nonces }
+{
+    let Some(moment) = Moment::new(0) else {
+        unreachable!()
+    };
+    LoginInputs { nonces, moment }
+}
