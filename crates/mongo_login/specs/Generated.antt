@@ -1,10 +1,14 @@
--- What `generate` tells of the logins that it made.
-use Rattle.std.specs.Prelude.{◌≡◌, ℕ, List, [], ◌∷◌, ◌++◌, codes, decimal}
+-- What `generate` tells of the logins that it made, and how it ends.
+use Rattle.std.specs.Prelude.{◌≡◌, ℕ, ◌⊎◌, List, [], ◌∷◌, ◌++◌, codes, decimal}
+use Rattle.std.specs.Io.KnownBytes.{Appends}
 use Rattle.hex.specs.Hex.{encode_lower}
+use Rattle.mongo_wire.specs.Outside.{State, Rose, AppendsFront, IsFlushed}
 use Rattle.mongo_settings.specs.Line.{line}
 use Rattle.mongo_settings.specs.Task.{Steps}
-use Rattle.mongo_generate.specs.declared.generate.Generated.{Generated}
+use Rattle.mongo_generate.specs.declared.logins.Generated.{Generated}
 use Rattle.mongo_generate.specs.Generated.{IsGenerated}
+use Rattle.mongo_login.specs.declared.status.Status.{Status}
+use Rattle.mongo_login.specs.declared.status.Status.TheVariants.{Done, SinkFault, NoMemory}
 
 -- how many there were, how many of them both sides accepted, the rounds of Hi that the client derived, and the SHA-256 of their
 -- last messages
@@ -18,3 +22,31 @@ pub record TellsLogins (count : ℕ) (steps : Steps) (text : List ℕ) : Type 0 
   pub generated : Generated
   pub generated_is : IsGenerated count steps.before steps.after generated
   pub text_is : text ≡ generated_text generated
+
+-- ---- the ends, between a sink before and after
+
+-- what was made of so many logins was written whole, and flushed
+pub record MadeLogins (count : ℕ) (steps : Steps) (sink sink_after : State) : Type 0 where
+  pub text : List ℕ
+  pub tells : TellsLogins count steps text
+  pub written : Appends sink.written sink_after.written text
+  pub flushed : IsFlushed sink_after.written sink_after.flushed
+
+-- a front of it was written
+pub record WroteFront (count : ℕ) (steps : Steps) (sink sink_after : State) : Type 0 where
+  pub text : List ℕ
+  pub tells : TellsLogins count steps text
+  pub front : AppendsFront sink.written sink_after.written text
+
+-- the sink failed
+pub record WriteFailed (count : ℕ) (steps : Steps) (sink sink_after : State) : Type 0 where
+  pub rose : Rose sink.write_faults sink_after.write_faults
+  pub wrote : WroteFront count steps sink sink_after
+
+-- How the making of so many logins ends; no login of its own can be refused. Want of memory may come before anything is written, or
+-- while it is.
+abbrev pub GenerateEnds : {K : Type 0} → (K → State) → ℕ → Steps → K → K → Status → Type 0
+GenerateEnds sink count steps old new Done = MadeLogins count steps (sink old) (sink new)
+GenerateEnds sink count steps old new SinkFault = WriteFailed count steps (sink old) (sink new)
+GenerateEnds sink count steps old new NoMemory = (new ≡ old) ⊎ WroteFront count steps (sink old) (sink new)
+GenerateEnds sink count steps old new status = ⊥

@@ -13,7 +13,7 @@ use Rattle.mongo_login.specs.declared.status.Status.{Status}
 use Rattle.mongo_login.specs.declared.status.Status.TheVariants.{Done, Refused, BadSettings, Usage, SourceFault, SinkFault, NoMemory, NotBuilt}
 use Rattle.mongo_login.specs.declared.words.Command.{Command}
 use Rattle.mongo_login.specs.declared.words.Command.TheVariants.{Rehearse, Generate}
-use Rattle.mongo_login.specs.Generated.{TellsLogins}
+use Rattle.mongo_login.specs.Generated.{GenerateEnds}
 use Rattle.mongo_login.specs.Words.{Names, NamesNone}
 
 -- the number that the process ends with
@@ -127,41 +127,14 @@ module _ {S K : Type 0} (source : S → State) (sink : K → State) where
   TaskEnds task steps run NoMemory = RanOut task steps run
   TaskEnds task steps run NotBuilt = IsUnbuilt task run
 
-  -- what was made of so many logins was written whole; nothing was read
-  pub record MadeLogins (count : ℕ) (steps : Steps) (run : Run S K) : Type 0 where
+  -- logins are made, and nothing is read
+  pub record RanGenerate (count : ℕ) (steps : Steps) (run : Run S K) (status : Status) : Type 0 where
     pub unread : run.source_after ≡ run.source
-    pub text : List ℕ
-    pub tells : TellsLogins count steps text
-    pub written : Appends (sink run.sink).written (sink run.sink_after).written text
-    pub flushed : IsFlushed (sink run.sink_after).written (sink run.sink_after).flushed
-
-  -- a front of it was written
-  pub record WroteFront (count : ℕ) (steps : Steps) (run : Run S K) : Type 0 where
-    pub text : List ℕ
-    pub tells : TellsLogins count steps text
-    pub front : AppendsFront (sink run.sink).written (sink run.sink_after).written text
-
-  -- the sink failed
-  pub record WriteFailed (count : ℕ) (steps : Steps) (run : Run S K) : Type 0 where
-    pub rose : Rose (sink run.sink).write_faults (sink run.sink_after).write_faults
-    pub unread : run.source_after ≡ run.source
-    pub wrote : WroteFront count steps run
-
-  -- memory ran out, before anything was written or while it was
-  pub record MadeNone (count : ℕ) (steps : Steps) (run : Run S K) : Type 0 where
-    pub unread : run.source_after ≡ run.source
-    pub wrote : (run.sink_after ≡ run.sink) ⊎ WroteFront count steps run
-
-  -- how the making of so many logins ends; no login of its own can be refused
-  abbrev pub GenerateEnds : ℕ → Steps → Run S K → Status → Type 0
-  GenerateEnds count steps run Done = MadeLogins count steps run
-  GenerateEnds count steps run SinkFault = WriteFailed count steps run
-  GenerateEnds count steps run NoMemory = MadeNone count steps run
-  GenerateEnds count steps run status = ⊥
+    pub ends : GenerateEnds sink count steps run.sink run.sink_after status
 
   abbrev pub CommandEnds : Command → Steps → Run S K → Status → Type 0
   CommandEnds (Rehearse task) steps run status = TaskEnds task steps run status
-  CommandEnds (Generate count) steps run status = GenerateEnds count steps run status
+  CommandEnds (Generate count) steps run status = RanGenerate count steps run status
 
   -- the words name no command: nothing is read or written
   pub record IsUsage (words : List (List ℕ)) (run : Run S K) : Type 0 where

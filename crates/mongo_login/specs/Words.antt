@@ -22,7 +22,7 @@ pub record IsCount (word : List ℕ) (count : ℕ) : Type 0 where
 -- a task's name alone, or `generate` and a number
 abbrev pub Names : List (List ℕ) → Command → Type 0
 Names words (Rehearse task) = words ≡ task_name task ∷ []
-Names words (Generate count) = (word : List ℕ) × (words ≡ codes "generate" ∷ word ∷ []) × IsCount word count
+Names words (Generate count) = (number : List ℕ) × (words ≡ codes "generate" ∷ number ∷ []) × IsCount number count
 
 abbrev pub NamesNone : List (List ℕ) → Type 0
 NamesNone words = (command : Command) → Names words command → ⊥

@@ -1,6 +1,6 @@
 //! The commands, by the words after the program's name.
-ghost use Rattle.std.specs.Prelude.{◌≡◌, ◌↔◌, ℕ, map, string_bytes, decimal, IsTrue, MatchOption};
-ghost use Rattle.mongo_login.specs.Words.{task_name, IsCount, Names, NamesNone};
+ghost use Rattle.std.specs.Prelude.{◌≡◌, ◌↔◌, ℕ, [], ◌∷◌, map, string_bytes, decimal, IsTrue, MatchOption};
+ghost use Rattle.mongo_login.specs.Words.{IsCount, Names, NamesNone};
 
 use itoa::Buffer;
 use mongo_settings::Task;
@@ -19,47 +19,61 @@ pub enum Command {
 
 /// What the words ask for: the name of a task alone, or `generate` and how many logins. None for other words.
 pub fn command_in(words: &[String]) -> Option<Command>
-    ensures { MatchOption result (NamesNone (map string_bytes words.now)) (Names (map string_bytes words.now)) }
+    ensures { let texts = map string_bytes words.now in
+        MatchOption result (NamesNone texts) (Names texts) }
 {
     match words {
-        [word] => match task_named(word.as_str()) {
-            Some(task) => Some(Command::Rehearse(task)),
-            None => None,
-        },
-        [word, number] => {
-            if word.as_str() != "generate" {
-                return None;
-            }
-            match count_in(number.as_str()) {
-                Some(count) => Some(Command::Generate(count)),
-                None => None,
+        [word] => command_of_one(word.as_str()),
+        [word, number] => command_of_two(word.as_str(), number.as_str()),
+        _ => None,
+    }
+}
+
+// The command of one word: the name of a task.
+fn command_of_one(word: &str) -> Option<Command>
+    ensures { MatchOption result (NamesNone (word.now ∷ [])) (Names (word.now ∷ [])) }
+{
+    match word {
+        "rehearse" => Some(Command::Rehearse(Task::Rehearse)),
+        "batch" => Some(Command::Rehearse(Task::Batch)),
+        _ => None,
+    }
+}
+
+// The command of two words: `generate` and how many logins.
+fn command_of_two(word: &str, number: &str) -> Option<Command>
+    ensures { MatchOption result (NamesNone (word.now ∷ number.now ∷ [])) (Names (word.now ∷ number.now ∷ [])) }
+{
+    if word != "generate" {
+        return None;
+    }
+    match count_in(number) {
+        Some(count) => Some(Command::Generate(count)),
+        None => None,
+    }
+}
+
+// The number of logins that a word is.
+fn count_in(word: &str) -> Option<u32>
+    ensures { MatchOption result ((count : ℕ) → ¬ (IsCount word.now count)) (IsCount word.now) }
+{
+    match word.parse::<u32>() {
+        Ok(count) => {
+            if is_count(word, count) {
+                Some(count)
+            } else {
+                None
             }
         }
-        _ => None,
+        Err(_) => None,
     }
 }
 
-fn task_named(name: &str) -> Option<Task>
-    ensures { MatchOption result ((task : Task) → name.now ≡ task_name task → ⊥) (λ task. name.now ≡ task_name task) }
+// Whether the word is this number, one that logins are made of.
+fn is_count(word: &str, count: u32) -> bool
+    ensures { IsTrue result ↔ IsCount word.now count }
 {
-    match name {
-        "rehearse" => Some(Task::Rehearse),
-        "batch" => Some(Task::Batch),
-        _ => None,
-    }
-}
-
-// The number of logins that a word is: in decimal digits, with no sign and no leading zero.
-fn count_in(word: &str) -> Option<u32>
-    ensures { MatchOption result ((count : ℕ) → IsCount word.now count → ⊥) (IsCount word.now) }
-{
-    let Ok(count) = word.parse::<u32>() else {
-        return None;
-    };
-    if count < 1 || count > MOST_LOGINS || !is_spelled(word, count) {
-        return None;
-    }
-    Some(count)
+    1 <= count && count <= MOST_LOGINS && is_spelled(word, count)
 }
 
 // Whether these are the number's decimal digits.
