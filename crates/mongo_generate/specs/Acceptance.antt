@@ -2,7 +2,7 @@
 use Rattle.std.specs.Prelude.{ℕ, List}
 use Rattle.mongo_server.specs.declared.server_core.ServerCore.{ServerCore}
 use Rattle.mongo_server.specs.Acceptance.{Accepts}
-use Rattle.mongo_server.specs.Exchange.{Exchange, first_of, close_of, final_of}
+use Rattle.mongo_server.specs.Exchange.{Exchange, first_of, close_of, final_of, IsReadAs}
 use Rattle.mongo_server.specs.Server.{IsOwed, IsTaken}
 use Rattle.mongo_generate.specs.declared.accepted.Acceptance.{Acceptance}
 use Rattle.mongo_generate.specs.Replies.{AreReplies}
@@ -18,4 +18,5 @@ IsTakenBy server acceptance = IsTaken server acceptance.client_final × IsOwed s
 -- the bytes are the replies of the exchange, which its client accepts
 pub record IsHeard (x : Exchange) (bytes : List ℕ) : Type 0 where
   pub replies : AreReplies (first_of x) (final_of x) bytes
+  pub reads : IsReadAs (first_of x) x
   pub accepts : Accepts x (final_of x)
