@@ -7,4 +7,4 @@ pub mod Keys
 pub mod SoFar
 pub mod Numbered
 pub mod Meeting
-pub mod Met
+pub mod Outcomes

@@ -177,10 +177,10 @@ module _ (pending : PendingConnection) (x : Exchange) (nonces : Nonces) (bytes :
   greets : Greets asked.pending.address hello_heard greeting
   greets = (refl, record { response = standalone inner; time = None; reads = hello_says (first_of x) short_first; timeout_fits = tt; description_is = refl; speculative_is = refl; connection_id_is = refl })
 
-  first_frame : List ℕ
+  pub first_frame : List ℕ
   first_frame = written_frame (pos 0) (plain_message (hello_document asked))
 
-  last_frame : List ℕ
+  pub last_frame : List ℕ
   last_frame = written_frame (next_id (pos 0)) (plain_message (close_document (close_of x)))
 
   first_is_frame : IsCommandFrame first_frame (pos 0) (hello_document asked)

@@ -37,41 +37,31 @@ flat e shape known other scope d inside = elim inside [ inl x ↦ other (same_sh
 -- ---- a round
 
 pub conversation_key : IsCstring (codes "conversationId")
-conversation_key = cstring (codes "conversationId") (codes "conversationId", refl, refl) refl
+conversation_key = cstring (codes "conversationId") refl refl
 
 done_key : IsCstring (codes "done")
-done_key = cstring (codes "done") (codes "done", refl, refl) refl
+done_key = cstring (codes "done") refl refl
 
 pub payload_key : IsCstring (codes "payload")
-payload_key = cstring (codes "payload") (codes "payload", refl, refl) refl
+payload_key = cstring (codes "payload") refl refl
 
 pub one_fits : FitsSigned w32 (pos 1)
 one_fits = omega arith
 
 round_are : (done : Bool) (payload : List ℕ) → length payload < 2 ^ 31 → AllByRecursion IsElement (round_elements done payload)
 round_are done payload short =
-    (number_is_element (codes "conversationId") (pos 1) conversation_key one_fits, truth_is_element (codes "done") done done_key, binary_is_element (codes "payload") payload payload_key short, tt)
+    (number_is_element (codes "conversationId") (pos 1) conversation_key one_fits, (truth_is_element (codes "done") done done_key, (binary_is_element (codes "payload") payload payload_key short, tt)))
 
 round_flat : (done : Bool) (payload : List ℕ) → AllByRecursion IsFlat (round_elements done payload)
-round_flat done payload = (
-  flat (int32_element (codes "conversationId") (pos 1)) (fixed 4) refl (not_fixed 4) (λ is. absurd (omega arith)),
-  flat (truth_element (codes "done") done) boolean refl not_boolean (λ is. absurd (omega arith)),
-  flat (generic_element (codes "payload") payload) binary refl not_binary (λ is. absurd (omega arith)),
-  tt,
-)
+round_flat done payload = (flat (int32_element (codes "conversationId") (pos 1)) (fixed 4) refl (not_fixed 4) (λ is. absurd (omega arith)), (flat (truth_element (codes "done") done) boolean refl not_boolean (λ is. absurd (omega arith)), (flat (generic_element (codes "payload") payload) binary refl not_binary (λ is. absurd (omega arith)), tt)))
 
 round_distinct : (done : Bool) (payload : List ℕ) → HasDistinctKeys (round_elements done payload)
-round_distinct done payload = (
-  (apart (codes "done") (codes "conversationId") refl, apart (codes "payload") (codes "conversationId") refl, tt),
-  (apart (codes "payload") (codes "done") refl, tt),
-  tt,
-  tt,
-)
+round_distinct done payload = ((apart (codes "done") (codes "conversationId") refl, (apart (codes "payload") (codes "conversationId") refl, tt)), ((apart (codes "payload") (codes "done") refl, tt), (tt, tt)))
 
 -- ---- `ok`
 
 ok_is_element : IsElement ok_element
-ok_is_element = written_element (codes "ok") (Double 0x3FF0000000000000) (cstring (codes "ok") (codes "ok", refl, refl) refl) (let small : 0x3FF0000000000000 < 2 ^ 64 = omega arith in small)
+ok_is_element = written_element (codes "ok") (Double 0x3FF0000000000000) (cstring (codes "ok") refl refl) (let small : 0x3FF0000000000000 < 2 ^ 64 = omega arith in small)
 
 ok_flat : IsFlat ok_element
 ok_flat = flat ok_element (fixed 8) refl (not_fixed 8) (λ is. absurd (omega arith))
@@ -110,7 +100,7 @@ final_says payload short = record {
     document = final_document payload short;
     readable = flat_readable 99 (document_of (final_elements payload)) (final_elements payload) (final_document payload short) (ok_flat, round_flat true payload);
     distinct = (
-      (apart (codes "conversationId") (codes "ok") refl, apart (codes "done") (codes "ok") refl, apart (codes "payload") (codes "ok") refl, tt),
+      (apart (codes "conversationId") (codes "ok") refl, (apart (codes "done") (codes "ok") refl, (apart (codes "payload") (codes "ok") refl, tt))),
       round_distinct true payload,
     );
   };
@@ -121,13 +111,13 @@ final_says payload short = record {
 -- ---- the hello's reply
 
 size_key : IsCstring (codes "maxBsonObjectSize")
-size_key = cstring (codes "maxBsonObjectSize") (codes "maxBsonObjectSize", refl, refl) refl
+size_key = cstring (codes "maxBsonObjectSize") refl refl
 
 message_key : IsCstring (codes "maxMessageSizeBytes")
-message_key = cstring (codes "maxMessageSizeBytes") (codes "maxMessageSizeBytes", refl, refl) refl
+message_key = cstring (codes "maxMessageSizeBytes") refl refl
 
 speculative_key : IsCstring (codes "speculativeAuthenticate")
-speculative_key = cstring (codes "speculativeAuthenticate") (codes "speculativeAuthenticate", refl, refl) refl
+speculative_key = cstring (codes "speculativeAuthenticate") refl refl
 
 size_fits : FitsSigned w32 (pos 16777216)
 size_fits = omega arith
@@ -138,13 +128,7 @@ message_fits = omega arith
 hello_document : (payload : List ℕ) → length payload < 2 ^ 29 → IsDocument (document_of (hello_elements payload)) (hello_elements payload)
 hello_document payload short =
     document_of-is (hello_elements payload)
-    (
-      ok_is_element,
-      number_is_element (codes "maxBsonObjectSize") (pos 16777216) size_key size_fits,
-      number_is_element (codes "maxMessageSizeBytes") (pos 48000000) message_key message_fits,
-      document_is_element (codes "speculativeAuthenticate") (document_of (speculative_elements payload)) speculative_key (framed_document_of (speculative_elements payload) (omega arith)),
-      tt,
-    )
+    (ok_is_element, (number_is_element (codes "maxBsonObjectSize") (pos 16777216) size_key size_fits, (number_is_element (codes "maxMessageSizeBytes") (pos 48000000) message_key message_fits, (document_is_element (codes "speculativeAuthenticate") (document_of (speculative_elements payload)) speculative_key (framed_document_of (speculative_elements payload) (omega arith)), tt))))
     (omega (arith, length-document_of (speculative_elements payload)))
 
 inner_readable : (levels : ℕ) (payload d : List ℕ) → length payload < 2 ^ 29 → IsInside (document_element (codes "speculativeAuthenticate") (document_of (speculative_elements payload))) d → IsReadable (suc levels) d
@@ -158,11 +142,7 @@ unfolding IsReadable
 hello_readable levels payload short = (
   hello_elements payload,
   hello_document payload short,
-  (λ d inside. absurd (ok_flat d inside)),
-  (λ d inside. absurd (flat (int32_element (codes "maxBsonObjectSize") (pos 16777216)) (fixed 4) refl (not_fixed 4) (λ is. absurd (omega arith)) d inside)),
-  (λ d inside. absurd (flat (int32_element (codes "maxMessageSizeBytes") (pos 48000000)) (fixed 4) refl (not_fixed 4) (λ is. absurd (omega arith)) d inside)),
-  (λ d inside. inner_readable levels payload d short inside),
-  tt,
+  ((λ d inside. absurd (ok_flat d inside)), ((λ d inside. absurd (flat (int32_element (codes "maxBsonObjectSize") (pos 16777216)) (fixed 4) refl (not_fixed 4) (λ is. absurd (omega arith)) d inside)), ((λ d inside. absurd (flat (int32_element (codes "maxMessageSizeBytes") (pos 48000000)) (fixed 4) refl (not_fixed 4) (λ is. absurd (omega arith)) d inside)), ((λ d inside. inner_readable levels payload d short inside), tt)))),
 )
 
 -- a standalone server's, with this answer to the login
@@ -207,13 +187,7 @@ hello_says payload short = record {
   well_formed = record {
     document = hello_document payload short;
     readable = hello_readable 98 payload short;
-    distinct = (
-      (apart (codes "maxBsonObjectSize") (codes "ok") refl, apart (codes "maxMessageSizeBytes") (codes "ok") refl, apart (codes "speculativeAuthenticate") (codes "ok") refl, tt),
-      (apart (codes "maxMessageSizeBytes") (codes "maxBsonObjectSize") refl, apart (codes "speculativeAuthenticate") (codes "maxBsonObjectSize") refl, tt),
-      (apart (codes "speculativeAuthenticate") (codes "maxMessageSizeBytes") refl, tt),
-      tt,
-      tt,
-    );
+    distinct = ((apart (codes "maxBsonObjectSize") (codes "ok") refl, (apart (codes "maxMessageSizeBytes") (codes "ok") refl, (apart (codes "speculativeAuthenticate") (codes "ok") refl, tt))), ((apart (codes "maxMessageSizeBytes") (codes "maxBsonObjectSize") refl, (apart (codes "speculativeAuthenticate") (codes "maxBsonObjectSize") refl, tt)), ((apart (codes "speculativeAuthenticate") (codes "maxMessageSizeBytes") refl, tt), (tt, tt))));
   };
   success = refl;
   table = record {
@@ -242,7 +216,7 @@ hello_says payload short = record {
         min_wire_version = tt;
         max_wire_version = tt;
         sasl_supported_mechs = tt;
-        speculative_authenticate = ((λ is. absurd (omega arith)), refl, refl);
+        speculative_authenticate = ((λ is. absurd (omega arith)), (refl, refl));
         max_bson_object_size = refl;
         max_message_size_bytes = (refl, message_fits);
         max_write_batch_size = tt;

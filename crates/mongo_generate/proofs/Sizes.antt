@@ -37,7 +37,7 @@ use Rattle.mongo_server.specs.Exchange.{Exchange}
 use Rattle.mongo_generate.specs.Login.{IsPossible, credential_by}
 use Rattle.mongo_generate.specs.Options.{handshaker_options}
 use Rattle.mongo_generate.specs.Written.{CarriesPayload}
-use Rattle.mongo_generate.proofs.Documents.{cstring, text_is_element, number_is_element, binary_is_element, length-document_of, document_of-is}
+use Rattle.mongo_generate.proofs.Documents.{cstring, ascii_text, text_is_element, number_is_element, binary_is_element, length-document_of, document_of-is}
 use Rattle.mongo_generate.proofs.ServerReplies.{conversation, one_fits, conversation_key, payload_key}
 use Rattle.mongo_generate.proofs.Texts.{length_open}
 
@@ -64,18 +64,19 @@ length_with key value d =
     let e : Element = document_element key value in
     omega (arith, length-enclosed (body_of d ++ spell e), length-append (body_of d) (spell e), length-take-le (length d - 5) (drop 4 d), length-drop 4 d, length-append key (0 ∷ value))
 
+picked : (t : Bool) (d last : List ℕ) (rest : Option (List ℕ)) → length d ≤ 512 → length (unwrap_or rest last) ≤ 512 → length (unwrap_or (if t then Some d else rest) last) ≤ 512
+picked true d last rest here there = here
+picked false d last rest here there = there
+
 short_document : (test : List ℕ → Bool) (documents : List (List ℕ)) (last : List ℕ) → AllByRecursion (λ d. length d ≤ 512) documents → length last ≤ 512 → length (unwrap_or (find test documents) last) ≤ 512
 short_document test [] last all short = short
-short_document test (d ∷ ds) last all short = pick (test d) where
-  pick : (t : Bool) → length (unwrap_or (if t then Some d else find test ds) last) ≤ 512
-  pick true = all.0
-  pick false = short_document test ds last all.1 short
+short_document test (d ∷ ds) last all short = picked (test d) d last (find test ds) all.0 (short_document test ds last all.1 short)
 
 short_client : (n : ℕ) → length (client_of handshaker_options.metadata n) ≤ 512
 unfolding client_of handshaker_options metadata_of runtime_environment_in
 short_client n =
     let m = handshaker_options.metadata in
-    short_document (fits n) (map metadata_document (forms m)) (metadata_document (with_short_platform m)) (omega arith, omega arith, omega arith, omega arith, omega arith, tt) (omega arith)
+    short_document (fits n) (map metadata_document (forms m)) (metadata_document (with_short_platform m)) (omega arith, (omega arith, (omega arith, (omega arith, (omega arith, tt))))) (omega arith)
 
 length_common : length (common_hello handshaker_options).body ≤ 200
 unfolding handshaker_options
@@ -136,13 +137,7 @@ close_is close short =
     ap (λ b. enclosed (b ++ flat_map spell (last ∷ []))) (body_of-enclosed (flat_map spell first) (omega (arith, length-document_of first, length-enclosed (flat_map spell first)))) ∙ ap enclosed (sym (flat_map-append spell first (last ∷ [])))
 
 close_are : (close : List ℕ) → length close < 2 ^ 29 → AllByRecursion (λ e. IsElement e) (close_elements close)
-close_are close short = (
-  number_is_element (codes "saslContinue") (pos 1) (cstring (codes "saslContinue") (codes "saslContinue", refl, refl) refl) one_fits,
-  number_is_element (codes "conversationId") (pos 1) conversation_key one_fits,
-  binary_is_element (codes "payload") close payload_key (omega arith),
-  text_is_element (codes "$db") (codes "admin") (cstring (codes "$db") (codes "$db", refl, refl) refl) (codes "admin", refl, refl) (omega arith),
-  tt,
-)
+close_are close short = (number_is_element (codes "saslContinue") (pos 1) (cstring (codes "saslContinue") refl refl) one_fits, (number_is_element (codes "conversationId") (pos 1) conversation_key one_fits, (binary_is_element (codes "payload") close payload_key (omega arith), (text_is_element (codes "$db") (codes "admin") (cstring (codes "$db") refl refl) (ascii_text (codes "admin") refl) (omega arith), tt))))
 
 pub close_carries : (close : List ℕ) → length close < 2 ^ 29 → CarriesPayload close (close_document close)
 unfolding Required

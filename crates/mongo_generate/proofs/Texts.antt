@@ -16,7 +16,7 @@ use Rattle.mongo_scram.specs.Messages.{bare_message, open_message, no_proof, cli
 use Rattle.mongo_scram.specs.UserName.{escaped_byte, escaped}
 use Rattle.mongo_scram.specs.Version.{digest_of}
 use Rattle.mongo_server.specs.ClientMessages.{IsPrintable, IsNonce}
-use Rattle.mongo_server.specs.Exchange.{Exchange, close_of}
+use Rattle.mongo_server.specs.Exchange.{Exchange, salted_of, auth_message_of, close_of}
 
 -- ---- base64
 
@@ -33,7 +33,7 @@ length_symbols table (a ∷ b ∷ c ∷ rest) = omega (arith, length_symbols tab
 pub length_base64 : (bytes : List ℕ) → length (base64_of bytes) ≤ 2 * length bytes + 2
 unfolding base64_of
 length_base64 bytes =
-    omega (arith, length-append (encode_symbols symbols bytes) (replicate (padding_len (length bytes)) 61), length-replicate (padding_len (length bytes)) 61, length_symbols symbols bytes)
+    omega (arith, length-append (encode_symbols symbols bytes) (replicate (padding_len (length bytes)) 61), length-replicate {A = ℕ} (padding_len (length bytes)) 61, length_symbols symbols bytes)
 
 symbol : (i : ℕ) → i < 64 → IsPrintable (slice_index symbols i)
 symbol i below = let is = is_alphabet_symbol symbols 0x2C i refl below in (is.0, is.1, is.2)
@@ -41,11 +41,11 @@ symbol i below = let is = is_alphabet_symbol symbols 0x2C i refl below in (is.0,
 symbols_printable : (bytes : List ℕ) → AllByRecursion (λ b. b < 256) bytes → AllByRecursion IsPrintable (encode_symbols symbols bytes)
 unfolding encode_symbols
 symbols_printable [] all = tt
-symbols_printable (a ∷ []) all = let x = all.0 in (symbol (a / 4) (omega arith), symbol (a % 4 * 16) (omega arith), tt)
-symbols_printable (a ∷ b ∷ []) all = let x = all.0 in let y = all.1.0 in (symbol (a / 4) (omega arith), symbol (a % 4 * 16 + b / 16) (omega arith), symbol (b % 16 * 4) (omega arith), tt)
+symbols_printable (a ∷ []) all = let x = all.0 in (symbol (a / 4) (omega arith), (symbol (a % 4 * 16) (omega arith), tt))
+symbols_printable (a ∷ b ∷ []) all = let x = all.0 in let y = all.1.0 in (symbol (a / 4) (omega arith), (symbol (a % 4 * 16 + b / 16) (omega arith), (symbol (b % 16 * 4) (omega arith), tt)))
 symbols_printable (a ∷ b ∷ c ∷ rest) all =
     let x = all.0 in let y = all.1.0 in let z = all.1.1.0 in
-    (symbol (a / 4) (omega arith), symbol (a % 4 * 16 + b / 16) (omega arith), symbol (b % 16 * 4 + c / 64) (omega arith), symbol (c % 64) (omega arith), symbols_printable rest all.1.1.1)
+    (symbol (a / 4) (omega arith), (symbol (a % 4 * 16 + b / 16) (omega arith), (symbol (b % 16 * 4 + c / 64) (omega arith), (symbol (c % 64) (omega arith), symbols_printable rest all.1.1.1))))
 
 all_joined : (xs ys : List ℕ) → AllByRecursion IsPrintable xs → AllByRecursion IsPrintable ys → AllByRecursion IsPrintable (xs ++ ys)
 all_joined [] ys p q = q
@@ -111,4 +111,4 @@ length_closing version salted auth_message nonce =
     omega (arith, length-append nonce (codes ",p=" ++ base64_of owed), length_base64 owed, length_proof version salted auth_message)
 
 pub length_close : (x : Exchange) → length (close_of x) ≤ length x.nonce + length x.suffix + 100
-length_close x = omega (arith, length_closing x.version _ _ (x.nonce ++ x.suffix), length-append x.nonce x.suffix)
+length_close x = omega (arith, length_closing x.version (salted_of x) (auth_message_of x) (x.nonce ++ x.suffix), length-append x.nonce x.suffix)
