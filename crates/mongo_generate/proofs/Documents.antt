@@ -1,10 +1,12 @@
 -- Documents that are written out, as the commands and replies of a login are.
-use Rattle.std.proofs.Common.{◌≡◌, ◌≢◌, ℕ, zero, suc, ℤ, ◌+◌, ◌-◌, ◌^◌, ◌<◌, ◌==◌, ◌&&◌, Bool, true, false, not, inl, inr, FitsSigned, List, [], ◌∷◌, ◌++◌, length, length-append, refl, sym, ap, ◌∙◌, false-eqb, arith}
+use Rattle.std.proofs.Common.{◌≡◌, ◌≢◌, ℕ, zero, suc, ℤ, ◌+◌, ◌-◌, ◌^◌, ◌<◌, nat_lt, ◌==◌, ◌&&◌, Bool, true, false, not, inl, inr, FitsSigned, List, [], ◌∷◌, ◌++◌, length, length-append, refl, sym, ap, ◌∙◌, false-eqb, arith}
 use Rattle.std.specs.Borrow.{Bor}
 use Rattle.std.specs.Int.{w32}
 use Rattle.std.specs.List.{AllByRecursion, flat_map}
-use Rattle.std.specs.Str.{IsUtf8, bytes_eq}
+use Rattle.std.specs.Str.{IsUtf8, IsAscii, bytes_eq}
 use Rattle.std.proofs.lemmas.Bool.{false≢true}
+use Rattle.std.proofs.lemmas.Str.{IsUtf8-from_ascii}
+use borrow.Author.Tests.{ltb-true}
 use Rattle.std.proofs.lemmas.Slice.Eq.{bytes_eq-Decides}
 use Rattle.mongo_bson.specs.Document.{Element, document, fixed, Shape, shape_of, IsCstring, IsElement, IsDocument, IsInside, IsReadable, HasDistinctKeys, IsWellFormed, spell}
 use Rattle.mongo_bson.specs.Framed.{IsFramed, body_of, enclosed}
@@ -33,8 +35,21 @@ without_zero : (bytes : List ℕ) → plain bytes ≡ true → AllByRecursion (�
 without_zero [] is = tt
 without_zero (b ∷ bs) is = let parts = both_true (not (b == 0)) (plain bs) is in (false-eqb b 0 (not_true (b == 0) parts.0), without_zero bs parts.1)
 
-pub cstring : (key : List ℕ) → IsUtf8 key → plain key ≡ true → IsCstring key
-cstring key utf8 is = record { utf8 = utf8; without_zero = without_zero key is }
+-- each byte is ASCII
+abbrev pub low : List ℕ → Bool
+low [] = true
+low (b ∷ bs) = nat_lt b 128 && low bs
+
+ascii : (bytes : List ℕ) → low bytes ≡ true → IsAscii bytes
+ascii [] is i = omega arith
+ascii (b ∷ bs) is zero = ltb-true b 128 (both_true (nat_lt b 128) (low bs) is).0
+ascii (b ∷ bs) is (suc i) = ascii bs (both_true (nat_lt b 128) (low bs) is).1 i
+
+pub ascii_text : (bytes : List ℕ) → low bytes ≡ true → IsUtf8 bytes
+ascii_text bytes is = IsUtf8-from_ascii bytes (ascii bytes is)
+
+pub cstring : (key : List ℕ) → low key ≡ true → plain key ≡ true → IsCstring key
+cstring key is also = record { utf8 = ascii_text key is; without_zero = without_zero key also }
 
 -- two keys that a test tells apart
 pub apart : (a b : List ℕ) → bytes_eq a b ≡ false → a ≢ b

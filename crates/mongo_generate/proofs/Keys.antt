@@ -1,5 +1,7 @@
 -- The keys of the logins of numbers come again after 210 of them, and not before.
-use Rattle.std.proofs.Common.{◌≡◌, ℕ, zero, suc, ◌+◌, ◌*◌, ◌%◌, ◌<◌, ◌==◌, List, ◌∷◌, [], ◌++◌, replicate, get_or, codes, decimal, if◌then◌else◌, refl, sym, ap, ◌∙◌, arith}
+use Rattle.std.proofs.Common.{◌≡◌, ℕ, zero, suc, ◌+◌, ◌*◌, ◌%◌, ◌<◌, ◌≤◌, ◌==◌, Bool, true, false, inl, inr, List, ◌∷◌, [], ◌++◌, replicate, get_or, codes, decimal, if◌then◌else◌, refl, sym, ap, ◌∙◌, arith}
+use Rattle.std.proofs.lemmas.Bool.{cases_lt}
+use Rattle.std.proofs.lemmas.Bool.Decides.{Decides-eqb}
 use Rattle.std.proofs.lemmas.Fmt.{decimal_digit}
 use Rattle.mongo_scram.specs.declared.cache.SaltedKey.{SaltedKey}
 use Rattle.mongo_scram.specs.declared.scram_version.ScramVersion.{ScramVersion}
@@ -23,11 +25,30 @@ key_by two seven three five = record {
 
 -- ---- a key tells what is left
 
+same_test : (s t : Bool) → ◌≡◌ {A = ScramVersion} (if s then Sha1 else Sha256) (if t then Sha1 else Sha256) → s ≡ t
+same_test true true same = refl
+same_test true false same = let none : ◌≡◌ {A = ScramVersion} Sha1 Sha256 = same in cc
+same_test false true same = let none : ◌≡◌ {A = ScramVersion} Sha256 Sha1 = same in cc
+same_test false false same = refl
+
+same_parity : (a b : ℕ) → a < 2 → b < 2 → (a == 0) ≡ (b == 0) → a ≡ b
+same_parity a b p q same =
+    elim (cases_lt a 1) [
+      | inl none ↦
+          let zero_a : a ≡ 0 = omega arith in
+          let zero_b : b ≡ 0 = (Decides-eqb b 0).0 (sym same ∙ (Decides-eqb a 0).1 zero_a) in
+          omega arith
+      | inr some ↦ elim (cases_lt b 1) [
+        | inl none ↦
+            let zero_b : b ≡ 0 = omega arith in
+            let zero_a : a ≡ 0 = (Decides-eqb a 0).0 (same ∙ (Decides-eqb b 0).1 zero_b) in
+            absurd (omega arith)
+        | inr also ↦ omega arith
+      ]
+    ]
+
 same_version : (a b : ℕ) → a < 2 → b < 2 → ◌≡◌ {A = ScramVersion} (if a == 0 then Sha1 else Sha256) (if b == 0 then Sha1 else Sha256) → a ≡ b
-same_version zero zero p q same = refl
-same_version zero (suc b) p q same = let none : ◌≡◌ {A = ScramVersion} Sha1 Sha256 = same in cc
-same_version (suc a) zero p q same = let none : ◌≡◌ {A = ScramVersion} Sha256 Sha1 = same in cc
-same_version (suc a) (suc b) p q same = omega arith
+same_version a b p q same = same_parity a b p q (same_test (a == 0) (b == 0) same)
 
 same_digit : (letter a b : ℕ) → a < 10 → b < 10 → letter ∷ decimal a ≡ letter ∷ decimal b → a ≡ b
 same_digit letter a b p q same =

@@ -1,4 +1,10 @@
 pub mod Documents
 pub mod Payloads
+pub mod ServerReplies
+pub mod Texts
+pub mod Sizes
 pub mod Keys
 pub mod SoFar
+pub mod Numbered
+pub mod Meeting
+pub mod Outcomes

@@ -3,13 +3,14 @@ use Rattle.std.proofs.Common.{◌≡◌, ℕ, ◌+◌, ◌-◌, ◌*◌, ◌^◌
 use Rattle.std.proofs.lemmas.Bool.{cases_lt}
 use Rattle.sha2.specs.declared.Sha256.{Sha256}
 use Rattle.sha2.specs.Hashers.{Holds256}
+use Rattle.sha2.specs.Sha256.{sha256}
 use Rattle.mongo_scram.specs.declared.cache.SaltedCache.{SaltedCache}
 use Rattle.mongo_scram.specs.declared.cache.SaltedKey.{SaltedKey}
 use Rattle.mongo_scram.specs.Cache.{entries_of, rounds_of}
 use Rattle.mongo_scram.specs.Costs.{HasEntry, Ledgers, ledgers, Counts, Derives}
 use Rattle.mongo_establish.specs.KeyCosts.{TakesKey}
 use Rattle.mongo_establish.proofs.Counting.{taken_keys}
-use Rattle.mongo_generate.specs.Generated.{exchange_at, last_messages, all_messages, key_count}
+use Rattle.mongo_generate.specs.Generated.{exchange_at, last_messages, all_messages, key_count, IsGenerated}
 use Rattle.mongo_generate.proofs.Keys.{key_at, same_rest, same_again}
 
 -- ---- which keys have an entry
@@ -132,5 +133,19 @@ so_far_more start k accepted more hasher next now later s takes counted hashed f
       hashed = subst (Holds256 next) (said_more k) hashed;
       held = holds_more k (ledgers (now.steps + 4096) now.cache) later takes s.held;
       rounds_are = omega arith;
+      steps_are = omega arith;
+    }
+
+-- what comes of them all
+pub all_generated : (start number count accepted rounds : ℕ) (digest : List ℕ) (hasher : Sha256) (now : Ledgers) → SoFar start number accepted hasher now → number ≡ count → rounds ≡ rounds_of now.cache → digest ≡ sha256 (all_messages number)
+    → IsGenerated count start now.steps (record { logins = count; accepted = accepted; rounds = rounds; digest = digest })
+all_generated start number count accepted rounds digest hasher now s end counted hashed =
+    let known = s.rounds_are in
+    let stepped = s.steps_are in
+    record {
+      logins_are = refl;
+      accepted_are = s.accepted_are ∙ end;
+      rounds_are = counted ∙ known ∙ ap rounds_to end;
+      digest_is = hashed ∙ ap (λ n. sha256 (all_messages n)) end;
       steps_are = omega arith;
     }

@@ -1,8 +1,11 @@
 -- What comes of a login.
-use Rattle.std.specs.Prelude.{ℕ, List}
+use Rattle.std.specs.Prelude.{◌≢◌, ℕ, Bool, true, false, Result, Ok, Err, List, ⊤}
+use Rattle.mongo_wire.specs.declared.error.ErrorKind.TheVariants.{OutOfMemory}
+use Rattle.mongo_establish.specs.declared.establisher.EstablishError.{EstablishError}
+use Rattle.mongo_establish.specs.declared.establisher.PooledConnection.{PooledConnection}
 use Rattle.mongo_server.specs.declared.server_core.ServerCore.{ServerCore}
 use Rattle.mongo_server.specs.Acceptance.{Accepts}
-use Rattle.mongo_server.specs.Exchange.{Exchange, first_of, close_of, final_of}
+use Rattle.mongo_server.specs.Exchange.{Exchange, first_of, close_of, final_of, IsReadAs}
 use Rattle.mongo_server.specs.Server.{IsOwed, IsTaken}
 use Rattle.mongo_generate.specs.declared.accepted.Acceptance.{Acceptance}
 use Rattle.mongo_generate.specs.Replies.{AreReplies}
@@ -15,7 +18,14 @@ acceptance_of x = record { client_final = close_of x; server_final = final_of x 
 abbrev pub IsTakenBy : ServerCore → Acceptance → Type 0
 IsTakenBy server acceptance = IsTaken server acceptance.client_final × IsOwed server acceptance.server_final
 
+-- an establishment ended so: a connection was made, or it was refused for another cause than memory
+abbrev pub IsAcceptedAs : Result PooledConnection EstablishError → Bool → Type 0
+IsAcceptedAs (Ok pooled) true = ⊤
+IsAcceptedAs (Err refusal) false = refusal.cause.kind ≢ OutOfMemory
+IsAcceptedAs ended accepted = ⊥
+
 -- the bytes are the replies of the exchange, which its client accepts
 pub record IsHeard (x : Exchange) (bytes : List ℕ) : Type 0 where
   pub replies : AreReplies (first_of x) (final_of x) bytes
+  pub reads : IsReadAs (first_of x) x
   pub accepts : Accepts x (final_of x)

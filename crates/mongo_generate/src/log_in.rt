@@ -3,7 +3,7 @@ ghost use Rattle.std.specs.Prelude.{◌≡◌, IfOk, OnOk, MatchOption};
 ghost use Rattle.mongo_establish.specs.declared.generation.PoolGeneration.TheVariants.{Normal};
 ghost use Rattle.mongo_server.specs.Exchange.{Exchange};
 ghost use Rattle.mongo_server.specs.Server.{Serves, HasBegun};
-ghost use Rattle.mongo_generate.specs.Acceptance.{IsHeard};
+ghost use Rattle.mongo_generate.specs.Acceptance.{IsAcceptedAs, IsHeard};
 ghost use Rattle.mongo_generate.specs.Login.{LogsIn};
 
 use crate::replies::replies_of;
@@ -11,8 +11,8 @@ use crate::written::client_final;
 use crate::{Acceptance, Client, Login};
 use mongo_bson::Bytes;
 use mongo_establish::{
-    ErrorKind, LoginState, MemoryLink, PendingConnection, PoolGeneration, RequestIds,
-    ServerAddress, Text,
+    ErrorKind, EstablishError, LoginState, MemoryLink, PendingConnection, PoolGeneration,
+    PooledConnection, RequestIds, ServerAddress, Text,
 };
 use mongo_mac::Steps;
 use mongo_server::{ServerCore, ServerFault};
@@ -87,7 +87,7 @@ impl Client {
         let pending = pending(alloc)?;
         let mut link = MemoryLink::new(alloc, replies);
         state.ids = RequestIds::new(0);
-        match self.establisher.establish_connection(
+        let ended = self.establisher.establish_connection(
             alloc,
             pending,
             &mut link,
@@ -95,16 +95,27 @@ impl Client {
             state,
             &login.inputs,
             steps,
-        ) {
-            Ok(_) => match Bytes::from_slice(alloc, link.written()) {
-                Ok(written) => Ok(Some(written)),
-                Err(_) => Err(AllocError),
-            },
-            Err(refusal) => match refusal.cause.kind {
-                ErrorKind::OutOfMemory => Err(AllocError),
-                _ => Ok(None),
-            },
+        );
+        if !is_accepted(ended)? {
+            return Ok(None);
         }
+        match Bytes::from_slice(alloc, link.written()) {
+            Ok(written) => Ok(Some(written)),
+            Err(_) => Err(AllocError),
+        }
+    }
+}
+
+// Whether a connection was made.
+fn is_accepted(ended: Result<PooledConnection, EstablishError>) -> Result<bool, AllocError>
+    ensures { IfOk result (IsAcceptedAs ended) }
+{
+    match ended {
+        Ok(_) => Ok(true),
+        Err(refusal) => match refusal.cause.kind {
+            ErrorKind::OutOfMemory => Err(AllocError),
+            _ => Ok(false),
+        },
     }
 }
 

@@ -1,5 +1,6 @@
-ghost use Rattle.std.specs.Prelude.{◌≡◌, Some};
-ghost use Rattle.mongo_establish.specs.Speculation.{SpeaksFor};
+ghost use Rattle.std.specs.Prelude.{◌≡◌, Some, IsTrue};
+ghost use Rattle.mongo_scram.specs.Commands.{mechanism_of};
+ghost use Rattle.mongo_generate.specs.Scram.{is_scram};
 
 use mongo_bson::Text;
 use mongo_establish::{
@@ -15,7 +16,7 @@ pub struct Login {
     pub(crate) inputs: LoginInputs,
     // The client's first message.
     pub(crate) client_first: Text,
-    pub ghost spoken: { SpeaksFor (Some credential) },
+    pub ghost scram: { IsTrue (is_scram credential.mechanism) },
 }
 
 impl Login {
@@ -67,19 +68,25 @@ impl Login {
         ensures nonce { result.inputs.nonces.first ≡ nonces.first }
         ensures first { result.client_first ≡ client_first }
     {
-        let mechanism = match version {
-            ScramVersion::Sha1 => AuthMechanism::ScramSha1,
-            ScramVersion::Sha256 => AuthMechanism::ScramSha256,
-        };
         let credential = Credential::new()
             .username(Some(username))
             .password(Some(password))
-            .mechanism(Some(mechanism));
+            .mechanism(Some(mechanism_of(version)));
         Login {
             credential,
             inputs: inputs_of(nonces),
             client_first,
         }
+    }
+}
+
+fn mechanism_of(version: ScramVersion) -> AuthMechanism
+    ensures mechanism { result ≡ mechanism_of version }
+    ensures scram { IsTrue (is_scram (Some result)) }
+{
+    match version {
+        ScramVersion::Sha1 => AuthMechanism::ScramSha1,
+        ScramVersion::Sha256 => AuthMechanism::ScramSha256,
     }
 }
 

@@ -1,0 +1,343 @@
+-- A client of a possible exchange over the replies of its server: there is a script, by which it writes its last message, and a
+-- key, which it derives where that has no entry.
+use Rattle.std.proofs.Common.{◌≡◌, ℕ, ℤ, pos, ◌+◌, ◌^◌, ◌<◌, ◌≤◌, ◌≤ℤ◌, ◌⊎◌, Option, None, Some, option_map, Result, Ok, Err, IfOk, OnOk, MatchOption, inl, inr, false, FitsSigned, List, [], ◌∷◌, ◌++◌, length, codes, decimal, append-nil, refl, sym, ap, ◌∙◌, subst, arith}
+use Rattle.std.specs.Int.{w32}
+use Rattle.std.proofs.lemmas.Int.{ints}
+use Rattle.mongo_wire.specs.Bytes.{first_maximum, next_id, IsCommandFrame}
+use Rattle.mongo_wire.specs.Message.{written_frame}
+use Rattle.mongo_wire.specs.Outside.{State, Rose}
+use Rattle.mongo_wire.specs.declared.error.ErrorKind.{ErrorKind}
+use Rattle.mongo_command.specs.Command.{command_document}
+use Rattle.mongo_command.specs.Conversation.{Said, Turn, ends, Event, exchanged, HasNone, IsSendable, plain_message, IsHeard as IsHeardBy, ending, followed_by, unless}
+use Rattle.mongo_command.specs.Hello.{description_of}
+use Rattle.mongo_command.specs.declared.server_address.ServerAddress.{ServerAddress}
+use Rattle.mongo_command.proofs.Ends.{Ends, ends_both}
+use Rattle.mongo_command.proofs.OneSaid.{framed_sendable}
+use Rattle.mongo_sasl.specs.declared.credential.Credential.{Credential}
+use Rattle.mongo_sasl.specs.declared.mechanism.AuthMechanism.{AuthMechanism}
+use Rattle.mongo_sasl.specs.declared.mechanism.AuthMechanism.TheVariants.{ScramSha1, ScramSha256}
+use Rattle.mongo_scram.specs.declared.cache.SaltedKey.{SaltedKey}
+use Rattle.mongo_scram.specs.declared.scram_version.ScramVersion.{ScramVersion}
+use Rattle.mongo_scram.specs.declared.scram_version.ScramVersion.TheVariants.{Sha1, Sha256}
+use Rattle.mongo_scram.specs.Base64.{base64_of}
+use Rattle.mongo_scram.specs.Commands.{mechanism_of, final_command}
+use Rattle.mongo_scram.specs.Costs.{Ledgers, key_by}
+use Rattle.mongo_scram.specs.Messages.{open_message}
+use Rattle.mongo_scram.specs.Plan.{Speculated, Handed, Challenge, first_message, first_nonce, close_by, close_said, opening}
+use Rattle.mongo_scram.specs.Replies.{CarriesFirst}
+use Rattle.mongo_scram.specs.Script.{IsScramLogin, IsLoginFrom, IsConversation}
+use Rattle.mongo_scram.specs.User.{User, IsUser, CredentialRow}
+use Rattle.mongo_scram.specs.Validity.{BeginsWith}
+use Rattle.mongo_scram.proofs.OneRow.{no_credential_row}
+use Rattle.mongo_scram.proofs.OpeningEnds.{IsOpened, OpensBy, CanOpen, opening_ends}
+use Rattle.mongo_establish.specs.declared.establisher.EstablishError.{EstablishError}
+use Rattle.mongo_establish.specs.declared.establisher.PendingConnection.{PendingConnection}
+use Rattle.mongo_establish.specs.declared.generation.PoolGeneration.TheVariants.{Normal}
+use Rattle.mongo_establish.specs.declared.login_state.Nonces.{Nonces}
+use Rattle.mongo_establish.specs.Asked.{Asked}
+use Rattle.mongo_establish.specs.Client.{hello_document}
+use Rattle.mongo_establish.specs.Derivation.{scram_derivation, derivation_by, derivation_of, login_derivation, derivation_plan, LeadsToKey}
+use Rattle.mongo_establish.specs.Generation.{NamesService}
+use Rattle.mongo_establish.specs.Greeting.{Greeting, Greets}
+use Rattle.mongo_establish.specs.Login.{speculative_reply, handed_by, InvalidRow}
+use Rattle.mongo_establish.specs.Plan.{hello_said, hello_plan}
+use Rattle.mongo_establish.specs.Script.{Script, IsLoginBy, IsScript, IsWritten, IsTaken, HasScript}
+use Rattle.mongo_establish.specs.Speculation.{MechanismRow, HelloRow, speculative_message, speculative_nonce, speculation, answer_to, scram_speculation}
+use Rattle.mongo_establish.proofs.HelloPlan.{greeting_ends}
+use Rattle.mongo_server.specs.Acceptance.{IsClientOf, IsAccepted, challenge_of}
+use Rattle.mongo_server.specs.Exchange.{Exchange, joined_of, open_of, first_of, close_of, final_of}
+use Rattle.mongo_generate.specs.Acceptance.{IsHeard}
+use Rattle.mongo_generate.specs.Login.{IsPossible, credential_by, key_of}
+use Rattle.mongo_generate.specs.Options.{handshaker_options}
+use Rattle.mongo_generate.specs.Replies.{speculative_elements, hello_elements, final_elements, hello_reply, final_reply}
+use Rattle.mongo_command.specs.Literal.{document_of}
+use Rattle.mongo_generate.specs.Written.{Carries}
+use Rattle.mongo_generate.proofs.Documents.{spelled_length, length-document_of}
+use Rattle.mongo_generate.proofs.ServerReplies.{conversation, standalone, speculative_says, hello_says, final_says}
+use Rattle.mongo_generate.proofs.Sizes.{asked_by, speculation_is, length_hello, framed_hello, close_document, length_close_document, close_carries, framed_close, length_frame, frame_of, frame_within, body_within}
+use Rattle.mongo_generate.proofs.Texts.{length_close}
+
+-- ---- by the version
+
+-- a credential with all that SCRAM asks for
+row_by : (version : ScramVersion) (credential : Credential) (kind : ErrorKind) → MechanismRow (mechanism_of version) credential kind → CredentialRow credential kind
+row_by Sha1 credential kind row = row
+row_by Sha256 credential kind row = row
+
+login_by : (version : ScramVersion) (asked : Asked) (credential : Credential) (greeting : Greeting) (commands replies : List (List ℕ)) → IsScramLogin (handed_by version asked credential greeting) commands replies → IsLoginBy (mechanism_of version) asked credential greeting commands replies
+login_by Sha1 asked credential greeting commands replies is = is
+login_by Sha256 asked credential greeting commands replies is = is
+
+derivation_ends : (version : ScramVersion) (asked : Asked) (credential : Credential) (greeting : Greeting) (key : SaltedKey) → HasNone (InvalidRow (speculative_reply asked greeting) (mechanism_of version) credential) → Ends (scram_derivation version asked credential greeting) [] (Some key)
+    → derivation_by (mechanism_of version) asked credential greeting [] (ends (Some key))
+unfolding derivation_by
+derivation_ends Sha1 asked credential greeting key none is = inr (none, is.answer_is)
+derivation_ends Sha256 asked credential greeting key none is = inr (none, is.answer_is)
+
+never_invalid : (reply : Option (List ℕ)) (given : List ℕ) (mechanism : AuthMechanism) (credential : Credential) → reply ≡ Some given → HasNone (InvalidRow reply mechanism credential)
+never_invalid reply given mechanism credential is = subst (λ r. HasNone (InvalidRow r mechanism credential)) (sym is) (λ kind row. row)
+
+-- ---- the login of an exchange
+
+module _ (pending : PendingConnection) (x : Exchange) (nonces : Nonces) (bytes : List ℕ) (possible : IsPossible x) (nonce_is : base64_of nonces.first ≡ x.nonce) (pool : pending.generation ≡ Normal 0) (heard : IsHeard x bytes) where
+  abbrev asked : Asked
+  asked = asked_by pending x nonces
+
+  abbrev credential : Credential
+  credential = credential_by x.version x.username x.password
+
+  abbrev user : User
+  user = record { username = x.username; password = x.password; source = codes "admin" }
+
+  -- what the server answers to the login that went with the hello
+  abbrev inner : List ℕ
+  inner = document_of (speculative_elements (first_of x))
+
+  abbrev hello_heard : List ℕ
+  hello_heard = hello_reply (first_of x)
+
+  abbrev last_heard : List ℕ
+  last_heard = final_reply (final_of x)
+
+  abbrev greeting : Greeting
+  greeting = record { document = hello_heard; description = description_of pending.address (standalone inner); speculative = Some inner; connection_id = None }
+
+  abbrev handed : Handed
+  handed = handed_by x.version asked credential greeting
+
+  abbrev close_heard : Challenge
+  close_heard = challenge_of x conversation user
+
+  abbrev said_close : Said
+  said_close = close_said handed close_heard
+
+  -- the server's texts are no longer than its frames
+  short_first : length (first_of x) < 2 ^ 29
+  unfolding hello_reply
+  short_first =
+      let is = heard.replies.hello_is in
+      let within = is.within in
+      omega (arith, ints, body_within heard.replies.hello is.parts is.is_frame, ap length is.body_is, length-document_of (hello_elements (first_of x)), length-document_of (speculative_elements (first_of x)))
+
+  short_final : length (final_of x) < 2 ^ 30
+  unfolding final_reply
+  short_final =
+      let is = heard.replies.final_is in
+      let within = is.within in
+      omega (arith, ints, body_within heard.replies.final is.parts is.is_frame, ap length is.body_is, length-document_of (final_elements (final_of x)))
+
+  short_close : length (close_of x) < 2 ^ 22
+  short_close = let short = possible.short in omega (arith, length_close x)
+
+  -- ---- what the client is handed
+
+  replied : speculative_reply asked greeting ≡ Some inner
+  replied = ap (λ s. answer_to s (Some inner)) (speculation_is x.version x.username x.password nonces.first)
+
+  abbrev speculated : Speculated
+  speculated = record { message = speculative_message credential nonces.first; nonce = speculative_nonce nonces.first; reply = inner }
+
+  speculates : handed.speculated ≡ Some speculated
+  speculates = ap (λ r. option_map (λ reply. let s : Speculated = record { message = speculative_message credential nonces.first; nonce = speculative_nonce nonces.first; reply = reply } in s) r) replied
+
+  is_user : IsUser credential user
+  is_user = record { username = refl; password = refl; properties = refl; source = refl }
+
+  most : handed.most ≡ 10000000
+  unfolding handshaker_options
+  most = refl
+
+  is_client : IsClientOf x handed user
+  is_client =
+      let ceiling = most in
+      let within = possible.within in
+      record {
+        version = refl;
+        username = refl;
+        password = refl;
+        said = ap (λ s. first_message s user.username handed.nonce) speculates ∙ ap (λ n. open_message x.username n) nonce_is;
+        nonce = ap (λ s. first_nonce s handed.nonce) speculates ∙ nonce_is;
+        enough = possible.enough;
+        within = omega arith;
+        usable = possible.usable;
+      }
+
+  abbrev accepted : IsAccepted x handed user conversation inner last_heard
+  accepted = heard.accepts handed user conversation inner last_heard is_client (record { first_carried = speculative_says (first_of x) (omega (arith, short_first)); last_carried = final_says (final_of x) short_final })
+
+  -- ---- what it says
+
+  said_is : said_close.document ≡ close_document (close_of x)
+  unfolding handshaker_options
+  said_is = ap (λ close. close_document close) accepted.closes
+
+  made : HasNone (HelloRow asked.credential)
+  made kind row = no_credential_row credential user is_user kind (row_by x.version credential kind row)
+
+  greets : Greets asked.pending.address hello_heard greeting
+  greets = (refl, record { response = standalone inner; time = None; reads = hello_says (first_of x) short_first; timeout_fits = tt; description_is = refl; speculative_is = refl; connection_id_is = refl })
+
+  pub first_frame : List ℕ
+  first_frame = written_frame (pos 0) (plain_message (hello_document asked))
+
+  pub last_frame : List ℕ
+  last_frame = written_frame (next_id (pos 0)) (plain_message (close_document (close_of x)))
+
+  first_is_frame : IsCommandFrame first_frame (pos 0) (hello_document asked)
+  unfolding first_frame
+  first_is_frame =
+      let fits : FitsSigned w32 (pos 0) = omega arith in
+      frame_of (pos 0) (hello_document asked) fits (framed_hello pending x nonces possible nonce_is) (omega (arith, length_hello pending x nonces possible nonce_is))
+
+  first_within : pos (length first_frame) ≤ℤ first_maximum
+  unfolding first_frame
+  first_within = frame_within (pos 0) (hello_document asked) 50331648 (omega (arith, length_hello pending x nonces possible nonce_is))
+
+  last_is_frame : IsCommandFrame last_frame (next_id (pos 0)) (close_document (close_of x))
+  unfolding last_frame
+  last_is_frame =
+      let fits : FitsSigned w32 (next_id (pos 0)) = omega arith in
+      frame_of (next_id (pos 0)) (close_document (close_of x)) fits (framed_close (close_of x) (omega (arith, short_close))) (omega (arith, short_close, length_close_document (close_of x) (omega (arith, short_close))))
+
+  last_within : (limit : ℕ) → 2 ^ 23 ≤ limit → pos (length last_frame) ≤ℤ pos limit
+  unfolding last_frame
+  last_within limit large = frame_within (next_id (pos 0)) (close_document (close_of x)) limit (omega (arith, short_close, length_close_document (close_of x) (omega (arith, short_close))))
+
+  -- ---- the script
+
+  abbrev script : Script
+  script = record { commands = hello_document asked ∷ close_document (close_of x) ∷ []; replies = hello_heard ∷ last_heard ∷ []; greeting = greeting }
+
+  is_login : IsScramLogin handed (close_document (close_of x) ∷ []) (last_heard ∷ [])
+  is_login = record {
+    user = user;
+    is_user = is_user;
+    login = subst (λ s. IsLoginFrom s handed user (close_document (close_of x) ∷ []) (last_heard ∷ [])) (sym speculates)
+    (close_document (close_of x), last_heard, refl, refl, subst (λ command. IsConversation handed user inner command last_heard) said_is accepted.conversation);
+  }
+
+  is_script : IsScript asked script
+  is_script = record {
+    made = made;
+    later_commands = close_document (close_of x) ∷ [];
+    commands_are = refl;
+    first_reply = hello_heard;
+    later_replies = last_heard ∷ [];
+    replies_are = refl;
+    greets = greets;
+    login = (mechanism_of x.version, refl, login_by x.version asked credential greeting (close_document (close_of x) ∷ []) (last_heard ∷ []) is_login);
+    service = subst (λ generation. NamesService generation greeting.description) (sym pool) tt;
+  }
+
+  pub has_script : HasScript asked bytes
+  has_script =
+      let r = heard.replies in
+      let hello = r.hello_is in
+      let final = r.final_is in
+      let hello_within = hello.within in
+      let first_size : pos (length r.hello) ≤ℤ first_maximum = omega (arith, ints) in
+      record {
+        script = script;
+        is_script = is_script;
+        sent = first_frame ++ last_frame;
+        is_written = (first_frame, last_frame, refl, first_is_frame, first_within, (last_frame, [], sym (append-nil last_frame), last_is_frame, last_within 48000000 (omega arith), refl));
+        taken = r.hello ++ r.final;
+        rest = [];
+        joined = r.joined ∙ sym (append-nil (r.hello ++ r.final));
+        is_taken = (r.hello, r.final, hello.parts, refl, hello.is_frame, hello.body_is, first_size, (r.final, [], final.parts, sym (append-nil r.final), final.is_frame, final.body_is, final.within, refl));
+      }
+
+  -- ---- what it wrote
+
+  pub carries : (written : List ℕ) → written ≡ first_frame ++ last_frame → Carries (close_of x) written
+  carries written is = record {
+    first = first_frame;
+    second = last_frame;
+    joined = is;
+    first_parts = record { request_id = pos 0; response_to = pos 0; flags = 0; body = hello_document asked; sequences = []; checksum = None };
+    first_is = first_is_frame.is_frame;
+    first_within = first_within;
+    second_parts = record { request_id = next_id (pos 0); response_to = pos 0; flags = 0; body = close_document (close_of x); sequences = []; checksum = None };
+    second_is = last_is_frame.is_frame;
+    second_within = last_within 50331648 (omega arith);
+    carried = close_carries (close_of x) (omega (arith, short_close));
+  }
+
+  pub sent_is : has_script.sent ≡ first_frame ++ last_frame
+  unfolding has_script
+  sent_is = refl
+
+  -- ---- the key
+
+  first_carries : CarriesFirst inner close_heard.first
+  first_carries = record {
+    sasl = record { conversation_id = conversation; done = false; payload = first_of x };
+    is_reply = speculative_says (first_of x) (omega (arith, short_first));
+    conversation = refl;
+    done = refl;
+    message = refl;
+    count = decimal x.count;
+    is_first = heard.reads.is_first;
+    is_count = heard.reads.is_count;
+  }
+
+  opened : IsOpened handed [] close_heard
+  opened = record {
+    user = is_user;
+    reply = inner;
+    events_are = subst (λ s. OpensBy s handed close_heard [] inner) (sym speculates) (refl, refl);
+    challenged = record {
+      carries = first_carries;
+      valid = record { goes_on = refl; begins = subst (BeginsWith (joined_of x)) (sym is_client.nonce) heard.reads.begins; enough = possible.enough; within = is_client.within };
+      usable = possible.usable;
+    };
+  }
+
+  opens : Ends (opening handed) [] close_heard
+  opens = opening_ends handed [] close_heard (subst (λ s. CanOpen s handed user) (sym speculates) tt) opened
+
+  derives : Ends (scram_derivation x.version asked credential greeting) [] (Some (key_of x))
+  derives = ends_both (opening handed) (λ challenge. ending (Some (key_by handed challenge))) [] [] close_heard (Some (key_of x)) opens (record { follows = tt; answer_is = refl })
+
+  logs_in : Ends (login_derivation asked greeting) [] (Some (key_of x))
+  unfolding login_derivation
+  logs_in = record {
+    follows = tt;
+    answer_is = (mechanism_of x.version, refl, derivation_ends x.version asked credential greeting (key_of x) (never_invalid (speculative_reply asked greeting) inner (mechanism_of x.version) credential replied) derives);
+  }
+
+  sendable : IsSendable (hello_said asked)
+  sendable = framed_sendable (hello_said asked) first_frame (pos 0) first_is_frame first_within
+
+  ends_with_key : Ends (derivation_plan asked) (exchanged (hello_said asked) hello_heard ∷ []) (Some (key_of x))
+  unfolding derivation_plan
+  ends_with_key = ends_both (hello_plan asked) (login_derivation asked) (exchanged (hello_said asked) hello_heard ∷ []) [] greeting (Some (key_of x)) (greeting_ends asked hello_heard greeting made sendable greets) logs_in
+
+  pub leads_to_key : LeadsToKey asked bytes (Some (key_of x))
+  leads_to_key =
+      let r = heard.replies in
+      let hello = r.hello_is in
+      let hello_within = hello.within in
+      let first_size : pos (length r.hello) ≤ℤ first_maximum = omega (arith, ints) in
+      record {
+        outcome = ends (Some (key_of x));
+        commands = hello_said asked ∷ [];
+        taken = r.hello;
+        unread = r.final;
+        leads = record {
+          events = exchanged (hello_said asked) hello_heard ∷ [];
+          follows = ends_with_key.follows;
+          given_is = refl;
+          heard = r.hello;
+          heard_is = (r.hello, [], hello.parts, sym (append-nil r.hello), hello.is_frame, hello.body_is, first_size, refl);
+          turn = ends (Some (key_of x));
+          turn_is = ends_with_key.answer_is;
+          unanswered = [];
+          last = [];
+          comes_to = (refl, refl, refl);
+          commands_are = refl;
+          taken_is = sym (append-nil r.hello);
+          joined = r.joined;
+        };
+        key_is = refl;
+      }

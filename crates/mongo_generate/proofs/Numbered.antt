@@ -1,0 +1,66 @@
+-- The login of a number is the client's side of a possible exchange.
+use Rattle.std.proofs.Common.{◌≡◌, ℕ, zero, suc, ◌+◌, ◌%◌, ◌^◌, ◌<◌, ◌≤◌, Result, Ok, Err, IfOk, List, [], ◌∷◌, ◌++◌, length, replicate, codes, decimal, All, Any, inl, inr, get_or, refl, sym, ap, ◌∙◌, subst, arith}
+use Rattle.std.proofs.lemmas.Fmt.{decimal_digit}
+use Rattle.std.proofs.lemmas.List.{length-replicate}
+use Rattle.mongo_wire.specs.declared.auth_fault.AuthFault.TheVariants.{PasswordControl}
+use Rattle.mongo_wire.specs.declared.error.ErrorKind.{ErrorKind}
+use Rattle.mongo_wire.specs.declared.error.ErrorKind.TheVariants.{Authentication, PasswordNotAscii}
+use Rattle.mongo_scram.specs.declared.scram_version.ScramVersion.{ScramVersion}
+use Rattle.mongo_scram.specs.declared.scram_version.ScramVersion.TheVariants.{Sha1, Sha256}
+use Rattle.mongo_scram.specs.Base64.{base64_of}
+use Rattle.mongo_scram.specs.Key.{IsControl, PasswordRow}
+use Rattle.mongo_scram.specs.Messages.{open_message}
+use Rattle.mongo_generate.specs.declared.user_login.Login.{Login}
+use Rattle.mongo_generate.specs.Generated.{version_at, exchange_at}
+use Rattle.mongo_generate.specs.Login.{credential_by, IsLogin, IsPossible, LogsIn}
+use Rattle.mongo_generate.proofs.Texts.{length_base64, alike_nonce}
+
+-- ---- its password
+
+
+at_most : (d k x : ℕ) → d < 10 → k < 2 → get_or (112 ∷ (48 + d) ∷ []) k x ≡ x → (32 ≤ x) × (x ≤ 126)
+at_most d zero x few within at = let e : 112 ≡ x = at in (omega arith, omega arith)
+at_most d (suc zero) x few within at = let e : 48 + d ≡ x = at in (omega arith, omega arith)
+at_most d (suc (suc k)) x few within at = absurd (omega arith)
+
+no_row : (version : ScramVersion) (d : ℕ) → d < 10 → (kind : ErrorKind) → PasswordRow version (112 ∷ (48 + d) ∷ []) kind → ⊥
+no_row Sha1 d few kind row = absurd row
+no_row Sha256 d few PasswordNotAscii row = let b = at_most d row.0 row.1 few row.2 row.3 in let high = row.4 in absurd (omega (arith, b.0, b.1))
+no_row Sha256 d few (Authentication PasswordControl) row =
+    let any = row.1 in
+    let b = at_most d any.0 any.1 few any.2 any.3 in
+    elim any.4 [ inl low ↦ absurd (omega (arith, b.0)) | inr last ↦ absurd (omega (arith, b.1)) ]
+no_row Sha256 d few kind row = absurd row
+
+usable : (version : ScramVersion) (d : ℕ) → d < 10 → (kind : ErrorKind) → PasswordRow version (112 ∷ decimal d) kind → ⊥
+usable version d few kind row = no_row version d few kind (subst (λ digits. PasswordRow version (112 ∷ digits) kind) (decimal_digit d few) row)
+
+-- ---- its exchange
+
+one_digit : (d : ℕ) → d < 10 → length (decimal d) ≡ 1
+one_digit d few = ap length (decimal_digit d few)
+
+pub possible_at : (k : ℕ) → IsPossible (exchange_at k)
+possible_at k = record {
+  printable = alike_nonce 32 (k % 256) (omega arith);
+  enough = omega arith;
+  within = omega arith;
+  usable = usable (version_at k) (k % 3) (omega arith);
+  short = (
+    let user = one_digit (k % 7) (omega arith) in
+    let nonce = length_base64 (replicate 32 (k % 256)) in
+    let grains = length-replicate 16 (k % 5) in
+    let drawn = length-replicate 32 (k % 256) in
+    omega (arith, user, nonce, grains, drawn)
+  );
+}
+
+pub login_at : {E : Type 0} (k : ℕ) (r : Result Login E) (version : ScramVersion) (username password nonce : List ℕ) → version ≡ version_at k → username ≡ codes "u" ++ decimal (k % 7) → password ≡ codes "p" ++ decimal (k % 3) → nonce ≡ replicate 32 (k % 256)
+    → IfOk r (IsLogin version username password nonce) → IfOk r (LogsIn (exchange_at k))
+login_at k (Ok login) version username password nonce v u p n is = record {
+  possible = possible_at k;
+  credential_is = is.credential_is ∙ (λ i. credential_by (v i) (u i) (p i));
+  nonce_is = ap base64_of (is.nonce_is ∙ n);
+  first_is = is.first_is ∙ (λ i. open_message (u i) (base64_of (n i)));
+}
+login_at k (Err e) version username password nonce v u p n is = tt

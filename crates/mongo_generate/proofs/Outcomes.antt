@@ -1,0 +1,78 @@
+-- What an establishment over the replies of an exchange comes to: the script, and nothing else.
+use Rattle.std.proofs.Common.{◌≡◌, ℕ, ℤ, pos, ◌∙◌, ap, sym, subst, true, false, Some, Result, Ok, Err, IfOk, IfErr, List, [], ◌++◌, arith}
+use Rattle.std.specs.Io.KnownBytes.{Appends}
+use Rattle.mongo_wire.specs.Outside.{State, Rose}
+use Rattle.mongo_wire.specs.declared.error.ErrorKind.TheVariants.{OutOfMemory}
+use Rattle.mongo_scram.specs.Costs.{Ledgers}
+use Rattle.mongo_establish.specs.declared.establisher.EstablishError.{EstablishError}
+use Rattle.mongo_establish.specs.declared.establisher.PendingConnection.{PendingConnection}
+use Rattle.mongo_establish.specs.declared.establisher.PooledConnection.{PooledConnection}
+use Rattle.mongo_establish.specs.declared.generation.PoolGeneration.TheVariants.{Normal}
+use Rattle.mongo_establish.specs.declared.options.HandshakerOptions.{HandshakerOptions}
+use Rattle.mongo_establish.specs.Asked.{Asked, asked_for}
+use Rattle.mongo_establish.specs.Derivation.{LeadsToKey}
+use Rattle.mongo_establish.specs.Established.{Established}
+use Rattle.mongo_establish.specs.KeyCosts.{TakesKey, AcceptedTakes, CostsOver}
+use Rattle.mongo_establish.specs.Script.{HasScript}
+use Rattle.mongo_establish.proofs.Counting.{taken_as_led}
+use Rattle.mongo_establish.proofs.Establishment.{one_script}
+use Rattle.mongo_server.specs.Exchange.{Exchange, close_of}
+use Rattle.mongo_generate.specs.declared.user_login.Login.{Login}
+use Rattle.mongo_generate.specs.Acceptance.{IsAcceptedAs, IsHeard}
+use Rattle.mongo_generate.specs.Login.{LogsIn, key_of}
+use Rattle.mongo_generate.specs.Options.{handshaker_options}
+use Rattle.mongo_generate.specs.Written.{Carries}
+use Rattle.mongo_generate.proofs.Sizes.{asked_by}
+use Rattle.mongo_generate.proofs.Meeting.{has_script, carries, sent_is, leads_to_key}
+
+-- the link doesn't fail
+pub no_fault : Rose 0 0 → ⊥
+no_fault rose = omega arith
+
+-- where only memory can be wanting, nothing else is refused
+pub never_refused : (ended : Result PooledConnection EstablishError) → IfErr ended (λ e. e.cause.kind ≡ OutOfMemory) → IsAcceptedAs ended false → ⊥
+never_refused (Ok pooled) memory is = is
+never_refused (Err e) memory is = is memory
+
+-- what is written is the script's
+sent_by : (asked : Asked) (bytes : List ℕ) (old new : State) (after : ℤ) (pooled : PooledConnection) (h : HasScript asked bytes) → Established asked old new after pooled → old.left ≡ Some bytes → Appends old.written new.written h.sent
+sent_by asked bytes old new after pooled h e is =
+    let t = e.taken bytes is in
+    let k : HasScript asked bytes = record { script = e.script; is_script = e.is_script; sent = e.sent; is_written = e.is_written; taken = t.taken; rest = t.rest; joined = t.joined; is_taken = t.is_taken } in
+    subst (Appends old.written new.written) (one_script asked bytes k h).sent e.written
+
+module _ (pending : PendingConnection) (options : HandshakerOptions) (first_id : ℤ) (x : Exchange) (login : Login) (bytes : List ℕ) (logs : LogsIn x login) (heard : IsHeard x bytes) (pool : pending.generation ≡ Normal 0) (usual : options ≡ handshaker_options) (first : first_id ≡ pos 0) where
+  abbrev asked : Asked
+  asked = asked_for pending options (Some login.credential) login.inputs.nonces first_id
+
+  same : asked ≡ asked_by pending x login.inputs.nonces
+  same = λ i. asked_for pending (usual i) (Some (logs.credential_is i)) login.inputs.nonces (first i)
+
+  abbrev script_for : HasScript (asked_by pending x login.inputs.nonces) bytes
+  script_for = has_script pending x login.inputs.nonces bytes logs.possible logs.nonce_is pool heard
+
+  -- there is a script, so only memory can be wanting
+  pub has_its_script : HasScript asked bytes
+  has_its_script = subst (λ a. HasScript a bytes) (sym same) script_for
+
+  -- what was written carries the client's last message
+  pub writes_close : (old new : State) (after : ℤ) (pooled : PooledConnection) (written : List ℕ) → Established asked old new after pooled → old.left ≡ Some bytes → old.written ≡ Some [] → new.written ≡ Some written → Carries (close_of x) written
+  writes_close old new after pooled written e is nothing all =
+      let there = subst (λ a. Established a old new after pooled) same e in
+      let sent = sent_by (asked_by pending x login.inputs.nonces) bytes old new after pooled script_for there is in
+      let grown : Appends (Some []) (Some written) script_for.sent = subst (λ w. Appends w (Some written) script_for.sent) nothing (subst (λ w. Appends old.written w script_for.sent) all sent) in
+      carries pending x login.inputs.nonces bytes logs.possible logs.nonce_is pool heard written (grown ∙ sent_is pending x login.inputs.nonces bytes logs.possible logs.nonce_is pool heard)
+
+  pub accepted_writes : (ended : Result PooledConnection EstablishError) (old new : State) (after : ℤ) (written : List ℕ) → IsAcceptedAs ended true → IfOk ended (Established asked old new after) → old.left ≡ Some bytes → old.written ≡ Some [] → new.written ≡ Some written → Carries (close_of x) written
+  accepted_writes (Ok pooled) old new after written is e told nothing all = writes_close old new after pooled written e told nothing all
+  accepted_writes (Err e) old new after written is none told nothing all = absurd is
+
+  -- and its key was taken
+  pub takes_key : (before after : Ledgers) (pooled : PooledConnection) → CostsOver (Ok pooled) asked bytes before after → TakesKey (key_of x) before after
+  takes_key before after pooled costs =
+      taken_as_led asked bytes (λ key. AcceptedTakes key before after) (Some (key_of x)) costs
+      (subst (λ a. LeadsToKey a bytes (Some (key_of x))) (sym same) (leads_to_key pending x login.inputs.nonces bytes logs.possible logs.nonce_is pool heard))
+
+  pub accepted_takes : (ended : Result PooledConnection EstablishError) (before after : Ledgers) → IsAcceptedAs ended true → CostsOver ended asked bytes before after → TakesKey (key_of x) before after
+  accepted_takes (Ok pooled) before after is costs = takes_key before after pooled costs
+  accepted_takes (Err e) before after is costs = absurd is

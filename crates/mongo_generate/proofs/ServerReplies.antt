@@ -1,0 +1,230 @@
+-- The server's two replies say what they carry.
+use Rattle.std.proofs.Common.{◌≡◌, ◌≢◌, ℕ, suc, ℤ, pos, ◌+◌, ◌^◌, ◌<◌, Bool, true, false, None, Some, inl, inr, FitsSigned, List, [], ◌∷◌, ◌++◌, length, codes, refl, sym, ◌∙◌, subst, arith}
+use Rattle.std.specs.Int.{to_le_bytes, cast_unsigned, w32, w64}
+use Rattle.std.specs.List.{AllByRecursion, flat_map}
+use Rattle.std.specs.Str.{IsUtf8}
+use Rattle.mongo_bson.specs.Document.{Element, Shape, fixed, boolean, binary, document, shape_of, IsCstring, IsElement, IsDocument, IsReadable, IsInside, HasDistinctKeys, IsWellFormed, maximum_depth}
+use Rattle.mongo_bson.specs.declared.owned_value.OwnedValue.{OwnedValue}
+use Rattle.mongo_bson.specs.declared.raw_value.RawValue.TheVariants.{Double}
+use Rattle.mongo_bson.proofs.ReadBack.{written_element}
+use Rattle.mongo_command.specs.Literal.{document_element, truth_element, int32_element, document_of}
+use Rattle.mongo_command.specs.declared.hello.HelloCommandResponse.{HelloCommandResponse}
+use Rattle.mongo_command.specs.declared.server_address.ServerAddress.{ServerAddress}
+use Rattle.mongo_command.specs.Field.{Required, Optional}
+use Rattle.mongo_command.specs.Hello.{IsHelloResponse, description_of}
+use Rattle.mongo_sasl.specs.Commands.{generic_element}
+use Rattle.mongo_sasl.specs.Reply.{IsSaslReply}
+use Rattle.mongo_generate.specs.Replies.{ok_element, server_maximum, round_elements, speculative_elements, hello_elements, final_elements, hello_reply, final_reply}
+use Rattle.mongo_generate.proofs.Documents.{cstring, apart, number_is_element, truth_is_element, binary_is_element, document_is_element, spelled_length, length-document_of, document_of-is, framed_document_of, IsFlat, flat_readable}
+
+-- ---- what no document is inside of
+
+not_fixed : (n : ℕ) → fixed n ≡ document → ⊥
+not_fixed n is = cc
+
+not_boolean : boolean ≡ document → ⊥
+not_boolean is = cc
+
+not_binary : binary ≡ document → ⊥
+not_binary is = cc
+
+same_shape : (a b : Shape) → Some a ≡ Some b → a ≡ b
+same_shape a b is = cc
+
+flat : (e : Element) (shape : Shape) → shape_of e.kind ≡ Some shape → (shape ≡ document → ⊥) → (e.kind ≡ 0x0F → ⊥) → IsFlat e
+flat e shape known other scope d inside = elim inside [ inl x ↦ other (same_shape shape document (sym known ∙ x.0)) | inr y ↦ scope y.0 ]
+
+-- ---- a round
+
+pub conversation_key : IsCstring (codes "conversationId")
+conversation_key = cstring (codes "conversationId") refl refl
+
+done_key : IsCstring (codes "done")
+done_key = cstring (codes "done") refl refl
+
+pub payload_key : IsCstring (codes "payload")
+payload_key = cstring (codes "payload") refl refl
+
+pub one_fits : FitsSigned w32 (pos 1)
+one_fits = omega arith
+
+round_are : (done : Bool) (payload : List ℕ) → length payload < 2 ^ 31 → AllByRecursion IsElement (round_elements done payload)
+round_are done payload short =
+    (number_is_element (codes "conversationId") (pos 1) conversation_key one_fits, (truth_is_element (codes "done") done done_key, (binary_is_element (codes "payload") payload payload_key short, tt)))
+
+round_flat : (done : Bool) (payload : List ℕ) → AllByRecursion IsFlat (round_elements done payload)
+round_flat done payload = (flat (int32_element (codes "conversationId") (pos 1)) (fixed 4) refl (not_fixed 4) (λ is. absurd (omega arith)), (flat (truth_element (codes "done") done) boolean refl not_boolean (λ is. absurd (omega arith)), (flat (generic_element (codes "payload") payload) binary refl not_binary (λ is. absurd (omega arith)), tt)))
+
+round_distinct : (done : Bool) (payload : List ℕ) → HasDistinctKeys (round_elements done payload)
+round_distinct done payload = ((apart (codes "done") (codes "conversationId") refl, (apart (codes "payload") (codes "conversationId") refl, tt)), ((apart (codes "payload") (codes "done") refl, tt), (tt, tt)))
+
+-- ---- `ok`
+
+ok_is_element : IsElement ok_element
+ok_is_element = written_element (codes "ok") (Double 0x3FF0000000000000) (cstring (codes "ok") refl refl) (let small : 0x3FF0000000000000 < 2 ^ 64 = omega arith in small)
+
+ok_flat : IsFlat ok_element
+ok_flat = flat ok_element (fixed 8) refl (not_fixed 8) (λ is. absurd (omega arith))
+
+-- ---- the answer to the login that goes with a hello
+
+speculative_document : (payload : List ℕ) → length payload < 2 ^ 30 → IsDocument (document_of (speculative_elements payload)) (speculative_elements payload)
+speculative_document payload short = document_of-is (speculative_elements payload) (round_are false payload (omega arith)) (omega arith)
+
+speculative_readable : (levels : ℕ) (payload : List ℕ) → length payload < 2 ^ 30 → IsReadable (suc levels) (document_of (speculative_elements payload))
+speculative_readable levels payload short = flat_readable levels (document_of (speculative_elements payload)) (speculative_elements payload) (speculative_document payload short) (round_flat false payload)
+
+-- the conversation's number
+abbrev pub conversation : OwnedValue
+conversation = record { kind = 0x10; bytes = to_le_bytes w32 (cast_unsigned w32 (pos 1)) }
+
+pub speculative_says : (payload : List ℕ) → length payload < 2 ^ 30 → IsSaslReply (document_of (speculative_elements payload)) (record { conversation_id = conversation; done = false; payload = payload })
+unfolding Required
+speculative_says payload short = record {
+  elements = speculative_elements payload;
+  well_formed = record { document = speculative_document payload short; readable = speculative_readable 99 payload short; distinct = round_distinct false payload };
+  succeeded = tt;
+  table = record { conversation_id = (refl, refl); done = (refl, refl); payload = (refl, refl, refl) };
+}
+
+-- ---- the end
+
+final_document : (payload : List ℕ) → length payload < 2 ^ 30 → IsDocument (document_of (final_elements payload)) (final_elements payload)
+final_document payload short = document_of-is (final_elements payload) (ok_is_element, round_are true payload (omega arith)) (omega arith)
+
+pub final_says : (payload : List ℕ) → length payload < 2 ^ 30 → IsSaslReply (final_reply payload) (record { conversation_id = conversation; done = true; payload = payload })
+unfolding Required final_reply
+final_says payload short = record {
+  elements = final_elements payload;
+  well_formed = record {
+    document = final_document payload short;
+    readable = flat_readable 99 (document_of (final_elements payload)) (final_elements payload) (final_document payload short) (ok_flat, round_flat true payload);
+    distinct = (
+      (apart (codes "conversationId") (codes "ok") refl, (apart (codes "done") (codes "ok") refl, (apart (codes "payload") (codes "ok") refl, tt))),
+      round_distinct true payload,
+    );
+  };
+  succeeded = refl;
+  table = record { conversation_id = (refl, refl); done = (refl, refl); payload = (refl, refl, refl) };
+}
+
+-- ---- the hello's reply
+
+size_key : IsCstring (codes "maxBsonObjectSize")
+size_key = cstring (codes "maxBsonObjectSize") refl refl
+
+message_key : IsCstring (codes "maxMessageSizeBytes")
+message_key = cstring (codes "maxMessageSizeBytes") refl refl
+
+speculative_key : IsCstring (codes "speculativeAuthenticate")
+speculative_key = cstring (codes "speculativeAuthenticate") refl refl
+
+size_fits : FitsSigned w32 (pos 16777216)
+size_fits = omega arith
+
+message_fits : FitsSigned w32 (pos 48000000)
+message_fits = omega arith
+
+hello_document : (payload : List ℕ) → length payload < 2 ^ 29 → IsDocument (document_of (hello_elements payload)) (hello_elements payload)
+hello_document payload short =
+    document_of-is (hello_elements payload)
+    (ok_is_element, (number_is_element (codes "maxBsonObjectSize") (pos 16777216) size_key size_fits, (number_is_element (codes "maxMessageSizeBytes") (pos 48000000) message_key message_fits, (document_is_element (codes "speculativeAuthenticate") (document_of (speculative_elements payload)) speculative_key (framed_document_of (speculative_elements payload) (omega arith)), tt))))
+    (omega (arith, length-document_of (speculative_elements payload)))
+
+inner_readable : (levels : ℕ) (payload d : List ℕ) → length payload < 2 ^ 29 → IsInside (document_element (codes "speculativeAuthenticate") (document_of (speculative_elements payload))) d → IsReadable (suc levels) d
+inner_readable levels payload d short inside = elim inside [
+  | inl x ↦ subst (IsReadable (suc levels)) (sym x.1) (speculative_readable levels payload (omega arith))
+  | inr y ↦ (let scope = y.0 in absurd (omega arith))
+]
+
+hello_readable : (levels : ℕ) (payload : List ℕ) → length payload < 2 ^ 29 → IsReadable (suc (suc levels)) (document_of (hello_elements payload))
+unfolding IsReadable
+hello_readable levels payload short = (
+  hello_elements payload,
+  hello_document payload short,
+  ((λ d inside. absurd (ok_flat d inside)), ((λ d inside. absurd (flat (int32_element (codes "maxBsonObjectSize") (pos 16777216)) (fixed 4) refl (not_fixed 4) (λ is. absurd (omega arith)) d inside)), ((λ d inside. absurd (flat (int32_element (codes "maxMessageSizeBytes") (pos 48000000)) (fixed 4) refl (not_fixed 4) (λ is. absurd (omega arith)) d inside)), ((λ d inside. inner_readable levels payload d short inside), tt)))),
+)
+
+-- a standalone server's, with this answer to the login
+abbrev pub standalone : List ℕ → HelloCommandResponse
+standalone inner = record {
+  is_writable_primary = None;
+  is_master = None;
+  hello_ok = None;
+  hosts = None;
+  passives = None;
+  arbiters = None;
+  msg = None;
+  me = None;
+  compressors = None;
+  set_version = None;
+  set_name = None;
+  hidden = None;
+  secondary = None;
+  arbiter_only = None;
+  is_replica_set = None;
+  logical_session_timeout_minutes = None;
+  last_write = None;
+  min_wire_version = None;
+  max_wire_version = None;
+  tags = None;
+  election_id = None;
+  primary = None;
+  sasl_supported_mechs = None;
+  speculative_authenticate = Some inner;
+  max_bson_object_size = pos 16777216;
+  max_message_size_bytes = pos 48000000;
+  max_write_batch_size = None;
+  service_id = None;
+  topology_version = None;
+  connection_id = None;
+}
+
+pub hello_says : (payload : List ℕ) → length payload < 2 ^ 29 → IsHelloResponse (hello_reply payload) (standalone (document_of (speculative_elements payload))) None
+unfolding Required Optional hello_reply
+hello_says payload short = record {
+  elements = hello_elements payload;
+  well_formed = record {
+    document = hello_document payload short;
+    readable = hello_readable 98 payload short;
+    distinct = ((apart (codes "maxBsonObjectSize") (codes "ok") refl, (apart (codes "maxMessageSizeBytes") (codes "ok") refl, (apart (codes "speculativeAuthenticate") (codes "ok") refl, tt))), ((apart (codes "maxMessageSizeBytes") (codes "maxBsonObjectSize") refl, (apart (codes "speculativeAuthenticate") (codes "maxBsonObjectSize") refl, tt)), ((apart (codes "speculativeAuthenticate") (codes "maxMessageSizeBytes") refl, tt), (tt, tt))));
+  };
+  success = refl;
+  table = record {
+    is_writable_primary = tt;
+    is_master = tt;
+    hello_ok = tt;
+    msg = tt;
+    me = tt;
+    hidden = tt;
+    secondary = tt;
+    arbiter_only = tt;
+    is_replica_set = tt;
+    last_write = tt;
+    set = record {
+      hosts = tt;
+      passives = tt;
+      arbiters = tt;
+      primary = tt;
+      set_version = tt;
+      set_name = tt;
+      tags = tt;
+      election_id = tt;
+      server = record {
+        compressors = tt;
+        logical_session_timeout_minutes = tt;
+        min_wire_version = tt;
+        max_wire_version = tt;
+        sasl_supported_mechs = tt;
+        speculative_authenticate = ((λ is. absurd (omega arith)), (refl, refl));
+        max_bson_object_size = refl;
+        max_message_size_bytes = (refl, message_fits);
+        max_write_batch_size = tt;
+        service_id = tt;
+        topology_version = tt;
+        connection_id = tt;
+      };
+    };
+  };
+  time = tt;
+}

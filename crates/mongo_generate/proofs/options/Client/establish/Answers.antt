@@ -1,0 +1,54 @@
+use Rattle.std.proofs.Common.{◌≡◌, ◌∙◌, Some, drop, sym, ap, subst}
+use Rattle.mongo_scram.specs.Costs.{ledgers}
+use Rattle.mongo_establish.specs.Establisher.{options_of_establisher}
+use Rattle.mongo_establish.proofs.Counting.{costs_some, some_rise}
+use Rattle.mongo_generate.specs.Acceptance.{IsAcceptedAs}
+use Rattle.mongo_generate.proofs.Outcomes.{no_fault, never_refused, has_its_script, accepted_writes, accepted_takes}
+use Rattle.mongo_generate.proofs.options.Client.establish.Goals as goal
+
+pub returns-in_err-is_accepted-clause-steps : goal.returns-in_err-is_accepted-clause-steps
+returns-in_err-is_accepted-clause-steps g c =
+    let made = c.establish_connection-ended in
+    some_rise (ledgers c.args.steps.now c.args.state.now.salted) (ledgers made.new.steps made.new.state.salted) (costs_some made.result _ _ _ _ _ _ made.ensures.costs)
+
+pub returns-then-not-branch-clause-written : goal.returns-then-not-branch-clause-written
+returns-then-not-branch-clause-written g c = λ x logs heard.
+    let made = c.establish_connection-ended in
+    let link = c.new-link in
+    let told = ap Some (ap (λ n. drop n link.result.input.items) link.ensures.at ∙ link.ensures.input) in
+    let script = has_its_script c.in_ok-pending.pending (options_of_establisher c.args.self.now.establisher) c.new-state.result x c.args.login.now c.args.replies logs heard c.in_ok-pending.ensures.generation c.args.self.now.options c.new-state.ensures in
+    never_refused made.result (made.ensures.complete c.args.replies told script no_fault no_fault) (subst (IsAcceptedAs made.result) c.if-not-branch.true c.in_ok-is_accepted.ensures)
+
+pub returns-then-not-branch-clause-takes : goal.returns-then-not-branch-clause-takes
+returns-then-not-branch-clause-takes g c = λ x logs heard.
+    let made = c.establish_connection-ended in
+    let link = c.new-link in
+    let told = ap Some (ap (λ n. drop n link.result.input.items) link.ensures.at ∙ link.ensures.input) in
+    let script = has_its_script c.in_ok-pending.pending (options_of_establisher c.args.self.now.establisher) c.new-state.result x c.args.login.now c.args.replies logs heard c.in_ok-pending.ensures.generation c.args.self.now.options c.new-state.ensures in
+    absurd (never_refused made.result (made.ensures.complete c.args.replies told script no_fault no_fault) (subst (IsAcceptedAs made.result) c.if-not-branch.true c.in_ok-is_accepted.ensures))
+
+pub returns-then-not-branch-clause-steps : goal.returns-then-not-branch-clause-steps
+returns-then-not-branch-clause-steps g c =
+    let made = c.establish_connection-ended in
+    some_rise (ledgers c.args.steps.now c.args.state.now.salted) (ledgers made.new.steps made.new.state.salted) (costs_some made.result _ _ _ _ _ _ made.ensures.costs)
+
+pub returns-in-Ok-clause-written : goal.returns-in-Ok-clause-written
+returns-in-Ok-clause-written g c = λ x logs heard.
+    let made = c.establish_connection-ended in
+    let link = c.new-link in
+    let told = ap Some (ap (λ n. drop n link.result.input.items) link.ensures.at ∙ link.ensures.input) in
+    accepted_writes c.in_ok-pending.pending (options_of_establisher c.args.self.now.establisher) c.new-state.result x c.args.login.now c.args.replies logs heard c.in_ok-pending.ensures.generation c.args.self.now.options c.new-state.ensures
+    made.result _ _ _ c.in-Ok.written (subst (IsAcceptedAs made.result) c.if-not-branch.false c.in_ok-is_accepted.ensures) made.ensures.established told (ap Some link.ensures.output) (ap Some (sym (c.in-Ok.ensures.copied ∙ c.written.ensures)))
+
+pub returns-in-Ok-clause-takes : goal.returns-in-Ok-clause-takes
+returns-in-Ok-clause-takes g c = λ x logs heard.
+    let made = c.establish_connection-ended in
+    let link = c.new-link in
+    let told = ap Some (ap (λ n. drop n link.result.input.items) link.ensures.at ∙ link.ensures.input) in
+    accepted_takes c.in_ok-pending.pending (options_of_establisher c.args.self.now.establisher) c.new-state.result x c.args.login.now c.args.replies logs heard c.in_ok-pending.ensures.generation c.args.self.now.options c.new-state.ensures
+    made.result (ledgers c.args.steps.now c.args.state.now.salted) (ledgers made.new.steps made.new.state.salted) (subst (IsAcceptedAs made.result) c.if-not-branch.false c.in_ok-is_accepted.ensures) (made.ensures.led.over c.args.replies told no_fault no_fault)
+
+pub returns-in-Ok-clause-steps : goal.returns-in-Ok-clause-steps
+returns-in-Ok-clause-steps g c =
+    let made = c.establish_connection-ended in
+    some_rise (ledgers c.args.steps.now c.args.state.now.salted) (ledgers made.new.steps made.new.state.salted) (costs_some made.result _ _ _ _ _ _ made.ensures.costs)
