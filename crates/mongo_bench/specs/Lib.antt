@@ -1,4 +1,5 @@
 pub mod Login
+pub mod Peers
 pub mod Status
 pub mod Task
 pub mod Work

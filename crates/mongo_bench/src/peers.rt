@@ -1,7 +1,4 @@
 ghost use Rattle.std.specs.Prelude.{◌≡◌};
-ghost use Rattle.mongo_generate.specs.Generated.{exchange_at};
-ghost use Rattle.mongo_generate.specs.Login.{LogsIn};
-ghost use Rattle.mongo_server.specs.Server.{Serves};
 ghost use Rattle.mongo_bench.specs.Login.{number_of};
 
 use crate::task::Hash;
@@ -20,8 +17,6 @@ pub struct Peers {
     login: Login,
     server: ServerCore,
     state: LoginState,
-    ghost logs_in: { LogsIn (exchange_at (number_of hash)) login },
-    ghost serves: { Serves server (exchange_at (number_of hash)) },
 }
 
 impl Peers {
@@ -30,6 +25,7 @@ impl Peers {
     ghost use Rattle.mongo_scram.specs.Costs.{ledgers};
     ghost use Rattle.mongo_establish.specs.KeyCosts.{TakesKey};
     ghost use Rattle.mongo_bench.specs.Login.{key_for};
+    ghost use Rattle.mongo_bench.specs.Peers.{AreReady};
 
     /// The user of the first generated login over this hash, whose server derives its keys by 4096 steps. Nothing is kept from
     /// one login to the next yet.
@@ -39,6 +35,7 @@ impl Peers {
         steps: &mut Steps<G>,
     ) -> Result<Peers, AllocError>
         ensures hash { IfOk result (λ peers. peers.hash ≡ hash) }
+        ensures ready { IfOk result AreReady }
         ensures empty { IfOk result (λ peers. entries_of peers.state.salted ≡ []) }
         ensures cost { OnOk result (steps.new ≡ steps.old + 4096) }
         ensures steps { steps.old ≤ steps.new }
@@ -66,6 +63,8 @@ impl Peers {
         alloc: Global,
         steps: &mut Steps<G>,
     ) -> Result<(), AllocError>
+        requires ready { AreReady self.old }
+        ensures ready { AreReady self.new }
         ensures takes { OnOk result (TakesKey (key_for self.old.hash) (ledgers steps.old self.old.state.salted) (ledgers steps.new self.new.state.salted)) }
         ensures hash { self.new.hash ≡ self.old.hash }
         ensures steps { steps.old ≤ steps.new }

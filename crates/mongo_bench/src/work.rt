@@ -4,6 +4,7 @@ ghost use Rattle.mongo_scram.specs.Cache.{entries_of};
 ghost use Rattle.mongo_scram.specs.Costs.{ledgers};
 ghost use Rattle.mongo_establish.specs.KeyCosts.{TakesKey};
 ghost use Rattle.mongo_bench.specs.Login.{key_for};
+ghost use Rattle.mongo_bench.specs.Peers.{AreReady};
 ghost use Rattle.mongo_bench.specs.Work.{nothing_done, only_built, only_iterated, only_judged, only_logged_in, only_read, only_read_owned, only_written};
 
 use crate::insert::insert_document;
@@ -130,6 +131,7 @@ pub fn log_in<G: Ledger>(
     count: u32,
     steps: &mut Steps<G>,
 ) -> Result<Passed<usize>, AllocError>
+    requires ready { AreReady peers.old }
     requires empty { entries_of peers.old.state.salted ≡ [] }
     requires some { 1 ≤ count }
     ensures accepted { IfOk result (λ passed. passed.last ≡ count) }
@@ -247,7 +249,9 @@ impl Work {
         peers: &mut Peers,
         steps: &mut Steps<G>,
     ) -> Result<(), AllocError>
-        requires { self.old.logged_in < 2 ^ 32 - 1 }
+        requires room { self.old.logged_in < 2 ^ 32 - 1 }
+        requires ready { AreReady peers.old }
+        ensures ready { AreReady peers.new }
         ensures work { OnOk result (self.new ≡ record self.old { logged_in = self.old.logged_in + 1 }) }
         ensures takes { OnOk result (TakesKey (key_for peers.old.hash) (ledgers steps.old peers.old.state.salted) (ledgers steps.new peers.new.state.salted)) }
         ensures hash { peers.new.hash ≡ peers.old.hash }
