@@ -213,7 +213,7 @@ module _ (pending : PendingConnection) (x : Exchange) (nonces : Nonces) (bytes :
     user = user;
     is_user = is_user;
     login = subst (λ s. IsLoginFrom s handed user (close_document (close_of x) ∷ []) (last_heard ∷ [])) (sym speculates)
-    (close_document (close_of x), last_heard, refl, refl, subst (λ command. IsConversation handed user inner command last_heard) said_is accepted.conversation);
+        (close_document (close_of x), last_heard, refl, refl, subst (λ command. IsConversation handed user inner command last_heard) said_is accepted.conversation);
   }
 
   is_script : IsScript asked script

@@ -17,7 +17,6 @@ use Rattle.mongo_generate.proofs.Texts.{length_base64, alike_nonce}
 
 -- ---- its password
 
-
 at_most : (d k x : ℕ) → d < 10 → k < 2 → get_or (112 ∷ (48 + d) ∷ []) k x ≡ x → (32 ≤ x) × (x ≤ 126)
 at_most d zero x few within at = let e : 112 ≡ x = at in (omega arith, omega arith)
 at_most d (suc zero) x few within at = let e : 48 + d ≡ x = at in (omega arith, omega arith)
@@ -47,12 +46,12 @@ possible_at k = record {
   within = omega arith;
   usable = usable (version_at k) (k % 3) (omega arith);
   short = (
-    let user = one_digit (k % 7) (omega arith) in
-    let nonce = length_base64 (replicate 32 (k % 256)) in
-    let grains = length-replicate 16 (k % 5) in
-    let drawn = length-replicate 32 (k % 256) in
-    omega (arith, user, nonce, grains, drawn)
-  );
+      let user = one_digit (k % 7) (omega arith) in
+      let nonce = length_base64 (replicate 32 (k % 256)) in
+      let grains = length-replicate 16 (k % 5) in
+      let drawn = length-replicate 32 (k % 256) in
+      omega (arith, user, nonce, grains, drawn)
+      );
 }
 
 pub login_at : {E : Type 0} (k : ℕ) (r : Result Login E) (version : ScramVersion) (username password nonce : List ℕ) → version ≡ version_at k → username ≡ codes "u" ++ decimal (k % 7) → password ≡ codes "p" ++ decimal (k % 3) → nonce ≡ replicate 32 (k % 256)

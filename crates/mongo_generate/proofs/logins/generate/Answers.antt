@@ -19,7 +19,7 @@ loop-number-preserved g c =
     let more = c.in_ok-met.ensures.steps in
     record {
       so_far = so_far_more c.args.steps.now l.number l.accepted c.tally.new.accepted l.hasher c.tally.new.hasher (ledgers l.steps l.state.salted) (ledgers c.log_in_numbered.new.steps c.log_in_numbered.new.state.salted)
-      l.invariant.so_far c.in_ok-met.ensures.takes (c.tally.ensures.counted x met) (c.tally.ensures.digested x (all_messages l.number) met l.invariant.so_far.hashed) few;
+          l.invariant.so_far c.in_ok-met.ensures.takes (c.tally.ensures.counted x met) (c.tally.ensures.digested x (all_messages l.number) met l.invariant.so_far.hashed) few;
       rises = omega arith;
     }
 

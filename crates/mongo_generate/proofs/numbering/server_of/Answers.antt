@@ -14,6 +14,6 @@ returns-clause-serves g c =
     let x = exchange_at c.args.number in
     record {
       user = subst (λ user. IsUserOf x.version x.username x.password x.salt x.count user) (sym c.new-2.ensures.user)
-      (renamed _ x.version _ x.username _ x.password _ x.salt 4096 c.in_ok-user.user c.version_at.ensures (c.as_str.ensures ∙ c.in_ok-username.ensures.text) (c.as_str-2.ensures ∙ c.in_ok-password.ensures.text) c.in_ok-from_slice.ensures.copied c.in_ok-user.ensures.user);
+          (renamed _ x.version _ x.username _ x.password _ x.salt 4096 c.in_ok-user.user c.version_at.ensures (c.as_str.ensures ∙ c.in_ok-username.ensures.text) (c.as_str-2.ensures ∙ c.in_ok-password.ensures.text) c.in_ok-from_slice.ensures.copied c.in_ok-user.ensures.user);
       suffix = c.new-2.ensures.suffix ∙ c.in_ok-from_slice-2.ensures.copied;
     }

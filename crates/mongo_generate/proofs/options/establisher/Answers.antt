@@ -23,5 +23,5 @@ made (Err fault) given same is = tt
 pub returns : goal.returns
 returns c = record {
   options = made c.new.result c.in_ok-from_spec.field-0.handshake_options
-  (c.in_ok-from_spec.ensures.options ∙ same_options c.in_ok-options.options c.in_ok-metadata.metadata c.in_ok-options.ensures.options c.in_ok-metadata.ensures.metadata) c.new.ensures.options;
+      (c.in_ok-from_spec.ensures.options ∙ same_options c.in_ok-options.options c.in_ok-metadata.metadata c.in_ok-options.ensures.options c.in_ok-metadata.ensures.metadata) c.new.ensures.options;
 }
