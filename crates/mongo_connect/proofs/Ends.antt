@@ -1,10 +1,10 @@
 -- What the ends of a run mean, from what its steps answer.
-use Rattle.std.proofs.Common.{◌≡◌, ℕ, ◌+◌, ◌-◌, ◌^◌, ◌<◌, ◌≤◌, ◌⊎◌, ◌∙◌, refl, ap, subst, sym, inl, inr, arith, Option, Some, Result, Ok, Err, List, length, drop, IfOk}
+use Rattle.std.proofs.Common.{◌≡◌, ℕ, ◌+◌, ◌^◌, ◌<◌, ◌≤◌, ◌∙◌, refl, ap, subst, sym, inl, inr, arith, Some, Result, Ok, Err, List, length}
 use Rattle.std.proofs.Common.{length-drop}
 use Rattle.std.proofs.lemmas.Bool.Decides.{nat_tests}
 use Rattle.std.specs.Io.KnownBytes.{Appends, Consumes}
-use Rattle.std.specs.List.{concat, before_first, after_first, position_or_len}
-use Rattle.mongo_wire.specs.Outside.{State, Rose, ReadsOn, Unwritten, AppendsFront, ConsumesAtMost, IsFlushed}
+use Rattle.std.specs.List.{concat, position_or_len}
+use Rattle.mongo_wire.specs.Outside.{State, Rose, ReadsOn, IsFlushed}
 use Rattle.mongo_settings.specs.declared.settings.Settings.{Settings}
 use Rattle.mongo_settings.specs.declared.settings.SettingsError.{SettingsError}
 use Rattle.mongo_settings.specs.declared.settings.SettingsError.TheVariants.{BadSettings as Bad, NotBuilt as Unbuilt, OutOfMemory}
@@ -12,15 +12,15 @@ use Rattle.mongo_settings.specs.declared.rehearsal.Rehearsal.{Rehearsal}
 use Rattle.mongo_settings.specs.declared.rehearsal.RehearsalStatus.{RehearsalStatus}
 use Rattle.mongo_settings.specs.declared.rehearsal.RehearsalStatus.TheVariants as rehearsal
 use Rattle.mongo_settings.specs.Settings.{limit}
-use Rattle.mongo_settings.specs.Outcome.{taken_by, status_of}
+use Rattle.mongo_settings.specs.Outcome.{taken_by}
 use Rattle.mongo_settings.specs.Task.{one, steps_of, LoginComesOut}
 use Rattle.mongo_settings.proofs.Outcomes.{reports_status}
 use Rattle.mongo_connect.specs.declared.status.Status.{Status}
 use Rattle.mongo_connect.specs.declared.status.Status.TheVariants.{Done, Refused, BadSettings, Usage, LinkFault, SinkFault, NoMemory, NotBuilt}
-use Rattle.mongo_connect.specs.Connecting.{IsTold, IsUntold, Told, Faultless, Rehearses}
+use Rattle.mongo_connect.specs.Connecting.{IsTold, Told, Faultless, Rehearses}
 use Rattle.mongo_connect.specs.Input.{is_line_feed, line_of, after_line}
 use Rattle.mongo_connect.specs.Settings.{line_judged, with_replies}
-use Rattle.mongo_connect.specs.Run.{status_after, Connected, LineRead, Asked, Attempt, Run, GaveInput, Reported, IsRefusedLine, IsSilent, LinkFailed, ReportedFront, SinkFailed, Unreported, Ends, IsUsage, RanLine, RunEnds, Unfailed, EndsAs, LineDecides, IsDecided}
+use Rattle.mongo_connect.specs.Run.{status_after, Connected, LineRead, Attempt, Run, Reported, IsRefusedLine, Ends, RunEnds, Unfailed, LineDecides, IsDecided}
 
 -- ---- after the line
 
@@ -45,6 +45,7 @@ faultless_after old middle new on f = record {
 } where
   rose_before : (a b c : ℕ) → a ≤ b → Rose b c → Rose a c
   rose_before a b c le rose = omega arith
+
   stays : (a b : ℕ) → b ≡ a → a ≤ b
   stays a b e = omega arith
 
@@ -63,12 +64,15 @@ connected input line settings old middle new x read judged rehearses told f =
       taken = subst (λ l. Consumes l new.left (taken_by r.rehearsal_is.report.outcome)) (read.left input told.left) r.left_as.taken;
     }
 
-pub attempt : (line : List ℕ) (settings : Settings) (old middle new : State) (x : Rehearsal) → LineRead line old middle → line_judged line ≡ Ok settings → IsTold settings middle new x
-    → ((bytes : List ℕ) → Told middle bytes → Faultless middle new → Rehearses settings bytes middle new x) → Attempt x old new
-attempt line settings old middle new x read judged told rehearses = record {
-  told = record { line = line; middle = middle; line_read = read; settings = settings; settings_are = judged; done = told };
-  connected = λ input is f. connected input line settings old middle new x read judged rehearses is f;
-}
+pub attempt : (line : List ℕ) (settings : Settings) (old middle new : State) (x : Rehearsal)
+    → ReadsOn old middle → ((input : List ℕ) → old.left ≡ Some input → line ≡ line_of input) → ((input : List ℕ) → old.left ≡ Some input → middle.left ≡ Some (after_line input))
+    → line_judged line ≡ Ok settings → IsTold settings middle new x → ((bytes : List ℕ) → Told middle bytes → Faultless middle new → Rehearses settings bytes middle new x) → Attempt x old new
+attempt line settings old middle new x on line_is left judged told rehearses =
+    let read : LineRead line old middle = record { on = on; line_is = line_is; left = left } in
+    record {
+      told = record { line = line; middle = middle; line_read = read; settings = settings; settings_are = judged; done = told };
+      connected = λ input is f. connected input line settings old middle new x read judged rehearses is f;
+    }
 
 -- ---- judgements
 

@@ -105,10 +105,10 @@ taken_line_feed old mid new held next front last short =
     let all = Consumes-trans old mid new held (option_to_list next) front last in
     let most : length (option_to_list next) ≤ 1 = one next in
     (held ++ option_to_list next, omega (arith, length-append held (option_to_list next)), all)
-    where
-  one : (next : Option ℕ) → length (option_to_list next) ≤ 1
-  one None = omega arith
-  one (Some byte) = omega arith
+  where
+    one : (next : Option ℕ) → length (option_to_list next) ≤ 1
+    one None = omega arith
+    one (Some byte) = omega arith
 
 pub gave_end : (old mid new : Option (List ℕ)) (held : List ℕ) (next : Option ℕ) → Consumes old mid held → Consumes mid new (option_to_list next) → (next ≡ None → IsAtEnd new) → next ≡ None → IsUnbroken held → length held ≤ limit → Gave old new held
 gave_end old mid new held next front last end is unbroken short =

@@ -1,6 +1,6 @@
 -- What is told of an establishment over a link, from what was recorded of it; and that it is a rehearsal on the bytes that the link
 -- told.
-use Rattle.std.proofs.Common.{◌≡◌, ℕ, ◌-◌, ◌⊎◌, ◌∙◌, ap, subst, sym, arith, refl, inl, inr, Some, Result, Ok, Err, List, length, IfOk, IfErr, OnErr}
+use Rattle.std.proofs.Common.{◌≡◌, ℕ, ◌-◌, ◌∙◌, ap, subst, arith, refl, inl, inr, Some, Result, Ok, Err, List, length, IfOk, IfErr, OnErr}
 use Rattle.std.specs.Io.KnownBytes.{append_known}
 use Rattle.mongo_wire.specs.Outside.{State}
 use Rattle.mongo_establish.specs.declared.establisher.PooledConnection.{PooledConnection}
@@ -19,34 +19,32 @@ use Rattle.mongo_connect.specs.Settings.{with_replies}
 
 -- ---- what was recorded
 
--- the establishment began where its recording did
-pub record Recorded (settings : Settings) (ended : Result PooledConnection EstablishError) (origin new : State) (written : List ℕ) (taken : ℕ) : Type 0 where
-  pub attempted : Attempted settings ended origin new
-  pub appended : new.written ≡ append_known origin.written written
-  pub counted : IsTakenCount origin.left new.left taken
-
-pub recorded : (settings : Settings) (asked : Asked) (origin start new : State) (ended : Result PooledConnection EstablishError) (written : List ℕ) (taken : ℕ)
-    → asked ≡ asked_of settings → start ≡ origin → IfOk ended (IsMade asked start new) → IfErr ended (IsStopped asked start new)
-    → new.written ≡ append_known origin.written written → IsTakenCount origin.left new.left taken → Recorded settings ended origin new written taken
-recorded settings asked origin start new ended written taken same begun made stopped appended counted = record {
-  attempted = record {
-    made = subst (λ s. IfOk ended (IsMade (asked_of settings) s new)) begun (subst (λ a. IfOk ended (IsMade a start new)) same made);
-    stopped = subst (λ s. IfErr ended (IsStopped (asked_of settings) s new)) begun (subst (λ a. IfErr ended (IsStopped a start new)) same stopped);
-  };
-  appended = appended;
-  counted = counted;
+attempted : (settings : Settings) (asked : Asked) (origin start new : State) (ended : Result PooledConnection EstablishError)
+    → start ≡ origin → asked ≡ asked_of settings → IfOk ended (IsMade asked start new) → IfErr ended (IsStopped asked start new) → Attempted settings ended origin new
+attempted settings asked origin start new ended begun same made stopped = record {
+  made = subst (λ s. IfOk ended (IsMade (asked_of settings) s new)) begun (subst (λ a. IfOk ended (IsMade a start new)) same made);
+  stopped = subst (λ s. IfErr ended (IsStopped (asked_of settings) s new)) begun (subst (λ a. IfErr ended (IsStopped a start new)) same stopped);
 }
 
-pub told_over : {E : Type 0} (settings : Settings) (origin old new : State) (ended : Result PooledConnection EstablishError) (written : List ℕ) (taken : ℕ) (r : Result Rehearsal E)
-    → origin ≡ old → Recorded settings ended origin new written taken → IfOk r (Tells written taken ended) → IfOk r (IsTold settings old new)
-told_over settings origin old new ended written taken (Ok x) is t tells =
-    subst (λ s. IsTold settings s new x) is (record { ended = ended; attempted = t.attempted; written = written; appended = t.appended; taken = taken; counted = t.counted; tells = tells })
-told_over settings origin old new ended written taken (Err e) is t tells = tt
+-- an establishment that began where its recording did is told by what that holds
+pub told_over : {E : Type 0} {asked : Asked} (settings : Settings) (origin start new : State) (ended : Result PooledConnection EstablishError) (written : List ℕ) (taken : ℕ) (r : Result Rehearsal E)
+    → start ≡ origin → asked ≡ asked_of settings → IfOk ended (IsMade asked start new) → IfErr ended (IsStopped asked start new)
+    → new.written ≡ append_known origin.written written → IsTakenCount origin.left new.left taken → IfOk r (Tells written taken ended) → IfOk r (IsTold settings origin new)
+told_over {asked = asked} settings origin start new ended written taken (Ok x) begun same made stopped appended counted tells = record {
+  ended = ended;
+  attempted = attempted settings asked origin start new ended begun same made stopped;
+  written = written;
+  appended = appended;
+  taken = taken;
+  counted = counted;
+  tells = tells;
+}
+told_over settings origin start new ended written taken (Err e) begun same made stopped appended counted tells = tt
 
-pub untold_over : {A E : Type 0} (settings : Settings) (origin old new : State) (ended : Result PooledConnection EstablishError) (written : List ℕ) (taken : ℕ) (r : Result A E)
-    → origin ≡ old → Recorded settings ended origin new written taken → OnErr r (IsUntold settings old new)
-untold_over settings origin old new ended written taken (Ok x) is t = tt
-untold_over settings origin old new ended written taken (Err e) is t = inr (ended, subst (λ s. Attempted settings ended s new) is t.attempted)
+pub untold_over : {A E : Type 0} {asked : Asked} (settings : Settings) (origin start new : State) (ended : Result PooledConnection EstablishError) (r : Result A E)
+    → start ≡ origin → asked ≡ asked_of settings → IfOk ended (IsMade asked start new) → IfErr ended (IsStopped asked start new) → OnErr r (IsUntold settings origin new)
+untold_over settings origin start new ended (Ok x) begun same made stopped = tt
+untold_over {asked = asked} settings origin start new ended (Err e) begun same made stopped = inr (ended, attempted settings asked origin start new ended begun same made stopped)
 
 -- ---- over told bytes
 

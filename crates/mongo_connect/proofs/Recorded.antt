@@ -1,5 +1,5 @@
 -- What is recorded of a link stays what was written to it and taken of it.
-use Rattle.std.proofs.Common.{◌≡◌, ℕ, ◌+◌, ◌-◌, ◌^◌, ◌<◌, ◌≤◌, ◌∙◌, ap, sym, subst, refl, arith, Option, None, Some, Result, Ok, Err, List, ◌++◌, length, take, length-append, append_assoc, IfOk}
+use Rattle.std.proofs.Common.{◌≡◌, ℕ, ◌+◌, ◌-◌, ◌^◌, ◌≤◌, ◌∙◌, ap, sym, subst, refl, arith, Option, None, Some, Result, Ok, Err, List, ◌++◌, length, take, length-append, append_assoc, IfOk}
 use Rattle.std.specs.Prelude.{min, is_some}
 use Rattle.std.proofs.lemmas.List.{length-take-le}
 use Rattle.std.proofs.Math.Seq.{take-append-add, take-append_seam}

@@ -1,5 +1,5 @@
 -- How a run ends, and what the link and the report's sink hold then.
-use Rattle.std.specs.Prelude.{◌≡◌, ℕ, ◌+◌, ◌<◌, ◌≤◌, ◌⊎◌, Option, Some, Result, Ok, Err, List, [], ◌++◌, ⊤}
+use Rattle.std.specs.Prelude.{◌≡◌, ℕ, ◌+◌, ◌<◌, ◌≤◌, ◌⊎◌, Some, Result, Ok, Err, List, [], ⊤}
 use Rattle.std.specs.Io.KnownBytes.{Appends, Consumes}
 use Rattle.std.specs.List.{concat}
 use Rattle.mongo_wire.specs.Outside.{State, Rose, ReadsOn, Unwritten, AppendsFront, ConsumesAtMost, IsFlushed}

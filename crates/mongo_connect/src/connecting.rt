@@ -12,19 +12,20 @@ use std::alloc::{AllocError, Global};
 use std::marker::Brand;
 use std::sync::ledger::Ledger;
 
-/// Makes the connection that settings ask for over a link, and reports what was sent, what was taken, and how it ended.
+/// Makes the connection that settings ask for over a link, which is handed back, and reports what was sent, what was taken, and how
+/// it ended.
 pub fn connect_over<L: Link, G: Ledger>(
     alloc: Global,
     settings: Settings,
-    link: &mut L,
+    link: L,
     steps: &mut Steps<G>,
-) -> Result<Rehearsal, AllocError>
+) -> (Result<Rehearsal, AllocError>, L)
     requires spoken { SpeaksFor settings.credential }
     // Over any link the report says how the establishment ended, what was written and how much was taken.
-    ensures told { IfOk result (IsTold settings (L.state link.old) (L.state link.new)) }
+    ensures told { IfOk result.0 (IsTold settings (L.state link) (L.state result.1)) }
     // Over one that tells its bytes and doesn't fail it is that of a rehearsal on them, and the link is left as it says.
-    ensures rehearsed { (bytes : List ℕ) → Told (L.state link.old) bytes → Faultless (L.state link.old) (L.state link.new) → IfOk result (Rehearses settings bytes (L.state link.old) (L.state link.new)) }
-    ensures untold { OnErr result (IsUntold settings (L.state link.old) (L.state link.new)) }
+    ensures rehearsed { (bytes : List ℕ) → Told (L.state link) bytes → Faultless (L.state link) (L.state result.1) → IfOk result.0 (Rehearses settings bytes (L.state link) (L.state result.1)) }
+    ensures untold { OnErr result.0 (IsUntold settings (L.state link) (L.state result.1)) }
     ensures steps { steps.old ≤ steps.new }
 {
     record_over::<L, Brand, G>(alloc, settings, link, steps)
@@ -34,18 +35,35 @@ pub fn connect_over<L: Link, G: Ledger>(
 fn record_over<L: Link, O: Origin, G: Ledger>(
     alloc: Global,
     settings: Settings,
-    link: &mut L,
+    link: L,
+    steps: &mut Steps<G>,
+) -> (Result<Rehearsal, AllocError>, L)
+    requires spoken { SpeaksFor settings.credential }
+    requires origin { O.origin ≡ L.state link }
+    ensures told { IfOk result.0 (IsTold settings (L.state link) (L.state result.1)) }
+    ensures untold { OnErr result.0 (IsUntold settings (L.state link) (L.state result.1)) }
+    ensures steps { steps.old ≤ steps.new }
+{
+    let mut recording = Recording::<L, O>::new(alloc, link);
+    let told = tell_over(alloc, settings, &mut recording, steps);
+    (told, recording.into_link())
+}
+
+// Makes the connection over a recording that has recorded nothing, and reports it.
+fn tell_over<L: Link, O: Origin, G: Ledger>(
+    alloc: Global,
+    settings: Settings,
+    recording: &mut Recording<L, O>,
     steps: &mut Steps<G>,
 ) -> Result<Rehearsal, AllocError>
     requires spoken { SpeaksFor settings.credential }
-    requires origin { O.origin ≡ L.state link.old }
-    ensures told { IfOk result (IsTold settings (L.state link.old) (L.state link.new)) }
-    ensures untold { OnErr result (IsUntold settings (L.state link.old) (L.state link.new)) }
+    requires fresh { L.state recording.old.link ≡ O.origin }
+    ensures told { IfOk result (IsTold settings O.origin (L.state recording.new.link)) }
+    ensures untold { OnErr result (IsUntold settings O.origin (L.state recording.new.link)) }
     ensures steps { steps.old ≤ steps.new }
 {
     let (login, _replies) = prepare(alloc, settings)?;
     let mut state = new_state(alloc);
-    let mut recording = Recording::<L, O>::new(alloc, link);
-    let ended = connect(alloc, login, &mut recording, &mut state, steps);
+    let ended = connect(alloc, login, recording, &mut state, steps);
     report_outcome(alloc, recording.written(), recording.taken(), &ended)
 }

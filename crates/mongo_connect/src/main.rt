@@ -27,16 +27,16 @@ use std::{env, io};
 /// Makes the connection over standard input and standard output, reports it on standard error, and ends with the status; with 6
 /// where the words after the program's name can't be had.
 fn main(rt: HostRuntime) -> ExitCode {
-    let status = match words_of(&rt) {
-        Ok(words) => run_counted::<_, _, Brand>(
-            rt.alloc(),
-            words,
-            &mut StdLink::new(rt.stdin(), rt.stdout()),
-            &mut StdSink::new(rt.stderr()),
-            Blank::new(1),
-        ),
-        Err(_) => Status::NoMemory,
+    let Ok(words) = words_of(&rt) else {
+        return ExitCode::from(Status::NoMemory);
     };
+    let (status, _link) = run_counted::<_, _, Brand>(
+        rt.alloc(),
+        words,
+        StdLink::new(rt.stdin(), rt.stdout()),
+        &mut StdSink::new(rt.stderr()),
+        Blank::new(1),
+    );
     ExitCode::from(status)
 }
 

@@ -1,6 +1,6 @@
 use std::marker::Brand;
 
-/// What a link was as its recording began.
+/// What a link means as its recording begins. Each call that records picks it.
 pub trait Origin {
     ghost use Rattle.mongo_wire.specs.Outside.{State};
 

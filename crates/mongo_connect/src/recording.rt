@@ -19,25 +19,24 @@ fn count_of(read: &Result<usize, Failed>) -> usize
 }
 
 /// A link that passes every call on to another, keeps what was written to it and counts what was read.
-#[derive(Drop)]
-pub struct Recording<'l, L: Link, O: Origin> {
-    link: &'l mut L,
+pub struct Recording<L: Link, O: Origin> {
+    link: L,
     written: Vec<u8>,
     taken: usize,
     origin: PhantomData<O>,
-    ghost kept: { (L.state link.now).written ≡ append_known O.origin.written written.items } by { Prim.hlevel props },
-    ghost counted: { IsTakenCount O.origin.left (L.state link.now).left taken },
+    ghost kept: { (L.state link).written ≡ append_known O.origin.written written.items } by { Prim.hlevel props },
+    ghost counted: { IsTakenCount O.origin.left (L.state link).left taken },
 }
 
-impl<'l, L: Link, O: Origin> Recording<'l, L, O> {
+impl<L: Link, O: Origin> Recording<L, O> {
     ghost use Rattle.std.specs.Prelude.{◌≡◌};
     ghost use Rattle.std.specs.Io.KnownBytes.{append_known};
     ghost use Rattle.mongo_connect.specs.Recording.{IsTakenCount};
 
     /// Records from now on. It takes no memory.
-    pub fn new(alloc: Global, link: &'l mut L) -> Recording<'l, L, O>
-        requires origin { O.origin ≡ L.state link.old }
-        ensures state { L.state result.link.now ≡ O.origin }
+    pub fn new(alloc: Global, link: L) -> Recording<L, O>
+        requires origin { O.origin ≡ L.state link }
+        ensures state { L.state result.link ≡ O.origin }
     {
         Recording {
             link,
@@ -49,24 +48,37 @@ impl<'l, L: Link, O: Origin> Recording<'l, L, O> {
 
     /// All that was written since.
     pub fn written(&self) -> &[u8]
-        ensures kept { (L.state self.now.link.now).written ≡ append_known O.origin.written result.now }
+        ensures kept { (L.state self.now.link).written ≡ append_known O.origin.written result.now }
     {
         self.written.as_slice()
     }
 
     /// How many bytes were read since. The count stays at its last value.
     pub fn taken(&self) -> usize
-        ensures counted { IsTakenCount O.origin.left (L.state self.now.link.now).left result }
+        ensures counted { IsTakenCount O.origin.left (L.state self.now.link).left result }
     {
         self.taken
     }
+
+    /// The link.
+    pub fn into_link(self) -> L
+        ensures link { result ≡ self.link }
+    {
+        let Recording {
+            link,
+            written: _written,
+            taken: _taken,
+            origin: _origin,
+        } = self;
+        link
+    }
 }
 
-impl<L: Link, O: Origin> Outside for Recording<'_, L, O> {
-    ghost state = { λ r. L.state r.link.now };
+impl<L: Link, O: Origin> Outside for Recording<L, O> {
+    ghost state = { λ r. L.state r.link };
 }
 
-impl<L: Link, O: Origin> Source for Recording<'_, L, O> {
+impl<L: Link, O: Origin> Source for Recording<L, O> {
     fn read(&mut self, buf: &mut [u8]) -> Result<usize, Failed> {
         let read = self.link.read(buf);
         self.taken = self.taken.saturating_add(count_of(&read));
@@ -82,7 +94,7 @@ impl<L: Link, O: Origin> Source for Recording<'_, L, O> {
     }
 }
 
-impl<L: Link, O: Origin> Sink for Recording<'_, L, O> {
+impl<L: Link, O: Origin> Sink for Recording<L, O> {
     // The room is taken first, so that a write that wants memory has taken nothing.
     fn write(&mut self, piece: &[u8]) -> Result<usize, SinkError> {
         let before = self.written.len();

@@ -17,26 +17,26 @@ use std::alloc::Global;
 use std::sync::ledger::{Blank, Ledger};
 
 /// The program's one call: reads settings from the first line of `link`, makes the connection that they ask for over what follows,
-/// and writes the report of it to `report`.
+/// and writes the report of it to `report`. The link is handed back.
 ///
 /// It takes no words. The whole report is made before its first byte is written.
 pub fn run<L: Link, K: Sink, G: Ledger>(
     alloc: Global,
     words: Vec<String>,
-    link: &mut L,
+    link: L,
     report: &mut K,
     steps: &mut Steps<G>,
-) -> Status
+) -> (Status, L)
     // How it ends, a row a status: done, what was printed, sent and taken are exactly those of the settings' one report.
-    ensures ends { RunEnds L.state K.state (length words.items) (run_of link.old link.new report.old report.new) result }
+    ensures ends { RunEnds L.state K.state (length words.items) (run_of link result.1 report.old report.new) result.0 }
     // Where nothing fails, the words, the line and what follows it decide.
-    ensures decided { IsDecided L.state K.state (length words.items) (run_of link.old link.new report.old report.new) result }
-    ensures steps { StepsAfter result steps.old steps.new }
+    ensures decided { IsDecided L.state K.state (length words.items) (run_of link result.1 report.old report.new) result.0 }
+    ensures steps { StepsAfter result.0 steps.old steps.new }
 {
     if words.is_empty() {
         run_line(alloc, link, report, steps)
     } else {
-        Status::Usage
+        (Status::Usage, link)
     }
 }
 
@@ -44,15 +44,15 @@ pub fn run<L: Link, K: Sink, G: Ledger>(
 pub fn run_counted<L: Link, K: Sink, G: Ledger>(
     alloc: Global,
     words: Vec<String>,
-    link: &mut L,
+    link: L,
     report: &mut K,
     blank: Blank,
-) -> Status
+) -> (Status, L)
     requires name { blank.name ≡ G.name }
     requires parts { blank.parts ≡ G.parts }
     requires has_a_part { 0 < G.parts }
-    ensures ends { RunEnds L.state K.state (length words.items) (run_of link.old link.new report.old report.new) result }
-    ensures decided { IsDecided L.state K.state (length words.items) (run_of link.old link.new report.old report.new) result }
+    ensures ends { RunEnds L.state K.state (length words.items) (run_of link result.1 report.old report.new) result.0 }
+    ensures decided { IsDecided L.state K.state (length words.items) (run_of link result.1 report.old report.new) result.0 }
 {
     let mut steps = Steps::<G>::new(blank);
     run(alloc, words, link, report, &mut steps)
@@ -61,30 +61,31 @@ pub fn run_counted<L: Link, K: Sink, G: Ledger>(
 // Makes the connection that the first line of the link asks for.
 fn run_line<L: Link, K: Sink, G: Ledger>(
     alloc: Global,
-    link: &mut L,
+    mut link: L,
     report: &mut K,
     steps: &mut Steps<G>,
-) -> Status
-    ensures ends { Ends L.state K.state (run_of link.old link.new report.old report.new) result }
-    ensures steps { StepsAfter result steps.old steps.new }
+) -> (Status, L)
+    ensures ends { Ends L.state K.state (run_of link result.1 report.old report.new) result.0 }
+    ensures steps { StepsAfter result.0 steps.old steps.new }
 {
-    let line = match read_line(alloc, link) {
+    let line = match read_line(alloc, &mut link) {
         Ok(line) => line,
-        Err(InputError::Fault) => return Status::LinkFault,
-        Err(InputError::OutOfMemory) => return Status::NoMemory,
+        Err(InputError::Fault) => return (Status::LinkFault, link),
+        Err(InputError::OutOfMemory) => return (Status::NoMemory, link),
     };
     let settings = match read_settings(alloc, line.as_slice()) {
         Ok(settings) => settings,
-        Err(SettingsError::BadSettings) => return Status::BadSettings,
-        Err(SettingsError::NotBuilt) => return Status::NotBuilt,
-        Err(SettingsError::OutOfMemory) => return Status::NoMemory,
+        Err(SettingsError::BadSettings) => return (Status::BadSettings, link),
+        Err(SettingsError::NotBuilt) => return (Status::NotBuilt, link),
+        Err(SettingsError::OutOfMemory) => return (Status::NoMemory, link),
     };
-    let Ok(rehearsal) = connect_over(alloc, settings, link, steps) else {
-        return Status::NoMemory;
+    let (connected, link) = connect_over(alloc, settings, link, steps);
+    let Ok(rehearsal) = connected else {
+        return (Status::NoMemory, link);
     };
     match write_report(report, rehearsal.report.as_slice()) {
-        Ok(()) => Status::after(rehearsal.status),
-        Err(SinkError::Failed) => Status::SinkFault,
-        Err(SinkError::OutOfMemory) => Status::NoMemory,
+        Ok(()) => (Status::after(rehearsal.status), link),
+        Err(SinkError::Failed) => (Status::SinkFault, link),
+        Err(SinkError::OutOfMemory) => (Status::NoMemory, link),
     }
 }

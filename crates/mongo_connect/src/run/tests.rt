@@ -43,10 +43,10 @@ fn run_over(
         input.extend_from_slice(piece)?;
     }
     let failing = failing_at(alloc, link_fails)?;
-    let mut link = FailingLink::new(alloc, Bytes::from_vec(input), failing, most);
+    let link = FailingLink::new(alloc, Bytes::from_vec(input), failing, most);
     let failing = failing_at(alloc, sink_fails)?;
     let mut sink = FailingLink::new(alloc, Bytes::new(alloc), failing, 4096);
-    let status = status_of(alloc, Vec::new(alloc), &mut link, &mut sink);
+    let (status, link) = run_at(alloc, Vec::new(alloc), link, &mut sink);
     Ok(Left {
         status,
         report: Vec::from_slice(alloc, sink.written())?,
@@ -54,12 +54,12 @@ fn run_over(
     })
 }
 
-fn status_of(
+fn run_at(
     alloc: Global,
     words: Vec<String>,
-    link: &mut FailingLink,
+    link: FailingLink,
     sink: &mut FailingLink,
-) -> Status {
+) -> (Status, FailingLink) {
     run_counted::<_, _, Brand>(alloc, words, link, sink, Blank::new(1))
 }
 
@@ -110,22 +110,34 @@ fn a_fault_at_each_call_is_told(rt: HostRuntime) -> Result<(), Fail> {
         let pieces = [line, b"\n".as_slice(), REPLIES];
         let left = run_over(rt.alloc(), &pieces, 4096, call, NEVER)?;
         assert_eq!(rt; left.status, status, "at {call}");
-        assert!(rt; left.report.as_slice().ends_with(end.as_bytes()), "at {call}");
-        assert_eq!(rt; left.report.is_empty(), status == Status::LinkFault, "at {call}");
+        assert!(rt;
+            left.report.as_slice().ends_with(end.as_bytes()),
+            "at {call}"
+        );
+        assert_eq!(rt;
+            left.report.is_empty(),
+            status == Status::LinkFault,
+            "at {call}"
+        );
     }
     Ok(())
 }
 
 const UNWRITTEN_HELLO: &str =
     "read 0\nrefused\nphase PreHello\nkind WriteFault\nreason -\ncode -\ntext -\n";
+
 const UNREAD_HELLO: &str =
     "read 0\nrefused\nphase PreHello\nkind ReadFault\nreason -\ncode -\ntext -\n";
+
 const CUT_HELLO: &str =
     "read 16\nrefused\nphase PreHello\nkind ReadFault\nreason -\ncode -\ntext -\n";
+
 const UNWRITTEN_LOGIN: &str =
     "read 86\nrefused\nphase PostHello\nkind WriteFault\nreason -\ncode -\ntext -\n";
+
 const UNREAD_LOGIN: &str =
     "read 86\nrefused\nphase PostHello\nkind ReadFault\nreason -\ncode -\ntext -\n";
+
 const CUT_LOGIN: &str =
     "read 102\nrefused\nphase PostHello\nkind ReadFault\nreason -\ncode -\ntext -\n";
 
@@ -134,30 +146,51 @@ fn the_line_and_the_sink_decide_too(rt: HostRuntime) -> Result<(), Fail> {
     for (text, sink_fails, status, report) in [
         ("", NEVER, Status::BadSettings, ""),
         ("\n{\"host\":\"a\"}", NEVER, Status::BadSettings, ""),
-        ("{\"host\":\"a\",\"replies\":[\"00\"]}\n", NEVER, Status::BadSettings, ""),
-        ("{\"host\":\"a\",\"moment\":1}\n", NEVER, Status::NotBuilt, ""),
-        ("{\"host\":\"a\",\"replies\":[]}\n", NEVER, Status::Refused, ENDED),
+        (
+            "{\"host\":\"a\",\"replies\":[\"00\"]}\n",
+            NEVER,
+            Status::BadSettings,
+            "",
+        ),
+        (
+            "{\"host\":\"a\",\"moment\":1}\n",
+            NEVER,
+            Status::NotBuilt,
+            "",
+        ),
+        (
+            "{\"host\":\"a\",\"replies\":[]}\n",
+            NEVER,
+            Status::Refused,
+            ENDED,
+        ),
         ("{\"host\":\"a\"}", NEVER, Status::Refused, ENDED),
         ("{\"host\":\"a\"}", 0, Status::SinkFault, ""),
         ("{\"host\":\"a\"}", 1, Status::SinkFault, ENDED),
     ] {
         let left = run_over(rt.alloc(), &[text.as_bytes()], 4096, NEVER, sink_fails)?;
         assert_eq!(rt; left.status, status, "at {text}");
-        assert!(rt; left.report.as_slice().ends_with(report.as_bytes()), "at {text}");
+        assert!(rt;
+            left.report.as_slice().ends_with(report.as_bytes()),
+            "at {text}"
+        );
         assert_eq!(rt; left.report.is_empty(), report.is_empty(), "at {text}");
     }
     Ok(())
 }
 
-const ENDED: &str =
-    "read 0\nrefused\nphase PreHello\nkind EndOfInput\nreason -\ncode -\ntext -\n";
+const ENDED: &str = "read 0\nrefused\nphase PreHello\nkind EndOfInput\nreason -\ncode -\ntext -\n";
 
 #[test]
 fn blanks_to_the_limit_are_settings(rt: HostRuntime) -> Result<(), Fail> {
     let line = LINE.as_bytes();
     for (blanks, status, unread) in [
         (4_194_304 - line.len(), Status::Done, 0),
-        (4_194_305 - line.len(), Status::BadSettings, REPLIES.len() + 1),
+        (
+            4_194_305 - line.len(),
+            Status::BadSettings,
+            REPLIES.len() + 1,
+        ),
     ] {
         let blanks = vec![in rt.alloc(); b' '; blanks]?;
         let pieces = [line, blanks.as_slice(), b"\n".as_slice(), REPLIES];
@@ -171,10 +204,11 @@ fn blanks_to_the_limit_are_settings(rt: HostRuntime) -> Result<(), Fail> {
 #[test]
 fn words_are_refused(rt: HostRuntime) -> Result<(), Fail> {
     let alloc = rt.alloc();
-    let mut link = FailingLink::new(alloc, Bytes::new(alloc), Bytes::new(alloc), 1);
+    let link = FailingLink::new(alloc, Bytes::new(alloc), Bytes::new(alloc), 1);
     let mut sink = FailingLink::new(alloc, Bytes::new(alloc), Bytes::new(alloc), 1);
     let mut words = Vec::new(alloc);
     words.push(String::from_str(alloc, "rehearse")?)?;
-    assert_eq!(rt; status_of(alloc, words, &mut link, &mut sink), Status::Usage);
+    let (status, _link) = run_at(alloc, words, link, &mut sink);
+    assert_eq!(rt; status, Status::Usage);
     Ok(())
 }
