@@ -8,7 +8,8 @@ mod standard;
 mod writing;
 
 use crate::{
-    DocumentSequence, Error, ErrorKind, FailingLink, MemoryLink, Message, MessageFlags, Sequences,
+    ArgumentFault, DocumentSequence, Error, ErrorKind, FailingLink, MemoryLink, Message,
+    MessageFlags, RequestIds, ResponseFault, Sequences, Sink, Source,
 };
 use bitflags::Flags;
 use mongo_bson::{Bytes, Documents, RawDocumentBuf, Text};
@@ -88,10 +89,52 @@ fn failing_at(alloc: Global, call: usize) -> Result<Bytes, Error> {
     Ok(Bytes::from_vec(schedule))
 }
 
-pub(crate) fn is_read_fault(kind: &ErrorKind) -> bool {
-    matches!(kind, ErrorKind::ReadFault)
+// How a call ended: it was done, or this is the cause that it told.
+#[derive(Clone, Copy, Debug, PartialEq)]
+pub(crate) enum Told {
+    Done,
+    ReadFault,
+    WriteFault,
+    EndOfInput,
+    Argument(ArgumentFault),
+    Response(ResponseFault),
+    Other,
 }
 
-pub(crate) fn is_write_fault(kind: &ErrorKind) -> bool {
-    matches!(kind, ErrorKind::WriteFault)
+pub(crate) fn told_by(kind: &ErrorKind) -> Told {
+    match kind {
+        ErrorKind::ReadFault => Told::ReadFault,
+        ErrorKind::WriteFault => Told::WriteFault,
+        ErrorKind::EndOfInput => Told::EndOfInput,
+        ErrorKind::InvalidArgument(fault) => Told::Argument(*fault),
+        ErrorKind::InvalidResponse(fault) => Told::Response(*fault),
+        _ => Told::Other,
+    }
+}
+
+// The next message of a source.
+pub(crate) fn read<S: Source>(alloc: Global, source: &mut S) -> Result<Message, Error> {
+    Message::read_from(alloc, source, None)
+}
+
+// How the read of the next message of a source ends.
+pub(crate) fn read_end<S: Source>(alloc: Global, source: &mut S) -> Told {
+    match read(alloc, source) {
+        Ok(_message) => Told::Done,
+        Err(error) => told_by(&error.kind),
+    }
+}
+
+// How the write of a message ends.
+pub(crate) fn write_end<K: Sink>(
+    alloc: Global,
+    message: &Message,
+    sink: &mut K,
+    maximum: Option<i32>,
+    ids: &mut RequestIds,
+) -> Told {
+    match message.write_op_msg_to(alloc, sink, maximum, ids) {
+        Ok(()) => Told::Done,
+        Err(error) => told_by(&error.kind),
+    }
 }
