@@ -29,7 +29,8 @@ fn header(length: i32, op_code: i32) -> [u8; 16] {
 
 // How the read of a message of these bytes ends.
 fn end_on(alloc: Global, bytes: &[u8]) -> Result<Told, Error> {
-    Ok(read_end(alloc, &mut giving(alloc, bytes)?))
+    let mut link = giving(alloc, bytes)?;
+    Ok(read_end(alloc, &mut link))
 }
 
 // Whether the message has just the sequence `documents` of one document.
