@@ -8,6 +8,7 @@ mod generations;
 mod logging_in;
 mod logins;
 mod long_replies;
+mod monitoring;
 mod refusing;
 
 use crate::{

@@ -8,7 +8,8 @@ mod standard;
 mod writing;
 
 use crate::{
-    DocumentSequence, Error, ErrorKind, FailingLink, MemoryLink, Message, MessageFlags, Sequences,
+    ArgumentFault, DocumentSequence, Error, ErrorKind, FailingLink, MemoryLink, Message,
+    MessageFlags, RequestIds, ResponseFault, Sequences, Sink, Source,
 };
 use bitflags::Flags;
 use mongo_bson::{Bytes, Documents, RawDocumentBuf, Text};
@@ -26,16 +27,21 @@ pub(crate) const MESSAGE_WITH_SEQUENCE: [u8; 46] = [
     0, 0, 0, 0x64, 0x6f, 0x63, 0x75, 0x6d, 0x65, 0x6e, 0x74, 0x73, 0, 5, 0, 0, 0, 0,
 ];
 
-// The message without elements and flags, under the id 0.
-pub(crate) fn empty_message(alloc: Global) -> Result<Message, Error> {
+// The message without elements and flags, under the id 0, with these sequences.
+pub(crate) fn message_with(alloc: Global, document_sequences: Sequences) -> Result<Message, Error> {
     Ok(Message {
         document_payload: RawDocumentBuf::new(alloc)?,
-        document_sequences: Sequences::new(alloc),
+        document_sequences,
         response_to: 0,
         flags: MessageFlags::empty(),
         checksum: None,
         request_id: Some(0),
     })
+}
+
+// That message without a sequence.
+pub(crate) fn empty_message(alloc: Global) -> Result<Message, Error> {
+    message_with(alloc, Sequences::new(alloc))
 }
 
 // The sequence of one empty document under this identifier.
@@ -51,13 +57,11 @@ pub(crate) fn one_empty_document(
     })
 }
 
-// The empty message with the sequence `documents` of one empty document.
-pub(crate) fn message_with_sequence(alloc: Global) -> Result<Message, Error> {
-    let mut message = empty_message(alloc)?;
-    message
-        .document_sequences
-        .push(one_empty_document(alloc, "documents")?)?;
-    Ok(message)
+// The empty message with one sequence of one empty document, under this identifier.
+pub(crate) fn message_with_sequence(alloc: Global, identifier: &str) -> Result<Message, Error> {
+    let mut sequences = Sequences::new(alloc);
+    sequences.push(one_empty_document(alloc, identifier)?)?;
+    message_with(alloc, sequences)
 }
 
 // A link that gives these bytes.
@@ -88,10 +92,52 @@ fn failing_at(alloc: Global, call: usize) -> Result<Bytes, Error> {
     Ok(Bytes::from_vec(schedule))
 }
 
-pub(crate) fn is_read_fault(kind: &ErrorKind) -> bool {
-    matches!(kind, ErrorKind::ReadFault)
+// How a call ended: it was done, or this is the cause that it told.
+#[derive(Clone, Copy, Debug, PartialEq)]
+pub(crate) enum Told {
+    Done,
+    ReadFault,
+    WriteFault,
+    EndOfInput,
+    Argument(ArgumentFault),
+    Response(ResponseFault),
+    Other,
 }
 
-pub(crate) fn is_write_fault(kind: &ErrorKind) -> bool {
-    matches!(kind, ErrorKind::WriteFault)
+pub(crate) fn told_by(kind: &ErrorKind) -> Told {
+    match kind {
+        ErrorKind::ReadFault => Told::ReadFault,
+        ErrorKind::WriteFault => Told::WriteFault,
+        ErrorKind::EndOfInput => Told::EndOfInput,
+        ErrorKind::InvalidArgument(fault) => Told::Argument(*fault),
+        ErrorKind::InvalidResponse(fault) => Told::Response(*fault),
+        _ => Told::Other,
+    }
+}
+
+// The next message of a source.
+pub(crate) fn read<S: Source>(alloc: Global, source: &mut S) -> Result<Message, Error> {
+    Message::read_from(alloc, source, None)
+}
+
+// How the read of the next message of a source ends.
+pub(crate) fn read_end<S: Source>(alloc: Global, source: &mut S) -> Told {
+    match read(alloc, source) {
+        Ok(_message) => Told::Done,
+        Err(error) => told_by(&error.kind),
+    }
+}
+
+// How the write of a message ends.
+pub(crate) fn write_end<K: Sink>(
+    alloc: Global,
+    message: &Message,
+    sink: &mut K,
+    maximum: Option<i32>,
+    ids: &mut RequestIds,
+) -> Told {
+    match message.write_op_msg_to(alloc, sink, maximum, ids) {
+        Ok(()) => Told::Done,
+        Err(error) => told_by(&error.kind),
+    }
 }

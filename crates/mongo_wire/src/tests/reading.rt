@@ -1,8 +1,10 @@
 // The bytes are laid out by the OP_MSG specification and BSON 1.1.
-use super::{EMPTY_MESSAGE, MESSAGE_WITH_SEQUENCE, failing_link, giving};
+use super::{
+    EMPTY_MESSAGE, MESSAGE_WITH_SEQUENCE, Told, failing_link, giving, read, read_end, told_by,
+};
 use crate::{
-    ArgumentFault, Error, ErrorKind, FailingLink, FrameBuffer, MemoryLink, Message, ResponseFault,
-    Source, next_frame, read_frame,
+    ArgumentFault, Error, FrameBuffer, MemoryLink, Message, ResponseFault, Source, next_frame,
+    read_frame,
 };
 use bitflags::Flags;
 use mongo_bson::Bytes;
@@ -25,32 +27,10 @@ fn header(length: i32, op_code: i32) -> [u8; 16] {
     [a, b, c, d, 0, 0, 0, 0, 0, 0, 0, 0, e, f, g, h]
 }
 
-fn read(alloc: Global, bytes: &[u8]) -> Result<Message, Error> {
+// How the read of a message of these bytes ends.
+fn end_on(alloc: Global, bytes: &[u8]) -> Result<Told, Error> {
     let mut link = giving(alloc, bytes)?;
-    Message::read_from(alloc, &mut link, None)
-}
-
-// What a reply that isn't read is refused for.
-fn response_fault(alloc: Global, bytes: &[u8]) -> Option<ResponseFault> {
-    match read(alloc, bytes) {
-        Err(
-            Error {
-                kind: ErrorKind::InvalidResponse(fault),
-            },
-        ) => Some(fault),
-        _ => None,
-    }
-}
-
-fn argument_fault(alloc: Global, bytes: &[u8]) -> Option<ArgumentFault> {
-    match read(alloc, bytes) {
-        Err(
-            Error {
-                kind: ErrorKind::InvalidArgument(fault),
-            },
-        ) => Some(fault),
-        _ => None,
-    }
+    Ok(read_end(alloc, &mut link))
 }
 
 // Whether the message has just the sequence `documents` of one document.
@@ -65,7 +45,8 @@ fn has_one_sequence(message: &Message) -> bool {
 
 #[test]
 fn a_message_with_a_sequence_is_read(rt: HostRuntime) -> Result<(), Fail> {
-    let message = read(rt.alloc(), &MESSAGE_WITH_SEQUENCE)?;
+    let mut link = giving(rt.alloc(), &MESSAGE_WITH_SEQUENCE)?;
+    let message = read(rt.alloc(), &mut link)?;
     assert!(rt; message.document_payload.as_bytes() == [5, 0, 0, 0, 0].as_slice());
     assert!(rt; has_one_sequence(&message));
     assert!(rt; message.flags.bits() == 0 && message.checksum.is_none());
@@ -74,32 +55,18 @@ fn a_message_with_a_sequence_is_read(rt: HostRuntime) -> Result<(), Fail> {
 }
 
 #[test]
-fn a_header_is_refused_by_the_first_row_that_applies(rt: HostRuntime) {
-    let alloc = rt.alloc();
-    assert_eq!(rt;
-        argument_fault(alloc, &header(15, 2013)),
-        Some(ArgumentFault::CheckedFailure)
-    );
-    assert_eq!(rt;
-        response_fault(alloc, &header(50_331_649, 2013)),
-        Some(ResponseFault::OverMaximum)
-    );
-    assert_eq!(rt;
-        response_fault(alloc, &header(26, 2012)),
-        Some(ResponseFault::Compressed)
-    );
-    assert_eq!(rt;
-        response_fault(alloc, &header(26, 1)),
-        Some(ResponseFault::NotMessage)
-    );
-    assert_eq!(rt;
-        response_fault(alloc, &header(26, 2004)),
-        Some(ResponseFault::NotMessage)
-    );
-    assert_eq!(rt;
-        response_fault(alloc, &header(50_331_649, 7)),
-        Some(ResponseFault::OpCode(7))
-    );
+fn a_header_is_refused_by_the_first_row_that_applies(rt: HostRuntime) -> Result<(), Fail> {
+    for (length, op_code, told) in [
+        (15, 2013, Told::Argument(ArgumentFault::CheckedFailure)),
+        (50_331_649, 2013, Told::Response(ResponseFault::OverMaximum)),
+        (26, 2012, Told::Response(ResponseFault::Compressed)),
+        (26, 1, Told::Response(ResponseFault::NotMessage)),
+        (26, 2004, Told::Response(ResponseFault::NotMessage)),
+        (50_331_649, 7, Told::Response(ResponseFault::OpCode(7))),
+    ] {
+        assert_eq!(rt; end_on(rt.alloc(), &header(length, op_code))?, told);
+    }
+    Ok(())
 }
 
 // Two frames one after another.
@@ -109,20 +76,23 @@ fn two_frames(alloc: Global) -> Result<MemoryLink, Error> {
     Ok(MemoryLink::new(alloc, input))
 }
 
-// The next frame's length and request id, and how long its sections and its body are; None where it isn't read.
-fn read_numbers(
+// A frame's length and request id, and how long its sections and its body are.
+type Numbers = (i32, i32, usize, usize);
+
+// The numbers of the next frame, or why it isn't read.
+fn read_numbers<S: Source>(
     alloc: Global,
-    link: &mut MemoryLink,
+    source: &mut S,
     buffer: &mut FrameBuffer,
-) -> Option<(i32, i32, usize, usize)> {
-    match read_frame(alloc, link, None, buffer) {
-        Ok(message) => Some((
+) -> Result<Numbers, Told> {
+    match read_frame(alloc, source, None, buffer) {
+        Ok(message) => Ok((
             message.header.length,
             message.header.request_id,
             message.sections.len(),
             message.document_payload.as_bytes().len(),
         )),
-        Err(_) => None,
+        Err(error) => Err(told_by(&error.kind)),
     }
 }
 
@@ -138,25 +108,21 @@ fn has_ended(alloc: Global, link: &mut MemoryLink, buffer: &mut FrameBuffer) -> 
 fn frames_come_one_after_another_through_one_buffer(rt: HostRuntime) -> Result<(), Fail> {
     let mut link = two_frames(rt.alloc())?;
     let mut buffer = FrameBuffer::new(rt.alloc());
-    assert!(rt; read_numbers(rt.alloc(), &mut link, &mut buffer) == Some((86, 1, 66, 65)));
-    assert!(rt; read_numbers(rt.alloc(), &mut link, &mut buffer) == Some((26, 0, 6, 5)));
+    assert!(rt; read_numbers(rt.alloc(), &mut link, &mut buffer) == Ok((86, 1, 66, 65)));
+    assert!(rt; read_numbers(rt.alloc(), &mut link, &mut buffer) == Ok((26, 0, 6, 5)));
     assert!(rt; buffer.frames() == 2 && buffer.as_bytes() == &EMPTY_MESSAGE[16..]);
     assert!(rt; has_ended(rt.alloc(), &mut link, &mut buffer));
     assert!(rt; buffer.frames() == 2 && buffer.as_bytes().is_empty());
     Ok(())
 }
 
-// Whether the link's frame is read.
-fn is_frame_read(alloc: Global, link: &mut FailingLink) -> bool {
-    let mut buffer = FrameBuffer::new(alloc);
-    read_frame(alloc, link, None, &mut buffer).is_ok()
-}
-
 #[test]
 fn a_frame_is_read_byte_by_byte_unless_a_call_fails(rt: HostRuntime) -> Result<(), Fail> {
     for call in 0..48 {
         let mut link = failing_link(rt.alloc(), &MESSAGE_WITH_SEQUENCE, call, 1)?;
-        assert_eq!(rt; is_frame_read(rt.alloc(), &mut link), call >= 46);
+        let mut buffer = FrameBuffer::new(rt.alloc());
+        let numbers = read_numbers(rt.alloc(), &mut link, &mut buffer);
+        assert_eq!(rt; numbers.is_ok(), call >= 46);
         assert_eq!(rt; link.read_faults() == 1, call < 46);
     }
     Ok(())
@@ -170,17 +136,14 @@ fn frame_and_header(alloc: Global, length: i32, op_code: i32) -> Result<MemoryLi
     Ok(MemoryLink::new(alloc, input))
 }
 
-// Whether a frame is taken, and whether the buffer holds just it then.
+// Whether the link's next frame is taken.
 fn takes(link: &mut MemoryLink, buffer: &mut FrameBuffer) -> bool {
-    buffer.take_frame(link, None).is_ok() && buffer.as_bytes() == &EMPTY_MESSAGE[16..]
+    buffer.take_frame(link, None).is_ok()
 }
 
-// Whether a read is refused, and the buffer shows nothing then.
-fn refuses(alloc: Global, link: &mut MemoryLink, buffer: &mut FrameBuffer) -> bool {
-    read_frame(alloc, link, None, buffer).is_err()
-        && buffer.as_bytes().is_empty()
-        && buffer.message().is_none()
-        && buffer.frames() == 1
+// Whether the buffer shows nothing after one frame.
+fn is_cleared(buffer: &FrameBuffer) -> bool {
+    buffer.as_bytes().is_empty() && buffer.message().is_none() && buffer.frames() == 1
 }
 
 #[test]
@@ -198,7 +161,9 @@ fn a_refused_read_shows_nothing(rt: HostRuntime) -> Result<(), Fail> {
         let mut link = frame_and_header(rt.alloc(), length, op_code)?;
         let mut buffer = FrameBuffer::new(rt.alloc());
         assert!(rt; takes(&mut link, &mut buffer));
-        assert!(rt; refuses(rt.alloc(), &mut link, &mut buffer));
+        assert!(rt; buffer.as_bytes() == &EMPTY_MESSAGE[16..]);
+        assert!(rt; read_numbers(rt.alloc(), &mut link, &mut buffer).is_err());
+        assert!(rt; is_cleared(&buffer));
     }
     Ok(())
 }
@@ -214,7 +179,7 @@ fn a_hundred_bytes(alloc: Global) -> Result<MemoryLink, Error> {
 fn memory_is_taken_for_bytes_that_came(rt: HostRuntime) -> Result<(), Fail> {
     let mut link = a_hundred_bytes(rt.alloc())?;
     let mut buffer = FrameBuffer::new(rt.alloc());
-    assert!(rt; buffer.take_frame(&mut link, None).is_err());
+    assert!(rt; !takes(&mut link, &mut buffer));
     assert_eq!(rt; buffer.store.capacity(), 4096);
     assert_eq!(rt; buffer.frames(), 0);
     Ok(())
@@ -238,7 +203,7 @@ fn the_greatest_frame_is_read(rt: HostRuntime) -> Result<(), Fail> {
     let mut link = MemoryLink::new(rt.alloc(), greatest_frame(rt.alloc())?);
     let mut buffer = FrameBuffer::new(rt.alloc());
     let numbers = read_numbers(rt.alloc(), &mut link, &mut buffer);
-    assert!(rt; numbers == Some((50_331_648, 0, 50_331_628, 5)));
+    assert!(rt; numbers == Ok((50_331_648, 0, 50_331_628, 5)));
     assert_eq!(rt; buffer.as_bytes().len(), 50_331_632);
     Ok(())
 }

@@ -1,9 +1,8 @@
-use super::{failing_link, giving, message_with_sequence};
+use super::{Told, failing_link, giving, message_with_sequence, told_by};
 use crate::{
-    ArgumentFault, ErrorKind, FailingLink, Header, MemoryLink, OpCode, RequestIds, ResponseFault,
-    Sink, Source, SyncCountReader, SyncLittleEndianRead, read_document_bytes,
+    ArgumentFault, Header, MemoryLink, OpCode, RequestIds, ResponseFault, Sink, Source,
+    SyncCountReader, SyncLittleEndianRead, read_document_bytes,
 };
-use mongo_bson::Bytes;
 use std::alloc::Global;
 use std::test::Fail;
 
@@ -25,11 +24,11 @@ fn a_header_is_16_bytes(rt: HostRuntime) {
     assert!(rt; Header::decode(&HEADER) == Ok(READ_HEADER));
 }
 
-// The next header of the link, where one is read.
-fn next_header(link: &mut FailingLink) -> Option<Header> {
-    match Header::read_from(link) {
-        Ok(header) => Some(header),
-        Err(_) => None,
+// The next header of a source, or why none is read.
+fn next_header<S: Source>(source: &mut S) -> Result<Header, Told> {
+    match Header::read_from(source) {
+        Ok(header) => Ok(header),
+        Err(error) => Err(told_by(&error.kind)),
     }
 }
 
@@ -38,82 +37,68 @@ fn a_header_is_written_and_read_back(rt: HostRuntime) -> Result<(), Fail> {
     let mut link = failing_link(rt.alloc(), &HEADER, 1000, 3)?;
     assert!(rt; READ_HEADER.write_to(&mut link).is_ok());
     assert_eq!(rt; link.written(), HEADER.as_slice());
-    assert!(rt; next_header(&mut link) == Some(READ_HEADER));
+    assert!(rt; next_header(&mut link) == Ok(READ_HEADER));
     assert_eq!(rt; link.left().len(), 0);
     Ok(())
-}
-
-// The unknown op code of the next header, where that is its refusal.
-fn unknown_op_code(link: &mut MemoryLink) -> Option<i32> {
-    match Header::read_from(link) {
-        Err(error) => match error.kind {
-            ErrorKind::InvalidResponse(ResponseFault::OpCode(number)) => Some(number),
-            _ => None,
-        },
-        Ok(_) => None,
-    }
 }
 
 #[test]
 fn an_unknown_op_code_is_told_after_16_bytes(rt: HostRuntime) -> Result<(), Fail> {
     let mut link = giving(rt.alloc(), &[1; 17])?;
-    assert!(rt; unknown_op_code(&mut link) == Some(0x0101_0101));
+    let unknown = Told::Response(ResponseFault::OpCode(0x0101_0101));
+    assert!(rt; next_header(&mut link) == Err(unknown));
     assert_eq!(rt; link.left().len(), 1);
     Ok(())
 }
 
-// The next three numbers, where they are read.
-fn numbers(reader: &mut SyncCountReader<MemoryLink>) -> Option<(i32, u32, u8)> {
-    let signed = reader.read_i32_sync().ok()?;
-    let unsigned = reader.read_u32_sync().ok()?;
-    let byte = reader.read_u8_sync().ok()?;
-    Some((signed, unsigned, byte))
+// A reader that counts.
+type Counting = SyncCountReader<MemoryLink>;
+
+// The next numbers of a reader, each where it is read.
+fn signed(reader: &mut Counting) -> Option<i32> {
+    reader.read_i32_sync().ok()
+}
+
+fn unsigned(reader: &mut Counting) -> Option<u32> {
+    reader.read_u32_sync().ok()
+}
+
+fn byte(reader: &mut Counting) -> Option<u8> {
+    reader.read_u8_sync().ok()
 }
 
 #[test]
 fn numbers_have_their_low_byte_first(rt: HostRuntime) -> Result<(), Fail> {
     let bytes = [0xfe, 0xff, 0xff, 0xff, 1, 2, 3, 0x84, 7, 9];
     let mut reader = SyncCountReader::new(giving(rt.alloc(), &bytes)?);
-    assert!(rt; numbers(&mut reader) == Some((-2, 0x8403_0201, 7)));
+    assert_eq!(rt; signed(&mut reader), Some(-2));
+    assert_eq!(rt; unsigned(&mut reader), Some(0x8403_0201));
+    assert_eq!(rt; byte(&mut reader), Some(7));
     assert_eq!(rt; reader.bytes_read(), 9);
-    assert!(rt; reader.read_u32_sync().is_err());
+    assert_eq!(rt; unsigned(&mut reader), None);
     assert!(rt; reader.ends() == 1 && reader.bytes_read() == 10);
     Ok(())
 }
 
-// The next document of the link, where one is read.
-fn next_document(alloc: Global, link: &mut MemoryLink) -> Option<Bytes> {
+// How the read of the next document ends; where it is another than the empty one, by none of the causes.
+fn document_end(alloc: Global, link: &mut MemoryLink) -> Told {
     match read_document_bytes(alloc, link) {
-        Ok(document) => Some(document),
-        Err(_) => None,
+        Ok(document) if document.as_bytes() == [5, 0, 0, 0, 0].as_slice() => Told::Done,
+        Ok(_) => Told::Other,
+        Err(error) => told_by(&error.kind),
     }
 }
 
 #[test]
 fn a_document_is_read_by_its_length(rt: HostRuntime) -> Result<(), Fail> {
-    let mut link = giving(rt.alloc(), &[5, 0, 0, 0, 0, 0xff])?;
-    let document = next_document(rt.alloc(), &mut link).ok_or("no document")?;
-    assert!(rt; document.as_bytes() == [5, 0, 0, 0, 0].as_slice());
-    assert!(rt; link.left() == [0xff].as_slice());
-    Ok(())
-}
-
-// Whether the next document is refused for its length.
-fn is_too_low(alloc: Global, link: &mut MemoryLink) -> bool {
-    match read_document_bytes(alloc, link) {
-        Err(error) => matches!(
-            error.kind,
-            ErrorKind::InvalidArgument(ArgumentFault::CheckedFailure)
-        ),
-        Ok(_) => false,
+    for (length, told, left) in [
+        (5, Told::Done, 1),
+        (3, Told::Argument(ArgumentFault::CheckedFailure), 2),
+    ] {
+        let mut link = giving(rt.alloc(), &[length, 0, 0, 0, 0, 0xff])?;
+        assert_eq!(rt; document_end(rt.alloc(), &mut link), told);
+        assert_eq!(rt; link.left().len(), left);
     }
-}
-
-#[test]
-fn a_length_below_four_is_told_after_four_bytes(rt: HostRuntime) -> Result<(), Fail> {
-    let mut link = giving(rt.alloc(), &[3, 0, 0, 0, 0, 0xff])?;
-    assert!(rt; is_too_low(rt.alloc(), &mut link));
-    assert_eq!(rt; link.left().len(), 2);
     Ok(())
 }
 
@@ -126,7 +111,7 @@ const COMMAND_DOCUMENT: [u8; 29] = [
 #[test]
 fn a_sequence_is_an_array_of_the_command_document(rt: HostRuntime) -> Result<(), Fail> {
     let alloc = rt.alloc();
-    let document = message_with_sequence(alloc)?.get_raw_command_document(alloc)?;
+    let document = message_with_sequence(alloc, "documents")?.get_raw_command_document(alloc)?;
     assert_eq!(rt; document.as_bytes(), COMMAND_DOCUMENT.as_slice());
     Ok(())
 }

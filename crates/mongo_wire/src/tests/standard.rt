@@ -1,7 +1,6 @@
 // Readers and writers of std that fail, end, take little or take nothing. No clause says what they give or take.
-use super::{EMPTY_MESSAGE, empty_message, is_read_fault, is_write_fault};
-use crate::{Message, RequestIds, Sink, Source, StdLink, StdSink, StdSource};
-use std::alloc::Global;
+use super::{EMPTY_MESSAGE, Told, empty_message, read_end, write_end};
+use crate::{RequestIds, Sink, Source, StdLink, StdSink, StdSource};
 use std::io;
 use std::io::{Read, Write};
 use std::test::Fail;
@@ -61,14 +60,6 @@ impl Write for FailingWriter {
     }
 }
 
-// Whether the source failed, where the empty message was not read.
-fn read_once<S: Source>(alloc: Global, source: &mut S) -> Option<bool> {
-    match Message::read_from(alloc, source, None) {
-        Ok(_message) => None,
-        Err(error) => Some(is_read_fault(&error.kind)),
-    }
-}
-
 // A reader that fails where so many bytes were given.
 fn reader(failing: usize) -> FailingReader<'static> {
     FailingReader {
@@ -83,33 +74,18 @@ fn a_reader_that_fails_is_told_from_one_that_ends(rt: HostRuntime) {
     let alloc = rt.alloc();
     for failing in 0..28 {
         let mut source = StdSource::new(reader(failing));
-        assert_eq!(rt; read_once(alloc, &mut source) == Some(true), failing < 26);
+        assert_eq!(rt;
+            read_end(alloc, &mut source) == Told::ReadFault,
+            failing < 26
+        );
         assert!(rt; (source.read_faults() == 1) == (failing < 26) && source.ends() == 0);
         // fewer than the 16 bytes of a header are left where 11 or more were given, and none after the whole frame
-        assert_eq!(rt; read_once(alloc, &mut source) == Some(true), failing == 26);
+        assert_eq!(rt;
+            read_end(alloc, &mut source) == Told::ReadFault,
+            failing == 26
+        );
         assert_eq!(rt; source.ends() == 1, failing > 10 && failing != 26);
         assert_eq!(rt; source.read_faults() == 1, failing < 27);
-    }
-}
-
-// Whether the empty message is written.
-fn write_once<K: Sink>(alloc: Global, message: &Message, sink: &mut K) -> bool {
-    let mut ids = RequestIds::new(0);
-    message.write_op_msg_to(alloc, sink, None, &mut ids).is_ok()
-}
-
-// How many faults of the writer the sink counted when the message was written, where a refusal was told as one.
-fn faults_of(alloc: Global, message: &Message, writer: &mut FailingWriter) -> Option<u64> {
-    let mut ids = RequestIds::new(0);
-    let mut sink = StdSink::new(writer);
-    let told = match message.write_op_msg_to(alloc, &mut sink, None, &mut ids) {
-        Ok(()) => true,
-        Err(error) => is_write_fault(&error.kind),
-    };
-    if told {
-        Some(sink.write_faults())
-    } else {
-        None
     }
 }
 
@@ -133,7 +109,11 @@ fn a_writer_that_fails_or_takes_nothing_is_told(rt: HostRuntime) -> Result<(), F
             flush_fails,
             flushes: 0,
         };
-        assert!(rt; faults_of(rt.alloc(), &message, &mut writer) == Some(faults));
+        let mut ids = RequestIds::new(0);
+        let mut sink = StdSink::new(&mut writer);
+        let told = write_end(rt.alloc(), &message, &mut sink, None, &mut ids);
+        assert_eq!(rt; told == Told::WriteFault, faults == 1);
+        assert_eq!(rt; sink.write_faults(), faults);
         assert!(rt; writer.held.len() == written && writer.flushes == flushes);
         assert!(rt; EMPTY_MESSAGE.starts_with(writer.held.as_slice()));
     }
@@ -146,9 +126,11 @@ fn a_link_counts_each_direction_apart(rt: HostRuntime) -> Result<(), Fail> {
     let message = empty_message(alloc)?;
     let mut held = Vec::new(alloc);
     let mut link = StdLink::new(EMPTY_MESSAGE.as_slice(), &mut held);
-    assert!(rt; write_once(alloc, &message, &mut link));
-    assert!(rt; read_once(alloc, &mut link).is_none());
-    assert!(rt; read_once(alloc, &mut link) == Some(false));
+    let mut ids = RequestIds::new(0);
+    let told = write_end(alloc, &message, &mut link, None, &mut ids);
+    assert_eq!(rt; told, Told::Done);
+    assert_eq!(rt; read_end(alloc, &mut link), Told::Done);
+    assert_eq!(rt; read_end(alloc, &mut link), Told::EndOfInput);
     assert!(rt; link.ends() == 1 && link.read_faults() == 0 && link.write_faults() == 0);
     assert_eq!(rt; held.as_slice(), EMPTY_MESSAGE.as_slice());
     Ok(())

@@ -1,13 +1,13 @@
 use super::{
-    EMPTY_MESSAGE, MESSAGE_WITH_SEQUENCE, empty_message, failing_link, giving, is_write_fault,
-    message_with_sequence, one_empty_document,
+    MESSAGE_WITH_SEQUENCE, Told, failing_link, giving, message_with_sequence, one_empty_document,
+    write_end,
 };
 use crate::{
-    ArgumentFault, DocumentSequence, Error, ErrorKind, FailingLink, MemoryLink, Message,
-    MessageFlags, RequestIds, Sequences, Sink, write_sections,
+    ArgumentFault, DocumentSequence, Error, MemoryLink, Message, MessageFlags, RequestIds,
+    Sequences, Sink, write_sections,
 };
 use bitflags::Flags;
-use mongo_bson::{Documents, Text};
+use mongo_bson::{Documents, RawDocumentBuf, Text};
 use std::alloc::Global;
 use std::test::Fail;
 
@@ -36,25 +36,24 @@ fn two_sequences(alloc: Global) -> Result<Sequences, Error> {
 
 // That message, without a request id.
 fn whole_message(alloc: Global) -> Result<Message, Error> {
-    let mut message = empty_message(alloc)?;
-    message.document_sequences = two_sequences(alloc)?;
-    message.response_to = -2;
-    message.flags = MessageFlags::from_bits_retain(0x10005);
-    message.checksum = Some(0x0102_0304);
-    message.request_id = None;
-    Ok(message)
+    let document_sequences = two_sequences(alloc)?;
+    Ok(Message {
+        document_payload: RawDocumentBuf::new(alloc)?,
+        document_sequences,
+        response_to: -2,
+        flags: MessageFlags::from_bits_retain(0x10005),
+        checksum: Some(0x0102_0304),
+        request_id: None,
+    })
 }
 
 #[test]
 fn a_sequence_follows_the_body(rt: HostRuntime) -> Result<(), Fail> {
     let mut ids = RequestIds::new(7);
     let mut link = giving(rt.alloc(), &[])?;
-    let message = message_with_sequence(rt.alloc())?;
-    assert!(rt;
-        message
-            .write_op_msg_to(rt.alloc(), &mut link, None, &mut ids)
-            .is_ok()
-    );
+    let message = message_with_sequence(rt.alloc(), "documents")?;
+    let told = write_end(rt.alloc(), &message, &mut link, None, &mut ids);
+    assert_eq!(rt; told, Told::Done);
     assert_eq!(rt; link.written(), MESSAGE_WITH_SEQUENCE.as_slice());
     assert_eq!(rt; ids.next(), 7);
     Ok(())
@@ -65,23 +64,11 @@ fn sequences_and_checksum_go_out_byte_by_byte(rt: HostRuntime) -> Result<(), Fai
     let mut ids = RequestIds::new(9);
     let mut link = failing_link(rt.alloc(), &[], 1000, 1)?;
     let message = whole_message(rt.alloc())?;
-    assert!(rt;
-        message
-            .write_op_msg_to(rt.alloc(), &mut link, Some(51), &mut ids)
-            .is_ok()
-    );
+    let told = write_end(rt.alloc(), &message, &mut link, Some(51), &mut ids);
+    assert_eq!(rt; told, Told::Done);
     assert_eq!(rt; link.written(), WHOLE_MESSAGE.as_slice());
     assert_eq!(rt; ids.next(), 10);
     Ok(())
-}
-
-// Whether the write of the message failed and was told so.
-fn fails(alloc: Global, message: &Message, link: &mut FailingLink) -> bool {
-    let mut ids = RequestIds::new(9);
-    match message.write_op_msg_to(alloc, link, None, &mut ids) {
-        Ok(()) => false,
-        Err(error) => is_write_fault(&error.kind),
-    }
 }
 
 #[test]
@@ -105,68 +92,39 @@ fn a_write_that_fails_at_any_call_leaves_a_front(rt: HostRuntime) -> Result<(), 
         (12, 51),
     ] {
         let mut link = failing_link(rt.alloc(), &[], call, 100)?;
-        let told = fails(rt.alloc(), &message, &mut link);
-        assert!(rt; told == (call < 12) && (link.write_faults() == 1) == told);
+        let mut ids = RequestIds::new(9);
+        let told = write_end(rt.alloc(), &message, &mut link, None, &mut ids);
+        assert_eq!(rt; told == Told::WriteFault, call < 12);
+        assert_eq!(rt; link.write_faults() == 1, call < 12);
         assert_eq!(rt; link.written().len(), written);
         assert!(rt; WHOLE_MESSAGE.starts_with(link.written()));
     }
     Ok(())
 }
 
-#[test]
-fn just_the_header_is_written_where_the_second_call_fails(rt: HostRuntime) -> Result<(), Fail> {
-    let message = empty_message(rt.alloc())?;
-    let mut link = failing_link(rt.alloc(), &[], 1, 100)?;
-    assert!(rt; fails(rt.alloc(), &message, &mut link));
-    assert_eq!(rt; link.written(), &EMPTY_MESSAGE[..16]);
-    Ok(())
-}
-
-// The refusal of the message within this maximum, where nothing was written and no id was drawn.
-fn refused(
-    alloc: Global,
-    message: &Message,
-    maximum: i32,
-    link: &mut MemoryLink,
-) -> Option<ArgumentFault> {
-    let mut ids = RequestIds::new(9);
-    match message.write_op_msg_to(alloc, link, Some(maximum), &mut ids) {
-        Err(error) if link.written().is_empty() && ids.next() == 9 => match error.kind {
-            ErrorKind::InvalidArgument(fault) => Some(fault),
-            _ => None,
-        },
-        _ => None,
+// The message that is refused, or not, for a zero in an identifier.
+fn message_of(alloc: Global, has_zero: bool) -> Result<Message, Error> {
+    if has_zero {
+        message_with_sequence(alloc, "a\0b")
+    } else {
+        whole_message(alloc)
     }
 }
 
 #[test]
 fn a_message_is_refused_before_anything_is_done(rt: HostRuntime) -> Result<(), Fail> {
-    let message = whole_message(rt.alloc())?;
-    let mut link = giving(rt.alloc(), &[])?;
-    for (maximum, fault) in [
-        (50, ArgumentFault::TooLong),
-        (-1, ArgumentFault::MaximumNegative),
+    for (has_zero, maximum, fault) in [
+        (false, 50, ArgumentFault::TooLong),
+        (false, -1, ArgumentFault::MaximumNegative),
+        (true, -1, ArgumentFault::IdentifierHasZero),
     ] {
-        assert!(rt; refused(rt.alloc(), &message, maximum, &mut link) == Some(fault));
+        let message = message_of(rt.alloc(), has_zero)?;
+        let mut link = giving(rt.alloc(), &[])?;
+        let mut ids = RequestIds::new(9);
+        let told = write_end(rt.alloc(), &message, &mut link, Some(maximum), &mut ids);
+        assert_eq!(rt; told, Told::Argument(fault));
+        assert!(rt; link.written().is_empty() && ids.next() == 9);
     }
-    Ok(())
-}
-
-// The empty message with a sequence whose identifier holds a zero.
-fn message_with_zero(alloc: Global) -> Result<Message, Error> {
-    let mut message = empty_message(alloc)?;
-    message
-        .document_sequences
-        .push(one_empty_document(alloc, "a\0b")?)?;
-    Ok(message)
-}
-
-#[test]
-fn an_identifier_with_a_zero_is_refused_first(rt: HostRuntime) -> Result<(), Fail> {
-    let message = message_with_zero(rt.alloc())?;
-    let mut link = giving(rt.alloc(), &[])?;
-    let fault = refused(rt.alloc(), &message, -1, &mut link);
-    assert!(rt; fault == Some(ArgumentFault::IdentifierHasZero));
     Ok(())
 }
 
