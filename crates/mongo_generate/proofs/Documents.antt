@@ -1,6 +1,5 @@
 -- Documents that are written out, as the commands and replies of a login are.
-use Rattle.std.proofs.Common.{◌≡◌, ◌≢◌, ℕ, zero, suc, ℤ, ◌+◌, ◌-◌, ◌^◌, ◌<◌, nat_lt, ◌==◌, ◌&&◌, Bool, true, false, not, inl, inr, FitsSigned, List, [], ◌∷◌, ◌++◌, length, length-append, refl, sym, ap, ◌∙◌, false-eqb, arith}
-use Rattle.std.specs.Borrow.{Bor}
+use Rattle.std.proofs.Common.{◌≡◌, ◌≢◌, ℕ, zero, suc, ℤ, ◌+◌, ◌-◌, ◌^◌, ◌<◌, nat_lt, ◌==◌, ◌&&◌, Bool, true, false, not, FitsSigned, List, [], ◌∷◌, length, length-append, refl, sym, ◌∙◌, false-eqb, arith}
 use Rattle.std.specs.Int.{w32}
 use Rattle.std.specs.List.{AllByRecursion, flat_map}
 use Rattle.std.specs.Str.{IsUtf8, IsAscii, bytes_eq}
@@ -8,8 +7,8 @@ use Rattle.std.proofs.lemmas.Bool.{false≢true}
 use Rattle.std.proofs.lemmas.Str.{IsUtf8-from_ascii}
 use borrow.Author.Tests.{ltb-true}
 use Rattle.std.proofs.lemmas.Slice.Eq.{bytes_eq-Decides}
-use Rattle.mongo_bson.specs.Document.{Element, document, fixed, Shape, shape_of, IsCstring, IsElement, IsDocument, IsInside, IsReadable, HasDistinctKeys, IsWellFormed, spell}
-use Rattle.mongo_bson.specs.Framed.{IsFramed, body_of, enclosed}
+use Rattle.mongo_bson.specs.Document.{Element, document, IsCstring, IsElement, IsDocument, IsInside, IsReadable, spell}
+use Rattle.mongo_bson.specs.Framed.{IsFramed}
 use Rattle.mongo_bson.specs.declared.raw_value.RawValue.TheVariants.{Str, Binary, Bool as Boolean, Int32}
 use Rattle.mongo_bson.proofs.Enclosed.{length-enclosed, body_of-enclosed, framed-enclosed}
 use Rattle.mongo_bson.proofs.ReadBack.{written_element}

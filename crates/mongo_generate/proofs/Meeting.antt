@@ -1,60 +1,55 @@
 -- A client of a possible exchange over the replies of its server: there is a script, by which it writes its last message, and a
 -- key, which it derives where that has no entry.
-use Rattle.std.proofs.Common.{◌≡◌, ℕ, ℤ, pos, ◌+◌, ◌^◌, ◌<◌, ◌≤◌, ◌≤ℤ◌, ◌⊎◌, Option, None, Some, option_map, Result, Ok, Err, IfOk, OnOk, MatchOption, inl, inr, false, FitsSigned, List, [], ◌∷◌, ◌++◌, length, codes, decimal, append-nil, refl, sym, ap, ◌∙◌, subst, arith}
+use Rattle.std.proofs.Common.{◌≡◌, ℕ, pos, ◌^◌, ◌<◌, ◌≤◌, ◌≤ℤ◌, Option, None, Some, option_map, inr, false, FitsSigned, List, [], ◌∷◌, ◌++◌, length, codes, decimal, append-nil, refl, sym, ap, ◌∙◌, subst, arith}
 use Rattle.std.specs.Int.{w32}
 use Rattle.std.proofs.lemmas.Int.{ints}
 use Rattle.mongo_wire.specs.Bytes.{first_maximum, next_id, IsCommandFrame}
 use Rattle.mongo_wire.specs.Message.{written_frame}
-use Rattle.mongo_wire.specs.Outside.{State, Rose}
 use Rattle.mongo_wire.specs.declared.error.ErrorKind.{ErrorKind}
-use Rattle.mongo_command.specs.Command.{command_document}
-use Rattle.mongo_command.specs.Conversation.{Said, Turn, ends, Event, exchanged, HasNone, IsSendable, plain_message, IsHeard as IsHeardBy, ending, followed_by, unless}
+use Rattle.mongo_command.specs.Conversation.{Said, ends, exchanged, HasNone, IsSendable, plain_message, ending}
 use Rattle.mongo_command.specs.Hello.{description_of}
-use Rattle.mongo_command.specs.declared.server_address.ServerAddress.{ServerAddress}
 use Rattle.mongo_command.proofs.Ends.{Ends, ends_both}
 use Rattle.mongo_command.proofs.OneSaid.{framed_sendable}
 use Rattle.mongo_sasl.specs.declared.credential.Credential.{Credential}
 use Rattle.mongo_sasl.specs.declared.mechanism.AuthMechanism.{AuthMechanism}
-use Rattle.mongo_sasl.specs.declared.mechanism.AuthMechanism.TheVariants.{ScramSha1, ScramSha256}
 use Rattle.mongo_scram.specs.declared.cache.SaltedKey.{SaltedKey}
 use Rattle.mongo_scram.specs.declared.scram_version.ScramVersion.{ScramVersion}
 use Rattle.mongo_scram.specs.declared.scram_version.ScramVersion.TheVariants.{Sha1, Sha256}
 use Rattle.mongo_scram.specs.Base64.{base64_of}
-use Rattle.mongo_scram.specs.Commands.{mechanism_of, final_command}
-use Rattle.mongo_scram.specs.Costs.{Ledgers, key_by}
+use Rattle.mongo_scram.specs.Commands.{mechanism_of}
+use Rattle.mongo_scram.specs.Costs.{key_by}
 use Rattle.mongo_scram.specs.Messages.{open_message}
-use Rattle.mongo_scram.specs.Plan.{Speculated, Handed, Challenge, first_message, first_nonce, close_by, close_said, opening}
+use Rattle.mongo_scram.specs.Plan.{Speculated, Handed, Challenge, first_message, first_nonce, close_said, opening}
 use Rattle.mongo_scram.specs.Replies.{CarriesFirst}
 use Rattle.mongo_scram.specs.Script.{IsScramLogin, IsLoginFrom, IsConversation}
 use Rattle.mongo_scram.specs.User.{User, IsUser, CredentialRow}
 use Rattle.mongo_scram.specs.Validity.{BeginsWith}
 use Rattle.mongo_scram.proofs.OneRow.{no_credential_row}
 use Rattle.mongo_scram.proofs.OpeningEnds.{IsOpened, OpensBy, CanOpen, opening_ends}
-use Rattle.mongo_establish.specs.declared.establisher.EstablishError.{EstablishError}
 use Rattle.mongo_establish.specs.declared.establisher.PendingConnection.{PendingConnection}
 use Rattle.mongo_establish.specs.declared.generation.PoolGeneration.TheVariants.{Normal}
 use Rattle.mongo_establish.specs.declared.login_state.Nonces.{Nonces}
 use Rattle.mongo_establish.specs.Asked.{Asked}
 use Rattle.mongo_establish.specs.Client.{hello_document}
-use Rattle.mongo_establish.specs.Derivation.{scram_derivation, derivation_by, derivation_of, login_derivation, derivation_plan, LeadsToKey}
+use Rattle.mongo_establish.specs.Derivation.{scram_derivation, derivation_by, login_derivation, derivation_plan, LeadsToKey}
 use Rattle.mongo_establish.specs.Generation.{NamesService}
 use Rattle.mongo_establish.specs.Greeting.{Greeting, Greets}
 use Rattle.mongo_establish.specs.Login.{speculative_reply, handed_by, InvalidRow}
 use Rattle.mongo_establish.specs.Plan.{hello_said, hello_plan}
-use Rattle.mongo_establish.specs.Script.{Script, IsLoginBy, IsScript, IsWritten, IsTaken, HasScript}
-use Rattle.mongo_establish.specs.Speculation.{MechanismRow, HelloRow, speculative_message, speculative_nonce, speculation, answer_to, scram_speculation}
+use Rattle.mongo_establish.specs.Script.{Script, IsLoginBy, IsScript, HasScript}
+use Rattle.mongo_establish.specs.Speculation.{MechanismRow, HelloRow, speculative_message, speculative_nonce, answer_to}
 use Rattle.mongo_establish.proofs.HelloPlan.{greeting_ends}
 use Rattle.mongo_server.specs.Acceptance.{IsClientOf, IsAccepted, challenge_of}
-use Rattle.mongo_server.specs.Exchange.{Exchange, joined_of, open_of, first_of, close_of, final_of}
+use Rattle.mongo_server.specs.Exchange.{Exchange, joined_of, first_of, close_of, final_of}
 use Rattle.mongo_generate.specs.Acceptance.{IsHeard}
 use Rattle.mongo_generate.specs.Login.{IsPossible, credential_by, key_of}
 use Rattle.mongo_generate.specs.Options.{handshaker_options}
 use Rattle.mongo_generate.specs.Replies.{speculative_elements, hello_elements, final_elements, hello_reply, final_reply}
 use Rattle.mongo_command.specs.Literal.{document_of}
 use Rattle.mongo_generate.specs.Written.{Carries}
-use Rattle.mongo_generate.proofs.Documents.{spelled_length, length-document_of}
+use Rattle.mongo_generate.proofs.Documents.{length-document_of}
 use Rattle.mongo_generate.proofs.ServerReplies.{conversation, standalone, speculative_says, hello_says, final_says}
-use Rattle.mongo_generate.proofs.Sizes.{asked_by, speculation_is, length_hello, framed_hello, close_document, length_close_document, close_carries, framed_close, length_frame, frame_of, frame_within, body_within}
+use Rattle.mongo_generate.proofs.Sizes.{asked_by, speculation_is, length_hello, framed_hello, close_document, length_close_document, close_carries, framed_close, frame_of, frame_within, body_within}
 use Rattle.mongo_generate.proofs.Texts.{length_close}
 
 -- ---- by the version

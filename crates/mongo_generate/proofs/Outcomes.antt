@@ -1,5 +1,5 @@
 -- What an establishment over the replies of an exchange comes to: the script, and nothing else.
-use Rattle.std.proofs.Common.{◌≡◌, ℕ, ℤ, pos, ◌∙◌, ap, sym, subst, true, false, Some, Result, Ok, Err, IfOk, IfErr, List, [], ◌++◌, arith}
+use Rattle.std.proofs.Common.{◌≡◌, ℕ, ℤ, pos, ◌∙◌, sym, subst, true, false, Some, Result, Ok, Err, IfOk, IfErr, List, [], arith}
 use Rattle.std.specs.Io.KnownBytes.{Appends}
 use Rattle.mongo_wire.specs.Outside.{State, Rose}
 use Rattle.mongo_wire.specs.declared.error.ErrorKind.TheVariants.{OutOfMemory}

@@ -1,11 +1,10 @@
 -- The payload of a document, as it is found.
-use Rattle.std.proofs.Common.{◌≡◌, ◌≢◌, ℕ, ℤ, pos, ◌≤ℤ◌, Bool, true, false, Option, None, Some, Result, Ok, Err, IfOk, MatchResult, List, [], ◌∷◌, ◌++◌, length, codes, append-nil, if◌then◌else◌, refl, sym, ap, ◌∙◌, subst, arith}
-use Rattle.std.specs.Borrow.{Bor}
+use Rattle.std.proofs.Common.{◌≡◌, ◌≢◌, ℕ, ℤ, Bool, true, false, Option, None, Some, Err, List, [], ◌∷◌, ◌++◌, codes, if◌then◌else◌, refl, sym, ap, ◌∙◌, subst, arith}
 use Rattle.std.specs.List.{AllByRecursion}
 use Rattle.std.specs.Str.{bytes_eq}
 use Rattle.std.proofs.lemmas.Bool.{false≢true}
 use Rattle.std.proofs.lemmas.Slice.Eq.{bytes_eq-Decides}
-use Rattle.mongo_bson.specs.Document.{Element, IsDocument}
+use Rattle.mongo_bson.specs.Document.{Element}
 use Rattle.mongo_bson.specs.Find.{FindsValue, HasNone, BreaksOff}
 use Rattle.mongo_bson.specs.Framed.{body_of}
 use Rattle.mongo_bson.specs.Value.{IsValue, has_variant}
@@ -15,10 +14,8 @@ use Rattle.mongo_bson.proofs.Found.{first_in_document, none_in_document, broken_
 use Rattle.mongo_wire.specs.declared.error.Error.{Error}
 use Rattle.mongo_wire.specs.declared.error.ErrorKind.{ErrorKind}
 use Rattle.mongo_wire.specs.declared.error.ErrorKind.TheVariants.{ReadFault, OutOfMemory}
-use Rattle.mongo_wire.specs.declared.message.Message.{Message}
 use Rattle.mongo_wire.specs.Frame.{Frame}
 use Rattle.mongo_wire.specs.Message.{ReadRefused, ReadsAgain, IsUnreadable}
-use Rattle.mongo_wire.specs.Outside.{Rose}
 use Rattle.mongo_command.specs.Field.{field_of, Required}
 use Rattle.mongo_sasl.specs.Reply.{ReadsGeneric}
 use Rattle.mongo_generate.specs.Written.{IsContent, CarriesPayload}

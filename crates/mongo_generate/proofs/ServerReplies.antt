@@ -1,21 +1,19 @@
 -- The server's two replies say what they carry.
-use Rattle.std.proofs.Common.{◌≡◌, ◌≢◌, ℕ, suc, ℤ, pos, ◌+◌, ◌^◌, ◌<◌, Bool, true, false, None, Some, inl, inr, FitsSigned, List, [], ◌∷◌, ◌++◌, length, codes, refl, sym, ◌∙◌, subst, arith}
-use Rattle.std.specs.Int.{to_le_bytes, cast_unsigned, w32, w64}
-use Rattle.std.specs.List.{AllByRecursion, flat_map}
-use Rattle.std.specs.Str.{IsUtf8}
-use Rattle.mongo_bson.specs.Document.{Element, Shape, fixed, boolean, binary, document, shape_of, IsCstring, IsElement, IsDocument, IsReadable, IsInside, HasDistinctKeys, IsWellFormed, maximum_depth}
+use Rattle.std.proofs.Common.{◌≡◌, ℕ, suc, pos, ◌^◌, ◌<◌, Bool, true, false, None, Some, inl, inr, FitsSigned, List, length, codes, refl, sym, ◌∙◌, subst, arith}
+use Rattle.std.specs.Int.{to_le_bytes, cast_unsigned, w32}
+use Rattle.std.specs.List.{AllByRecursion}
+use Rattle.mongo_bson.specs.Document.{Element, Shape, fixed, boolean, binary, document, shape_of, IsCstring, IsElement, IsDocument, IsReadable, IsInside, HasDistinctKeys}
 use Rattle.mongo_bson.specs.declared.owned_value.OwnedValue.{OwnedValue}
 use Rattle.mongo_bson.specs.declared.raw_value.RawValue.TheVariants.{Double}
 use Rattle.mongo_bson.proofs.ReadBack.{written_element}
 use Rattle.mongo_command.specs.Literal.{document_element, truth_element, int32_element, document_of}
 use Rattle.mongo_command.specs.declared.hello.HelloCommandResponse.{HelloCommandResponse}
-use Rattle.mongo_command.specs.declared.server_address.ServerAddress.{ServerAddress}
 use Rattle.mongo_command.specs.Field.{Required, Optional}
-use Rattle.mongo_command.specs.Hello.{IsHelloResponse, description_of}
+use Rattle.mongo_command.specs.Hello.{IsHelloResponse}
 use Rattle.mongo_sasl.specs.Commands.{generic_element}
 use Rattle.mongo_sasl.specs.Reply.{IsSaslReply}
-use Rattle.mongo_generate.specs.Replies.{ok_element, server_maximum, round_elements, speculative_elements, hello_elements, final_elements, hello_reply, final_reply}
-use Rattle.mongo_generate.proofs.Documents.{cstring, apart, number_is_element, truth_is_element, binary_is_element, document_is_element, spelled_length, length-document_of, document_of-is, framed_document_of, IsFlat, flat_readable}
+use Rattle.mongo_generate.specs.Replies.{ok_element, round_elements, speculative_elements, hello_elements, final_elements, hello_reply, final_reply}
+use Rattle.mongo_generate.proofs.Documents.{cstring, apart, number_is_element, truth_is_element, binary_is_element, document_is_element, length-document_of, document_of-is, framed_document_of, IsFlat, flat_readable}
 
 -- ---- what no document is inside of
 

@@ -1,4 +1,4 @@
-use Rattle.std.proofs.Common.{◌≡◌, ◌<◌, ◌^◌, rules, refl, arith}
+use Rattle.std.proofs.Common.{◌≡◌, ◌<◌, ◌^◌, refl, arith}
 use Rattle.mongo_scram.specs.Costs.{ledgers}
 use Rattle.mongo_generate.specs.Generated.{exchange_at, all_messages}
 use Rattle.mongo_generate.proofs.SoFar.{so_far_none, so_far_more, all_generated}

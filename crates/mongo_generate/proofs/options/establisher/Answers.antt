@@ -1,5 +1,4 @@
-use Rattle.std.proofs.Common.{◌≡◌, ◌∙◌, ap, sym, subst, Result, Ok, Err, IfOk}
-use Rattle.mongo_wire.specs.declared.error.Error.{Error}
+use Rattle.std.proofs.Common.{◌≡◌, ◌∙◌, ap, Result, Ok, Err, IfOk}
 use Rattle.mongo_meta.specs.declared.client_options.ClientOptions.{ClientOptions}
 use Rattle.mongo_meta.specs.declared.client_metadata.ClientMetadata.{ClientMetadata}
 use Rattle.mongo_meta.specs.Options.{metadata_of}

@@ -1,4 +1,4 @@
-use Rattle.std.proofs.Common.{◌≡◌, ◌∙◌, ap, ◌++◌, [], ◌∷◌, pos, codes}
+use Rattle.std.proofs.Common.{◌∙◌, ap, [], ◌∷◌, pos, codes}
 use Rattle.mongo_command.specs.Literal.{document_element, int32_element, document_of}
 use Rattle.mongo_generate.specs.Replies.{ok_element, server_maximum, hello_reply}
 use Rattle.mongo_generate.proofs.replies.hello_reply.Goals as goal

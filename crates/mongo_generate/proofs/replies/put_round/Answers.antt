@@ -1,8 +1,6 @@
-use Rattle.std.proofs.Common.{◌≡◌, ◌∙◌, ◌++◌, ◌∷◌, [], List, Result, Ok, Err, OnOk, ap, append_assoc, ℕ, subst}
+use Rattle.std.proofs.Common.{◌≡◌, ◌∙◌, ◌++◌, ◌∷◌, [], List, Result, Ok, Err, OnOk, ap, append_assoc, ℕ}
 use Rattle.mongo_bson.specs.Document.{Element}
-use Rattle.mongo_bson.specs.Value.{element_of}
 use Rattle.mongo_command.specs.Literal.{document_of}
-use Rattle.mongo_generate.specs.Replies.{round_elements}
 use Rattle.mongo_generate.proofs.replies.put_round.Goals as goal
 
 three : (es : List Element) (a b c : Element) → ((es ++ a ∷ []) ++ b ∷ []) ++ c ∷ [] ≡ es ++ a ∷ b ∷ c ∷ []

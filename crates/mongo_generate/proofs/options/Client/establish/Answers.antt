@@ -1,4 +1,4 @@
-use Rattle.std.proofs.Common.{◌≡◌, ◌∙◌, Some, drop, sym, ap, subst}
+use Rattle.std.proofs.Common.{◌∙◌, Some, drop, sym, ap, subst}
 use Rattle.mongo_scram.specs.Costs.{ledgers}
 use Rattle.mongo_establish.specs.Establisher.{options_of_establisher}
 use Rattle.mongo_establish.proofs.Counting.{costs_some, some_rise}
