@@ -181,20 +181,26 @@ fn the_line_and_the_sink_decide_too(rt: HostRuntime) -> Result<(), Fail> {
 
 const ENDED: &str = "read 0\nrefused\nphase PreHello\nkind EndOfInput\nreason -\ncode -\ntext -\n";
 
+// Runs on the line with so many blanks after it.
+fn run_padded(alloc: Global, blanks: usize) -> Result<Left, Fail> {
+    let mut text = Vec::from_slice(alloc, LINE.as_bytes())?;
+    text.extend_from_slice(&vec![in alloc; b' '; blanks]?)?;
+    text.extend_from_slice(b"\n")?;
+    text.extend_from_slice(REPLIES)?;
+    run_over(alloc, &[text.as_slice()], 4096, NEVER, NEVER)
+}
+
 #[test]
 fn blanks_to_the_limit_are_settings(rt: HostRuntime) -> Result<(), Fail> {
-    let line = LINE.as_bytes();
     for (blanks, status, unread) in [
-        (4_194_304 - line.len(), Status::Done, 0),
+        (4_194_304 - LINE.len(), Status::Done, 0),
         (
-            4_194_305 - line.len(),
+            4_194_305 - LINE.len(),
             Status::BadSettings,
             REPLIES.len() + 1,
         ),
     ] {
-        let blanks = vec![in rt.alloc(); b' '; blanks]?;
-        let pieces = [line, blanks.as_slice(), b"\n".as_slice(), REPLIES];
-        let left = run_over(rt.alloc(), &pieces, 4096, NEVER, NEVER)?;
+        let left = run_padded(rt.alloc(), blanks)?;
         assert_eq!(rt; left.status, status);
         assert_eq!(rt; left.unread, unread);
     }
