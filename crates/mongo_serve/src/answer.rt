@@ -1,0 +1,94 @@
+//! One step of a session: a request, and the reply to it.
+
+use crate::fault::ServeFault;
+use crate::reply::{HelloReply, Mechanisms, Refusal, Reply, SaslReply};
+use crate::request::{Hello, Request};
+use crate::session::Session;
+use crate::settings::{Account, Settings};
+use mongo_bson::Text;
+use mongo_mac::Steps;
+use mongo_scram::ScramVersion;
+use std::alloc::Global;
+use std::sync::ledger::Ledger;
+
+/// Answers a request.
+pub fn answer<G: Ledger>(
+    alloc: Global,
+    settings: &Settings,
+    session: &mut Session,
+    request: Request<'_>,
+    steps: &mut Steps<G>,
+) -> Result<Reply, ServeFault> {
+    match request {
+        Request::Hello(hello) => Ok(Reply::Hello(greet(alloc, settings, session, hello, steps)?)),
+        Request::SaslStart(start) => Ok(login_reply(session.start(alloc, settings, start, steps)?)),
+        Request::SaslContinue(next) => Ok(login_reply(session.go_on(alloc, next)?)),
+        Request::Ping => Ok(guarded(session, Reply::Done)),
+        Request::BuildInfo => Ok(guarded(session, Reply::BuildInfo)),
+        Request::EndSessions => Ok(guarded(session, Reply::Done)),
+        Request::Other(name) => {
+            let name = Text::from_slice(alloc, name)?;
+            Ok(guarded(session, Reply::Refused(Refusal::CommandNotFound(name))))
+        }
+    }
+}
+
+/// Answers a hello, and begins the login that it carries.
+pub fn greet<G: Ledger>(
+    alloc: Global,
+    settings: &Settings,
+    session: &mut Session,
+    hello: Hello<'_>,
+    steps: &mut Steps<G>,
+) -> Result<HelloReply, ServeFault> {
+    let speculation = match hello.speculation {
+        Some(start) => session.start(alloc, settings, start, steps)?,
+        None => None,
+    };
+    Ok(HelloReply {
+        is_legacy: hello.is_legacy,
+        mechanisms: match hello.mechanisms_of {
+            Some(user) => mechanisms_of(settings.accounts.as_slice(), user),
+            None => None,
+        },
+        speculation,
+    })
+}
+
+// The mechanisms of a user; None where no account is the user's.
+fn mechanisms_of(accounts: &[Account], user: &str) -> Option<Mechanisms> {
+    let mechanisms = Mechanisms {
+        sha1: has_account(accounts, user, ScramVersion::Sha1),
+        sha256: has_account(accounts, user, ScramVersion::Sha256),
+    };
+    if mechanisms.sha1 || mechanisms.sha256 {
+        Some(mechanisms)
+    } else {
+        None
+    }
+}
+
+fn has_account(accounts: &[Account], user: &str, version: ScramVersion) -> bool {
+    for account in accounts {
+        if account.version == version && account.name.as_str() == user {
+            return true;
+        }
+    }
+    false
+}
+
+// What a login's command is answered.
+fn login_reply(message: Option<SaslReply>) -> Reply {
+    match message {
+        Some(message) => Reply::Sasl(message),
+        None => Reply::Refused(Refusal::AuthenticationFailed),
+    }
+}
+
+// The reply where somebody is logged in.
+fn guarded(session: &Session, reply: Reply) -> Reply {
+    match &session.user {
+        Some(_user) => reply,
+        None => Reply::Refused(Refusal::Unauthorized),
+    }
+}

@@ -1,0 +1,61 @@
+//! Writing replies.
+
+use crate::fault::ServeFault;
+use bitflags::Flags;
+use mongo_bson::RawDocumentBuf;
+use mongo_wire::{
+    Header, Message, MessageFlags, OpCode, RequestIds, Sequences, Sink, write_all,
+};
+use std::alloc::Global;
+
+/// Writes a reply as an OP_MSG to the request of this id, and flushes it.
+pub fn respond<K: Sink>(
+    alloc: Global,
+    sink: &mut K,
+    request_id: i32,
+    document: RawDocumentBuf,
+    ids: &mut RequestIds,
+) -> Result<(), ServeFault> {
+    let message = Message {
+        document_payload: document,
+        document_sequences: Sequences::new(alloc),
+        response_to: request_id,
+        flags: MessageFlags::empty(),
+        checksum: None,
+        request_id: None,
+    };
+    message.write_op_msg_to(alloc, sink, None, ids)?;
+    Ok(())
+}
+
+// What an OP_REPLY has before its document: responseFlags 8 (AwaitCapable), cursorID 0, startingFrom 0, numberReturned 1.
+const REPLY_START: [u8; 20] = [
+    8, 0, 0, 0, 0, 0, 0, 0, 0, 0, 0, 0, 0, 0, 0, 0, 1, 0, 0, 0,
+];
+
+// The greatest document of an OP_REPLY.
+const MAXIMUM: usize = 48_000_000;
+
+/// Writes a reply as an OP_REPLY to the request of this id, and flushes it.
+pub fn respond_to_query<K: Sink>(
+    sink: &mut K,
+    request_id: i32,
+    document: &RawDocumentBuf,
+    ids: &mut RequestIds,
+) -> Result<(), ServeFault> {
+    let bytes = document.as_bytes();
+    if bytes.len() > MAXIMUM {
+        return Err(ServeFault::ReplyTooLong);
+    }
+    let header = Header {
+        length: (bytes.len() + 36) as i32,
+        request_id: ids.draw(),
+        response_to: request_id,
+        op_code: OpCode::Reply,
+    };
+    header.write_to(sink)?;
+    write_all(sink, &REPLY_START)?;
+    write_all(sink, bytes)?;
+    sink.flush()?;
+    Ok(())
+}
