@@ -1,5 +1,11 @@
 //! One step of a session: a request, and the reply to it.
 
+ghost use Rattle.std.specs.Prelude.{◌≡◌, ℕ, false, List, [], ◌∷◌, ◌++◌, IfSome, IfOk, IfErr, OnOk, OnErr};
+ghost use Rattle.mongo_serve.specs.Answers.{guarded_by, IsAnswer, IsLoginReply};
+ghost use Rattle.mongo_serve.specs.Login.{Remembers};
+ghost use Rattle.mongo_serve.specs.Requests.{Says, SaysHello};
+ghost use Rattle.mongo_serve.specs.declared.fault.ServeFault.TheVariants.{OutOfMemory};
+
 use crate::fault::ServeFault;
 use crate::reply::{HelloReply, Mechanisms, Refusal, Reply, SaslReply};
 use crate::request::{Hello, Request};
@@ -18,7 +24,13 @@ pub fn answer<G: Ledger>(
     session: &mut Session,
     request: Request<'_>,
     steps: &mut Steps<G>,
-) -> Result<Reply, ServeFault> {
+) -> Result<Reply, ServeFault>
+    // Who is logged in afterwards has sent the messages of a login, this request among them.
+    ensures remembers { (requests : List (List ℕ)) (document : List ℕ) → Remembers settings.now requests session.old → Says document request.entry → OnOk result (Remembers settings.now (requests ++ document ∷ []) session.new) }
+    ensures answered { IfOk result (IsAnswer session.old request.entry session.new) }
+    ensures kept { OnErr result (session.new.user ≡ session.old.user) }
+    ensures refused { IfErr result (λ fault. fault ≡ OutOfMemory) }
+{
     match request {
         Request::Hello(hello) => Ok(Reply::Hello(greet(alloc, settings, session, hello, steps)?)),
         Request::SaslStart(start) => Ok(login_reply(session.start(alloc, settings, start, steps)?)),
@@ -40,7 +52,13 @@ pub fn greet<G: Ledger>(
     session: &mut Session,
     hello: Hello<'_>,
     steps: &mut Steps<G>,
-) -> Result<HelloReply, ServeFault> {
+) -> Result<HelloReply, ServeFault>
+    ensures remembers { (requests : List (List ℕ)) (document : List ℕ) → Remembers settings.now requests session.old → SaysHello document hello.entry → Remembers settings.now (requests ++ document ∷ []) session.new }
+    ensures user { session.new.user ≡ session.old.user }
+    ensures legacy { IfOk result (λ reply. reply.is_legacy ≡ hello.entry.is_legacy) }
+    ensures undone { IfOk result (λ reply. IfSome reply.speculation (λ message. message.is_done ≡ false)) }
+    ensures refused { IfErr result (λ fault. fault ≡ OutOfMemory) }
+{
     let speculation = match hello.speculation {
         Some(start) => session.start(alloc, settings, start, steps)?,
         None => None,
@@ -78,7 +96,9 @@ fn has_account(accounts: &[Account], user: &str, version: ScramVersion) -> bool 
 }
 
 // What a login's command is answered.
-fn login_reply(message: Option<SaslReply>) -> Reply {
+fn login_reply(message: Option<SaslReply>) -> Reply
+    ensures { IsLoginReply message result }
+{
     match message {
         Some(message) => Reply::Sasl(message),
         None => Reply::Refused(Refusal::AuthenticationFailed),
@@ -86,7 +106,9 @@ fn login_reply(message: Option<SaslReply>) -> Reply {
 }
 
 // The reply where somebody is logged in.
-fn guarded(session: &Session, reply: Reply) -> Reply {
+fn guarded(session: &Session, reply: Reply) -> Reply
+    ensures { result ≡ guarded_by session.now.user reply }
+{
     match &session.user {
         Some(_user) => reply,
         None => Reply::Refused(Refusal::Unauthorized),

@@ -1,5 +1,10 @@
 //! How a login begins: which account the client's first message is of, and the server's answer to it.
 
+ghost use Rattle.std.specs.Prelude.{◌≡◌, Contains, IfSome, IfOk, IfErr};
+ghost use Rattle.mongo_server.specs.ClientMessages.{IsNonce};
+ghost use Rattle.mongo_serve.specs.Login.{IsOpened, IsOpenedBy, IsOpenedFor};
+ghost use Rattle.mongo_serve.specs.declared.fault.ServeFault.TheVariants.{OutOfMemory};
+
 use crate::fault::ServeFault;
 use crate::request::SaslStart;
 use crate::session::Login;
@@ -27,7 +32,10 @@ pub fn open_login<G: Ledger>(
     settings: &Settings,
     start: SaslStart<'_>,
     steps: &mut Steps<G>,
-) -> Result<Option<Opened>, ServeFault> {
+) -> Result<Option<Opened>, ServeFault>
+    ensures opened { IfOk result (λ found. IfSome found (IsOpenedBy settings.now start.entry.payload)) }
+    ensures refused { IfErr result (λ fault. fault ≡ OutOfMemory) }
+{
     let (Some(version), Some(payload)) = (start.version, start.payload) else {
         return Ok(None);
     };
@@ -50,7 +58,9 @@ fn account_of<'a>(
     accounts: &'a [Account],
     version: ScramVersion,
     payload: &[u8],
-) -> Result<Option<&'a Account>, AllocError> {
+) -> Result<Option<&'a Account>, AllocError>
+    ensures { IfOk result (λ found. IfSome found (λ account. Contains accounts.now account.now)) }
+{
     for account in accounts {
         if account.version == version && names(alloc, account.name.as_str(), payload)? {
             return Ok(Some(account));
@@ -75,7 +85,11 @@ fn open<G: Ledger>(
     payload: &[u8],
     skips_empty_exchange: bool,
     steps: &mut Steps<G>,
-) -> Result<Option<Opened>, ServeFault> {
+) -> Result<Option<Opened>, ServeFault>
+    requires { IsNonce suffix.now }
+    ensures opened { IfOk result (λ found. IfSome found (IsOpenedFor account.now suffix.now payload.now)) }
+    ensures refused { IfErr result (λ fault. fault ≡ OutOfMemory) }
+{
     let salt = account.salt.try_clone(alloc)?;
     let user = match ServerUser::new(
         alloc,

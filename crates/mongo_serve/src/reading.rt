@@ -1,5 +1,10 @@
 //! Reads of so many bytes.
 
+ghost use Rattle.std.specs.Prelude.{◌≡◌, ◌<◌, ◌≤◌, true, false, length, IfOk, IfErr, OnOk};
+ghost use Rattle.std.specs.Io.KnownBytes.{Consumes};
+ghost use Rattle.mongo_wire.specs.Error.{kind_of_frame_fault};
+ghost use Rattle.mongo_wire.specs.Outside.{ReadsOn, ReadStops, HasEnded};
+
 use mongo_wire::{FrameFault, Source};
 use std::alloc::Global;
 
@@ -9,7 +14,11 @@ const PIECE: usize = 4096;
 /// Fills the buffer with the next bytes of the source.
 ///
 /// `ReadFault` where the source failed, `EndOfInput` where it ended before the buffer was full.
-pub fn fill<S: Source>(source: &mut S, buf: &mut [u8]) -> Result<(), FrameFault> {
+pub fn fill<S: Source>(source: &mut S, buf: &mut [u8]) -> Result<(), FrameFault>
+    ensures filled { OnOk result (Consumes (S.state source.old).left (S.state source.new).left buf.new) }
+    ensures refused { IfErr result (λ fault. ReadStops (kind_of_frame_fault fault) (S.state source.old).left (S.state source.new).left (S.state source.old).read_faults (S.state source.new).read_faults (S.state source.old).ends (S.state source.new).ends (length buf.old)) }
+    ensures on { ReadsOn (S.state source.old) (S.state source.new) }
+{
     let mut at = 0;
     'filling: while at < buf.len() {
         match source.read(&mut buf[at..]) {
@@ -25,7 +34,13 @@ pub fn fill<S: Source>(source: &mut S, buf: &mut [u8]) -> Result<(), FrameFault>
 /// the first.
 ///
 /// `ReadFault` where the source failed, `EndOfInput` where it ended after the first byte and before the buffer was full.
-pub fn fill_or_end<S: Source>(source: &mut S, buf: &mut [u8]) -> Result<bool, FrameFault> {
+pub fn fill_or_end<S: Source>(source: &mut S, buf: &mut [u8]) -> Result<bool, FrameFault>
+    requires { 0 < length buf.old }
+    ensures filled { IfOk result (λ found. found ≡ true → Consumes (S.state source.old).left (S.state source.new).left buf.new) }
+    ensures ended { IfOk result (λ found. found ≡ false → HasEnded (S.state source.old).left (S.state source.new).left (S.state source.old).ends (S.state source.new).ends) }
+    ensures refused { IfErr result (λ fault. ReadStops (kind_of_frame_fault fault) (S.state source.old).left (S.state source.new).left (S.state source.old).read_faults (S.state source.new).read_faults (S.state source.old).ends (S.state source.new).ends (length buf.old)) }
+    ensures on { ReadsOn (S.state source.old) (S.state source.new) }
+{
     match source.read(buf) {
         Ok(0) => Ok(false),
         Ok(count) => match fill(source, &mut buf[count..]) {
@@ -43,7 +58,12 @@ pub fn take_bytes<S: Source>(
     alloc: Global,
     source: &mut S,
     wanted: usize,
-) -> Result<Vec<u8>, FrameFault> {
+) -> Result<Vec<u8>, FrameFault>
+    ensures taken { IfOk result (λ held. Consumes (S.state source.old).left (S.state source.new).left held.items) }
+    ensures whole { IfOk result (λ held. length held.items ≡ wanted) }
+    ensures refused { IfErr result (λ fault. ReadStops (kind_of_frame_fault fault) (S.state source.old).left (S.state source.new).left (S.state source.old).read_faults (S.state source.new).read_faults (S.state source.old).ends (S.state source.new).ends wanted) }
+    ensures on { ReadsOn (S.state source.old) (S.state source.new) }
+{
     let mut held = Vec::new(alloc);
     'taking: while held.len() < wanted {
         let mut piece = [0u8; PIECE];

@@ -55,7 +55,9 @@ pub struct SaslContinue<'a> {
 }
 
 /// What a document asks for. It takes no memory.
-pub fn request_of<'a>(document: RawDocument<'a>) -> Request<'a> {
+pub fn request_of<'a>(document: RawDocument<'a>) -> Request<'a>
+    ensures { Says document.entry.bytes.now result }
+{
     match command_name(document) {
         "hello" => Request::Hello(hello_of(document, false)),
         "isMaster" => Request::Hello(hello_of(document, true)),
@@ -71,14 +73,19 @@ pub fn request_of<'a>(document: RawDocument<'a>) -> Request<'a> {
 }
 
 // The key of the document's first element.
-fn command_name<'a>(document: RawDocument<'a>) -> &'a str {
+fn command_name<'a>(document: RawDocument<'a>) -> &'a str
+    ensures { IsNamed document.entry.bytes.now result.now ⊎ (result.now ≡ []) }
+{
     match first_key(document) {
         Ok(Some(name)) => name,
         _ => "",
     }
 }
 
-fn hello_of<'a>(document: RawDocument<'a>, is_legacy: bool) -> Hello<'a> {
+fn hello_of<'a>(document: RawDocument<'a>, is_legacy: bool) -> Hello<'a>
+    ensures speculation { IfSome result.speculation (CarriesStart document.entry.bytes.now) }
+    ensures legacy { result.is_legacy ≡ is_legacy }
+{
     Hello {
         is_legacy,
         mechanisms_of: match text_in(document, "saslSupportedMechs") {
@@ -93,7 +100,9 @@ fn hello_of<'a>(document: RawDocument<'a>, is_legacy: bool) -> Hello<'a> {
 }
 
 // The login that a hello carries, where it is a `saslStart`.
-fn speculation_of<'a>(document: RawDocument<'a>) -> Option<SaslStart<'a>> {
+fn speculation_of<'a>(document: RawDocument<'a>) -> Option<SaslStart<'a>>
+    ensures { IfSome result (SaysStart document.entry.bytes.now) }
+{
     if command_name(document) == "saslStart" {
         Some(start_of(document))
     } else {
@@ -109,7 +118,9 @@ fn name_without_database(user: &str) -> &str {
     }
 }
 
-fn start_of<'a>(document: RawDocument<'a>) -> SaslStart<'a> {
+fn start_of<'a>(document: RawDocument<'a>) -> SaslStart<'a>
+    ensures { IfSome result.payload (λ payload. HasPayload document.entry.bytes.now payload.now) }
+{
     SaslStart {
         version: match text_in(document, "mechanism") {
             Some(name) => version_named(name),
@@ -123,7 +134,9 @@ fn start_of<'a>(document: RawDocument<'a>) -> SaslStart<'a> {
     }
 }
 
-fn continue_of<'a>(document: RawDocument<'a>) -> SaslContinue<'a> {
+fn continue_of<'a>(document: RawDocument<'a>) -> SaslContinue<'a>
+    ensures { IfSome result.payload (λ payload. HasPayload document.entry.bytes.now payload.now) }
+{
     SaslContinue {
         is_of_conversation: is_one_in(document, "conversationId"),
         payload: payload_of(document),
@@ -140,7 +153,9 @@ pub fn version_named(name: &str) -> Option<ScramVersion> {
 }
 
 // The bytes of the binary that is the document's `payload`.
-fn payload_of<'a>(document: RawDocument<'a>) -> Option<&'a [u8]> {
+fn payload_of<'a>(document: RawDocument<'a>) -> Option<&'a [u8]>
+    ensures { IfSome result (λ payload. HasPayload document.entry.bytes.now payload.now) }
+{
     match document.get("payload") {
         Ok(Some(RawValue::Binary(_subtype, bytes))) => Some(bytes),
         _ => None,
@@ -148,7 +163,9 @@ fn payload_of<'a>(document: RawDocument<'a>) -> Option<&'a [u8]> {
 }
 
 /// The document of a key.
-pub fn document_in<'a>(document: RawDocument<'a>, key: &str) -> Option<RawDocument<'a>> {
+pub fn document_in<'a>(document: RawDocument<'a>, key: &str) -> Option<RawDocument<'a>>
+    ensures { IfSome result (λ inner. HasInside document.entry.bytes.now key.now inner.bytes.now) }
+{
     match document.get(key) {
         Ok(Some(RawValue::Document(inner))) => Some(inner),
         _ => None,

@@ -1,5 +1,13 @@
 //! The server: requests are read one after another, and each is answered before the next is read.
 
+ghost use Rattle.std.specs.Prelude.{◌≡◌, ℕ, pos, List, Option};
+ghost use Rattle.std.specs.Io.KnownBytes.{Consumes};
+ghost use Rattle.mongo_wire.specs.Header.{header_with, signed_at};
+ghost use Rattle.mongo_serve.specs.Login.{Remembers};
+ghost use Rattle.mongo_serve.specs.PutBack.{state_of};
+ghost use Rattle.mongo_serve.specs.Served.{TurnEnds, PartEnds, IsServed};
+ghost use Rattle.mongo_wire.specs.declared.op_code.OpCode.TheVariants.{Query};
+
 use crate::answer::{answer, greet};
 use crate::fault::ServeFault;
 use crate::put_back::PutBack;
@@ -43,7 +51,9 @@ pub fn serve<L: Link, G: Ledger>(
     settings: &Settings,
     link: &mut PutBack<L>,
     steps: &mut Steps<G>,
-) -> Served {
+) -> Served
+    ensures { IsServed settings.now (state_of L.state link.old) (state_of L.state link.new) result }
+{
     let mut serving = Serving {
         session: Session::new(),
         buffer: FrameBuffer::new(alloc),
@@ -79,7 +89,10 @@ fn take_turn<L: Link, G: Ledger>(
     link: &mut PutBack<L>,
     serving: &mut Serving,
     steps: &mut Steps<G>,
-) -> Result<bool, ServeFault> {
+) -> Result<bool, ServeFault>
+    ensures { (requests : List (List ℕ)) → Remembers settings.now requests serving.old.session →
+        TurnEnds settings.now requests (state_of L.state link.old) (state_of L.state link.new) serving.old.session serving.new.session result }
+{
     let mut head = [0u8; 16];
     if !fill_or_end(link, &mut head)? {
         return Ok(false);
@@ -92,7 +105,7 @@ fn take_turn<L: Link, G: Ledger>(
             link.put_back(alloc, &head)?;
             take_message(alloc, settings, link, serving, steps)?;
         }
-        OpCode::Query => take_query(alloc, settings, link, serving, header, steps)?,
+        OpCode::Query => take_query(alloc, settings, link, serving, &head, header, steps)?,
         _ => return Err(ServeFault::NoFrame),
     }
     Ok(true)
@@ -105,7 +118,10 @@ fn take_message<L: Link, G: Ledger>(
     link: &mut PutBack<L>,
     serving: &mut Serving,
     steps: &mut Steps<G>,
-) -> Result<(), ServeFault> {
+) -> Result<(), ServeFault>
+    ensures { (requests : List (List ℕ)) → Remembers settings.now requests serving.old.session →
+        PartEnds settings.now requests (state_of L.state link.old).left (state_of L.state link.new).left serving.new.session result }
+{
     serving.buffer.take_frame(link, Some(MAXIMUM))?;
     let Some(message) = serving.buffer.message() else {
         unreachable!()
@@ -126,9 +142,15 @@ fn take_query<L: Link, G: Ledger>(
     settings: &Settings,
     link: &mut PutBack<L>,
     serving: &mut Serving,
+    head: &[u8; 16],
     header: Header,
     steps: &mut Steps<G>,
-) -> Result<(), ServeFault> {
+) -> Result<(), ServeFault>
+    requires header { header ≡ header_with head.now Query }
+    requires code { signed_at 12 head.now ≡ pos 2004 }
+    ensures { (requests : List (List ℕ)) (before : Option (List ℕ)) → Remembers settings.now requests serving.old.session → Consumes before (state_of L.state link.old).left head.now →
+        PartEnds settings.now requests before (state_of L.state link.new).left serving.new.session result }
+{
     if header.length < 16 || header.length > MAXIMUM {
         return Err(ServeFault::NoFrame);
     }

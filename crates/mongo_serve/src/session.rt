@@ -34,8 +34,17 @@ pub struct Session {
 }
 
 impl Session {
+    ghost use Rattle.std.specs.Prelude.{◌≡◌, ℕ, true, false, List, [], ◌∷◌, ◌++◌, None, IsSome, IsNone, IfSome, IfOk, IfErr, OnOk, OnErr};
+    ghost use Rattle.mongo_serve.specs.Login.{HasLoggedIn, IsLoginOf, Remembers};
+    ghost use Rattle.mongo_serve.specs.Requests.{Opens, Continues};
+    ghost use Rattle.mongo_serve.specs.declared.settings.Settings.{Settings as SettingsValue};
+    ghost use Rattle.mongo_serve.specs.declared.fault.ServeFault.TheVariants.{OutOfMemory};
+
     /// Nobody is logged in, and no login goes on.
-    pub fn new() -> Session {
+    pub fn new() -> Session
+        ensures nobody { result.user ≡ None }
+        ensures none { result.login ≡ None }
+    {
         Session {
             user: None,
             login: None,
@@ -50,7 +59,14 @@ impl Session {
         settings: &Settings,
         start: SaslStart<'_>,
         steps: &mut Steps<G>,
-    ) -> Result<Option<SaslReply>, ServeFault> {
+    ) -> Result<Option<SaslReply>, ServeFault>
+        // Of all that the client sent, the session knows a login that this request begins, and who is logged in already.
+        ensures remembers { (requests : List (List ℕ)) (document : List ℕ) → Remembers settings.now requests self.old → IfSome start.entry.payload (λ payload. Opens document payload.now) →
+            Remembers settings.now (requests ++ document ∷ []) self.new }
+        ensures user { self.new.user ≡ self.old.user }
+        ensures undone { IfOk result (λ answer. IfSome answer (λ message. message.is_done ≡ false)) }
+        ensures refused { IfErr result (λ fault. fault ≡ OutOfMemory) }
+    {
         self.login = None;
         match open_login(alloc, settings, start, steps)? {
             Some(opened) => {
@@ -70,7 +86,15 @@ impl Session {
         &mut self,
         alloc: Global,
         next: SaslContinue<'_>,
-    ) -> Result<Option<SaslReply>, ServeFault> {
+    ) -> Result<Option<SaslReply>, ServeFault>
+        ensures remembers { (settings : SettingsValue) (requests : List (List ℕ)) (document : List ℕ) → Remembers settings requests self.old → IfSome next.entry.payload (λ payload. Continues document payload.now) →
+            Remembers settings (requests ++ document ∷ []) self.new }
+        ensures user { IfOk result (λ answer. IsNone answer → self.new.user ≡ self.old.user) }
+        ensures undone { IfOk result (λ answer. IfSome answer (λ message. message.is_done ≡ false → self.new.user ≡ self.old.user)) }
+        ensures done { IfOk result (λ answer. IfSome answer (λ message. message.is_done ≡ true → IsSome self.new.user)) }
+        ensures kept { OnErr result (self.new.user ≡ self.old.user) }
+        ensures refused { IfErr result (λ fault. fault ≡ OutOfMemory) }
+    {
         let (Some(login), Some(payload)) = (self.login.take(), next.payload) else {
             return Ok(None);
         };
@@ -89,7 +113,16 @@ impl Session {
         alloc: Global,
         login: Login,
         payload: &[u8],
-    ) -> Result<Option<SaslReply>, ServeFault> {
+    ) -> Result<Option<SaslReply>, ServeFault>
+        requires { self.old.login ≡ None }
+        ensures remembers { (settings : SettingsValue) (requests : List (List ℕ)) (document : List ℕ) → IfSome self.old.user (λ name. HasLoggedIn settings name requests) → IsLoginOf settings requests login → Continues document payload.now →
+            Remembers settings (requests ++ document ∷ []) self.new }
+        ensures user { IfOk result (λ answer. IsNone answer → self.new.user ≡ self.old.user) }
+        ensures undone { IfOk result (λ answer. IfSome answer (λ message. message.is_done ≡ false → self.new.user ≡ self.old.user)) }
+        ensures done { IfOk result (λ answer. IfSome answer (λ message. message.is_done ≡ true → IsSome self.new.user)) }
+        ensures kept { OnErr result (self.new.user ≡ self.old.user) }
+        ensures refused { IfErr result (λ fault. fault ≡ OutOfMemory) }
+    {
         let Login {
             mut core,
             name,
@@ -124,7 +157,16 @@ impl Session {
         alloc: Global,
         login: Login,
         payload: &[u8],
-    ) -> Result<Option<SaslReply>, ServeFault> {
+    ) -> Result<Option<SaslReply>, ServeFault>
+        requires none { self.old.login ≡ None }
+        requires proved { login.is_proved ≡ true }
+        ensures remembers { (settings : SettingsValue) (requests : List (List ℕ)) (document : List ℕ) → IfSome self.old.user (λ name. HasLoggedIn settings name requests) → IsLoginOf settings requests login →
+            Remembers settings (requests ++ document ∷ []) self.new }
+        ensures user { IfOk result (λ answer. IsNone answer → self.new.user ≡ self.old.user) }
+        ensures done { IfOk result (λ answer. IfSome answer (λ message. (message.is_done ≡ true) × IsSome self.new.user)) }
+        ensures kept { OnErr result (self.new.user ≡ self.old.user) }
+        ensures refused { IfErr result (λ fault. fault ≡ OutOfMemory) }
+    {
         if !payload.is_empty() {
             return Ok(None);
         }
