@@ -1,4 +1,5 @@
 -- What the faults below are to the server.
+use Rattle.std.specs.Prelude.{⊤}
 use Rattle.mongo_bson.specs.declared.fault.BsonFault.{BsonFault}
 use Rattle.mongo_bson.specs.declared.fault.BsonFault.TheVariants.{OutOfMemory as NoMemory}
 use Rattle.mongo_wire.specs.declared.fault.FrameFault.{FrameFault}
@@ -30,3 +31,9 @@ fault_of_kind other = ReplyTooLong
 abbrev pub fault_of_sink : SinkError → ServeFault
 fault_of_sink sink.Failed = WriteFault
 fault_of_sink sink.OutOfMemory = OutOfMemory
+
+-- a document is too long, or memory ran out
+abbrev pub IsOfDocument : ServeFault → Type 0
+IsOfDocument ReplyTooLong = ⊤
+IsOfDocument OutOfMemory = ⊤
+IsOfDocument fault = ⊥

@@ -2,6 +2,7 @@ pub mod Answers
 pub mod Faults
 pub mod Login
 pub mod PutBack
+pub mod Replies
 pub mod Requests
 pub mod Run
 pub mod Served

@@ -75,14 +75,13 @@ pub fn greet<G: Ledger>(
 
 // The mechanisms of a user; None where no account is the user's.
 fn mechanisms_of(accounts: &[Account], user: &str) -> Option<Mechanisms> {
-    let mechanisms = Mechanisms {
-        sha1: has_account(accounts, user, ScramVersion::Sha1),
-        sha256: has_account(accounts, user, ScramVersion::Sha256),
-    };
-    if mechanisms.sha1 || mechanisms.sha256 {
-        Some(mechanisms)
-    } else {
-        None
+    let by_sha1 = has_account(accounts, user, ScramVersion::Sha1);
+    let by_sha256 = has_account(accounts, user, ScramVersion::Sha256);
+    match (by_sha1, by_sha256) {
+        (true, true) => Some(Mechanisms::Both),
+        (true, false) => Some(Mechanisms::Sha1),
+        (false, true) => Some(Mechanisms::Sha256),
+        (false, false) => None,
     }
 }
 

@@ -8,11 +8,13 @@
 mod answer;
 mod documents;
 mod fault;
+mod hello_document;
 mod open;
 mod put_back;
 mod query;
 mod reading;
 mod reply;
+mod reply_document;
 mod report;
 mod request;
 mod respond;
