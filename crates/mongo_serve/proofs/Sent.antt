@@ -59,6 +59,11 @@ login_later settings (Some login) requests d h = record {
 pub remembers_later : (settings : Settings) (requests : List (List ℕ)) (d : List ℕ) (session : Session) → Remembers settings requests session → Remembers settings (requests ++ d ∷ []) session
 remembers_later settings requests d session h = record { user = user_later settings session.user requests d h.user; login = login_later settings session.login requests d h.login }
 
+-- no login goes on
+pub remembers_alone : (settings : Settings) (requests : List (List ℕ)) (d : List ℕ) (session : Session) → session.login ≡ None → IfSome session.user (λ name. HasLoggedIn settings name requests)
+    → Remembers settings (requests ++ d ∷ []) session
+remembers_alone settings requests d session none h = record { user = user_later settings session.user requests d h; login = subst (λ o. IfSome o (IsLoginOf settings (requests ++ d ∷ []))) (sym none) tt }
+
 -- ---- a login that begins
 
 pub opens_with : (settings : Settings) (requests : List (List ℕ)) (d : List ℕ) (payload : Option (Bor (List ℕ))) (opened : Opened) → IsOpenedBy settings payload opened → IfSome payload (λ p. Opens d p.now)

@@ -5,5 +5,6 @@ pub mod PutBack
 pub mod Replies
 pub mod Requests
 pub mod Run
+pub mod Sent
 pub mod Served
 pub mod Taken

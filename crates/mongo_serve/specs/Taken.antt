@@ -37,10 +37,6 @@ pub record IsQuery (frame command : List ℕ) : Type 0 where
 abbrev pub IsMessage : List ℕ → List ℕ → Type 0
 IsMessage frame document = (parts : Frame) × IsFrame frame parts × (parts.body ≡ document)
 
--- a frame that was taken, and the document that it asks with
-pub record Taken : Type 0 where
-  pub frame : List ℕ
-  pub document : List ℕ
-
-abbrev pub IsTaken : Taken → Type 0
-IsTaken taken = IsMessage taken.frame taken.document ⊎ IsQuery taken.frame taken.document
+-- a frame that carries a request, and the request's document
+abbrev pub Carries : List ℕ → List ℕ → Type 0
+Carries frame document = IsMessage frame document ⊎ IsQuery frame document

@@ -64,11 +64,11 @@ fn refusal_document(alloc: Global, refusal: &Refusal) -> Result<RawDocumentBuf, 
 }
 
 // The document of a command error.
-fn error_document(
+fn error_document<'x>(
     alloc: Global,
-    message: &str,
+    message: &'x str,
     code: i32,
-    name: &str,
+    name: &'x str,
 ) -> Result<RawDocumentBuf, ServeFault>
     ensures document { IfOk result (λ document. document ≡ error_document message.now code name.now) }
     ensures refused { IfErr result IsOfDocument }

@@ -1,5 +1,8 @@
 //! What a client asks for: a command, by the first key of its document.
 
+ghost use Rattle.std.specs.Prelude.{◌≡◌, ◌⊎◌, [], IfSome};
+ghost use Rattle.mongo_serve.specs.Requests.{IsNamed, HasPayload, HasInside, Says, SaysStart, CarriesStart};
+
 
 use mongo_bson::{RawDocument, RawValue, first_key};
 use mongo_scram::ScramVersion;

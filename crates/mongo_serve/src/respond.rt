@@ -1,5 +1,10 @@
 //! Writing replies.
 
+ghost use Rattle.std.specs.Prelude.{IfErr, OnOk};
+ghost use Rattle.mongo_wire.specs.Outside.{WritesOn};
+ghost use Rattle.mongo_serve.specs.Faults.{IsOfWriting};
+ghost use Rattle.mongo_serve.specs.Sent.{SendsReply, SendsQueryReply, AppendsSome};
+
 use crate::fault::ServeFault;
 use bitflags::Flags;
 use mongo_bson::RawDocumentBuf;
@@ -15,7 +20,12 @@ pub fn respond<K: Sink>(
     request_id: i32,
     document: RawDocumentBuf,
     ids: &mut RequestIds,
-) -> Result<(), ServeFault> {
+) -> Result<(), ServeFault>
+    ensures sent { OnOk result (SendsReply (K.state sink.old) (K.state sink.new) ids.old request_id document) }
+    ensures front { AppendsSome (K.state sink.old) (K.state sink.new) }
+    ensures on { WritesOn (K.state sink.old) (K.state sink.new) }
+    ensures refused { IfErr result IsOfWriting }
+{
     let message = Message {
         document_payload: document,
         document_sequences: Sequences::new(alloc),
@@ -42,7 +52,12 @@ pub fn respond_to_query<K: Sink>(
     request_id: i32,
     document: &RawDocumentBuf,
     ids: &mut RequestIds,
-) -> Result<(), ServeFault> {
+) -> Result<(), ServeFault>
+    ensures sent { OnOk result (SendsQueryReply (K.state sink.old) (K.state sink.new) ids.old request_id document.now) }
+    ensures front { AppendsSome (K.state sink.old) (K.state sink.new) }
+    ensures on { WritesOn (K.state sink.old) (K.state sink.new) }
+    ensures refused { IfErr result IsOfWriting }
+{
     let bytes = document.as_bytes();
     if bytes.len() > MAXIMUM {
         return Err(ServeFault::ReplyTooLong);

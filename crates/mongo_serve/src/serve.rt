@@ -1,8 +1,9 @@
 //! The server: requests are read one after another, and each is answered before the next is read.
 
-ghost use Rattle.std.specs.Prelude.{◌≡◌, ℕ, pos, List, Option};
+ghost use Rattle.std.specs.Prelude.{◌≡◌, ℕ, pos, List};
 ghost use Rattle.std.specs.Io.KnownBytes.{Consumes};
 ghost use Rattle.mongo_wire.specs.Header.{header_with, signed_at};
+ghost use Rattle.mongo_wire.specs.Outside.{State};
 ghost use Rattle.mongo_serve.specs.Login.{Remembers};
 ghost use Rattle.mongo_serve.specs.PutBack.{state_of};
 ghost use Rattle.mongo_serve.specs.Served.{TurnEnds, PartEnds, IsServed};
@@ -121,7 +122,7 @@ fn take_message<L: Link, G: Ledger>(
     steps: &mut Steps<G>,
 ) -> Result<(), ServeFault>
     ensures { (requests : List (List ℕ)) → Remembers settings.now requests serving.old.session →
-        PartEnds settings.now requests (state_of L.state link.old).left (state_of L.state link.new).left serving.new.session result }
+        PartEnds settings.now requests (state_of L.state link.old) (state_of L.state link.new) serving.old.session serving.new.session result }
 {
     serving.buffer.take_frame(link, Some(MAXIMUM))?;
     let Some(message) = serving.buffer.message() else {
@@ -149,8 +150,8 @@ fn take_query<L: Link, G: Ledger>(
 ) -> Result<(), ServeFault>
     requires header { header ≡ header_with head.now Query }
     requires code { signed_at 12 head.now ≡ pos 2004 }
-    ensures { (requests : List (List ℕ)) (before : Option (List ℕ)) → Remembers settings.now requests serving.old.session → Consumes before (state_of L.state link.old).left head.now →
-        PartEnds settings.now requests before (state_of L.state link.new).left serving.new.session result }
+    ensures { (requests : List (List ℕ)) (before : State) → Remembers settings.now requests serving.old.session → Consumes before.left (state_of L.state link.old).left head.now → (state_of L.state link.old).written ≡ before.written →
+        PartEnds settings.now requests before (state_of L.state link.new) serving.old.session serving.new.session result }
 {
     if header.length < 16 || header.length > MAXIMUM {
         return Err(ServeFault::NoFrame);

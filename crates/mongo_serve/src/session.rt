@@ -133,16 +133,19 @@ impl Session {
             Ok(answer) => {
                 if skips_empty_exchange {
                     self.user = Some(name);
-                } else {
-                    self.login = Some(Login {
-                        core,
-                        name,
-                        skips_empty_exchange,
-                        is_proved: true,
-                    });
+                    return Ok(Some(SaslReply {
+                        is_done: true,
+                        payload: answer,
+                    }));
                 }
+                self.login = Some(Login {
+                    core,
+                    name,
+                    skips_empty_exchange,
+                    is_proved: true,
+                });
                 Ok(Some(SaslReply {
-                    is_done: skips_empty_exchange,
+                    is_done: false,
                     payload: answer,
                 }))
             }

@@ -1,5 +1,5 @@
 use Rattle.std.proofs.Common.{rules, Err, ap}
-use Rattle.mongo_sasl.proofs.FieldsPut.{field_added, not_made}
+use Rattle.mongo_serve.proofs.FieldsPut.{field_added, not_made}
 use Rattle.mongo_serve.proofs.documents.document_of.Goals as goal
 
 pub adding-preserved : goal.adding-preserved
