@@ -1,3 +1,4 @@
 pub mod Sent
 pub mod Turns
 pub mod FieldsPut
+pub mod Begun
