@@ -2,3 +2,5 @@ pub mod Sent
 pub mod Turns
 pub mod FieldsPut
 pub mod Begun
+pub mod Carried
+pub mod Prepended

@@ -12,14 +12,18 @@ IsCommandOf document command = (command ≡ document) ⊎ (IsNamed document (cod
 
 -- what follows the header of an OP_QUERY on `admin.$cmd`: int32 flags, the collection's name, two int32, a document, and what may
 -- follow it
-pub record IsQueryBody (body command : List ℕ) : Type 0 where
+pub record IsQueryOf (body document : List ℕ) : Type 0 where
   pub flags : List ℕ
   pub numbers : List ℕ
-  pub document : List ℕ
   pub more : List ℕ
   pub spelled : body ≡ flags ++ (codes "admin.$cmd" ++ (0 ∷ (numbers ++ (document ++ more))))
   pub flags_four : length flags ≡ 4
   pub numbers_eight : length numbers ≡ 8
+
+-- the same, with the command that its document asks for
+pub record IsQueryBody (body command : List ℕ) : Type 0 where
+  pub document : List ℕ
+  pub is_query : IsQueryOf body document
   pub framed : IsFramed document
   pub command_is : IsCommandOf document command
 

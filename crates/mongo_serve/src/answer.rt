@@ -3,12 +3,12 @@
 ghost use Rattle.std.specs.Prelude.{◌≡◌, ℕ, false, List, [], ◌∷◌, ◌++◌, IfSome, IfOk, IfErr, OnOk, OnErr};
 ghost use Rattle.mongo_serve.specs.Answers.{guarded_by, IsAnswer, IsLoginReply};
 ghost use Rattle.mongo_serve.specs.Login.{Remembers};
-ghost use Rattle.mongo_serve.specs.Requests.{Says, SaysHello};
+ghost use Rattle.mongo_serve.specs.Requests.{CarriesStart, IsGreeting, Says, SaysHello};
 ghost use Rattle.mongo_serve.specs.declared.fault.ServeFault.TheVariants.{OutOfMemory};
 
 use crate::fault::ServeFault;
 use crate::reply::{HelloReply, Mechanisms, Refusal, Reply, SaslReply};
-use crate::request::{Hello, Request};
+use crate::request::{Hello, Request, SaslStart};
 use crate::session::Session;
 use crate::settings::{Account, Settings};
 use mongo_bson::Text;
@@ -59,18 +59,36 @@ pub fn greet<G: Ledger>(
     ensures undone { IfOk result (λ reply. IfSome reply.speculation (λ message. message.is_done ≡ false)) }
     ensures refused { IfErr result (λ fault. fault ≡ OutOfMemory) }
 {
-    let speculation = match hello.speculation {
-        Some(start) => session.start(alloc, settings, start, steps)?,
+    let speculation = begin(alloc, settings, session, hello.speculation, steps)?;
+    let mechanisms = match hello.mechanisms_of {
+        Some(user) => mechanisms_of(settings.accounts.as_slice(), user),
         None => None,
     };
     Ok(HelloReply {
         is_legacy: hello.is_legacy,
-        mechanisms: match hello.mechanisms_of {
-            Some(user) => mechanisms_of(settings.accounts.as_slice(), user),
-            None => None,
-        },
+        mechanisms,
         speculation,
     })
+}
+
+// Begins the login that a hello carries, where it carries one.
+fn begin<G: Ledger>(
+    alloc: Global,
+    settings: &Settings,
+    session: &mut Session,
+    speculation: Option<SaslStart<'_>>,
+    steps: &mut Steps<G>,
+) -> Result<Option<SaslReply>, ServeFault>
+    ensures remembers { (requests : List (List ℕ)) (document : List ℕ) → Remembers settings.now requests session.old → IsGreeting document → IfSome speculation.entry (CarriesStart document) →
+        Remembers settings.now (requests ++ document ∷ []) session.new }
+    ensures user { session.new.user ≡ session.old.user }
+    ensures undone { IfOk result (λ answer. IfSome answer (λ message. message.is_done ≡ false)) }
+    ensures refused { IfErr result (λ fault. fault ≡ OutOfMemory) }
+{
+    match speculation {
+        Some(start) => session.start(alloc, settings, start, steps),
+        None => Ok(None),
+    }
 }
 
 // The mechanisms of a user; None where no account is the user's.

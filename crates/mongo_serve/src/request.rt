@@ -75,8 +75,8 @@ pub fn request_of<'a>(document: RawDocument<'a>) -> Request<'a>
     }
 }
 
-// The key of the document's first element.
-fn command_name<'a>(document: RawDocument<'a>) -> &'a str
+/// The key of the document's first element; empty where there is none.
+pub fn command_name<'a>(document: RawDocument<'a>) -> &'a str
     ensures { IsNamed document.entry.bytes.now result.now ⊎ (result.now ≡ []) }
 {
     match first_key(document) {
@@ -95,14 +95,21 @@ fn hello_of<'a>(document: RawDocument<'a>, is_legacy: bool) -> Hello<'a>
             Some(user) => Some(name_without_database(user)),
             None => None,
         },
-        speculation: match document_in(document, "speculativeAuthenticate") {
-            Some(inner) => speculation_of(inner),
-            None => None,
-        },
+        speculation: carried_start(document),
     }
 }
 
-// The login that a hello carries, where it is a `saslStart`.
+// The login that a hello carries.
+fn carried_start<'a>(document: RawDocument<'a>) -> Option<SaslStart<'a>>
+    ensures { IfSome result (CarriesStart document.entry.bytes.now) }
+{
+    match document_in(document, "speculativeAuthenticate") {
+        Some(inner) => speculation_of(inner),
+        None => None,
+    }
+}
+
+// The login that a document begins, where it is a `saslStart`.
 fn speculation_of<'a>(document: RawDocument<'a>) -> Option<SaslStart<'a>>
     ensures { IfSome result (SaysStart document.entry.bytes.now) }
 {
