@@ -4,3 +4,4 @@ pub mod FieldsPut
 pub mod Begun
 pub mod Carried
 pub mod Prepended
+pub mod Queried

@@ -1,5 +1,5 @@
 -- How a stream was served.
-use Rattle.std.specs.Prelude.{◌≡◌, ℕ, ◌≤◌, ◌⊎◌, Bool, true, false, Option, None, Result, Ok, Err, List, [], ◌∷◌, ◌++◌, length, map, flat_map, IfSome, ⊤}
+use Rattle.std.specs.Prelude.{◌≡◌, ℕ, ◌≤◌, ◌⊎◌, Bool, true, false, Option, None, Result, Ok, Err, List, [], ◌∷◌, ◌++◌, length, map, flat_map, is_some, IfSome, ⊤}
 use Rattle.std.specs.List.{AllByRecursion}
 use Rattle.std.specs.Io.KnownBytes.{Consumes, Appends}
 use Rattle.mongo_wire.specs.Outside.{State, HasEnded}
@@ -42,12 +42,16 @@ sent_for turns = flat_map (λ t. t.sent) turns
 abbrev pub AnswersIn : Turn → Reply → Type 0
 AnswersIn turn reply = AnswersMessage turn.frame turn.document reply turn.sent ⊎ (IsQuery turn.frame turn.document × IsGreeting turn.document × AnswersQuery turn.frame reply turn.sent)
 
+-- what a session answers to a document
+pub record IsAnswered (before : Session) (document : List ℕ) (after : Session) (reply : Reply) : Type 0 where
+  pub request : Request
+  pub says : Says document request
+  pub is_answer : IsAnswer before request after reply
+
 -- a turn: the request was answered by the session, and the reply sent
 pub record IsTurn (before : Session) (turn : Turn) (after : Session) : Type 0 where
-  pub request : Request
-  pub says : Says turn.document request
   pub reply : Reply
-  pub answered : IsAnswer before request after reply
+  pub answered : IsAnswered before turn.document after reply
   pub sent : AnswersIn turn reply
 
 -- each turn begins with the session that the one before it left
@@ -95,6 +99,19 @@ TurnEnds settings requests old new before after (Err fault) = IsCut settings req
 abbrev pub PartEnds : Settings → List (List ℕ) → State → State → Session → Session → Result ⊤ ServeFault → Type 0
 PartEnds settings requests old new before after (Ok done) = TakesTurn settings requests old new before after
 PartEnds settings requests old new before after (Err fault) = IsCut settings requests old new after.user
+
+-- ---- within a turn
+
+-- a header was taken, and nothing was written
+pub record Follows (before now : State) (head : List ℕ) : Type 0 where
+  pub taken : Consumes before.left now.left head
+  pub tells : is_some now.left ≡ is_some before.left
+  pub unwritten : now.written ≡ before.written
+
+-- it was put back
+pub record IsBackAt (before now : State) : Type 0 where
+  pub left : now.left ≡ before.left
+  pub unwritten : now.written ≡ before.written
 
 -- ---- the stream
 

@@ -1,12 +1,12 @@
 //! The server: requests are read one after another, and each is answered before the next is read.
 
-ghost use Rattle.std.specs.Prelude.{◌≡◌, ℕ, pos, List};
-ghost use Rattle.std.specs.Io.KnownBytes.{Consumes};
+ghost use Rattle.std.specs.Prelude.{◌≡◌, ℕ, pos, List, [], ◌∷◌, ◌++◌, IfOk, OnOk, OnErr};
 ghost use Rattle.mongo_wire.specs.Header.{header_with, signed_at};
 ghost use Rattle.mongo_wire.specs.Outside.{State};
 ghost use Rattle.mongo_serve.specs.Login.{Remembers};
 ghost use Rattle.mongo_serve.specs.PutBack.{state_of};
-ghost use Rattle.mongo_serve.specs.Served.{TurnEnds, PartEnds, IsServed};
+ghost use Rattle.mongo_serve.specs.Requests.{IsGreeting};
+ghost use Rattle.mongo_serve.specs.Served.{Follows, IsAnswered, IsBackAt, TurnEnds, PartEnds, IsServed};
 ghost use Rattle.mongo_wire.specs.declared.op_code.OpCode.TheVariants.{Query};
 
 use crate::answer::{answer, greet};
@@ -15,15 +15,13 @@ use crate::put_back::PutBack;
 use crate::query::command_of_query;
 use crate::reading::{fill_or_end, take_bytes};
 use crate::reply::Reply;
-use crate::reply_document::document_of_reply;
 use crate::request::{Request, request_of};
 use crate::respond::{respond, respond_to_query};
 use crate::session::Session;
 use crate::settings::Settings;
-use bitflags::Flags;
-use mongo_bson::Text;
+use mongo_bson::{RawDocument, Text};
 use mongo_mac::Steps;
-use mongo_wire::{FrameBuffer, Header, Link, MessageFlags, OpCode, RequestIds};
+use mongo_wire::{FrameBuffer, Header, Link, OpCode, RequestIds};
 use std::alloc::Global;
 use std::sync::ledger::Ledger;
 
@@ -96,24 +94,42 @@ fn take_turn<L: Link, G: Ledger>(
         TurnEnds settings.now requests (state_of L.state link.old) (state_of L.state link.new) serving.old.session serving.new.session result }
 {
     let mut head = [0u8; 16];
-    if !fill_or_end(link, &mut head)? {
-        return Ok(false);
+    match fill_or_end(link, &mut head) {
+        Ok(true) => match take_after(alloc, settings, link, serving, &head, steps) {
+            Ok(()) => Ok(true),
+            Err(fault) => Err(fault),
+        },
+        Ok(false) => Ok(false),
+        Err(fault) => Err(fault.into()),
     }
-    let Ok(header) = Header::decode(&head) else {
-        return Err(ServeFault::NoFrame);
-    };
-    match header.op_code {
-        OpCode::Message => {
-            link.put_back(alloc, &head)?;
-            take_message(alloc, settings, link, serving, steps)?;
-        }
-        OpCode::Query => take_query(alloc, settings, link, serving, &head, header, steps)?,
-        _ => return Err(ServeFault::NoFrame),
-    }
-    Ok(true)
 }
 
-// Takes an OP_MSG and answers it, unless it says that more comes.
+// Takes what follows a header, and answers it.
+fn take_after<L: Link, G: Ledger>(
+    alloc: Global,
+    settings: &Settings,
+    link: &mut PutBack<L>,
+    serving: &mut Serving,
+    head: &[u8; 16],
+    steps: &mut Steps<G>,
+) -> Result<(), ServeFault>
+    ensures { (requests : List (List ℕ)) (before : State) → Remembers settings.now requests serving.old.session → Follows before (state_of L.state link.old) head.now →
+        PartEnds settings.now requests before (state_of L.state link.new) serving.old.session serving.new.session result }
+{
+    match Header::decode(head) {
+        Ok(header) => match header.op_code {
+            OpCode::Message => match link.put_back(alloc, head) {
+                Ok(()) => take_message(alloc, settings, link, serving, steps),
+                Err(fault) => Err(fault),
+            },
+            OpCode::Query => take_query(alloc, settings, link, serving, head, header, steps),
+            _ => Err(ServeFault::NoFrame),
+        },
+        Err(_) => Err(ServeFault::NoFrame),
+    }
+}
+
+// Takes an OP_MSG and answers it.
 fn take_message<L: Link, G: Ledger>(
     alloc: Global,
     settings: &Settings,
@@ -121,24 +137,42 @@ fn take_message<L: Link, G: Ledger>(
     serving: &mut Serving,
     steps: &mut Steps<G>,
 ) -> Result<(), ServeFault>
-    ensures { (requests : List (List ℕ)) → Remembers settings.now requests serving.old.session →
-        PartEnds settings.now requests (state_of L.state link.old) (state_of L.state link.new) serving.old.session serving.new.session result }
+    ensures { (requests : List (List ℕ)) (before : State) → Remembers settings.now requests serving.old.session → IsBackAt before (state_of L.state link.old) →
+        PartEnds settings.now requests before (state_of L.state link.new) serving.old.session serving.new.session result }
 {
-    serving.buffer.take_frame(link, Some(MAXIMUM))?;
+    match serving.buffer.take_frame(link, Some(MAXIMUM)) {
+        Ok(()) => {}
+        Err(fault) => return Err(fault.into()),
+    }
     let Some(message) = serving.buffer.message() else {
         unreachable!()
     };
-    let request = request_of(message.document_payload);
-    let reply = answer(alloc, settings, &mut serving.session, request, steps)?;
-    if message.flags.contains(MessageFlags::MORE_TO_COME) {
-        return Ok(());
+    let document = message.document_payload;
+    match answer_document(alloc, settings, &mut serving.session, document, steps) {
+        Ok(reply) => {
+            let id = message.header.request_id;
+            respond(alloc, link, id, message.flags, &reply, &mut serving.ids)
+        }
+        Err(fault) => Err(fault),
     }
-    let document = document_of_reply(alloc, &reply)?;
-    let id = message.header.request_id;
-    respond(alloc, link, id, document, &mut serving.ids)
 }
 
-// Takes the rest of an OP_QUERY and answers it. It has to ask for a hello.
+// Answers what a document asks for.
+fn answer_document<G: Ledger>(
+    alloc: Global,
+    settings: &Settings,
+    session: &mut Session,
+    document: RawDocument<'_>,
+    steps: &mut Steps<G>,
+) -> Result<Reply, ServeFault>
+    ensures remembers { (requests : List (List ℕ)) → Remembers settings.now requests session.old → OnOk result (Remembers settings.now (requests ++ document.entry.bytes.now ∷ []) session.new) }
+    ensures answered { IfOk result (IsAnswered session.old document.entry.bytes.now session.new) }
+    ensures kept { OnErr result (session.new.user ≡ session.old.user) }
+{
+    answer(alloc, settings, session, request_of(document), steps)
+}
+
+// Takes the rest of an OP_QUERY, and answers it.
 fn take_query<L: Link, G: Ledger>(
     alloc: Global,
     settings: &Settings,
@@ -150,20 +184,45 @@ fn take_query<L: Link, G: Ledger>(
 ) -> Result<(), ServeFault>
     requires header { header ≡ header_with head.now Query }
     requires code { signed_at 12 head.now ≡ pos 2004 }
-    ensures { (requests : List (List ℕ)) (before : State) → Remembers settings.now requests serving.old.session → Consumes before.left (state_of L.state link.old).left head.now → (state_of L.state link.old).written ≡ before.written →
+    ensures { (requests : List (List ℕ)) (before : State) → Remembers settings.now requests serving.old.session → Follows before (state_of L.state link.old) head.now →
         PartEnds settings.now requests before (state_of L.state link.new) serving.old.session serving.new.session result }
 {
     if header.length < 16 || header.length > MAXIMUM {
         return Err(ServeFault::NoFrame);
     }
-    let body = take_bytes(alloc, link, header.length as usize - 16)?;
+    let body = match take_bytes(alloc, link, header.length as usize - 16) {
+        Ok(body) => body,
+        Err(fault) => return Err(fault.into()),
+    };
     let Some(command) = command_of_query(body.as_slice()) else {
         return Err(ServeFault::NoFrame);
     };
-    let Request::Hello(hello) = request_of(command) else {
-        return Err(ServeFault::NoHello);
-    };
-    let reply = Reply::Hello(greet(alloc, settings, &mut serving.session, hello, steps)?);
-    let document = document_of_reply(alloc, &reply)?;
-    respond_to_query(link, header.request_id, &document, &mut serving.ids)
+    match greet_query(alloc, settings, &mut serving.session, command, steps) {
+        Ok(reply) => {
+            respond_to_query(alloc, link, header.request_id, &reply, &mut serving.ids)
+        }
+        Err(fault) => Err(fault),
+    }
+}
+
+// Answers a query's document, which has to ask for a hello.
+fn greet_query<G: Ledger>(
+    alloc: Global,
+    settings: &Settings,
+    session: &mut Session,
+    document: RawDocument<'_>,
+    steps: &mut Steps<G>,
+) -> Result<Reply, ServeFault>
+    ensures remembers { (requests : List (List ℕ)) → Remembers settings.now requests session.old → OnOk result (Remembers settings.now (requests ++ document.entry.bytes.now ∷ []) session.new) }
+    ensures answered { IfOk result (IsAnswered session.old document.entry.bytes.now session.new) }
+    ensures greeting { OnOk result (IsGreeting document.entry.bytes.now) }
+    ensures kept { OnErr result (session.new.user ≡ session.old.user) }
+{
+    match request_of(document) {
+        Request::Hello(hello) => match greet(alloc, settings, session, hello, steps) {
+            Ok(reply) => Ok(Reply::Hello(reply)),
+            Err(fault) => Err(fault),
+        },
+        _ => Err(ServeFault::NoHello),
+    }
 }
