@@ -5,3 +5,4 @@ pub mod Begun
 pub mod Carried
 pub mod Prepended
 pub mod Queried
+pub mod Described
