@@ -6,3 +6,5 @@ pub mod Carried
 pub mod Prepended
 pub mod Queried
 pub mod Described
+pub mod Responses
+pub mod Parts

@@ -1,5 +1,5 @@
 -- The frames that replies go out in.
-use Rattle.std.specs.Prelude.{◌≡◌, ℕ, ℤ, pos, ◌+◌, ◌⊎◌, None, List, [], ◌++◌, length, bit_and}
+use Rattle.std.specs.Prelude.{◌≡◌, ℕ, ℤ, pos, ◌+◌, ◌⊎◌, None, List, [], ◌++◌, length, take, bit_and}
 use Rattle.std.specs.Int.{to_le_bytes, w64}
 use Rattle.std.specs.Io.KnownBytes.{Appends}
 use Rattle.mongo_wire.specs.Frame.{Frame, IsFrame, IsFrameWith, int32, uint32}
@@ -32,9 +32,9 @@ pub record AnswersMessage (frame : List ℕ) (document : List ℕ) (reply : Repl
   pub body_is : parts.body ≡ document
   pub answer : IsAnswerTo parts.request_id parts.flags reply sent
 
--- what answers an OP_QUERY
+-- what answers an OP_QUERY: its header has the id
 abbrev pub AnswersQuery : List ℕ → Reply → List ℕ → Type 0
-AnswersQuery frame reply sent = (id : ℤ) × (sent ≡ query_reply id (signed_at 4 frame) (reply_document reply))
+AnswersQuery frame reply sent = (id : ℤ) × (sent ≡ query_reply id (signed_at 4 (take 16 frame)) (reply_document reply))
 
 -- ---- a write
 

@@ -1,6 +1,6 @@
 //! The server: requests are read one after another, and each is answered before the next is read.
 
-ghost use Rattle.std.specs.Prelude.{◌≡◌, ℕ, pos, List, [], ◌∷◌, ◌++◌, IfOk, OnOk, OnErr};
+ghost use Rattle.std.specs.Prelude.{◌≡◌, ℕ, pos, ◌+◌, List, [], ◌∷◌, ◌++◌, IfSome, IfOk, OnOk, OnErr};
 ghost use Rattle.mongo_wire.specs.Header.{header_with, signed_at};
 ghost use Rattle.mongo_wire.specs.Outside.{State};
 ghost use Rattle.mongo_serve.specs.Login.{Remembers};
@@ -187,10 +187,10 @@ fn take_query<L: Link, G: Ledger>(
     ensures { (requests : List (List ℕ)) (before : State) → Remembers settings.now requests serving.old.session → Follows before (state_of L.state link.old) head.now →
         PartEnds settings.now requests before (state_of L.state link.new) serving.old.session serving.new.session result }
 {
-    if header.length < 16 || header.length > MAXIMUM {
+    let Some(rest) = length_after(header.length) else {
         return Err(ServeFault::NoFrame);
-    }
-    let body = match take_bytes(alloc, link, header.length as usize - 16) {
+    };
+    let body = match take_bytes(alloc, link, rest) {
         Ok(body) => body,
         Err(fault) => return Err(fault.into()),
     };
@@ -202,6 +202,17 @@ fn take_query<L: Link, G: Ledger>(
             respond_to_query(alloc, link, header.request_id, &reply, &mut serving.ids)
         }
         Err(fault) => Err(fault),
+    }
+}
+
+// How many bytes follow the header of a frame of this length, which is 16 to the maximum.
+fn length_after(length: i32) -> Option<usize>
+    ensures { IfSome result (λ rest. pos (16 + rest) ≡ length) }
+{
+    if length < 16 || length > MAXIMUM {
+        None
+    } else {
+        Some(length as usize - 16)
     }
 }
 
