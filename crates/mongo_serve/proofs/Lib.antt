@@ -8,3 +8,4 @@ pub mod Queried
 pub mod Described
 pub mod Responses
 pub mod Parts
+pub mod Stream

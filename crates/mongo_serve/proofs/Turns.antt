@@ -22,6 +22,9 @@ each_joined (x ∷ xs) ys all others = (all.0, each_joined xs ys all.1 others)
 pub joined_append : (xs ys : List Turn) → joined (xs ++ ys) ≡ joined xs ++ joined ys
 joined_append xs ys = flat_map-append (λ t. t.frame) xs ys
 
+pub sent_append : (xs ys : List Turn) → sent_for (xs ++ ys) ≡ sent_for xs ++ sent_for ys
+sent_append xs ys = flat_map-append (λ t. t.sent) xs ys
+
 pub documents_append : (xs ys : List Turn) → documents (xs ++ ys) ≡ documents xs ++ documents ys
 documents_append xs ys = map-append (λ t. t.document) xs ys
 

@@ -115,6 +115,15 @@ pub record IsBackAt (before now : State) : Type 0 where
 
 -- ---- the stream
 
+-- the turns so far, each answered, and what the session remembers of them
+pub record HasServed (settings : Settings) (old new : State) (session : Session) : Type 0 where
+  pub turns : List Turn
+  pub answered : AreTurns fresh turns session
+  pub each : AllByRecursion IsTaken turns
+  pub consumed : Consumes old.left new.left (joined turns)
+  pub appended : Appends old.written new.written (sent_for turns)
+  pub remembers : Remembers settings (documents turns) session
+
 -- The frames that were taken carry requests, one after another, and what was sent are the replies to them; the last may have been cut.
 -- Where the client ended its stream, nothing was cut, and nothing was taken after the last frame. Who is logged in has sent, among just
 -- these requests, the messages of a login.
