@@ -1,0 +1,33 @@
+-- The documents of replies, as their elements are put.
+use Rattle.std.proofs.Common.{◌≡◌, ℕ, ℤ, true, Option, Some, Result, Ok, Err, OnOk, List, [], ◌∷◌, ◌++◌, codes, refl, sym, ap, ◌∙◌, subst, append_assoc}
+use Rattle.std.specs.Prelude.{⊤}
+use Rattle.std.specs.Io.KnownBytes.{Appends}
+use Rattle.mongo_bson.specs.Document.{Element}
+use Rattle.mongo_command.specs.Literal.{truth_element, document_element, document_of}
+use Rattle.mongo_wire.specs.Outside.{State, IsFlushed}
+use Rattle.mongo_serve.specs.declared.fault.ServeFault.{ServeFault}
+use Rattle.mongo_serve.specs.declared.reply.HelloReply.{HelloReply}
+use Rattle.mongo_serve.specs.declared.reply.Reply.{Reply}
+use Rattle.mongo_serve.specs.declared.reply.SaslReply.{SaslReply}
+use Rattle.mongo_serve.specs.Replies.{description, hello_elements, mechanism_elements, speculation_elements, sasl_document, ok_element, writable_key, reply_document}
+use Rattle.mongo_serve.specs.Sent.{query_reply, IsSentToQuery}
+
+pub speculated : (elements : List Element) (new : List ℕ) (speculation : Option SaslReply) (message : SaslReply) (bytes : List ℕ) (r : Result ⊤ ServeFault) → speculation ≡ Some message → bytes ≡ sasl_document message
+    → OnOk r (new ≡ document_of (elements ++ document_element (codes "speculativeAuthenticate") bytes ∷ [])) → OnOk r (new ≡ document_of (elements ++ speculation_elements speculation))
+speculated elements new speculation message bytes r given same h =
+    subst (λ s. OnOk r (new ≡ document_of (elements ++ speculation_elements s))) (sym given) (subst (λ b. OnOk r (new ≡ document_of (elements ++ document_element (codes "speculativeAuthenticate") b ∷ []))) same h)
+
+regroup : (d : List Element) (a : Element) (m s : List Element) (o : Element) → (((d ++ a ∷ []) ++ m) ++ s) ++ o ∷ [] ≡ d ++ (a ∷ (m ++ (s ++ o ∷ [])))
+regroup d a m s o = append_assoc ((d ++ a ∷ []) ++ m) s (o ∷ []) ∙ append_assoc (d ++ a ∷ []) m (s ++ o ∷ []) ∙ append_assoc d (a ∷ []) (m ++ (s ++ o ∷ []))
+
+pub hello_described : (hello : HelloReply) (key : List ℕ) → key ≡ writable_key hello.is_legacy
+    → document_of ((((description ++ truth_element key true ∷ []) ++ mechanism_elements hello.mechanisms) ++ speculation_elements hello.speculation) ++ ok_element ∷ []) ≡ document_of (hello_elements hello)
+hello_described hello key named =
+    let m = mechanism_elements hello.mechanisms in
+    let s = speculation_elements hello.speculation in
+    ap document_of (regroup description (truth_element key true) m s ok_element ∙ ap (λ k. description ++ (truth_element k true ∷ (m ++ (s ++ ok_element ∷ [])))) named)
+
+pub query_sent : (old new : State) (to id : ℤ) (reply : Reply) (document frame bytes : List ℕ) (r : Result ⊤ ServeFault) → document ≡ reply_document reply → frame ≡ query_reply id to document → bytes ≡ frame
+    → OnOk r (Appends old.written new.written bytes) → OnOk r (IsFlushed new.written new.flushed) → OnOk r (IsSentToQuery old new to reply)
+query_sent old new to id reply document frame bytes (Err fault) p q s a f = tt
+query_sent old new to id reply document frame bytes (Ok done) p q s a f = record { id = id; appended = subst (Appends old.written new.written) (s ∙ q ∙ ap (query_reply id to) p) a; flushed = f }

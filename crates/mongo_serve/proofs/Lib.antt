@@ -1,0 +1,11 @@
+pub mod Sent
+pub mod Turns
+pub mod FieldsPut
+pub mod Begun
+pub mod Carried
+pub mod Prepended
+pub mod Queried
+pub mod Described
+pub mod Responses
+pub mod Parts
+pub mod Stream

@@ -1,0 +1,94 @@
+-- What a session remembers, as requests come.
+use Rattle.std.proofs.Common.{◌≡◌, ℕ, Bool, true, false, Option, None, Some, IfSome, List, [], ◌∷◌, ◌++◌, refl, sym, ap, ◌∙◌, subst, append_assoc}
+use Rattle.std.specs.Borrow.{Bor}
+use Rattle.mongo_server.specs.Exchange.{Exchange, open_of, close_of}
+use Rattle.mongo_serve.specs.declared.open.Opened.{Opened}
+use Rattle.mongo_serve.specs.declared.session.Login.{Login}
+use Rattle.mongo_serve.specs.declared.session.Session.{Session}
+use Rattle.mongo_serve.specs.declared.settings.Settings.{Settings}
+use Rattle.mongo_serve.specs.Requests.{Opens, Continues}
+use Rattle.mongo_serve.specs.Login.{HasOpened, HasProved, HasLoggedIn, IsLoginOf, IsOpened, IsOpenedBy, Remembers}
+
+-- ---- one request more
+
+pub opened_later : (x : Exchange) (requests : List (List ℕ)) (d : List ℕ) → HasOpened x requests → HasOpened x (requests ++ d ∷ [])
+opened_later x requests d h = record {
+  before = h.before;
+  request = h.request;
+  after = h.after ++ d ∷ [];
+  split = ap (λ l. l ++ d ∷ []) h.split ∙ append_assoc h.before (h.request ∷ h.after) (d ∷ []);
+  opens = h.opens;
+}
+
+pub opened_now : (x : Exchange) (requests : List (List ℕ)) (d : List ℕ) → Opens d (open_of x) → HasOpened x (requests ++ d ∷ [])
+opened_now x requests d h = record { before = requests; request = d; after = []; split = refl; opens = h }
+
+pub proved_later : (x : Exchange) (requests : List (List ℕ)) (d : List ℕ) → HasProved x requests → HasProved x (requests ++ d ∷ [])
+proved_later x requests d h = record {
+  before = h.before;
+  request = h.request;
+  after = h.after ++ d ∷ [];
+  split = ap (λ l. l ++ d ∷ []) h.split ∙ append_assoc h.before (h.request ∷ h.after) (d ∷ []);
+  opened = h.opened;
+  closes = h.closes;
+}
+
+pub proved_now : (x : Exchange) (requests : List (List ℕ)) (d : List ℕ) → HasOpened x requests → Continues d (close_of x) → HasProved x (requests ++ d ∷ [])
+proved_now x requests d h c = record { before = requests; request = d; after = []; split = refl; opened = h; closes = c }
+
+logged_in_later : (settings : Settings) (name : List ℕ) (requests : List (List ℕ)) (d : List ℕ) → HasLoggedIn settings name requests → HasLoggedIn settings name (requests ++ d ∷ [])
+logged_in_later settings name requests d h = record { x = h.x; of_settings = h.of_settings; name_is = h.name_is; proved = proved_later h.x requests d h.proved }
+
+pub user_later : (settings : Settings) (user : Option (List ℕ)) (requests : List (List ℕ)) (d : List ℕ) → IfSome user (λ name. HasLoggedIn settings name requests)
+    → IfSome user (λ name. HasLoggedIn settings name (requests ++ d ∷ []))
+user_later settings None requests d h = tt
+user_later settings (Some name) requests d h = logged_in_later settings name requests d h
+
+pub login_later : (settings : Settings) (login : Option Login) (requests : List (List ℕ)) (d : List ℕ) → IfSome login (IsLoginOf settings requests)
+    → IfSome login (IsLoginOf settings (requests ++ d ∷ []))
+login_later settings None requests d h = tt
+login_later settings (Some login) requests d h = record {
+  x = h.x;
+  of_settings = h.of_settings;
+  name_is = h.name_is;
+  begun = h.begun;
+  opened = opened_later h.x requests d h.opened;
+  proved = λ is. proved_later h.x requests d (h.proved is);
+}
+
+pub remembers_later : (settings : Settings) (requests : List (List ℕ)) (d : List ℕ) (session : Session) → Remembers settings requests session → Remembers settings (requests ++ d ∷ []) session
+remembers_later settings requests d session h = record { user = user_later settings session.user requests d h.user; login = login_later settings session.login requests d h.login }
+
+-- no login goes on
+pub remembers_alone : (settings : Settings) (requests : List (List ℕ)) (d : List ℕ) (session : Session) → session.login ≡ None → IfSome session.user (λ name. HasLoggedIn settings name requests)
+    → Remembers settings (requests ++ d ∷ []) session
+remembers_alone settings requests d session none h = record { user = user_later settings session.user requests d h; login = subst (λ o. IfSome o (IsLoginOf settings (requests ++ d ∷ []))) (sym none) tt }
+
+-- ---- a login that begins
+
+pub opens_with : (settings : Settings) (requests : List (List ℕ)) (d : List ℕ) (payload : Option (Bor (List ℕ))) (opened : Opened) → IsOpenedBy settings payload opened → IfSome payload (λ p. Opens d p.now)
+    → IsLoginOf settings (requests ++ d ∷ []) opened.login
+opens_with settings requests d payload opened h said =
+    let message : IfSome (Some h.message) (λ p. Opens d p.now) = subst (λ o. IfSome o (λ p. Opens d p.now)) h.given said in
+    let opens : Opens d (open_of h.is_opened.x) = subst (Opens d) h.is_opened.begins.said message in
+    record {
+      x = h.is_opened.x;
+      of_settings = h.is_opened.of_settings;
+      name_is = h.is_opened.begins.name_is;
+      begun = h.is_opened.begins.begun;
+      opened = opened_now h.is_opened.x requests d opens;
+      proved = λ is. absurd (differ h.is_opened.begins.unproved is);
+    }
+  where
+    differ : {b : Bool} → b ≡ false → b ≡ true → ⊥
+    differ p q = cc
+
+-- ---- a login that ends
+
+-- the client's last message proves the key, and the user is logged in
+pub logged_in_now : (settings : Settings) (requests : List (List ℕ)) (d : List ℕ) (login : Login) → (h : IsLoginOf settings requests login) → Continues d (close_of h.x) → HasLoggedIn settings login.name (requests ++ d ∷ [])
+logged_in_now settings requests d login h c = record { x = h.x; of_settings = h.of_settings; name_is = h.name_is; proved = proved_now h.x requests d h.opened c }
+
+-- the key was proved before
+pub logged_in_before : (settings : Settings) (requests : List (List ℕ)) (d : List ℕ) (login : Login) → IsLoginOf settings requests login → login.is_proved ≡ true → HasLoggedIn settings login.name (requests ++ d ∷ [])
+logged_in_before settings requests d login h is = record { x = h.x; of_settings = h.of_settings; name_is = h.name_is; proved = proved_later h.x requests d (h.proved is) }

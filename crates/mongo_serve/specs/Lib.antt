@@ -1,0 +1,10 @@
+pub mod Answers
+pub mod Faults
+pub mod Login
+pub mod PutBack
+pub mod Replies
+pub mod Requests
+pub mod Run
+pub mod Sent
+pub mod Served
+pub mod Taken

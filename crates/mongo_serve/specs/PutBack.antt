@@ -1,0 +1,8 @@
+-- A link to which bytes were put back: what it has left is those bytes, and then what the link has left.
+use Rattle.std.specs.Prelude.{ℕ, List, drop}
+use Rattle.std.specs.Io.KnownBytes.{prepend_known}
+use Rattle.mongo_wire.specs.Outside.{State}
+use Rattle.mongo_serve.specs.declared.put_back.PutBack.{PutBack}
+
+abbrev pub state_of : {L : Type 0} → (L → State) → PutBack L → State
+state_of state s = record (state s.link) { left = prepend_known (drop s.at s.front.items) (state s.link).left }

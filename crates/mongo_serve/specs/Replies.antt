@@ -1,0 +1,110 @@
+-- What the replies say, as documents.
+use Rattle.std.specs.Prelude.{ℕ, ℤ, pos, Bool, true, false, Option, None, Some, List, [], ◌∷◌, ◌++◌, codes, if◌then◌else◌}
+use Rattle.std.specs.Int.{to_le_bytes, cast_unsigned, w64}
+use Rattle.mongo_bson.specs.Document.{Element}
+use Rattle.mongo_command.specs.Literal.{text_element, document_element, truth_element, int32_element, document_of}
+use Rattle.mongo_sasl.specs.Commands.{generic_element}
+use Rattle.mongo_serve.specs.declared.reply.Reply.{Reply}
+use Rattle.mongo_serve.specs.declared.reply.Reply.TheVariants.{Hello, Sasl, BuildInfo, Done, Refused}
+use Rattle.mongo_serve.specs.declared.reply.HelloReply.{HelloReply}
+use Rattle.mongo_serve.specs.declared.reply.SaslReply.{SaslReply}
+use Rattle.mongo_serve.specs.declared.reply.Mechanisms.{Mechanisms}
+use Rattle.mongo_serve.specs.declared.reply.Mechanisms.TheVariants.{Sha1, Sha256, Both}
+use Rattle.mongo_serve.specs.declared.reply.Refusal.{Refusal}
+use Rattle.mongo_serve.specs.declared.reply.Refusal.TheVariants.{AuthenticationFailed, Unauthorized, CommandNotFound}
+
+-- ---- elements
+
+-- a double by its 64 bits (IEEE 754 binary64)
+abbrev pub double_element : List ℕ → ℕ → Element
+double_element key bits = record { kind = 0x01; key = key; value = to_le_bytes w64 bits }
+
+abbrev pub date_element : List ℕ → ℤ → Element
+date_element key milliseconds = record { kind = 0x09; key = key; value = to_le_bytes w64 (cast_unsigned w64 milliseconds) }
+
+abbrev pub array_element : List ℕ → List ℕ → Element
+array_element key array = record { kind = 0x04; key = key; value = array }
+
+-- `ok` 1.0
+abbrev pub ok_element : Element
+ok_element = double_element (codes "ok") 0x3FF0000000000000
+
+-- ---- documents
+
+abbrev pub done_document : List ℕ
+done_document = document_of (ok_element ∷ [])
+
+-- a command error
+abbrev pub error_document : List ℕ → ℤ → List ℕ → List ℕ
+error_document message code name = document_of (double_element (codes "ok") 0 ∷ text_element (codes "errmsg") message ∷ int32_element (codes "code") code ∷ text_element (codes "codeName") name ∷ [])
+
+abbrev pub refusal_document : Refusal → List ℕ
+refusal_document AuthenticationFailed = error_document (codes "Authentication failed.") (pos 18) (codes "AuthenticationFailed")
+refusal_document Unauthorized = error_document (codes "Command requires authentication") (pos 13) (codes "Unauthorized")
+refusal_document (CommandNotFound name) = error_document (codes "no such command: '" ++ (name ++ codes "'")) (pos 59) (codes "CommandNotFound")
+
+-- a message of a login
+abbrev pub sasl_document : SaslReply → List ℕ
+sasl_document message = document_of (int32_element (codes "conversationId") (pos 1) ∷ truth_element (codes "done") message.is_done ∷ generic_element (codes "payload") message.payload ∷ ok_element ∷ [])
+
+-- the array [7, 0, 0, 0]
+abbrev pub version_document : List ℕ
+version_document = document_of (int32_element (codes "0") (pos 7) ∷ int32_element (codes "1") (pos 0) ∷ int32_element (codes "2") (pos 0) ∷ int32_element (codes "3") (pos 0) ∷ [])
+
+abbrev pub build_info_document : List ℕ
+build_info_document =
+    document_of (
+        text_element (codes "version") (codes "7.0.0")
+        ∷ text_element (codes "gitVersion") []
+        ∷ array_element (codes "versionArray") version_document
+        ∷ int32_element (codes "maxBsonObjectSize") (pos 16777216)
+        ∷ ok_element
+        ∷ [])
+
+-- ---- a hello's
+
+-- what is said of the server, whoever asks
+abbrev pub description : List Element
+description =
+    truth_element (codes "helloOk") true
+    ∷ int32_element (codes "maxBsonObjectSize") (pos 16777216)
+    ∷ int32_element (codes "maxMessageSizeBytes") (pos 48000000)
+    ∷ int32_element (codes "maxWriteBatchSize") (pos 100000)
+    ∷ date_element (codes "localTime") (pos 0)
+    ∷ int32_element (codes "logicalSessionTimeoutMinutes") (pos 30)
+    ∷ int32_element (codes "connectionId") (pos 1)
+    ∷ int32_element (codes "minWireVersion") (pos 0)
+    ∷ int32_element (codes "maxWireVersion") (pos 21)
+    ∷ truth_element (codes "readOnly") false
+    ∷ []
+
+-- the key that says that writes are taken
+abbrev pub writable_key : Bool → List ℕ
+writable_key true = codes "ismaster"
+writable_key false = codes "isWritablePrimary"
+
+-- an array of the mechanisms' names
+abbrev pub names_document : Mechanisms → List ℕ
+names_document Sha1 = document_of (text_element (codes "0") (codes "SCRAM-SHA-1") ∷ [])
+names_document Sha256 = document_of (text_element (codes "0") (codes "SCRAM-SHA-256") ∷ [])
+names_document Both = document_of (text_element (codes "0") (codes "SCRAM-SHA-1") ∷ text_element (codes "1") (codes "SCRAM-SHA-256") ∷ [])
+
+abbrev pub mechanism_elements : Option Mechanisms → List Element
+mechanism_elements None = []
+mechanism_elements (Some mechanisms) = array_element (codes "saslSupportedMechs") (names_document mechanisms) ∷ []
+
+abbrev pub speculation_elements : Option SaslReply → List Element
+speculation_elements None = []
+speculation_elements (Some message) = document_element (codes "speculativeAuthenticate") (sasl_document message) ∷ []
+
+abbrev pub hello_elements : HelloReply → List Element
+hello_elements hello = description ++ (truth_element (writable_key hello.is_legacy) true ∷ (mechanism_elements hello.mechanisms ++ (speculation_elements hello.speculation ++ ok_element ∷ [])))
+
+-- ---- the document of a reply
+
+abbrev pub reply_document : Reply → List ℕ
+reply_document (Hello hello) = document_of (hello_elements hello)
+reply_document (Sasl message) = sasl_document message
+reply_document BuildInfo = build_info_document
+reply_document Done = done_document
+reply_document (Refused refusal) = refusal_document refusal

@@ -1,0 +1,46 @@
+-- The frames that requests come in.
+use Rattle.std.specs.Prelude.{◌≡◌, ℕ, pos, ◌⊎◌, List, ◌∷◌, ◌++◌, length, codes}
+use Rattle.mongo_bson.specs.Document.{IsCstring}
+use Rattle.mongo_bson.specs.Framed.{IsFramed}
+use Rattle.mongo_wire.specs.Frame.{Frame, IsFrame}
+use Rattle.mongo_wire.specs.Header.{signed_at}
+use Rattle.mongo_serve.specs.Requests.{HasInside, IsNamed}
+
+-- the command of a query's document: the document itself, or what it wraps as `$query`
+abbrev pub IsCommandOf : List ℕ → List ℕ → Type 0
+IsCommandOf document command = (command ≡ document) ⊎ (IsNamed document (codes "$query") × HasInside document (codes "$query") command)
+
+-- what follows the header of an OP_QUERY on `admin.$cmd`: int32 flags, the collection's name, two int32, a document, and what may
+-- follow it
+pub record IsQueryOf (body document : List ℕ) : Type 0 where
+  pub flags : List ℕ
+  pub numbers : List ℕ
+  pub more : List ℕ
+  pub spelled : body ≡ flags ++ (codes "admin.$cmd" ++ (0 ∷ (numbers ++ (document ++ more))))
+  pub flags_four : length flags ≡ 4
+  pub numbers_eight : length numbers ≡ 8
+
+-- the same, with the command that its document asks for
+pub record IsQueryBody (body command : List ℕ) : Type 0 where
+  pub document : List ℕ
+  pub is_query : IsQueryOf body document
+  pub framed : IsFramed document
+  pub command_is : IsCommandOf document command
+
+-- an OP_QUERY, op code 2004, whose length field is its length
+pub record IsQuery (frame command : List ℕ) : Type 0 where
+  pub header : List ℕ
+  pub body : List ℕ
+  pub spelled : frame ≡ header ++ body
+  pub sixteen : length header ≡ 16
+  pub counted : signed_at 0 header ≡ pos (length frame)
+  pub code : signed_at 12 header ≡ pos 2004
+  pub is_body : IsQueryBody body command
+
+-- an OP_MSG whose body is the document
+abbrev pub IsMessage : List ℕ → List ℕ → Type 0
+IsMessage frame document = (parts : Frame) × IsFrame frame parts × (parts.body ≡ document)
+
+-- a frame that carries a request, and the request's document
+abbrev pub Carries : List ℕ → List ℕ → Type 0
+Carries frame document = IsMessage frame document ⊎ IsQuery frame document

@@ -1,0 +1,133 @@
+//! One step of a session: a request, and the reply to it.
+
+ghost use Rattle.std.specs.Prelude.{◌≡◌, ℕ, false, List, [], ◌∷◌, ◌++◌, IfSome, IfOk, IfErr, OnOk, OnErr};
+ghost use Rattle.mongo_serve.specs.Answers.{guarded_by, IsAnswer, IsLoginReply};
+ghost use Rattle.mongo_serve.specs.Login.{Remembers};
+ghost use Rattle.mongo_serve.specs.Requests.{CarriesStart, IsGreeting, Says, SaysHello};
+ghost use Rattle.mongo_serve.specs.declared.fault.ServeFault.TheVariants.{OutOfMemory};
+
+use crate::fault::ServeFault;
+use crate::reply::{HelloReply, Mechanisms, Refusal, Reply, SaslReply};
+use crate::request::{Hello, Request, SaslStart};
+use crate::session::Session;
+use crate::settings::{Account, Settings};
+use mongo_bson::Text;
+use mongo_mac::Steps;
+use mongo_scram::ScramVersion;
+use std::alloc::Global;
+use std::sync::ledger::Ledger;
+
+/// Answers a request.
+pub fn answer<G: Ledger>(
+    alloc: Global,
+    settings: &Settings,
+    session: &mut Session,
+    request: Request<'_>,
+    steps: &mut Steps<G>,
+) -> Result<Reply, ServeFault>
+    // Who is logged in afterwards has sent the messages of a login, this request among them.
+    ensures remembers { (requests : List (List ℕ)) (document : List ℕ) → Remembers settings.now requests session.old → Says document request.entry → OnOk result (Remembers settings.now (requests ++ document ∷ []) session.new) }
+    ensures answered { IfOk result (IsAnswer session.old request.entry session.new) }
+    ensures kept { OnErr result (session.new.user ≡ session.old.user) }
+    ensures refused { IfErr result (λ fault. fault ≡ OutOfMemory) }
+{
+    match request {
+        Request::Hello(hello) => Ok(Reply::Hello(greet(alloc, settings, session, hello, steps)?)),
+        Request::SaslStart(start) => Ok(login_reply(session.start(alloc, settings, start, steps)?)),
+        Request::SaslContinue(next) => Ok(login_reply(session.go_on(alloc, next)?)),
+        Request::Ping => Ok(guarded(session, Reply::Done)),
+        Request::BuildInfo => Ok(guarded(session, Reply::BuildInfo)),
+        Request::EndSessions => Ok(guarded(session, Reply::Done)),
+        Request::Other(name) => {
+            let name = Text::from_slice(alloc, name)?;
+            Ok(guarded(session, Reply::Refused(Refusal::CommandNotFound(name))))
+        }
+    }
+}
+
+/// Answers a hello, and begins the login that it carries.
+pub fn greet<G: Ledger>(
+    alloc: Global,
+    settings: &Settings,
+    session: &mut Session,
+    hello: Hello<'_>,
+    steps: &mut Steps<G>,
+) -> Result<HelloReply, ServeFault>
+    ensures remembers { (requests : List (List ℕ)) (document : List ℕ) → Remembers settings.now requests session.old → SaysHello document hello.entry → Remembers settings.now (requests ++ document ∷ []) session.new }
+    ensures user { session.new.user ≡ session.old.user }
+    ensures legacy { IfOk result (λ reply. reply.is_legacy ≡ hello.entry.is_legacy) }
+    ensures undone { IfOk result (λ reply. IfSome reply.speculation (λ message. message.is_done ≡ false)) }
+    ensures refused { IfErr result (λ fault. fault ≡ OutOfMemory) }
+{
+    let speculation = begin(alloc, settings, session, hello.speculation, steps)?;
+    let mechanisms = match hello.mechanisms_of {
+        Some(user) => mechanisms_of(settings.accounts.as_slice(), user),
+        None => None,
+    };
+    Ok(HelloReply {
+        is_legacy: hello.is_legacy,
+        mechanisms,
+        speculation,
+    })
+}
+
+// Begins the login that a hello carries, where it carries one.
+fn begin<G: Ledger>(
+    alloc: Global,
+    settings: &Settings,
+    session: &mut Session,
+    speculation: Option<SaslStart<'_>>,
+    steps: &mut Steps<G>,
+) -> Result<Option<SaslReply>, ServeFault>
+    ensures remembers { (requests : List (List ℕ)) (document : List ℕ) → Remembers settings.now requests session.old → IsGreeting document → IfSome speculation.entry (CarriesStart document) →
+        Remembers settings.now (requests ++ document ∷ []) session.new }
+    ensures user { session.new.user ≡ session.old.user }
+    ensures undone { IfOk result (λ answer. IfSome answer (λ message. message.is_done ≡ false)) }
+    ensures refused { IfErr result (λ fault. fault ≡ OutOfMemory) }
+{
+    match speculation {
+        Some(start) => session.start(alloc, settings, start, steps),
+        None => Ok(None),
+    }
+}
+
+// The mechanisms of a user; None where no account is the user's.
+fn mechanisms_of(accounts: &[Account], user: &str) -> Option<Mechanisms> {
+    let by_sha1 = has_account(accounts, user, ScramVersion::Sha1);
+    let by_sha256 = has_account(accounts, user, ScramVersion::Sha256);
+    match (by_sha1, by_sha256) {
+        (true, true) => Some(Mechanisms::Both),
+        (true, false) => Some(Mechanisms::Sha1),
+        (false, true) => Some(Mechanisms::Sha256),
+        (false, false) => None,
+    }
+}
+
+fn has_account(accounts: &[Account], user: &str, version: ScramVersion) -> bool {
+    for account in accounts {
+        if account.version == version && account.name.as_str() == user {
+            return true;
+        }
+    }
+    false
+}
+
+// What a login's command is answered.
+fn login_reply(message: Option<SaslReply>) -> Reply
+    ensures { IsLoginReply message result }
+{
+    match message {
+        Some(message) => Reply::Sasl(message),
+        None => Reply::Refused(Refusal::AuthenticationFailed),
+    }
+}
+
+// The reply where somebody is logged in.
+fn guarded(session: &Session, reply: Reply) -> Reply
+    ensures { result ≡ guarded_by session.now.user reply }
+{
+    match &session.user {
+        Some(_user) => reply,
+        None => Reply::Refused(Refusal::Unauthorized),
+    }
+}

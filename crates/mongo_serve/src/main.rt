@@ -1,0 +1,59 @@
+//! `mongo_serve`: a server over one stream that lets MongoDB drivers log in by SCRAM, and answers `hello`, `ping`, `buildInfo` and
+//! `endSessions`.
+//!
+//! Standard input has one line of settings and then the client's bytes, standard output takes the replies, and standard error says how
+//! it ended. The call that serves is [`serve::serve`].
+#![tactic(auto)]
+
+mod answer;
+mod documents;
+mod fault;
+mod hello_document;
+mod open;
+mod put_back;
+mod query;
+mod reading;
+mod reply;
+mod reply_document;
+mod report;
+mod request;
+mod respond;
+mod run;
+mod serve;
+mod session;
+mod settings;
+mod settings_line;
+mod status;
+
+use mongo_wire::{StdLink, StdSink};
+use put_back::PutBack;
+use run::run_counted;
+use status::Status;
+use std::env;
+use std::io;
+use std::alloc::AllocGlobal;
+use std::marker::Brand;
+use std::process::ExitCode;
+use std::rt::Env;
+use std::sync::ledger::Blank;
+
+/// Serves the client on standard input and output, and ends with the run's status; with 3 where there are words after the program's
+/// name, and 6 where these can't be had.
+fn main(rt: HostRuntime) -> ExitCode {
+    let status = match has_words(&rt) {
+        Ok(true) => Status::Usage,
+        Ok(false) => run_counted::<_, _, Brand>(
+            rt.alloc(),
+            &mut PutBack::new(rt.alloc(), StdLink::new(rt.stdin(), rt.stdout())),
+            &mut StdSink::new(rt.stderr()),
+            Blank::new(1),
+        ),
+        Err(_) => Status::NoMemory,
+    };
+    ExitCode::from(status)
+}
+
+/// Whether there are words after the program's name.
+fn has_words(rt: &(impl Env + AllocGlobal)) -> io::Result<bool> {
+    Ok(env::args(rt)?.skip(1).next().is_some())
+}

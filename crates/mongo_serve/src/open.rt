@@ -1,0 +1,125 @@
+//! How a login begins: which account the client's first message is of, and the server's answer to it.
+
+ghost use Rattle.std.specs.Prelude.{◌≡◌, Contains, IfSome, IfOk, IfErr};
+ghost use Rattle.mongo_server.specs.ClientMessages.{IsNonce};
+ghost use Rattle.mongo_serve.specs.Login.{IsOpened, IsOpenedBy, IsOpenedFor};
+ghost use Rattle.mongo_serve.specs.declared.fault.ServeFault.TheVariants.{OutOfMemory};
+
+use crate::fault::ServeFault;
+use crate::request::SaslStart;
+use crate::session::Login;
+use crate::settings::{Account, Settings};
+use mongo_bson::Text;
+use mongo_mac::Steps;
+use mongo_scram::{ScramVersion, push_user_name};
+use mongo_server::{ServerCore, ServerFault, ServerUser};
+use mongo_wire::ErrorKind;
+use std::alloc::{AllocError, Global};
+use std::sync::ledger::Ledger;
+
+/// A login that began, and the server's first message in it.
+#[derive(Drop)]
+pub struct Opened {
+    /// The login.
+    pub login: Login,
+    /// The message.
+    pub answer: Text,
+}
+
+/// Opens the login that a `saslStart` asks for. None where it names no account.
+pub fn open_login<G: Ledger>(
+    alloc: Global,
+    settings: &Settings,
+    start: SaslStart<'_>,
+    steps: &mut Steps<G>,
+) -> Result<Option<Opened>, ServeFault>
+    ensures opened { IfOk result (λ found. IfSome found (IsOpenedBy settings.now start.entry.payload)) }
+    ensures refused { IfErr result (λ fault. fault ≡ OutOfMemory) }
+{
+    let (Some(version), Some(payload)) = (start.version, start.payload) else {
+        return Ok(None);
+    };
+    match account_of(alloc, settings.accounts.as_slice(), version, payload)? {
+        Some(account) => open(
+            alloc,
+            account,
+            settings.suffix.as_str(),
+            payload,
+            start.skips_empty_exchange,
+            steps,
+        ),
+        None => Ok(None),
+    }
+}
+
+// The account of that mechanism whose user the client's first message names.
+fn account_of<'a>(
+    alloc: Global,
+    accounts: &'a [Account],
+    version: ScramVersion,
+    payload: &[u8],
+) -> Result<Option<&'a Account>, AllocError>
+    ensures { IfOk result (λ found. IfSome found (λ account. Contains accounts.now account.now)) }
+{
+    for account in accounts {
+        if account.version == version && names(alloc, account.name.as_str(), payload)? {
+            return Ok(Some(account));
+        }
+    }
+    Ok(None)
+}
+
+// Whether a client's first message begins as one of that user does (RFC 5802, section 7).
+fn names(alloc: Global, name: &str, payload: &[u8]) -> Result<bool, AllocError> {
+    let mut front = String::from_str(alloc, "n,,n=")?;
+    push_user_name(&mut front, name)?;
+    front.push_str(",r=")?;
+    Ok(payload.starts_with(front.as_bytes()))
+}
+
+// The login of an account. The account's key is derived here.
+fn open<G: Ledger>(
+    alloc: Global,
+    account: &Account,
+    suffix: &str,
+    payload: &[u8],
+    skips_empty_exchange: bool,
+    steps: &mut Steps<G>,
+) -> Result<Option<Opened>, ServeFault>
+    requires { IsNonce suffix.now }
+    ensures opened { IfOk result (λ found. IfSome found (IsOpenedFor account.now suffix.now payload.now)) }
+    ensures refused { IfErr result (λ fault. fault ≡ OutOfMemory) }
+{
+    let salt = account.salt.try_clone(alloc)?;
+    let user = match ServerUser::new(
+        alloc,
+        account.version,
+        account.name.as_str(),
+        account.password.as_str(),
+        salt,
+        account.count,
+        steps,
+    ) {
+        Ok(user) => user,
+        Err(error) => {
+            return match error.kind {
+                ErrorKind::OutOfMemory => Err(ServeFault::OutOfMemory),
+                _ => Ok(None),
+            };
+        }
+    };
+    let mut core = ServerCore::new(user, Text::from_slice(alloc, suffix)?);
+    match core.first(alloc, payload) {
+        Ok(answer) => Ok(Some(Opened {
+            login: Login {
+                core,
+                name: account.name.try_clone(alloc)?,
+                skips_empty_exchange,
+                is_proved: false,
+            },
+            answer,
+        })),
+        Err(ServerFault::OutOfMemory) => Err(ServeFault::OutOfMemory),
+        Err(_) => Ok(None),
+    }
+}

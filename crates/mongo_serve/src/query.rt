@@ -1,0 +1,71 @@
+//! OP_QUERY, the question of old clients, with which new ones still say their first hello.
+
+ghost use Rattle.std.specs.Prelude.{◌≡◌, ℕ, List, ◌++◌, length, IfSome};
+ghost use Rattle.mongo_serve.specs.Taken.{IsCommandOf, IsQueryBody, IsQueryOf};
+
+use crate::request::{command_name, document_in};
+use mongo_bson::{RawDocument, take_cstring};
+
+/// The command that what follows the header of an OP_QUERY asks for: `int32` flags, the collection's name as a cstring, two `int32`, a
+/// document, and what may follow it. A document whose first key is `$query` wraps the command.
+///
+/// None where the bytes are no such body on `admin.$cmd`.
+pub fn command_of_query<'a>(body: &'a [u8]) -> Option<RawDocument<'a>>
+    ensures { IfSome result (λ command. IsQueryBody body.now command.bytes.now) }
+{
+    match document_of_query(body) {
+        Some(document) => command_of(document),
+        None => None,
+    }
+}
+
+// The command of a query's document.
+fn command_of<'a>(document: RawDocument<'a>) -> Option<RawDocument<'a>>
+    ensures { IfSome result (λ command. IsCommandOf document.entry.bytes.now command.bytes.now) }
+{
+    match command_name(document) {
+        "$query" => document_in(document, "$query"),
+        _ => Some(document),
+    }
+}
+
+// The document of a query on `admin.$cmd`.
+fn document_of_query<'a>(body: &'a [u8]) -> Option<RawDocument<'a>>
+    ensures { IfSome result (λ document. IsQueryOf body.now document.bytes.now) }
+{
+    let after_flags = after(body, 4)?;
+    let (collection, after_name) = take_cstring(after_flags)?;
+    match collection {
+        "admin.$cmd" => document_at_front(after(after_name, 8)?),
+        _ => None,
+    }
+}
+
+// What follows so many bytes.
+fn after(bytes: &[u8], count: usize) -> Option<&[u8]>
+    ensures { IfSome result (λ rest. (front : List ℕ) × (length front ≡ count) × (bytes.now ≡ front ++ rest.now)) }
+{
+    if bytes.len() < count {
+        return None;
+    }
+    let (_front, rest) = bytes.split_at(count);
+    Some(rest)
+}
+
+// The document at the front of the bytes.
+fn document_at_front<'a>(bytes: &'a [u8]) -> Option<RawDocument<'a>>
+    ensures { IfSome result (λ document. (more : List ℕ) × (bytes.now ≡ document.bytes.now ++ more)) }
+{
+    let [a, b, c, d, ..] = bytes else {
+        return None;
+    };
+    let length = u32::from_le_bytes([*a, *b, *c, *d]) as usize;
+    if bytes.len() < length {
+        return None;
+    }
+    let (front, _more) = bytes.split_at(length);
+    match RawDocument::from_bytes(front) {
+        Ok(document) => Some(document),
+        Err(_) => None,
+    }
+}

@@ -1,0 +1,117 @@
+//! The documents that say replies.
+
+ghost use Rattle.std.specs.Prelude.{◌≡◌, ℤ, IfOk, IfErr};
+ghost use Rattle.mongo_serve.specs.Replies.{reply_document, done_document, error_document, refusal_document, sasl_document, build_info_document, version_document};
+ghost use Rattle.mongo_serve.specs.Faults.{IsOfDocument};
+
+use crate::documents::{ONE, ZERO, document_of};
+use crate::fault::ServeFault;
+use crate::hello_document::hello_document;
+use crate::reply::{Refusal, Reply, SaslReply};
+use mongo_bson::{RawDocument, RawDocumentBuf, RawValue, Text};
+use std::alloc::Global;
+
+// The number of each conversation: there is one at a time.
+const CONVERSATION_ID: i32 = 1;
+
+// The subtype of a generic binary, BSON 1.1.
+const GENERIC: u8 = 0;
+
+/// The greatest document, in bytes.
+pub const MAX_BSON_OBJECT_SIZE: i32 = 16_777_216;
+
+/// The document that says a reply.
+///
+/// `ReplyTooLong` where it would pass 2147483647 bytes.
+pub fn document_of_reply(alloc: Global, reply: &Reply) -> Result<RawDocumentBuf, ServeFault>
+    ensures document { IfOk result (λ document. document ≡ reply_document reply.now) }
+    ensures refused { IfErr result IsOfDocument }
+{
+    match reply {
+        Reply::Hello(hello) => hello_document(alloc, hello),
+        Reply::Sasl(message) => sasl_document(alloc, message),
+        Reply::BuildInfo => build_info_document(alloc),
+        Reply::Done => done_document(alloc),
+        Reply::Refused(refusal) => refusal_document(alloc, refusal),
+    }
+}
+
+fn done_document(alloc: Global) -> Result<RawDocumentBuf, ServeFault>
+    ensures document { IfOk result (λ document. document ≡ done_document) }
+    ensures refused { IfErr result IsOfDocument }
+{
+    Ok(document_of(alloc, &[("ok", RawValue::Double(ONE))])?)
+}
+
+fn refusal_document(alloc: Global, refusal: &Refusal) -> Result<RawDocumentBuf, ServeFault>
+    ensures document { IfOk result (λ document. document ≡ refusal_document refusal.now) }
+    ensures refused { IfErr result IsOfDocument }
+{
+    match refusal {
+        Refusal::AuthenticationFailed => {
+            error_document(alloc, "Authentication failed.", 18, "AuthenticationFailed")
+        }
+        Refusal::Unauthorized => {
+            error_document(alloc, "Command requires authentication", 13, "Unauthorized")
+        }
+        Refusal::CommandNotFound(name) => {
+            let mut text = Text::from_slice(alloc, "no such command: '")?;
+            text.push_str(name.as_str())?;
+            text.push_str("'")?;
+            error_document(alloc, text.as_str(), 59, "CommandNotFound")
+        }
+    }
+}
+
+// The document of a command error.
+fn error_document<'x>(
+    alloc: Global,
+    message: &'x str,
+    code: i32,
+    name: &'x str,
+) -> Result<RawDocumentBuf, ServeFault>
+    ensures document { IfOk result (λ document. document ≡ error_document message.now code name.now) }
+    ensures refused { IfErr result IsOfDocument }
+{
+    let ok = ("ok", RawValue::Double(ZERO));
+    let message = ("errmsg", RawValue::Str(message));
+    let code = ("code", RawValue::Int32(code));
+    let name = ("codeName", RawValue::Str(name));
+    Ok(document_of(alloc, &[ok, message, code, name])?)
+}
+
+/// The reply to a command of a login.
+pub fn sasl_document(alloc: Global, message: &SaslReply) -> Result<RawDocumentBuf, ServeFault>
+    ensures document { IfOk result (λ document. document ≡ sasl_document message.now) }
+    ensures refused { IfErr result IsOfDocument }
+{
+    let id = ("conversationId", RawValue::Int32(CONVERSATION_ID));
+    let done = ("done", RawValue::Bool(message.is_done));
+    let payload = RawValue::Binary(GENERIC, message.payload.as_bytes());
+    let ok = ("ok", RawValue::Double(ONE));
+    Ok(document_of(alloc, &[id, done, ("payload", payload), ok])?)
+}
+
+fn build_info_document(alloc: Global) -> Result<RawDocumentBuf, ServeFault>
+    ensures document { IfOk result (λ document. document ≡ build_info_document) }
+    ensures refused { IfErr result IsOfDocument }
+{
+    let version = ("version", RawValue::Str("7.0.0"));
+    let git = ("gitVersion", RawValue::Str(""));
+    let numbers = ("versionArray", RawValue::Array(version_numbers()));
+    let size = ("maxBsonObjectSize", RawValue::Int32(MAX_BSON_OBJECT_SIZE));
+    let ok = ("ok", RawValue::Double(ONE));
+    Ok(document_of(alloc, &[version, git, numbers, size, ok])?)
+}
+
+// The array [7, 0, 0, 0].
+fn version_numbers() -> RawDocument<'static>
+    ensures { result.bytes.now ≡ version_document }
+{
+    match RawDocument::from_bytes(
+        b"!\0\0\0\x100\0\x07\0\0\0\x101\0\0\0\0\0\x102\0\0\0\0\0\x103\0\0\0\0\0\0",
+    ) {
+        Ok(numbers) => numbers,
+        Err(_) => unreachable!(),
+    }
+}

@@ -1,0 +1,140 @@
+//! Writing replies.
+
+ghost use Rattle.std.specs.Prelude.{◌≡◌, ◌+◌, ◌^◌, ◌<◌, length, IfOk, IfErr, OnOk};
+ghost use Rattle.std.specs.Io.KnownBytes.{Appends};
+ghost use Rattle.mongo_wire.specs.Outside.{IsFlushed, WritesOn};
+ghost use Rattle.mongo_serve.specs.Faults.{IsOfWriting};
+ghost use Rattle.mongo_serve.specs.Sent.{query_reply, AppendsSome, IsSent, IsSentToQuery, SendsReply};
+ghost use Rattle.mongo_serve.specs.declared.fault.ServeFault.TheVariants.{OutOfMemory};
+
+use crate::fault::ServeFault;
+use crate::reply::Reply;
+use crate::reply_document::document_of_reply;
+use bitflags::Flags;
+use mongo_bson::RawDocumentBuf;
+use mongo_wire::{Message, MessageFlags, RequestIds, Sequences, Sink, write_all};
+use std::alloc::Global;
+
+/// Answers an OP_MSG of this id and these flags: writes the reply as an OP_MSG and flushes it, or writes nothing where the client says
+/// that it sends more.
+pub fn respond<K: Sink>(
+    alloc: Global,
+    sink: &mut K,
+    request_id: i32,
+    flags: MessageFlags,
+    reply: &Reply,
+    ids: &mut RequestIds,
+) -> Result<(), ServeFault>
+    ensures sent { OnOk result (IsSent (K.state sink.old) (K.state sink.new) request_id flags.0 reply.now) }
+    ensures front { AppendsSome (K.state sink.old) (K.state sink.new) }
+    ensures on { WritesOn (K.state sink.old) (K.state sink.new) }
+    ensures refused { IfErr result IsOfWriting }
+{
+    if flags.contains(MessageFlags::MORE_TO_COME) {
+        return Ok(());
+    }
+    match document_of_reply(alloc, reply) {
+        Ok(document) => send_message(alloc, sink, request_id, document, ids),
+        Err(fault) => Err(fault),
+    }
+}
+
+// Writes a document as an OP_MSG, and flushes it.
+fn send_message<K: Sink>(
+    alloc: Global,
+    sink: &mut K,
+    request_id: i32,
+    document: RawDocumentBuf,
+    ids: &mut RequestIds,
+) -> Result<(), ServeFault>
+    ensures sent { OnOk result (SendsReply (K.state sink.old) (K.state sink.new) request_id document) }
+    ensures front { AppendsSome (K.state sink.old) (K.state sink.new) }
+    ensures on { WritesOn (K.state sink.old) (K.state sink.new) }
+    ensures refused { IfErr result IsOfWriting }
+{
+    let message = Message {
+        document_payload: document,
+        document_sequences: Sequences::new(alloc),
+        response_to: request_id,
+        flags: MessageFlags::empty(),
+        checksum: None,
+        request_id: None,
+    };
+    match message.write_op_msg_to(alloc, sink, None, ids) {
+        Ok(()) => Ok(()),
+        Err(error) => Err(error.into()),
+    }
+}
+
+// What an OP_REPLY has between its ids and its document: op code 1, responseFlags 8 (AwaitCapable), cursorID 0, startingFrom 0,
+// numberReturned 1.
+const REPLY_START: [u8; 24] = [
+    1, 0, 0, 0, 8, 0, 0, 0, 0, 0, 0, 0, 0, 0, 0, 0, 0, 0, 0, 0, 1, 0, 0, 0,
+];
+
+// The greatest document of an OP_REPLY.
+const MAXIMUM: usize = 48_000_000;
+
+/// Answers an OP_QUERY of this id: writes the reply as an OP_REPLY, and flushes it.
+pub fn respond_to_query<K: Sink>(
+    alloc: Global,
+    sink: &mut K,
+    request_id: i32,
+    reply: &Reply,
+    ids: &mut RequestIds,
+) -> Result<(), ServeFault>
+    ensures sent { OnOk result (IsSentToQuery (K.state sink.old) (K.state sink.new) request_id reply.now) }
+    ensures front { AppendsSome (K.state sink.old) (K.state sink.new) }
+    ensures on { WritesOn (K.state sink.old) (K.state sink.new) }
+    ensures refused { IfErr result IsOfWriting }
+{
+    let document = match document_of_reply(alloc, reply) {
+        Ok(document) => document,
+        Err(fault) => return Err(fault),
+    };
+    if document.as_bytes().len() > MAXIMUM {
+        return Err(ServeFault::ReplyTooLong);
+    }
+    let frame = match frame_of_reply(alloc, ids.draw(), request_id, document.as_bytes()) {
+        Ok(frame) => frame,
+        Err(fault) => return Err(fault),
+    };
+    send(sink, frame.as_slice())
+}
+
+// The frame of an OP_REPLY.
+fn frame_of_reply(
+    alloc: Global,
+    id: i32,
+    to: i32,
+    document: &[u8],
+) -> Result<Vec<u8>, ServeFault>
+    requires { length document.now + 36 < 2 ^ 31 }
+    ensures frame { IfOk result (λ frame. frame.items ≡ query_reply id to document.now) }
+    ensures refused { IfErr result (λ fault. fault ≡ OutOfMemory) }
+{
+    let length = (document.len() + 36) as u32;
+    let mut frame = Vec::from_slice(alloc, &length.to_le_bytes())?;
+    frame.extend_from_slice(&id.to_le_bytes())?;
+    frame.extend_from_slice(&to.to_le_bytes())?;
+    frame.extend_from_slice(&REPLY_START)?;
+    frame.extend_from_slice(document)?;
+    Ok(frame)
+}
+
+// Writes bytes and flushes them.
+fn send<K: Sink>(sink: &mut K, bytes: &[u8]) -> Result<(), ServeFault>
+    ensures written { OnOk result (Appends (K.state sink.old).written (K.state sink.new).written bytes.now) }
+    ensures flushed { OnOk result (IsFlushed (K.state sink.new).written (K.state sink.new).flushed) }
+    ensures front { AppendsSome (K.state sink.old) (K.state sink.new) }
+    ensures on { WritesOn (K.state sink.old) (K.state sink.new) }
+    ensures refused { IfErr result IsOfWriting }
+{
+    match write_all(sink, bytes) {
+        Ok(()) => match sink.flush() {
+            Ok(()) => Ok(()),
+            Err(fault) => Err(fault.into()),
+        },
+        Err(fault) => Err(fault.into()),
+    }
+}

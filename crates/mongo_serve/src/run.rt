@@ -1,0 +1,77 @@
+//! The top call.
+
+ghost use Rattle.std.specs.Prelude.{◌≡◌, ◌<◌};
+
+#[cfg(test)]
+mod tests;
+
+use crate::fault::ServeFault;
+use crate::put_back::PutBack;
+use crate::report::report_of;
+use crate::serve::serve;
+use crate::settings_line::{LineError, read_settings};
+use crate::status::Status;
+use mongo_mac::Steps;
+use mongo_wire::{Link, Sink, write_all};
+use std::alloc::Global;
+use std::sync::ledger::{Blank, Ledger};
+
+/// Reads settings from the link's first line, serves the client that follows it, and says on `report` how that ended. Where the report
+/// can't be written, the status alone says it.
+pub fn run<L: Link, K: Sink, G: Ledger>(
+    alloc: Global,
+    link: &mut PutBack<L>,
+    report: &mut K,
+    steps: &mut Steps<G>,
+) -> Status {
+    let settings = match read_settings(alloc, link) {
+        Ok(settings) => settings,
+        Err(LineError::BadSettings) => {
+            say(report, b"the first line is no settings\n");
+            return Status::BadSettings;
+        }
+        Err(LineError::Fault) => {
+            say(report, b"the link failed within the first line\n");
+            return Status::Broken;
+        }
+        Err(LineError::OutOfMemory) => {
+            say(report, b"out of memory\n");
+            return Status::NoMemory;
+        }
+    };
+    let served = serve(alloc, &settings, link, steps);
+    match report_of(alloc, &served) {
+        Ok(text) => say(report, text.as_bytes()),
+        Err(_) => say(report, b"out of memory\n"),
+    }
+    status_of(served.fault)
+}
+
+/// [`run`] with a counter of its own, of the ledger that `blank` opens.
+pub fn run_counted<L: Link, K: Sink, G: Ledger>(
+    alloc: Global,
+    link: &mut PutBack<L>,
+    report: &mut K,
+    blank: Blank,
+) -> Status
+    requires name { blank.name ≡ G.name }
+    requires parts { blank.parts ≡ G.parts }
+    requires has_a_part { 0 < G.parts }
+{
+    let mut steps = Steps::<G>::new(blank);
+    run(alloc, link, report, &mut steps)
+}
+
+fn status_of(fault: Option<ServeFault>) -> Status {
+    match fault {
+        None => Status::Ended,
+        Some(ServeFault::OutOfMemory) => Status::NoMemory,
+        Some(_) => Status::Broken,
+    }
+}
+
+// Says a line or more on the report, where it can.
+fn say<K: Sink>(report: &mut K, text: &[u8]) {
+    let _ = write_all(report, text);
+    let _ = report.flush();
+}

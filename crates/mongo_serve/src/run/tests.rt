@@ -1,0 +1,112 @@
+use super::run_counted;
+use crate::put_back::PutBack;
+use crate::status::Status;
+use mongo_bson::{BsonFault, Bytes};
+use mongo_wire::{FailingLink, MemoryLink};
+use std::alloc::Global;
+use std::marker::Brand;
+use std::sync::ledger::Blank;
+use std::test::Fail;
+
+// Settings of one user, and their line's end.
+const SETTINGS: &[u8] =
+    b"{\"users\":[{\"name\":\"user\",\"password\":\"pencil\",\"mechanisms\":[\"SCRAM-SHA-1\"],\"salts\":[\"ad0f\"],\"count\":4096}],\"nonce\":\"srv\"}\n";
+
+const PING: &[u8] =
+    b"3\0\0\0\x07\0\0\0\0\0\0\0\xdd\x07\0\0\0\0\0\0\0\x1e\0\0\0\x10ping\0\x01\0\0\0\x02$db\0\x06\0\0\0admin\0\0";
+
+// How the program ends on these bytes, and whether it says the line.
+fn ends(
+    alloc: Global,
+    settings: &[u8],
+    frames: &[u8],
+    line: &str,
+) -> Result<(Status, bool), BsonFault> {
+    let mut input = Bytes::from_slice(alloc, settings)?;
+    input.extend_from_slice(frames)?;
+    let mut link = PutBack::new(alloc, MemoryLink::new(alloc, input));
+    let mut report = MemoryLink::new(alloc, Bytes::new(alloc));
+    let status = run_counted::<_, _, Brand>(alloc, &mut link, &mut report, Blank::new(1));
+    Ok((status, report.written().ends_with(line.as_bytes())))
+}
+
+#[test]
+fn bytes_decide_how_it_ends(rt: HostRuntime) -> Result<(), Fail> {
+    let ended = "the client ended its stream\n";
+    let no_frame = "what came is no frame of this protocol\n";
+    for (frames, status, line) in [
+        (b"".as_slice(), Status::Ended, ended),
+        (PING, Status::Ended, ended),
+        (b"3\0\0\0\x07".as_slice(), Status::Broken, "the stream ended within a frame\n"),
+        (b"GET / HTTP/1.1\r\n".as_slice(), Status::Broken, no_frame),
+        // an OP_COMPRESSED, an OP_MSG of 48000001 bytes, and an OP_QUERY of 15
+        (b"\x10\0\0\0\x01\0\0\0\0\0\0\0\xdc\x07\0\0".as_slice(), Status::Broken, no_frame),
+        (b"\x01l\xdc\x02\x01\0\0\0\0\0\0\0\xdd\x07\0\0".as_slice(), Status::Broken, no_frame),
+        (b"\x0f\0\0\0\x01\0\0\0\0\0\0\0\xd4\x07\0\0".as_slice(), Status::Broken, no_frame),
+        // an OP_QUERY of ping, and one of hello on another database
+        (
+            b"6\0\0\0\x01\0\0\0\0\0\0\0\xd4\x07\0\0\x04\0\0\0admin.$cmd\0\0\0\0\0\xff\xff\xff\xff\x0f\0\0\0\x10ping\0\x01\0\0\0\0".as_slice(),
+            Status::Broken,
+            "an OP_QUERY asked for another command than hello\n",
+        ),
+        (
+            b"6\0\0\0\x01\0\0\0\0\0\0\0\xd4\x07\0\0\x04\0\0\0test.$cmd\0\0\0\0\0\xff\xff\xff\xff\x10\0\0\0\x10hello\0\x01\0\0\0\0".as_slice(),
+            Status::Broken,
+            no_frame,
+        ),
+    ] {
+        let (came, says) = ends(rt.alloc(), SETTINGS, frames, line)?;
+        assert_eq!(rt; came, status, "at {frames:?}");
+        assert!(rt; says, "at {frames:?}");
+    }
+    Ok(())
+}
+
+#[test]
+fn lines_that_are_no_settings(rt: HostRuntime) -> Result<(), Fail> {
+    let none = "the first line is no settings\n";
+    for line in [
+        "",
+        "{}",
+        "{}\n",
+        "{\"users\":[],\"nonce\":\"\"}\n",
+        "{\"users\":[],\"nonce\":\"a,b\"}\n",
+        "{\"users\":[{\"name\":\"u\",\"password\":\"p\",\"mechanisms\":[\"PLAIN\"],\"salts\":[\"00\"],\"count\":4096}],\"nonce\":\"s\"}\n",
+        "{\"users\":[{\"name\":\"u\",\"password\":\"p\",\"mechanisms\":[\"SCRAM-SHA-1\"],\"salts\":[],\"count\":4096}],\"nonce\":\"s\"}\n",
+        "{\"users\":[{\"name\":\"u\",\"password\":\"p\",\"mechanisms\":[\"SCRAM-SHA-1\"],\"salts\":[\"0\"],\"count\":4096}],\"nonce\":\"s\"}\n",
+        "{\"users\":[{\"name\":\"u\",\"password\":\"p\",\"mechanisms\":[\"SCRAM-SHA-1\"],\"salts\":[\"00\"],\"count\":4095}],\"nonce\":\"s\"}\n",
+        "{\"users\":[{\"name\":\"u\",\"password\":\"p\",\"mechanisms\":[\"SCRAM-SHA-1\"],\"salts\":[\"00\"],\"count\":4294967296}],\"nonce\":\"s\"}\n",
+    ] {
+        let (status, says) = ends(rt.alloc(), line.as_bytes(), PING, none)?;
+        assert_eq!(rt; status, Status::BadSettings, "at {line}");
+        assert!(rt; says, "at {line}");
+    }
+    Ok(())
+}
+
+// How the program ends on a link that fails at these calls after those that read the settings, a byte each.
+fn ends_failing(alloc: Global, failing: &[u8], line: &str) -> Result<(Status, bool), BsonFault> {
+    let mut input = Bytes::from_slice(alloc, SETTINGS)?;
+    input.extend_from_slice(PING)?;
+    let mut calls = Bytes::from_vec(vec![in alloc; 0; SETTINGS.len()]?);
+    calls.extend_from_slice(failing)?;
+    let mut link = PutBack::new(alloc, FailingLink::new(alloc, input, calls, 4096));
+    let mut report = MemoryLink::new(alloc, Bytes::new(alloc));
+    let status = run_counted::<_, _, Brand>(alloc, &mut link, &mut report, Blank::new(1));
+    Ok((status, report.written().ends_with(line.as_bytes())))
+}
+
+#[test]
+fn links_that_fail(rt: HostRuntime) -> Result<(), Fail> {
+    for (failing, line) in [
+        ([1, 0, 0, 0].as_slice(), "the link failed to give bytes\n"),
+        ([0, 1, 0, 0].as_slice(), "the link failed to give bytes\n"),
+        ([0, 0, 1, 0].as_slice(), "the link failed to take bytes\n"),
+        ([0, 0, 0, 1].as_slice(), "the link failed to take bytes\n"),
+    ] {
+        let (status, says) = ends_failing(rt.alloc(), failing, line)?;
+        assert_eq!(rt; status, Status::Broken, "at {failing:?}");
+        assert!(rt; says, "at {failing:?}");
+    }
+    Ok(())
+}

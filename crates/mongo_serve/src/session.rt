@@ -1,0 +1,183 @@
+//! A client's session: who is logged in, and the login that goes on.
+
+use crate::fault::ServeFault;
+use crate::open::open_login;
+use crate::reply::SaslReply;
+use crate::request::{SaslContinue, SaslStart};
+use crate::settings::Settings;
+use mongo_bson::Text;
+use mongo_mac::Steps;
+use mongo_server::{ServerCore, ServerFault};
+use std::alloc::Global;
+use std::sync::ledger::Ledger;
+
+/// A login that goes on: the server has answered the client's first message.
+#[derive(Drop)]
+pub struct Login {
+    /// The server of the user that logs in; its conversation has begun.
+    pub core: ServerCore,
+    /// The user's name.
+    pub name: Text,
+    /// Whether the login ends with the server's last message, with no empty exchange after it.
+    pub skips_empty_exchange: bool,
+    /// Whether the client has proved its key, so that an empty message ends the login.
+    pub is_proved: bool,
+}
+
+/// Who is logged in, and the login that goes on.
+#[derive(Drop)]
+pub struct Session {
+    /// The user that is logged in.
+    pub user: Option<Text>,
+    /// The login that goes on.
+    pub login: Option<Login>,
+}
+
+impl Session {
+    ghost use Rattle.std.specs.Prelude.{◌≡◌, ℕ, true, false, List, [], ◌∷◌, ◌++◌, None, IsSome, IsNone, IfSome, IfOk, IfErr, OnOk, OnErr};
+    ghost use Rattle.mongo_serve.specs.Login.{HasLoggedIn, IsLoginOf, Remembers};
+    ghost use Rattle.mongo_serve.specs.Requests.{Opens, Continues};
+    ghost use Rattle.mongo_serve.specs.declared.settings.Settings.{Settings as SettingsValue};
+    ghost use Rattle.mongo_serve.specs.declared.fault.ServeFault.TheVariants.{OutOfMemory};
+
+    /// Nobody is logged in, and no login goes on.
+    pub fn new() -> Session
+        ensures nobody { result.user ≡ None }
+        ensures none { result.login ≡ None }
+    {
+        Session {
+            user: None,
+            login: None,
+        }
+    }
+
+    /// Begins a login, in place of one that went on. None where it is refused: an unknown mechanism or user, another message than
+    /// a client's first, or a password that the mechanism doesn't take.
+    pub fn start<G: Ledger>(
+        &mut self,
+        alloc: Global,
+        settings: &Settings,
+        start: SaslStart<'_>,
+        steps: &mut Steps<G>,
+    ) -> Result<Option<SaslReply>, ServeFault>
+        // Of all that the client sent, the session knows a login that this request begins, and who is logged in already.
+        ensures remembers { (requests : List (List ℕ)) (document : List ℕ) → Remembers settings.now requests self.old → IfSome start.entry.payload (λ payload. Opens document payload.now) →
+            Remembers settings.now (requests ++ document ∷ []) self.new }
+        ensures user { self.new.user ≡ self.old.user }
+        ensures undone { IfOk result (λ answer. IfSome answer (λ message. message.is_done ≡ false)) }
+        ensures refused { IfErr result (λ fault. fault ≡ OutOfMemory) }
+    {
+        self.login = None;
+        match open_login(alloc, settings, start, steps)? {
+            Some(opened) => {
+                self.login = Some(opened.login);
+                Ok(Some(SaslReply {
+                    is_done: false,
+                    payload: opened.answer,
+                }))
+            }
+            None => Ok(None),
+        }
+    }
+
+    /// Goes on with the login. None where it is refused: none goes on, or the message isn't the one that the client owes; then
+    /// the login is given up.
+    pub fn go_on(
+        &mut self,
+        alloc: Global,
+        next: SaslContinue<'_>,
+    ) -> Result<Option<SaslReply>, ServeFault>
+        ensures remembers { (settings : SettingsValue) (requests : List (List ℕ)) (document : List ℕ) → Remembers settings requests self.old → IfSome next.entry.payload (λ payload. Continues document payload.now) →
+            Remembers settings (requests ++ document ∷ []) self.new }
+        ensures user { IfOk result (λ answer. IsNone answer → self.new.user ≡ self.old.user) }
+        ensures undone { IfOk result (λ answer. IfSome answer (λ message. message.is_done ≡ false → self.new.user ≡ self.old.user)) }
+        ensures done { IfOk result (λ answer. IfSome answer (λ message. message.is_done ≡ true → IsSome self.new.user)) }
+        ensures kept { OnErr result (self.new.user ≡ self.old.user) }
+        ensures refused { IfErr result (λ fault. fault ≡ OutOfMemory) }
+    {
+        let (Some(login), Some(payload)) = (self.login.take(), next.payload) else {
+            return Ok(None);
+        };
+        if !next.is_of_conversation {
+            return Ok(None);
+        }
+        if login.is_proved {
+            return self.end(alloc, login, payload);
+        }
+        self.prove(alloc, login, payload)
+    }
+
+    // The client's last message.
+    fn prove(
+        &mut self,
+        alloc: Global,
+        login: Login,
+        payload: &[u8],
+    ) -> Result<Option<SaslReply>, ServeFault>
+        requires { self.old.login ≡ None }
+        ensures remembers { (settings : SettingsValue) (requests : List (List ℕ)) (document : List ℕ) → IfSome self.old.user (λ name. HasLoggedIn settings name requests) → IsLoginOf settings requests login → Continues document payload.now →
+            Remembers settings (requests ++ document ∷ []) self.new }
+        ensures user { IfOk result (λ answer. IsNone answer → self.new.user ≡ self.old.user) }
+        ensures undone { IfOk result (λ answer. IfSome answer (λ message. message.is_done ≡ false → self.new.user ≡ self.old.user)) }
+        ensures done { IfOk result (λ answer. IfSome answer (λ message. message.is_done ≡ true → IsSome self.new.user)) }
+        ensures kept { OnErr result (self.new.user ≡ self.old.user) }
+        ensures refused { IfErr result (λ fault. fault ≡ OutOfMemory) }
+    {
+        let Login {
+            mut core,
+            name,
+            skips_empty_exchange,
+            is_proved: _,
+        } = login;
+        match core.last(alloc, payload) {
+            Ok(answer) => {
+                if skips_empty_exchange {
+                    self.user = Some(name);
+                    return Ok(Some(SaslReply {
+                        is_done: true,
+                        payload: answer,
+                    }));
+                }
+                self.login = Some(Login {
+                    core,
+                    name,
+                    skips_empty_exchange,
+                    is_proved: true,
+                });
+                Ok(Some(SaslReply {
+                    is_done: false,
+                    payload: answer,
+                }))
+            }
+            Err(ServerFault::OutOfMemory) => Err(ServeFault::OutOfMemory),
+            Err(_) => Ok(None),
+        }
+    }
+
+    // The empty message of a client whose key is proved.
+    fn end(
+        &mut self,
+        alloc: Global,
+        login: Login,
+        payload: &[u8],
+    ) -> Result<Option<SaslReply>, ServeFault>
+        requires none { self.old.login ≡ None }
+        requires proved { login.is_proved ≡ true }
+        ensures remembers { (settings : SettingsValue) (requests : List (List ℕ)) (document : List ℕ) → IfSome self.old.user (λ name. HasLoggedIn settings name requests) → IsLoginOf settings requests login →
+            Remembers settings (requests ++ document ∷ []) self.new }
+        ensures user { IfOk result (λ answer. IsNone answer → self.new.user ≡ self.old.user) }
+        ensures done { IfOk result (λ answer. IfSome answer (λ message. (message.is_done ≡ true) × IsSome self.new.user)) }
+        ensures kept { OnErr result (self.new.user ≡ self.old.user) }
+        ensures refused { IfErr result (λ fault. fault ≡ OutOfMemory) }
+    {
+        if !payload.is_empty() {
+            return Ok(None);
+        }
+        let answer = Text::from_slice(alloc, "")?;
+        self.user = Some(login.name);
+        Ok(Some(SaslReply {
+            is_done: true,
+            payload: answer,
+        }))
+    }
+}

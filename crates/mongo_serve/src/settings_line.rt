@@ -1,0 +1,67 @@
+//! The first line of a stream: the settings.
+
+use crate::settings::{Settings, SettingsError, settings_of};
+use mongo_wire::{Error, ErrorKind, Source, SyncLittleEndianRead};
+use std::alloc::{AllocError, Global};
+
+/// The longest line of settings, in bytes, without its end.
+pub const LIMIT: usize = 4_194_304;
+
+/// Why no settings were read.
+#[derive(Clone, Copy, Debug, PartialEq, Eq)]
+pub enum LineError {
+    /// The line is no settings, or is longer than 4194304 bytes, or the stream ended before its end.
+    BadSettings,
+    /// The link failed.
+    Fault,
+    /// Memory ran out.
+    OutOfMemory,
+}
+
+impl From<AllocError> for LineError {
+    ghost use Rattle.std.specs.Prelude.{◌≡◌};
+    ghost use Rattle.mongo_serve.specs.declared.settings_line.LineError.TheVariants.{OutOfMemory};
+
+    ghost from_gives = { λ _ error. error ≡ OutOfMemory };
+
+    fn from(_error: AllocError) -> LineError {
+        LineError::OutOfMemory
+    }
+}
+
+/// Reads the settings that the stream's first line is. Nothing after the line's end is read.
+pub fn read_settings<S: Source>(alloc: Global, source: &mut S) -> Result<Settings, LineError> {
+    let line = read_line(alloc, source)?;
+    match settings_of(alloc, line.as_slice()) {
+        Ok(settings) => Ok(settings),
+        Err(SettingsError::BadSettings) => Err(LineError::BadSettings),
+        Err(SettingsError::OutOfMemory) => Err(LineError::OutOfMemory),
+    }
+}
+
+// The bytes before the first line feed, which is taken too. It reads byte by byte, so that nothing after it is taken.
+fn read_line<S: Source>(alloc: Global, source: &mut S) -> Result<Vec<u8>, LineError> {
+    let mut line = Vec::new(alloc);
+    'reading: while line.len() <= LIMIT {
+        let byte = match source.read_u8_sync() {
+            Ok(byte) => byte,
+            Err(error) => return Err(line_error_of(&error)),
+        };
+        if byte == b'\n' {
+            return Ok(line);
+        }
+        match line.push(byte) {
+            Ok(()) => {}
+            Err(_) => return Err(LineError::OutOfMemory),
+        }
+    }
+    Err(LineError::BadSettings)
+}
+
+fn line_error_of(error: &Error) -> LineError {
+    match &error.kind {
+        ErrorKind::EndOfInput => LineError::BadSettings,
+        ErrorKind::OutOfMemory => LineError::OutOfMemory,
+        _ => LineError::Fault,
+    }
+}
