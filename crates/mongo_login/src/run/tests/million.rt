@@ -36,7 +36,7 @@ fn reports_in(printed: &[u8]) -> (u32, bool) {
         rest = more;
         count = count.saturating_add(1);
     }
-    (count, rest == b"rounds 1000000\n")
+    (count, rest == b"rounds 1000000\n".as_slice())
 }
 
 #[test]
