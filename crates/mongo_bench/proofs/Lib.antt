@@ -1,3 +1,4 @@
 pub mod Counts
 pub mod OneTask
 pub mod FourWords
+pub mod LoggingIn
