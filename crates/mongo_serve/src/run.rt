@@ -1,6 +1,8 @@
 //! The top call.
 
 ghost use Rattle.std.specs.Prelude.{◌≡◌, ◌<◌};
+ghost use Rattle.mongo_serve.specs.PutBack.{state_of};
+ghost use Rattle.mongo_serve.specs.Run.{status_of, RunEnds};
 
 #[cfg(test)]
 mod tests;
@@ -23,7 +25,9 @@ pub fn run<L: Link, K: Sink, G: Ledger>(
     link: &mut PutBack<L>,
     report: &mut K,
     steps: &mut Steps<G>,
-) -> Status {
+) -> Status
+    ensures { RunEnds (state_of L.state link.old) (state_of L.state link.new) result }
+{
     let settings = match read_settings(alloc, link) {
         Ok(settings) => settings,
         Err(LineError::BadSettings) => {
@@ -57,12 +61,15 @@ pub fn run_counted<L: Link, K: Sink, G: Ledger>(
     requires name { blank.name ≡ G.name }
     requires parts { blank.parts ≡ G.parts }
     requires has_a_part { 0 < G.parts }
+    ensures { RunEnds (state_of L.state link.old) (state_of L.state link.new) result }
 {
     let mut steps = Steps::<G>::new(blank);
     run(alloc, link, report, &mut steps)
 }
 
-fn status_of(fault: Option<ServeFault>) -> Status {
+fn status_of(fault: Option<ServeFault>) -> Status
+    ensures { result ≡ status_of fault }
+{
     match fault {
         None => Status::Ended,
         Some(ServeFault::OutOfMemory) => Status::NoMemory,
