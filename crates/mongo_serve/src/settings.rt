@@ -7,7 +7,6 @@ mod reading;
 
 use mongo_bson::{Bytes, Text};
 use mongo_scram::ScramVersion;
-
 pub use reading::{SettingsError, settings_of};
 
 /// A user that may log in by one mechanism.
