@@ -1,7 +1,7 @@
 -- How a run ends.
-use Rattle.std.specs.Prelude.{◌≡◌, ℕ, ◌⊎◌, Option, None, Some, List, [], ◌∷◌, ◌++◌, ⊤}
+use Rattle.std.specs.Prelude.{◌≡◌, ℕ, ◌⊎◌, Option, None, Some, List, [], ◌∷◌, ◌++◌}
 use Rattle.std.specs.Io.KnownBytes.{Consumes}
-use Rattle.mongo_wire.specs.Outside.{State, Rose}
+use Rattle.mongo_wire.specs.Outside.{State, Rose, AppendsFront}
 use Rattle.mongo_wire.specs.declared.error.ErrorKind.{ErrorKind}
 use Rattle.mongo_wire.specs.declared.error.ErrorKind.TheVariants as kind
 use Rattle.mongo_serve.specs.declared.fault.ServeFault.{ServeFault}
@@ -12,6 +12,7 @@ use Rattle.mongo_serve.specs.declared.settings_line.LineError.{LineError}
 use Rattle.mongo_serve.specs.declared.settings_line.LineError.TheVariants as line
 use Rattle.mongo_serve.specs.declared.status.Status.{Status}
 use Rattle.mongo_serve.specs.declared.status.Status.TheVariants.{Ended, Broken, BadSettings, Usage, NoMemory}
+use Rattle.mongo_serve.specs.Report.{report_text, no_settings}
 use Rattle.mongo_serve.specs.Served.{IsServed}
 
 -- the number that the process ends with
@@ -38,19 +39,35 @@ status_of None = Ended
 status_of (Some fault.OutOfMemory) = NoMemory
 status_of (Some other) = Broken
 
--- the first line was read, what follows it was served, and the status says how that ended
-pub record Ran (old new : State) (status : Status) : Type 0 where
+-- what the link and the report are before a run and after it
+pub record Run : Type 0 where
+  pub old : State
+  pub new : State
+  pub report_old : State
+  pub report_new : State
+
+-- a front of the text, or all of it, was written to the report
+abbrev pub Says : Run → List ℕ → Type 0
+Says run text = AppendsFront run.report_old.written run.report_new.written text
+
+-- The first line was read as these settings, what follows it was served, and status and report say how that ended.
+pub record Ran (run : Run) (status : Status) : Type 0 where
   pub settings : Settings
   pub between : State
-  pub after_line : IsAfterLine old between
+  pub after_line : IsAfterLine run.old between
   pub served : Served
-  pub is_served : IsServed settings between new served
+  pub is_served : IsServed settings between run.new served
   pub status_is : status ≡ status_of served.fault
+  pub said : Says run (report_text served)
 
--- how a run ends
-abbrev pub RunEnds : State → State → Status → Type 0
-RunEnds old new Ended = Ran old new Ended
-RunEnds old new Broken = Ran old new Broken ⊎ Rose old.read_faults new.read_faults
-RunEnds old new BadSettings = ⊤
-RunEnds old new NoMemory = ⊤
-RunEnds old new Usage = ⊥
+-- nothing was written to the link
+abbrev pub IsSilent : Run → Type 0
+IsSilent run = run.new.written ≡ run.old.written
+
+-- How a run ends. A run that is out of memory may have been so before it had settings.
+abbrev pub RunEnds : Run → Status → Type 0
+RunEnds run Ended = Ran run Ended
+RunEnds run Broken = Ran run Broken ⊎ (Rose run.old.read_faults run.new.read_faults × IsSilent run)
+RunEnds run BadSettings = IsSilent run × Says run no_settings
+RunEnds run NoMemory = Ran run NoMemory ⊎ IsSilent run
+RunEnds run Usage = ⊥
