@@ -9,3 +9,4 @@ pub mod Described
 pub mod Responses
 pub mod Parts
 pub mod Stream
+pub mod Ran

@@ -22,9 +22,9 @@ one_more settings old mid new before after h t =
       answered = turns_more fresh before after h.turns t.turn h.answered t.is_turn;
       each = each_joined h.turns last h.each (t.is_taken, tt);
       consumed =
-      subst (Consumes old.left new.left) (sym (joined_append h.turns last ∙ ap (λ l. joined h.turns ++ l) (append-nil t.turn.frame))) (Consumes-trans old.left mid.left new.left (joined h.turns) t.turn.frame h.consumed t.consumed);
+          subst (Consumes old.left new.left) (sym (joined_append h.turns last ∙ ap (λ l. joined h.turns ++ l) (append-nil t.turn.frame))) (Consumes-trans old.left mid.left new.left (joined h.turns) t.turn.frame h.consumed t.consumed);
       appended =
-      subst (Appends old.written new.written) (sym (sent_append h.turns last ∙ ap (λ l. sent_for h.turns ++ l) (append-nil t.turn.sent))) (Appends-trans old.written mid.written new.written (sent_for h.turns) t.turn.sent h.appended t.appended);
+          subst (Appends old.written new.written) (sym (sent_append h.turns last ∙ ap (λ l. sent_for h.turns ++ l) (append-nil t.turn.sent))) (Appends-trans old.written mid.written new.written (sent_for h.turns) t.turn.sent h.appended t.appended);
       remembers = subst (λ rs. Remembers settings rs after) (sym (documents_append h.turns last)) t.remembers;
     }
 
@@ -40,7 +40,7 @@ has_ended settings old mid new before after h n =
       each = subst (AllByRecursion IsTaken) turns h.each;
       more = [];
       consumed =
-      subst (λ l. Consumes old.left new.left (l ++ [])) (ap joined turns) (subst (Consumes old.left new.left) (sym (append-nil (joined h.turns))) (Consumes-kept old.left mid.left new.left (joined h.turns) h.consumed n.ended.keeps));
+          subst (λ l. Consumes old.left new.left (l ++ [])) (ap joined turns) (subst (Consumes old.left new.left) (sym (append-nil (joined h.turns))) (Consumes-kept old.left mid.left new.left (joined h.turns) h.consumed n.ended.keeps));
       appended = subst (λ l. Appends old.written new.written (sent_for l)) turns (subst (Appends old.written new.written) (append-nil (sent_for h.turns)) (Appends-trans old.written mid.written new.written (sent_for h.turns) [] h.appended n.appended));
       logged_in = subst (λ l. IfSome after.user (λ name. HasLoggedIn settings name (documents l))) turns (subst (λ s. IfSome s.user (λ name. HasLoggedIn settings name (documents h.turns))) (sym n.kept) h.remembers.user);
       whole = λ _. (refl, refl, n.ended.still);
@@ -61,7 +61,7 @@ was_cut settings old mid new before user fault h c =
       each = each_joined h.turns c.turns h.each c.each;
       more = c.more;
       consumed =
-      subst (Consumes old.left new.left) (sym (ap (λ l. l ++ c.more) (joined_append h.turns c.turns) ∙ append_assoc (joined h.turns) (joined c.turns) c.more)) (Consumes-trans old.left mid.left new.left (joined h.turns) (joined c.turns ++ c.more) h.consumed c.consumed);
+          subst (Consumes old.left new.left) (sym (ap (λ l. l ++ c.more) (joined_append h.turns c.turns) ∙ append_assoc (joined h.turns) (joined c.turns) c.more)) (Consumes-trans old.left mid.left new.left (joined h.turns) (joined c.turns ++ c.more) h.consumed c.consumed);
       appended = subst (Appends old.written new.written) (sym (sent_append h.turns c.turns)) (Appends-trans old.written mid.written new.written (sent_for h.turns) (sent_for c.turns) h.appended c.appended);
       logged_in = subst (λ rs. IfSome user (λ name. HasLoggedIn settings name rs)) (sym (documents_append h.turns c.turns)) c.logged_in;
       whole = λ is. absurd (is_fault fault is);

@@ -55,7 +55,7 @@ turn_cut settings requests old mid new user turn is_taken consumed unwritten unr
   each = (is_taken, tt);
   more = [];
   consumed =
-  subst (Consumes old.left new.left) (sym (append-nil (joined (turn ∷ [])) ∙ one_joined (λ t. t.frame) turn)) (subst (λ left. Consumes old.left left turn.frame) (sym unread) consumed);
+      subst (Consumes old.left new.left) (sym (append-nil (joined (turn ∷ [])) ∙ one_joined (λ t. t.frame) turn)) (subst (λ left. Consumes old.left left turn.frame) (sym unread) consumed);
   appended = subst (Appends old.written new.written) (sym (one_joined (λ t. t.sent) turn)) (subst (λ written. Appends written new.written turn.sent) unwritten appended);
   logged_in = logged_in;
 }

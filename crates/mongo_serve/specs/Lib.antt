@@ -3,6 +3,7 @@ pub mod Faults
 pub mod Login
 pub mod PutBack
 pub mod Replies
+pub mod Report
 pub mod Requests
 pub mod Run
 pub mod Sent

@@ -54,12 +54,12 @@ version_document = document_of (int32_element (codes "0") (pos 7) ∷ int32_elem
 abbrev pub build_info_document : List ℕ
 build_info_document =
     document_of (
-        text_element (codes "version") (codes "7.0.0")
-        ∷ text_element (codes "gitVersion") []
-        ∷ array_element (codes "versionArray") version_document
-        ∷ int32_element (codes "maxBsonObjectSize") (pos 16777216)
-        ∷ ok_element
-        ∷ [])
+    text_element (codes "version") (codes "7.0.0")
+    ∷ text_element (codes "gitVersion") []
+    ∷ array_element (codes "versionArray") version_document
+    ∷ int32_element (codes "maxBsonObjectSize") (pos 16777216)
+    ∷ ok_element
+    ∷ [])
 
 -- ---- a hello's
 

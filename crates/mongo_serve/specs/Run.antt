@@ -1,7 +1,19 @@
 -- How a run ends.
-use Rattle.std.specs.Prelude.{ℕ}
+use Rattle.std.specs.Prelude.{◌≡◌, ℕ, ◌⊎◌, Option, None, Some, List, [], ◌∷◌, ◌++◌}
+use Rattle.std.specs.Io.KnownBytes.{Consumes}
+use Rattle.mongo_wire.specs.Outside.{State, Rose, AppendsFront}
+use Rattle.mongo_wire.specs.declared.error.ErrorKind.{ErrorKind}
+use Rattle.mongo_wire.specs.declared.error.ErrorKind.TheVariants as kind
+use Rattle.mongo_serve.specs.declared.fault.ServeFault.{ServeFault}
+use Rattle.mongo_serve.specs.declared.fault.ServeFault.TheVariants as fault
+use Rattle.mongo_serve.specs.declared.serve.Served.{Served}
+use Rattle.mongo_serve.specs.declared.settings.Settings.{Settings}
+use Rattle.mongo_serve.specs.declared.settings_line.LineError.{LineError}
+use Rattle.mongo_serve.specs.declared.settings_line.LineError.TheVariants as line
 use Rattle.mongo_serve.specs.declared.status.Status.{Status}
 use Rattle.mongo_serve.specs.declared.status.Status.TheVariants.{Ended, Broken, BadSettings, Usage, NoMemory}
+use Rattle.mongo_serve.specs.Report.{report_text, no_settings}
+use Rattle.mongo_serve.specs.Served.{IsServed}
 
 -- the number that the process ends with
 abbrev pub code_of_status : Status → ℕ
@@ -10,3 +22,52 @@ code_of_status Broken = 1
 code_of_status BadSettings = 2
 code_of_status Usage = 3
 code_of_status NoMemory = 6
+
+-- what a fault of reading is to the line
+abbrev pub line_error_of : ErrorKind → LineError
+line_error_of kind.EndOfInput = line.BadSettings
+line_error_of kind.OutOfMemory = line.OutOfMemory
+line_error_of other = line.Fault
+
+-- a line and its line feed were taken
+abbrev pub IsAfterLine : State → State → Type 0
+IsAfterLine old new = (text : List ℕ) × Consumes old.left new.left (text ++ 10 ∷ [])
+
+-- the status by how the stream was left
+abbrev pub status_of : Option ServeFault → Status
+status_of None = Ended
+status_of (Some fault.OutOfMemory) = NoMemory
+status_of (Some other) = Broken
+
+-- what the link and the report are before a run and after it
+pub record Run : Type 0 where
+  pub old : State
+  pub new : State
+  pub report_old : State
+  pub report_new : State
+
+-- a front of the text, or all of it, was written to the report
+abbrev pub Says : Run → List ℕ → Type 0
+Says run text = AppendsFront run.report_old.written run.report_new.written text
+
+-- The first line was read as these settings, what follows it was served, and status and report say how that ended.
+pub record Ran (run : Run) (status : Status) : Type 0 where
+  pub settings : Settings
+  pub between : State
+  pub after_line : IsAfterLine run.old between
+  pub served : Served
+  pub is_served : IsServed settings between run.new served
+  pub status_is : status ≡ status_of served.fault
+  pub said : Says run (report_text served)
+
+-- nothing was written to the link
+abbrev pub IsSilent : Run → Type 0
+IsSilent run = run.new.written ≡ run.old.written
+
+-- How a run ends. A run that is out of memory may have been so before it had settings.
+abbrev pub RunEnds : Run → Status → Type 0
+RunEnds run Ended = Ran run Ended
+RunEnds run Broken = Ran run Broken ⊎ (Rose run.old.read_faults run.new.read_faults × IsSilent run)
+RunEnds run BadSettings = IsSilent run × Says run no_settings
+RunEnds run NoMemory = Ran run NoMemory ⊎ IsSilent run
+RunEnds run Usage = ⊥

@@ -22,7 +22,11 @@ pub fn hello_document(alloc: Global, hello: &HelloReply) -> Result<RawDocumentBu
     ensures refused { IfErr result IsOfDocument }
 {
     let mut document = description(alloc)?;
-    put(&mut document, writable_key(hello.is_legacy), RawValue::Bool(true))?;
+    put(
+        &mut document,
+        writable_key(hello.is_legacy),
+        RawValue::Bool(true),
+    )?;
     put_mechanisms(&mut document, hello.mechanisms)?;
     put_speculation(alloc, &mut document, &hello.speculation)?;
     put(&mut document, "ok", RawValue::Double(ONE))?;
@@ -63,11 +67,7 @@ fn writable_key(is_legacy: bool) -> &'static str
 }
 
 // Puts an element at the end of a document.
-fn put(
-    document: &mut RawDocumentBuf,
-    key: &str,
-    value: RawValue<'_>,
-) -> Result<(), ServeFault>
+fn put(document: &mut RawDocumentBuf, key: &str, value: RawValue<'_>) -> Result<(), ServeFault>
     ensures added { (elements : List Element) → document.old ≡ document_of elements → OnOk result (document.new ≡ document_of (elements ++ element_of key.now value.entry ∷ [])) }
     ensures refused { IfErr result IsOfDocument }
 {

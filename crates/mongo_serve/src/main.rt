@@ -29,13 +29,12 @@ use mongo_wire::{StdLink, StdSink};
 use put_back::PutBack;
 use run::run_counted;
 use status::Status;
-use std::env;
-use std::io;
 use std::alloc::AllocGlobal;
 use std::marker::Brand;
 use std::process::ExitCode;
 use std::rt::Env;
 use std::sync::ledger::Blank;
+use std::{env, io};
 
 /// Serves the client on standard input and output, and ends with the run's status; with 3 where there are words after the program's
 /// name, and 6 where these can't be had.

@@ -3,7 +3,6 @@
 ghost use Rattle.std.specs.Prelude.{◌≡◌, ◌⊎◌, [], IfSome};
 ghost use Rattle.mongo_serve.specs.Requests.{IsNamed, HasPayload, HasInside, Says, SaysStart, CarriesStart};
 
-
 use mongo_bson::{RawDocument, RawValue, first_key};
 use mongo_scram::ScramVersion;
 

@@ -103,12 +103,7 @@ pub fn respond_to_query<K: Sink>(
 }
 
 // The frame of an OP_REPLY.
-fn frame_of_reply(
-    alloc: Global,
-    id: i32,
-    to: i32,
-    document: &[u8],
-) -> Result<Vec<u8>, ServeFault>
+fn frame_of_reply(alloc: Global, id: i32, to: i32, document: &[u8]) -> Result<Vec<u8>, ServeFault>
     requires { length document.now + 36 < 2 ^ 31 }
     ensures frame { IfOk result (λ frame. frame.items ≡ query_reply id to document.now) }
     ensures refused { IfErr result (λ fault. fault ≡ OutOfMemory) }

@@ -1,6 +1,10 @@
 //! The top call.
 
 ghost use Rattle.std.specs.Prelude.{◌≡◌, ◌<◌};
+ghost use Rattle.mongo_serve.specs.PutBack.{state_of};
+ghost use Rattle.mongo_serve.specs.Report.{report_text};
+ghost use Rattle.mongo_serve.specs.Run.{status_of, RunEnds};
+ghost use Rattle.mongo_wire.specs.Outside.{AppendsFront};
 
 #[cfg(test)]
 mod tests;
@@ -8,7 +12,7 @@ mod tests;
 use crate::fault::ServeFault;
 use crate::put_back::PutBack;
 use crate::report::report_of;
-use crate::serve::serve;
+use crate::serve::{Served, serve};
 use crate::settings_line::{LineError, read_settings};
 use crate::status::Status;
 use mongo_mac::Steps;
@@ -17,13 +21,15 @@ use std::alloc::Global;
 use std::sync::ledger::{Blank, Ledger};
 
 /// Reads settings from the link's first line, serves the client that follows it, and says on `report` how that ended. Where the report
-/// can't be written, the status alone says it.
+/// can't be written, or there is no memory for it, the status alone says it.
 pub fn run<L: Link, K: Sink, G: Ledger>(
     alloc: Global,
     link: &mut PutBack<L>,
     report: &mut K,
     steps: &mut Steps<G>,
-) -> Status {
+) -> Status
+    ensures { RunEnds (record { old = state_of L.state link.old; new = state_of L.state link.new; report_old = K.state report.old; report_new = K.state report.new }) result }
+{
     let settings = match read_settings(alloc, link) {
         Ok(settings) => settings,
         Err(LineError::BadSettings) => {
@@ -40,10 +46,7 @@ pub fn run<L: Link, K: Sink, G: Ledger>(
         }
     };
     let served = serve(alloc, &settings, link, steps);
-    match report_of(alloc, &served) {
-        Ok(text) => say(report, text.as_bytes()),
-        Err(_) => say(report, b"out of memory\n"),
-    }
+    tell(alloc, report, &served);
     status_of(served.fault)
 }
 
@@ -57,12 +60,15 @@ pub fn run_counted<L: Link, K: Sink, G: Ledger>(
     requires name { blank.name ≡ G.name }
     requires parts { blank.parts ≡ G.parts }
     requires has_a_part { 0 < G.parts }
+    ensures { RunEnds (record { old = state_of L.state link.old; new = state_of L.state link.new; report_old = K.state report.old; report_new = K.state report.new }) result }
 {
     let mut steps = Steps::<G>::new(blank);
     run(alloc, link, report, &mut steps)
 }
 
-fn status_of(fault: Option<ServeFault>) -> Status {
+fn status_of(fault: Option<ServeFault>) -> Status
+    ensures { result ≡ status_of fault }
+{
     match fault {
         None => Status::Ended,
         Some(ServeFault::OutOfMemory) => Status::NoMemory,
@@ -70,8 +76,24 @@ fn status_of(fault: Option<ServeFault>) -> Status {
     }
 }
 
+// Says how a stream was left, where it can.
+fn tell<K: Sink>(alloc: Global, report: &mut K, served: &Served)
+    ensures { AppendsFront (K.state report.old).written (K.state report.new).written (report_text served.now) }
+{
+    match report_of(alloc, served) {
+        Ok(text) => say(report, text.as_bytes()),
+        Err(_) => {}
+    }
+}
+
 // Says a line or more on the report, where it can.
-fn say<K: Sink>(report: &mut K, text: &[u8]) {
-    let _ = write_all(report, text);
-    let _ = report.flush();
+fn say<K: Sink>(report: &mut K, text: &[u8])
+    ensures { AppendsFront (K.state report.old).written (K.state report.new).written text.now }
+{
+    match write_all(report, text) {
+        Ok(()) => {
+            let _ = report.flush();
+        }
+        Err(_) => {}
+    }
 }

@@ -198,9 +198,7 @@ fn take_query<L: Link, G: Ledger>(
         return Err(ServeFault::NoFrame);
     };
     match greet_query(alloc, settings, &mut serving.session, command, steps) {
-        Ok(reply) => {
-            respond_to_query(alloc, link, header.request_id, &reply, &mut serving.ids)
-        }
+        Ok(reply) => { respond_to_query(alloc, link, header.request_id, &reply, &mut serving.ids) }
         Err(fault) => Err(fault),
     }
 }

@@ -7,7 +7,6 @@ mod reading;
 
 use mongo_bson::{Bytes, Text};
 use mongo_scram::ScramVersion;
-
 pub use reading::{SettingsError, settings_of};
 
 /// A user that may log in by one mechanism.
@@ -23,7 +22,8 @@ pub struct Account {
     pub salt: Bytes,
     /// The iteration count of the key.
     pub count: u32,
-    pub ghost enough: { 1 ≤ count },
+    // as many as RFC 7677 asks for at least
+    pub ghost enough: { 4096 ≤ count },
 }
 
 /// Who may log in, and what the server adds to a client's nonce.

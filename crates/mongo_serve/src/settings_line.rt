@@ -1,5 +1,10 @@
 //! The first line of a stream: the settings.
 
+ghost use Rattle.std.specs.Prelude.{◌≡◌, ℕ, List, [], ◌∷◌, ◌++◌, IfOk, IsErrOf};
+ghost use Rattle.std.specs.Io.KnownBytes.{Consumes};
+ghost use Rattle.mongo_wire.specs.Outside.{ReadsOn, Rose};
+ghost use Rattle.mongo_serve.specs.Run.{IsAfterLine, line_error_of};
+
 use crate::settings::{Settings, SettingsError, settings_of};
 use mongo_wire::{Error, ErrorKind, Source, SyncLittleEndianRead};
 use std::alloc::{AllocError, Global};
@@ -30,7 +35,11 @@ impl From<AllocError> for LineError {
 }
 
 /// Reads the settings that the stream's first line is. Nothing after the line's end is read.
-pub fn read_settings<S: Source>(alloc: Global, source: &mut S) -> Result<Settings, LineError> {
+pub fn read_settings<S: Source>(alloc: Global, source: &mut S) -> Result<Settings, LineError>
+    ensures line { IfOk result (λ settings. IsAfterLine (S.state source.old) (S.state source.new)) }
+    ensures failed { IsErrOf result LineError.Fault → Rose (S.state source.old).read_faults (S.state source.new).read_faults }
+    ensures on { ReadsOn (S.state source.old) (S.state source.new) }
+{
     let line = read_line(alloc, source)?;
     match settings_of(alloc, line.as_slice()) {
         Ok(settings) => Ok(settings),
@@ -40,7 +49,11 @@ pub fn read_settings<S: Source>(alloc: Global, source: &mut S) -> Result<Setting
 }
 
 // The bytes before the first line feed, which is taken too. It reads byte by byte, so that nothing after it is taken.
-fn read_line<S: Source>(alloc: Global, source: &mut S) -> Result<Vec<u8>, LineError> {
+fn read_line<S: Source>(alloc: Global, source: &mut S) -> Result<Vec<u8>, LineError>
+    ensures taken { IfOk result (λ line. Consumes (S.state source.old).left (S.state source.new).left (line.items ++ 10 ∷ [])) }
+    ensures failed { IsErrOf result LineError.Fault → Rose (S.state source.old).read_faults (S.state source.new).read_faults }
+    ensures on { ReadsOn (S.state source.old) (S.state source.new) }
+{
     let mut line = Vec::new(alloc);
     'reading: while line.len() <= LIMIT {
         let byte = match source.read_u8_sync() {
@@ -58,7 +71,9 @@ fn read_line<S: Source>(alloc: Global, source: &mut S) -> Result<Vec<u8>, LineEr
     Err(LineError::BadSettings)
 }
 
-fn line_error_of(error: &Error) -> LineError {
+fn line_error_of(error: &Error) -> LineError
+    ensures { result ≡ line_error_of error.now.kind }
+{
     match &error.kind {
         ErrorKind::EndOfInput => LineError::BadSettings,
         ErrorKind::OutOfMemory => LineError::OutOfMemory,

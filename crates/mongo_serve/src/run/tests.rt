@@ -37,12 +37,28 @@ fn bytes_decide_how_it_ends(rt: HostRuntime) -> Result<(), Fail> {
     for (frames, status, line) in [
         (b"".as_slice(), Status::Ended, ended),
         (PING, Status::Ended, ended),
-        (b"3\0\0\0\x07".as_slice(), Status::Broken, "the stream ended within a frame\n"),
+        (
+            b"3\0\0\0\x07".as_slice(),
+            Status::Broken,
+            "the stream ended within a frame\n",
+        ),
         (b"GET / HTTP/1.1\r\n".as_slice(), Status::Broken, no_frame),
         // an OP_COMPRESSED, an OP_MSG of 48000001 bytes, and an OP_QUERY of 15
-        (b"\x10\0\0\0\x01\0\0\0\0\0\0\0\xdc\x07\0\0".as_slice(), Status::Broken, no_frame),
-        (b"\x01l\xdc\x02\x01\0\0\0\0\0\0\0\xdd\x07\0\0".as_slice(), Status::Broken, no_frame),
-        (b"\x0f\0\0\0\x01\0\0\0\0\0\0\0\xd4\x07\0\0".as_slice(), Status::Broken, no_frame),
+        (
+            b"\x10\0\0\0\x01\0\0\0\0\0\0\0\xdc\x07\0\0".as_slice(),
+            Status::Broken,
+            no_frame,
+        ),
+        (
+            b"\x01l\xdc\x02\x01\0\0\0\0\0\0\0\xdd\x07\0\0".as_slice(),
+            Status::Broken,
+            no_frame,
+        ),
+        (
+            b"\x0f\0\0\0\x01\0\0\0\0\0\0\0\xd4\x07\0\0".as_slice(),
+            Status::Broken,
+            no_frame,
+        ),
         // an OP_QUERY of ping, and one of hello on another database
         (
             b"6\0\0\0\x01\0\0\0\0\0\0\0\xd4\x07\0\0\x04\0\0\0admin.$cmd\0\0\0\0\0\xff\xff\xff\xff\x0f\0\0\0\x10ping\0\x01\0\0\0\0".as_slice(),

@@ -1,0 +1,28 @@
+-- How a run ends, by how its stream was left.
+use Rattle.std.proofs.Common.{◌≡◌, ℕ, Option, None, Some, List, length, take, inl, sym, subst, arith}
+use Rattle.std.proofs.KnownBytes.{Appends-kept, Appends-nil}
+use Rattle.std.proofs.lemmas.List.{take_all}
+use Rattle.std.specs.Io.KnownBytes.{Appends, Keeps}
+use Rattle.mongo_wire.specs.Outside.{AppendsFront}
+use Rattle.mongo_serve.specs.declared.fault.ServeFault.{ServeFault}
+use Rattle.mongo_serve.specs.declared.fault.ServeFault.TheVariants.{ReadFault, WriteFault, CutFrame, NoFrame, NoHello, ReplyTooLong, TooManyRequests, OutOfMemory}
+use Rattle.mongo_serve.specs.Run.{Run, status_of, Ran, RunEnds}
+
+pub ran_ends : (run : Run) (fault : Option ServeFault) → Ran run (status_of fault) → RunEnds run (status_of fault)
+ran_ends run None h = h
+ran_ends run (Some OutOfMemory) h = inl h
+ran_ends run (Some ReadFault) h = inl h
+ran_ends run (Some WriteFault) h = inl h
+ran_ends run (Some CutFrame) h = inl h
+ran_ends run (Some NoFrame) h = inl h
+ran_ends run (Some NoHello) h = inl h
+ran_ends run (Some ReplyTooLong) h = inl h
+ran_ends run (Some TooManyRequests) h = inl h
+
+-- all of the text was written, and kept
+pub all_said : (old mid new : Option (List ℕ)) (text : List ℕ) → Appends old mid text → Keeps mid new → AppendsFront old new text
+all_said old mid new text h kept = (length text, subst (Appends old new) (sym (take_all (length text) text (omega arith))) (Appends-kept old mid new text h kept))
+
+-- nothing was said
+pub none_said : (old : Option (List ℕ)) (text : List ℕ) → AppendsFront old old text
+none_said old text = (0, Appends-nil old)
