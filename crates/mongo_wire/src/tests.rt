@@ -27,21 +27,16 @@ pub(crate) const MESSAGE_WITH_SEQUENCE: [u8; 46] = [
     0, 0, 0, 0x64, 0x6f, 0x63, 0x75, 0x6d, 0x65, 0x6e, 0x74, 0x73, 0, 5, 0, 0, 0, 0,
 ];
 
-// The message without elements and flags, under the id 0, with these sequences.
-pub(crate) fn message_with(alloc: Global, document_sequences: Sequences) -> Result<Message, Error> {
+// The message without elements and flags, under the id 0.
+pub(crate) fn empty_message(alloc: Global) -> Result<Message, Error> {
     Ok(Message {
         document_payload: RawDocumentBuf::new(alloc)?,
-        document_sequences,
+        document_sequences: Sequences::new(alloc),
         response_to: 0,
         flags: MessageFlags::empty(),
         checksum: None,
         request_id: Some(0),
     })
-}
-
-// That message without a sequence.
-pub(crate) fn empty_message(alloc: Global) -> Result<Message, Error> {
-    message_with(alloc, Sequences::new(alloc))
 }
 
 // The sequence of one empty document under this identifier.
@@ -57,11 +52,13 @@ pub(crate) fn one_empty_document(
     })
 }
 
-// The empty message with one sequence of one empty document, under this identifier.
-pub(crate) fn message_with_sequence(alloc: Global, identifier: &str) -> Result<Message, Error> {
-    let mut sequences = Sequences::new(alloc);
-    sequences.push(one_empty_document(alloc, identifier)?)?;
-    message_with(alloc, sequences)
+// The empty message with the sequence `documents` of one empty document.
+pub(crate) fn message_with_sequence(alloc: Global) -> Result<Message, Error> {
+    let mut message = empty_message(alloc)?;
+    message
+        .document_sequences
+        .push(one_empty_document(alloc, "documents")?)?;
+    Ok(message)
 }
 
 // A link that gives these bytes.

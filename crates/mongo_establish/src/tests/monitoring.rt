@@ -1,7 +1,8 @@
 use super::frames::{COMMAND_ERROR, HELLO, OK_TWICE, STANDALONE};
 use super::{establisher, link_of};
 use crate::{
-    ErrorKind, MemoryLink, RequestIds, ResponseFault, ServerAddress, ServerType, Sink, Source, Text,
+    Connection, ConnectionEstablisher, ErrorKind, HelloReply, MemoryLink, RequestIds,
+    ResponseFault, ServerAddress, ServerType, Sink, Source, Text,
 };
 use mongo_wire::Error;
 use std::alloc::Global;
@@ -34,26 +35,57 @@ fn learned_from(kind: &ErrorKind) -> Learned {
     }
 }
 
-// What the third connection learns, where its description and the reply agree.
+// What a connection and the reply to its hello say, where they agree.
+fn learned_of(connection: &Connection, reply: &HelloReply) -> Learned {
+    let server_type = reply.command_response.server_type();
+    match &connection.stream_description {
+        Some(description) if description.initial_server_type == server_type => {
+            Learned::Server(server_type)
+        }
+        _ => Learned::Other,
+    }
+}
+
+// What an establishment gave. A value of its own, so that whoever holds one drops it by one call.
+#[derive(Drop)]
+struct Monitored {
+    answer: Result<(Connection, HelloReply), Error>,
+}
+
+// A monitor's connection, the third.
+fn monitor(
+    alloc: Global,
+    establisher: &ConnectionEstablisher,
+    address: ServerAddress,
+    link: &mut MemoryLink,
+    ids: &mut RequestIds,
+) -> Monitored {
+    let answer = establisher.establish_monitoring_connection(alloc, address, 3, link, ids);
+    Monitored { answer }
+}
+
+fn learned_by(made: &Monitored) -> Learned {
+    match &made.answer {
+        Ok((connection, reply)) => learned_of(connection, reply),
+        Err(error) => learned_from(&error.kind),
+    }
+}
+
+fn address(alloc: Global) -> Result<ServerAddress, Error> {
+    let path = Text::from_slice(alloc, "/tmp/mongodb-27017.sock")?;
+    Ok(ServerAddress::Unix { path })
+}
+
+// What a monitor learns over the link.
 fn learned_over(
     alloc: Global,
     link: &mut MemoryLink,
     ids: &mut RequestIds,
 ) -> Result<Learned, Error> {
-    let path = Text::from_slice(alloc, "/tmp/mongodb-27017.sock")?;
-    let address = ServerAddress::Unix { path };
-    let answer = establisher(alloc)?.establish_monitoring_connection(alloc, address, 3, link, ids);
-    match &answer {
-        Err(error) => Ok(learned_from(&error.kind)),
-        Ok((connection, reply)) => match &connection.stream_description {
-            Some(description)
-                if connection.id == 3
-                    && description.initial_server_type == reply.command_response.server_type() => {
-                Ok(Learned::Server(description.initial_server_type))
-            }
-            _ => Ok(Learned::Other),
-        },
-    }
+    let address = address(alloc)?;
+    let establisher = establisher(alloc)?;
+    let made = monitor(alloc, &establisher, address, link, ids);
+    Ok(learned_by(&made))
 }
 
 fn seen_in(alloc: Global, reply: &[u8]) -> Result<Seen, Error> {

@@ -4,7 +4,7 @@ use crate::{
     AuthFault, CommandError, Error, ErrorKind, IndexedWriteError, InsertManyError,
     WriteConcernError, WriteError, WriteErrors, WriteFailure, WriteFailureCause,
 };
-use mongo_bson::{BsonFault, RawDocumentBuf, Text, Texts};
+use mongo_bson::{RawDocumentBuf, Text, Texts};
 use std::alloc::Global;
 use std::test::Fail;
 
@@ -60,14 +60,9 @@ fn insert_error(alloc: Global) -> Result<InsertManyError, Error> {
     })
 }
 
-fn copy_of(alloc: Global, error: &Error) -> Result<Error, BsonFault> {
-    error.try_clone(alloc)
-}
-
 // Whether a copy of the cause is made.
 fn is_copied(alloc: Global, kind: ErrorKind) -> bool {
-    let error = Error { kind };
-    copy_of(alloc, &error).is_ok()
+    Error { kind }.try_clone(alloc).is_ok()
 }
 
 #[test]
@@ -99,7 +94,7 @@ fn a_servers_error_is_copied(rt: HostRuntime) -> Result<(), Fail> {
 
 #[test]
 fn a_message_is_copied(rt: HostRuntime) -> Result<(), Fail> {
-    let message = message_with_sequence(rt.alloc(), "documents")?;
+    let message = message_with_sequence(rt.alloc())?;
     let copy = message.try_clone(rt.alloc())?;
     assert_eq!(rt; copy.document_sequences.len(), 1);
     Ok(())

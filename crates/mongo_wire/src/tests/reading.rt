@@ -29,8 +29,7 @@ fn header(length: i32, op_code: i32) -> [u8; 16] {
 
 // How the read of a message of these bytes ends.
 fn end_on(alloc: Global, bytes: &[u8]) -> Result<Told, Error> {
-    let mut link = giving(alloc, bytes)?;
-    Ok(read_end(alloc, &mut link))
+    Ok(read_end(alloc, &mut giving(alloc, bytes)?))
 }
 
 // Whether the message has just the sequence `documents` of one document.

@@ -51,31 +51,21 @@ fn an_unknown_op_code_is_told_after_16_bytes(rt: HostRuntime) -> Result<(), Fail
     Ok(())
 }
 
-// A reader that counts.
-type Counting = SyncCountReader<MemoryLink>;
-
-// The next numbers of a reader, each where it is read.
-fn signed(reader: &mut Counting) -> Option<i32> {
-    reader.read_i32_sync().ok()
-}
-
-fn unsigned(reader: &mut Counting) -> Option<u32> {
-    reader.read_u32_sync().ok()
-}
-
-fn byte(reader: &mut Counting) -> Option<u8> {
-    reader.read_u8_sync().ok()
+// The next three numbers, where they are read.
+fn numbers(reader: &mut SyncCountReader<MemoryLink>) -> Option<(i32, u32, u8)> {
+    let signed = reader.read_i32_sync().ok()?;
+    let unsigned = reader.read_u32_sync().ok()?;
+    let byte = reader.read_u8_sync().ok()?;
+    Some((signed, unsigned, byte))
 }
 
 #[test]
 fn numbers_have_their_low_byte_first(rt: HostRuntime) -> Result<(), Fail> {
     let bytes = [0xfe, 0xff, 0xff, 0xff, 1, 2, 3, 0x84, 7, 9];
     let mut reader = SyncCountReader::new(giving(rt.alloc(), &bytes)?);
-    assert_eq!(rt; signed(&mut reader), Some(-2));
-    assert_eq!(rt; unsigned(&mut reader), Some(0x8403_0201));
-    assert_eq!(rt; byte(&mut reader), Some(7));
+    assert!(rt; numbers(&mut reader) == Some((-2, 0x8403_0201, 7)));
     assert_eq!(rt; reader.bytes_read(), 9);
-    assert_eq!(rt; unsigned(&mut reader), None);
+    assert!(rt; reader.read_u32_sync().is_err());
     assert!(rt; reader.ends() == 1 && reader.bytes_read() == 10);
     Ok(())
 }
@@ -111,7 +101,7 @@ const COMMAND_DOCUMENT: [u8; 29] = [
 #[test]
 fn a_sequence_is_an_array_of_the_command_document(rt: HostRuntime) -> Result<(), Fail> {
     let alloc = rt.alloc();
-    let document = message_with_sequence(alloc, "documents")?.get_raw_command_document(alloc)?;
+    let document = message_with_sequence(alloc)?.get_raw_command_document(alloc)?;
     assert_eq!(rt; document.as_bytes(), COMMAND_DOCUMENT.as_slice());
     Ok(())
 }

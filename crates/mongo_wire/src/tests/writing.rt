@@ -1,13 +1,13 @@
 use super::{
-    MESSAGE_WITH_SEQUENCE, Told, failing_link, giving, message_with_sequence, one_empty_document,
-    write_end,
+    MESSAGE_WITH_SEQUENCE, Told, empty_message, failing_link, giving, message_with_sequence,
+    one_empty_document, write_end,
 };
 use crate::{
     ArgumentFault, DocumentSequence, Error, MemoryLink, Message, MessageFlags, RequestIds,
     Sequences, Sink, write_sections,
 };
 use bitflags::Flags;
-use mongo_bson::{Documents, RawDocumentBuf, Text};
+use mongo_bson::{Documents, Text};
 use std::alloc::Global;
 use std::test::Fail;
 
@@ -36,22 +36,20 @@ fn two_sequences(alloc: Global) -> Result<Sequences, Error> {
 
 // That message, without a request id.
 fn whole_message(alloc: Global) -> Result<Message, Error> {
-    let document_sequences = two_sequences(alloc)?;
-    Ok(Message {
-        document_payload: RawDocumentBuf::new(alloc)?,
-        document_sequences,
-        response_to: -2,
-        flags: MessageFlags::from_bits_retain(0x10005),
-        checksum: Some(0x0102_0304),
-        request_id: None,
-    })
+    let mut message = empty_message(alloc)?;
+    message.document_sequences = two_sequences(alloc)?;
+    message.response_to = -2;
+    message.flags = MessageFlags::from_bits_retain(0x10005);
+    message.checksum = Some(0x0102_0304);
+    message.request_id = None;
+    Ok(message)
 }
 
 #[test]
 fn a_sequence_follows_the_body(rt: HostRuntime) -> Result<(), Fail> {
     let mut ids = RequestIds::new(7);
     let mut link = giving(rt.alloc(), &[])?;
-    let message = message_with_sequence(rt.alloc(), "documents")?;
+    let message = message_with_sequence(rt.alloc())?;
     let told = write_end(rt.alloc(), &message, &mut link, None, &mut ids);
     assert_eq!(rt; told, Told::Done);
     assert_eq!(rt; link.written(), MESSAGE_WITH_SEQUENCE.as_slice());
@@ -102,10 +100,19 @@ fn a_write_that_fails_at_any_call_leaves_a_front(rt: HostRuntime) -> Result<(), 
     Ok(())
 }
 
+// The empty message with a sequence whose identifier holds a zero.
+fn message_with_zero(alloc: Global) -> Result<Message, Error> {
+    let mut message = empty_message(alloc)?;
+    message
+        .document_sequences
+        .push(one_empty_document(alloc, "a\0b")?)?;
+    Ok(message)
+}
+
 // The message that is refused, or not, for a zero in an identifier.
 fn message_of(alloc: Global, has_zero: bool) -> Result<Message, Error> {
     if has_zero {
-        message_with_sequence(alloc, "a\0b")
+        message_with_zero(alloc)
     } else {
         whole_message(alloc)
     }
