@@ -10,3 +10,4 @@ pub mod Responses
 pub mod Parts
 pub mod Stream
 pub mod Ran
+pub mod Said

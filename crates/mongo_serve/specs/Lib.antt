@@ -8,4 +8,5 @@ pub mod Requests
 pub mod Run
 pub mod Sent
 pub mod Served
+pub mod Settings
 pub mod Taken

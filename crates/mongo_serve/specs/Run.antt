@@ -14,6 +14,7 @@ use Rattle.mongo_serve.specs.declared.status.Status.{Status}
 use Rattle.mongo_serve.specs.declared.status.Status.TheVariants.{Ended, Broken, BadSettings, Usage, NoMemory}
 use Rattle.mongo_serve.specs.Report.{report_text, no_settings}
 use Rattle.mongo_serve.specs.Served.{IsServed}
+use Rattle.mongo_serve.specs.Settings.{AreSettings}
 
 -- the number that the process ends with
 abbrev pub code_of_status : Status → ℕ
@@ -29,9 +30,11 @@ line_error_of kind.EndOfInput = line.BadSettings
 line_error_of kind.OutOfMemory = line.OutOfMemory
 line_error_of other = line.Fault
 
--- a line and its line feed were taken
-abbrev pub IsAfterLine : State → State → Type 0
-IsAfterLine old new = (text : List ℕ) × Consumes old.left new.left (text ++ 10 ∷ [])
+-- a line and its line feed were taken, and the line says these settings
+pub record IsAfterLine (old new : State) (settings : Settings) : Type 0 where
+  pub line : List ℕ
+  pub taken : Consumes old.left new.left (line ++ 10 ∷ [])
+  pub are_settings : AreSettings line settings
 
 -- the status by how the stream was left
 abbrev pub status_of : Option ServeFault → Status
@@ -54,7 +57,7 @@ Says run text = AppendsFront run.report_old.written run.report_new.written text
 pub record Ran (run : Run) (status : Status) : Type 0 where
   pub settings : Settings
   pub between : State
-  pub after_line : IsAfterLine run.old between
+  pub after_line : IsAfterLine run.old between settings
   pub served : Served
   pub is_served : IsServed settings between run.new served
   pub status_is : status ≡ status_of served.fault

@@ -1,6 +1,7 @@
 //! What a client asks for: a command, by the first key of its document.
 
 ghost use Rattle.std.specs.Prelude.{◌≡◌, ◌⊎◌, [], IfSome};
+ghost use Rattle.mongo_serve.specs.Settings.{version_named};
 ghost use Rattle.mongo_serve.specs.Requests.{IsNamed, HasPayload, HasInside, Says, SaysStart, CarriesStart};
 
 use mongo_bson::{RawDocument, RawValue, first_key};
@@ -153,7 +154,9 @@ fn continue_of<'a>(document: RawDocument<'a>) -> SaslContinue<'a>
 }
 
 /// The version of SCRAM that a mechanism names.
-pub fn version_named(name: &str) -> Option<ScramVersion> {
+pub fn version_named(name: &str) -> Option<ScramVersion>
+    ensures { result ≡ version_named name.now }
+{
     match name {
         "SCRAM-SHA-1" => Some(ScramVersion::Sha1),
         "SCRAM-SHA-256" => Some(ScramVersion::Sha256),

@@ -36,7 +36,7 @@ impl From<AllocError> for LineError {
 
 /// Reads the settings that the stream's first line is. Nothing after the line's end is read.
 pub fn read_settings<S: Source>(alloc: Global, source: &mut S) -> Result<Settings, LineError>
-    ensures line { IfOk result (λ settings. IsAfterLine (S.state source.old) (S.state source.new)) }
+    ensures line { IfOk result (IsAfterLine (S.state source.old) (S.state source.new)) }
     ensures failed { IsErrOf result LineError.Fault → Rose (S.state source.old).read_faults (S.state source.new).read_faults }
     ensures on { ReadsOn (S.state source.old) (S.state source.new) }
 {

@@ -1,3 +1,5 @@
+ghost use Rattle.std.specs.Prelude.{◌<◌};
+
 use super::run_counted;
 use crate::put_back::PutBack;
 use crate::status::Status;
@@ -100,13 +102,20 @@ fn lines_that_are_no_settings(rt: HostRuntime) -> Result<(), Fail> {
     Ok(())
 }
 
-// How the program ends on a link that fails at these calls after those that read the settings, a byte each.
-fn ends_failing(alloc: Global, failing: &[u8], line: &str) -> Result<(Status, bool), BsonFault> {
+// How the program ends on a link that moves at most so many bytes, and fails at these calls after those that read the settings, a byte each.
+fn ends_failing(
+    alloc: Global,
+    failing: &[u8],
+    most: usize,
+    line: &str,
+) -> Result<(Status, bool), BsonFault>
+    requires { 0 < most }
+{
     let mut input = Bytes::from_slice(alloc, SETTINGS)?;
     input.extend_from_slice(PING)?;
     let mut calls = Bytes::from_vec(vec![in alloc; 0; SETTINGS.len()]?);
     calls.extend_from_slice(failing)?;
-    let mut link = PutBack::new(alloc, FailingLink::new(alloc, input, calls, 4096));
+    let mut link = PutBack::new(alloc, FailingLink::new(alloc, input, calls, most));
     let mut report = MemoryLink::new(alloc, Bytes::new(alloc));
     let status = run_counted::<_, _, Brand>(alloc, &mut link, &mut report, Blank::new(1));
     Ok((status, report.written().ends_with(line.as_bytes())))
@@ -114,15 +123,45 @@ fn ends_failing(alloc: Global, failing: &[u8], line: &str) -> Result<(Status, bo
 
 #[test]
 fn links_that_fail(rt: HostRuntime) -> Result<(), Fail> {
-    for (failing, line) in [
-        ([1, 0, 0, 0].as_slice(), "the link failed to give bytes\n"),
-        ([0, 1, 0, 0].as_slice(), "the link failed to give bytes\n"),
-        ([0, 0, 1, 0].as_slice(), "the link failed to take bytes\n"),
-        ([0, 0, 0, 1].as_slice(), "the link failed to take bytes\n"),
+    let gives = "the link failed to give bytes\n";
+    let takes = "the link failed to take bytes\n";
+    for (failing, most, status, line) in [
+        ([1, 0, 0, 0].as_slice(), 4096, Status::Broken, gives),
+        ([0, 1, 0, 0].as_slice(), 4096, Status::Broken, gives),
+        ([0, 0, 1, 0].as_slice(), 4096, Status::Broken, takes),
+        ([0, 0, 0, 1].as_slice(), 4096, Status::Broken, takes),
+        // a byte at a time
+        (
+            [0].as_slice(),
+            1,
+            Status::Ended,
+            "the client ended its stream\n",
+        ),
     ] {
-        let (status, says) = ends_failing(rt.alloc(), failing, line)?;
-        assert_eq!(rt; status, Status::Broken, "at {failing:?}");
+        let (came, says) = ends_failing(rt.alloc(), failing, most, line)?;
+        assert_eq!(rt; came, status, "at {failing:?}");
         assert!(rt; says, "at {failing:?}");
     }
+    Ok(())
+}
+
+// An OP_MSG of 48000000 bytes: a ping with a binary of 47999956 zeros.
+fn greatest_frame(alloc: Global) -> Result<Bytes, BsonFault> {
+    let mut frame = Bytes::from_slice(
+        alloc,
+        b"\0l\xdc\x02\x07\0\0\0\0\0\0\0\xdd\x07\0\0\0\0\0\0\0\xebk\xdc\x02\x10ping\0\x01\0\0\0\x05b\0\xd4k\xdc\x02\0",
+    )?;
+    let zeros = vec![in alloc; 0; 47_999_957]?;
+    frame.extend_from_slice(zeros.as_slice())?;
+    Ok(frame)
+}
+
+#[test]
+fn greatest_frame_is_answered(rt: HostRuntime) -> Result<(), Fail> {
+    let frame = greatest_frame(rt.alloc())?;
+    let line = "the client ended its stream\n";
+    let (status, says) = ends(rt.alloc(), SETTINGS, frame.as_bytes(), line)?;
+    assert_eq!(rt; status, Status::Ended);
+    assert!(rt; says);
     Ok(())
 }

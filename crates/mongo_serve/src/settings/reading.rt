@@ -9,11 +9,18 @@
 //! A user has a salt for each of its mechanisms, in hex, and one iteration count, 4096 to 4294967295. `nonce` is what the server
 //! adds to a client's nonce: printable ASCII without a comma, and at least one character.
 
-ghost use Rattle.std.specs.Prelude.{◌≡◌, ◌≤◌, IfSome};
+ghost use Rattle.std.specs.Prelude.{◌≡◌, ◌≤◌, [], ◌∷◌, ◌++◌, codes, Some, IfSome, IfOk, OnOk};
+ghost use Rattle.std.specs.List.{AllByRecursion};
+ghost use Rattle.std.specs.Str.{IsUtf8};
+ghost use Rattle.serde_json.specs.Data.{Items};
+ghost use Rattle.serde_json.specs.Read.{read};
+ghost use Rattle.serde_json.specs.View.{view, items_view};
+ghost use Rattle.mongo_serve.specs.Settings.{text_in, items_in, count_in, version_in, salt_in, IsAmong, SaidBy, AreSettings};
 ghost use Rattle.mongo_serve.specs.declared.settings.reading.SettingsError.TheVariants.{OutOfMemory};
 
 use super::{Account, Settings};
-use hex::{FromHex, FromHexError};
+use crate::request::version_named;
+use hex::FromHexError;
 use mongo_bson::{BsonFault, Bytes, Text};
 use mongo_scram::ScramVersion;
 use mongo_server::is_nonce;
@@ -62,20 +69,31 @@ impl From<BsonFault> for SettingsError {
 /// `BadSettings` where it is none: it isn't JSON in UTF-8, a key is absent or has a value of another kind, a user has not as many
 /// salts as mechanisms, a mechanism is neither SCRAM-SHA-1 nor SCRAM-SHA-256, a salt isn't hex, a count isn't within its bounds,
 /// or the nonce isn't printable. Other keys are passed over.
-pub fn settings_of(alloc: Global, text: &[u8]) -> Result<Settings, SettingsError> {
+pub fn settings_of(alloc: Global, text: &[u8]) -> Result<Settings, SettingsError>
+    ensures { IfOk result (AreSettings text.now) }
+{
     let value = json_of(alloc, text)?;
     let nonce = text_in(&value, "nonce")?;
     if nonce.is_empty() || !is_nonce(nonce) {
         return Err(SettingsError::BadSettings);
     }
-    let mut accounts = Vec::new(alloc);
-    for user in items_in(&value, "users")? {
-        push_accounts(alloc, &mut accounts, user)?;
-    }
+    let users = items_in(&value, "users")?;
+    let accounts = accounts_of(alloc, users)?;
     Ok(Settings {
         accounts,
         suffix: Text::from_slice(alloc, nonce)?,
     })
+}
+
+// The accounts of users, one after another.
+fn accounts_of(alloc: Global, users: &[Value]) -> Result<Vec<Account>, SettingsError>
+    ensures { IfOk result (λ accounts. AllByRecursion (SaidBy (items_view users.now)) accounts.items) }
+{
+    let mut accounts = Vec::new(alloc);
+    'users: for user in users {
+        push_accounts(alloc, &mut accounts, user)?;
+    }
+    Ok(accounts)
 }
 
 // Adds a user's accounts, one for each mechanism.
@@ -83,30 +101,58 @@ fn push_accounts(
     alloc: Global,
     accounts: &mut Vec<Account>,
     user: &Value,
-) -> Result<(), SettingsError> {
-    let name = text_in(user, "name")?;
-    let password = text_in(user, "password")?;
-    let Some(count) = count_in(user) else {
-        return Err(SettingsError::BadSettings);
-    };
+) -> Result<(), SettingsError>
+    ensures { (users : Items) → AllByRecursion (SaidBy users) accounts.old.items → IsAmong users (view user.now) → OnOk result (AllByRecursion (SaidBy users) accounts.new.items) }
+{
     let mechanisms = items_in(user, "mechanisms")?;
     let salts = items_in(user, "salts")?;
     if mechanisms.len() != salts.len() {
         return Err(SettingsError::BadSettings);
     }
-    for (mechanism, salt) in mechanisms.iter().zip(salts.iter()) {
-        accounts.push(Account {
-            name: Text::from_slice(alloc, name)?,
-            password: Text::from_slice(alloc, password)?,
-            version: version_of(mechanism)?,
-            salt: salt_of(alloc, salt)?,
-            count,
-        })?;
+    'pairs: for at in 0..mechanisms.len() {
+        let account = account_of(alloc, user, &mechanisms[at], &salts[at])?;
+        push(accounts, account)?;
     }
     Ok(())
 }
 
-fn json_of(alloc: Global, text: &[u8]) -> Result<Value, SettingsError> {
+fn push(accounts: &mut Vec<Account>, account: Account) -> Result<(), SettingsError>
+    ensures { OnOk result (accounts.new.items ≡ accounts.old.items ++ account ∷ []) }
+{
+    accounts.push(account)?;
+    Ok(())
+}
+
+// A user's account by a mechanism, with its salt.
+fn account_of(
+    alloc: Global,
+    user: &Value,
+    mechanism: &Value,
+    salt: &Value,
+) -> Result<Account, SettingsError>
+    ensures name { IfOk result (λ a. text_in (codes "name") (view user.now) ≡ Some a.name) }
+    ensures password { IfOk result (λ a. text_in (codes "password") (view user.now) ≡ Some a.password) }
+    ensures count { IfOk result (λ a. count_in (view user.now) ≡ Some a.count) }
+    ensures version { IfOk result (λ a. version_in (view mechanism.now) ≡ Some a.version) }
+    ensures salt { IfOk result (λ a. salt_in (view salt.now) ≡ Some a.salt) }
+{
+    let name = text_in(user, "name")?;
+    let password = text_in(user, "password")?;
+    let Some(count) = count_in(user) else {
+        return Err(SettingsError::BadSettings);
+    };
+    Ok(Account {
+        name: Text::from_slice(alloc, name)?,
+        password: Text::from_slice(alloc, password)?,
+        version: version_of(mechanism)?,
+        salt: salt_of(alloc, salt)?,
+        count,
+    })
+}
+
+fn json_of(alloc: Global, text: &[u8]) -> Result<Value, SettingsError>
+    ensures { IfOk result (λ value. IsUtf8 text.now × (read text.now ≡ Some (view value))) }
+{
     match Value::from_slice(alloc, text) {
         Ok(value) => Ok(value),
         Err(error) => match error.classify() {
@@ -117,7 +163,9 @@ fn json_of(alloc: Global, text: &[u8]) -> Result<Value, SettingsError> {
 }
 
 // The text of a key.
-fn text_in<'a>(value: &'a Value, key: &str) -> Result<&'a str, SettingsError> {
+fn text_in<'a>(value: &'a Value, key: &str) -> Result<&'a str, SettingsError>
+    ensures { IfOk result (λ text. text_in key.now (view value.now) ≡ Some text.now) }
+{
     match value.get(key) {
         Some(member) => match member.as_str() {
             Some(text) => Ok(text),
@@ -128,7 +176,9 @@ fn text_in<'a>(value: &'a Value, key: &str) -> Result<&'a str, SettingsError> {
 }
 
 // The array of a key.
-fn items_in<'a>(value: &'a Value, key: &str) -> Result<&'a [Value], SettingsError> {
+fn items_in<'a>(value: &'a Value, key: &str) -> Result<&'a [Value], SettingsError>
+    ensures { IfOk result (λ items. items_in key.now (view value.now) ≡ Some (items_view items.now)) }
+{
     match value.get(key) {
         Some(member) => match member.as_array() {
             Some(items) => Ok(items.as_slice()),
@@ -140,25 +190,35 @@ fn items_in<'a>(value: &'a Value, key: &str) -> Result<&'a [Value], SettingsErro
 
 // A user's iteration count.
 fn count_in(user: &Value) -> Option<u32>
-    ensures { IfSome result (λ count. 4096 ≤ count) }
+    ensures count { IfSome result (λ count. count_in (view user.now) ≡ Some count) }
+    ensures least { IfSome result (λ count. 4096 ≤ count) }
 {
-    match user.get("count")?.as_u64() {
-        Some(count) if LEAST_COUNT <= count && count <= u32::MAX as u64 => Some(count as u32),
-        _ => None,
+    match user.get("count") {
+        Some(count) => match count.as_u64() {
+            Some(count) if LEAST_COUNT <= count && count <= u32::MAX as u64 => Some(count as u32),
+            _ => None,
+        },
+        None => None,
     }
 }
 
 // The mechanism of this name.
-fn version_of(name: &Value) -> Result<ScramVersion, SettingsError> {
+fn version_of(name: &Value) -> Result<ScramVersion, SettingsError>
+    ensures { IfOk result (λ version. version_in (view name.now) ≡ Some version) }
+{
     match name.as_str() {
-        Some("SCRAM-SHA-1") => Ok(ScramVersion::Sha1),
-        Some("SCRAM-SHA-256") => Ok(ScramVersion::Sha256),
-        _ => Err(SettingsError::BadSettings),
+        Some(name) => match version_named(name) {
+            Some(version) => Ok(version),
+            None => Err(SettingsError::BadSettings),
+        },
+        None => Err(SettingsError::BadSettings),
     }
 }
 
 // The bytes of a text of hex.
-fn salt_of(alloc: Global, salt: &Value) -> Result<Bytes, SettingsError> {
+fn salt_of(alloc: Global, salt: &Value) -> Result<Bytes, SettingsError>
+    ensures { IfOk result (λ bytes. salt_in (view salt.now) ≡ Some bytes) }
+{
     let Some(text) = salt.as_str() else {
         return Err(SettingsError::BadSettings);
     };
