@@ -14,6 +14,9 @@ use crate::{BsonFault, Bytes, Items, RawDocument, RawValue, TryClone};
 use std::alloc::Global;
 use std::marker::Model;
 
+// How many bytes a new document has memory for: most documents of a command never grow past it.
+const FIRST_CAPACITY: usize = 128;
+
 /// A document that owns its memory. Contracts see its bytes.
 #[derive(Debug, Drop)]
 pub struct RawDocumentBuf {
@@ -34,9 +37,9 @@ impl RawDocumentBuf {
         ensures empty { IfOk result (λ document. document ≡ enclosed []) }
         ensures refused { IfErr result (λ fault. fault ≡ BsonFault.OutOfMemory) }
     {
-        Ok(RawDocumentBuf {
-            held: Vec::from_slice(alloc, &[5, 0, 0, 0, 0])?,
-        })
+        let mut held = Vec::with_capacity(alloc, FIRST_CAPACITY)?;
+        held.extend_from_slice(&[5, 0, 0, 0, 0])?;
+        Ok(RawDocumentBuf { held })
     }
 
     /// The document that the bytes are.
@@ -62,6 +65,7 @@ impl RawDocumentBuf {
     ///
     /// `KeyHasZero` where the key holds a zero byte, then `TooLong` where the document would pass 2147483647 bytes.
     /// A refusal leaves the document as it was.
+    #[inline(always)]
     pub fn append(&mut self, key: &str, value: RawValue<'_>) -> Result<(), BsonFault>
         ensures added { OnOk result (self.new ≡ enclosed (body_of self.old ++ spell (element_of key.now value.entry))) }
         ensures one_more { OnOk result (AddsElement self.old self.new (element_of key.now value.entry)) }

@@ -7,10 +7,14 @@ ghost use Rattle.mongo_bson.specs.Value.{kind_of, bytes_of, element_of};
 use crate::cstring::cstring_end;
 use crate::{BsonFault, RawValue};
 
+// What writes one element is written out where an element is put in: most callers name the key and the kind of the value,
+// so that there nothing is left of the tests for the others.
+
 // The greatest length of a document, the greatest `int32`.
 const MAXIMUM_LENGTH: usize = 0x7FFF_FFFF;
 
 // Puts an element at the end of a document. A refusal leaves the document as it was.
+#[inline(always)]
 pub(crate) fn push_element(
     document: &mut Vec<u8>,
     key: &str,
@@ -67,18 +71,22 @@ fn write_rest(out: &mut Vec<u8>, bytes: &[u8]) -> Result<(), BsonFault>
     ensures kept { take (length out.old.items) out.new.items ≡ out.old.items }
     ensures refused { IfErr result (λ fault. fault ≡ BsonFault.OutOfMemory) }
 {
+    out.reserve(bytes.len() + 1)?;
     out.extend_from_slice(bytes)?;
     out.push(0)?;
     Ok(())
 }
 
 // Writes a key and its zero, a value and a final zero after what is there. What was there stays, whatever the result.
+#[inline(always)]
 fn write_after(out: &mut Vec<u8>, key: &str, value: RawValue<'_>) -> Result<(), BsonFault>
     requires { length (bytes_of value) < 2 ^ 31 }
     ensures added { OnOk result (out.new.items ≡ out.old.items ++ (key.now ++ 0 ∷ (bytes_of value.entry ++ 0 ∷ []))) }
     ensures kept { take (length out.old.items) out.new.items ≡ out.old.items }
     ensures refused { IfErr result (λ fault. fault ≡ BsonFault.OutOfMemory) }
 {
+    // Room once for the whole element.
+    out.reserve(key.len() + value_size(value) + 2)?;
     out.extend_from_slice(key.as_bytes())?;
     out.push(0)?;
     write_value(out, value)?;
@@ -87,6 +95,7 @@ fn write_after(out: &mut Vec<u8>, key: &str, value: RawValue<'_>) -> Result<(), 
 }
 
 // Writes the bytes of a value after what is there. What was there stays, whatever the result.
+#[inline(always)]
 fn write_value(out: &mut Vec<u8>, value: RawValue<'_>) -> Result<(), BsonFault>
     requires { length (bytes_of value) < 2 ^ 31 }
     ensures added { OnOk result (out.new.items ≡ out.old.items ++ bytes_of value.entry) }
@@ -119,6 +128,7 @@ fn write_value(out: &mut Vec<u8>, value: RawValue<'_>) -> Result<(), BsonFault>
 }
 
 // The kind byte that a value is written with.
+#[inline(always)]
 fn kind_byte(value: RawValue<'_>) -> u8
     ensures { result ≡ kind_of value.entry }
 {
@@ -139,6 +149,7 @@ fn kind_byte(value: RawValue<'_>) -> u8
 }
 
 // How many bytes a value is written as.
+#[inline(always)]
 fn value_size(value: RawValue<'_>) -> usize
     ensures { result ≡ length (bytes_of value.entry) }
 {
@@ -159,6 +170,7 @@ fn value_size(value: RawValue<'_>) -> usize
 }
 
 // Whether a document of this length has room for an element.
+#[inline(always)]
 pub(crate) fn has_room(held: usize, key: &str, value: RawValue<'_>) -> bool
     requires { held < 2 ^ 31 }
     ensures { IsTrue result ↔ (held + length (spell (element_of key.now value.entry)) ≤ 2 ^ 31 - 1) }
@@ -201,6 +213,7 @@ fn seal_bytes(bytes: &mut [u8], at: usize, kind: u8)
 }
 
 // Whether a key holds a zero.
+#[inline(always)]
 pub(crate) fn has_zero(key: &str) -> bool
     ensures { IsTrue result ↔ Contains key.now 0 }
 {
