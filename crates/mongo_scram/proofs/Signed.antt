@@ -7,7 +7,6 @@ use Rattle.mongo_mac.proofs.Keys.{mac_of-pads_of}
 use Rattle.mongo_scram.specs.declared.scram_version.ScramVersion.{ScramVersion}
 use Rattle.mongo_scram.specs.declared.scram_version.ScramVersion.TheVariants.{Sha1, Sha256}
 use Rattle.mongo_scram.specs.declared.keys.Keys.{Keys}
-use Rattle.mongo_scram.specs.declared.signing_key.SigningKey.{SigningKey}
 use Rattle.mongo_scram.specs.declared.signing_key.SigningKey.TheVariants.{Sha1 as ForSha1, Sha256 as ForSha256}
 use Rattle.mongo_scram.specs.Keys.{AreKeysOf, proof_under, verifier_under}
 use Rattle.mongo_scram.specs.Messages.{client_key, server_key, proof, verifier}

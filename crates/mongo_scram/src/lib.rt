@@ -12,7 +12,8 @@
 //! ```
 //!
 //! [`ClientFirst`] and [`ClientFinal`] are what the client says, [`ServerFirst`] and [`ServerFinal`] what it hears.
-//! [`ScramVersion::compute_salted_password`] derives the key, and [`SaltedCache`] keeps it for the next login.
+//! [`ScramVersion::compute_salted_password`] derives the key, [`Keys`] are what both sides sign with, and [`SaltedCache`]
+//! keeps them for the next login.
 //! [`ScramVersion::authenticate_stream`] is the whole of it, over a connection.
 //!
 //! Proved: each message is RFC 5802's equation over lists of bytes, which `specs/Messages.antt` states; a message of the
