@@ -49,6 +49,18 @@ impl<H: HashFn> HmacKey<H> {
         }
     }
 
+    /// A copy of the blocks. It takes no memory.
+    pub fn copy(&self) -> HmacKey<H>
+        ensures { result ≡ self.now }
+    {
+        HmacKey {
+            inner: self.inner,
+            outer: self.outer,
+            inner_absorbed: self.inner_absorbed.copy(),
+            outer_absorbed: self.outer_absorbed.copy(),
+        }
+    }
+
     /// The block K XOR ipad.
     pub fn inner(&self) -> &[u8; 64]
         ensures { result.now ≡ self.now.inner }

@@ -1,10 +1,9 @@
 -- What a closing that was followed to its end says of its events, and the other way round.
 use Rattle.std.proofs.Common.{◌≡◌, ℕ, true, refl, ap, sym, ◌∙◌, subst, inr, List, [], ◌∷◌}
-use Rattle.mongo_wire.specs.declared.error.ErrorKind.{ErrorKind}
-use Rattle.mongo_command.specs.Conversation.{Event, exchanged, ends, HasNone, unless, ending, IsSendable}
+use Rattle.mongo_command.specs.Conversation.{Event, exchanged, ends, HasNone, ending, IsSendable}
 use Rattle.mongo_command.proofs.Ends.{Ends, ends_ending, ends_unless, ends_reading, ends_saying}
 use Rattle.mongo_scram.specs.declared.server_final.ServerFinal.{ServerFinal}
-use Rattle.mongo_scram.specs.Replies.{CarriesFinal, FinalReplyRow}
+use Rattle.mongo_scram.specs.Replies.{CarriesFinal}
 use Rattle.mongo_scram.specs.Validity.{IsValidFinal, FinalRow}
 use Rattle.mongo_scram.specs.Plan.{Handed, Challenge, verifier_by, close_said, NotCompletedRow, LastRow, closed, closing}
 use Rattle.mongo_scram.proofs.OneMessage.{one_final, no_final_row}

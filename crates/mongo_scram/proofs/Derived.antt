@@ -1,11 +1,11 @@
 -- What a derivation takes of the counter and of the cache, and what it puts in.
-use Rattle.std.proofs.Common.{◌≡◌, ◌⊎◌, ◌↔◌, ℕ, ◌+◌, ◌-◌, ◌^◌, ◌<◌, min, refl, ap, sym, ◌∙◌, subst, inl, inr, arith, Option, None, Some, Bool, true, false, Result, Ok, Err, List, Contains, IfSome, IfNone, IfOk, IfErr, OnOk, OnErr, is_some, Bor}
+use Rattle.std.proofs.Common.{◌≡◌, ◌⊎◌, ℕ, ◌+◌, ◌-◌, ◌^◌, ◌<◌, min, refl, subst, inl, inr, arith, Result, Ok, Err, List, Contains, OnOk, OnErr}
 use Rattle.mongo_wire.specs.declared.error.Error.{Error}
 use Rattle.mongo_scram.specs.declared.cache.SaltedCache.{SaltedCache}
 use Rattle.mongo_scram.specs.declared.cache.SaltedKey.{SaltedKey}
-use Rattle.mongo_scram.specs.Cache.{entries_of, rounds_of, Adds}
+use Rattle.mongo_scram.specs.Cache.{entries_of, Adds}
 use Rattle.mongo_scram.specs.Entry.{salted_of}
-use Rattle.mongo_scram.specs.Costs.{Ledgers, ledgers, HasEntry, Counts, Derives, CostsNothing, SameEntries}
+use Rattle.mongo_scram.specs.Costs.{Ledgers, ledgers, HasEntry, Counts, Derives, CostsNothing}
 
 -- a cache's rounds are within a u64
 same_rounds : (rounds : ℕ) → rounds < 2 ^ 64 → rounds ≡ min (rounds + 0) (2 ^ 64 - 1)

@@ -1,5 +1,5 @@
 -- The first round of a login is a step of its plan.
-use Rattle.std.proofs.Common.{◌≡◌, ◌⊎◌, ℕ, ℤ, ◌≤◌, Bool, false, refl, ap, sym, ◌∙◌, subst, inl, inr, arith, Option, None, Some, Result, Ok, Err, List, [], ◌++◌, IfOk, IfErr, flat_map}
+use Rattle.std.proofs.Common.{◌≡◌, ◌⊎◌, ℕ, ℤ, false, refl, sym, ◌∙◌, subst, inl, inr, arith, Option, None, Some, Result, Ok, Err, List, [], ◌++◌, IfErr, flat_map}
 use Rattle.mongo_bson.specs.Document.{spell}
 use Rattle.mongo_bson.proofs.Enclosed.{length-enclosed}
 use Rattle.mongo_wire.specs.declared.error.Error.{Error}
@@ -8,7 +8,7 @@ use Rattle.mongo_wire.specs.declared.error.ErrorKind.TheVariants.{OutOfMemory}
 use Rattle.mongo_wire.specs.Outside.{State}
 use Rattle.mongo_command.specs.declared.command.Command.{Command}
 use Rattle.mongo_command.specs.Exchange.{command_message, CountsStay, Exchanges, ExchangeRefused}
-use Rattle.mongo_command.specs.Conversation.{Said, plain_message, saying, Stopped}
+use Rattle.mongo_command.specs.Conversation.{plain_message, saying, Stopped}
 use Rattle.mongo_command.proofs.Steps.{stopped_memory, stopped_row, stopped_saying, stopped_later}
 use Rattle.mongo_sasl.specs.Commands.{start_elements, IsNotBuilt}
 use Rattle.mongo_scram.specs.declared.messages.ClientFirst.{ClientFirst}
@@ -18,7 +18,7 @@ use Rattle.mongo_scram.specs.declared.rounds.Opened.{Opened}
 use Rattle.mongo_scram.specs.Client.{message_of, nonce_of, source_of, includes_db, server_api_of, speculated_of}
 use Rattle.mongo_scram.specs.Commands.{mechanism_of, first_body, first_command}
 use Rattle.mongo_scram.specs.User.{User}
-use Rattle.mongo_scram.specs.Plan.{Handed, Challenge, message_by, nonce_by, start_said, challenged, opened}
+use Rattle.mongo_scram.specs.Plan.{Handed, message_by, nonce_by, start_said, challenged, opened}
 use Rattle.mongo_scram.specs.Replies.{CarriesFirst, FirstReplyRow}
 use Rattle.mongo_scram.specs.Rounds.{handed_by, Replies, Opens}
 use Rattle.mongo_sasl.proofs.Unsent.{unbuilt_stopped}

@@ -1,5 +1,5 @@
 -- The last round of a login is a step of its plan, and ends it.
-use Rattle.std.proofs.Common.{◌≡◌, ◌⊎◌, ℕ, ℤ, ◌+◌, ◌≤◌, refl, ap, sym, subst, inl, inr, arith, Option, Result, Ok, Err, List, length, IfErr, OnOk, flat_map}
+use Rattle.std.proofs.Common.{◌≡◌, ◌⊎◌, ℕ, ℤ, refl, sym, subst, inl, inr, arith, Option, Result, Ok, Err, List, IfErr, OnOk, flat_map}
 use Rattle.mongo_bson.specs.Document.{spell}
 use Rattle.mongo_bson.specs.declared.owned_value.OwnedValue.{OwnedValue}
 use Rattle.mongo_bson.proofs.Enclosed.{length-enclosed}
@@ -9,15 +9,14 @@ use Rattle.mongo_wire.specs.declared.error.ErrorKind.TheVariants.{OutOfMemory}
 use Rattle.mongo_wire.specs.Outside.{State}
 use Rattle.mongo_command.specs.declared.command.Command.{Command}
 use Rattle.mongo_command.specs.Exchange.{command_message, CountsStay, Exchanges, ExchangeRefused}
-use Rattle.mongo_command.specs.Conversation.{Said, Plan, plain_message, Reached, Stopped, ending, unless, reading}
+use Rattle.mongo_command.specs.Conversation.{Said, plain_message, Reached, Stopped, ending}
 use Rattle.mongo_command.proofs.Steps.{reached_ending, reached_unless, reached_reading, reached_saying, stopped_memory, stopped_row, stopped_unless, stopped_reading, stopped_saying, stopped_later}
 use Rattle.mongo_sasl.specs.Commands.{continue_elements, continue_body, IsNotBuilt}
 use Rattle.mongo_scram.specs.declared.messages.ClientFinal.{ClientFinal}
-use Rattle.mongo_scram.specs.declared.server_final.ServerFinal.{ServerFinal}
 use Rattle.mongo_scram.specs.Client.{final_of, conversation_of, final_source_of, final_api_of}
 use Rattle.mongo_scram.specs.Commands.{final_command}
 use Rattle.mongo_scram.specs.Plan.{Challenge}
-use Rattle.mongo_scram.specs.Replies.{CarriesFinal, FinalReplyRow}
+use Rattle.mongo_scram.specs.Replies.{FinalReplyRow}
 use Rattle.mongo_scram.specs.Rounds.{final_said, RoundRow, last_heard, last_round, IsTaken, LastRefusal}
 use Rattle.mongo_scram.proofs.OneMessage.{no_final_row}
 use Rattle.mongo_sasl.proofs.Unsent.{unbuilt_stopped}

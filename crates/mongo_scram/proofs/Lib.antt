@@ -20,3 +20,4 @@ pub mod FirstRounds
 pub mod OpeningSteps
 pub mod ClosingSteps
 pub mod LoginSteps
+pub mod Signed

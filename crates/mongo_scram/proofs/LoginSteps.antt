@@ -5,21 +5,19 @@ use Rattle.mongo_wire.specs.declared.error.Error.{Error}
 use Rattle.mongo_wire.specs.declared.error.ErrorKind.{ErrorKind}
 use Rattle.mongo_wire.specs.declared.error.ErrorKind.TheVariants.{OutOfMemory}
 use Rattle.mongo_wire.specs.Outside.{State, risen}
-use Rattle.mongo_command.specs.Conversation.{Plan, HasNone, Reached, Stopped}
-use Rattle.mongo_command.proofs.Steps.{stopped_memory, stopped_row}
+use Rattle.mongo_command.specs.Conversation.{Plan, Reached, Stopped}
 use Rattle.mongo_scram.specs.declared.cache.SaltedCache.{SaltedCache}
 use Rattle.mongo_scram.specs.declared.cache.SaltedKey.{SaltedKey}
 use Rattle.mongo_scram.specs.declared.conversation.FirstRound.{FirstRound}
 use Rattle.mongo_scram.specs.declared.rounds.Opened.{Opened}
 use Rattle.mongo_scram.specs.Cache.{entries_of, rounds_of, Adds}
 use Rattle.mongo_scram.specs.Client.{nonce_of, frames_after}
-use Rattle.mongo_scram.specs.Costs.{Ledgers, ledgers, key_by, HasEntry, Counts, Derives, SameEntries, CostsNothing, EndsLogin, Accepted, StoppedClosing, StoppedLogin}
+use Rattle.mongo_scram.specs.Costs.{Ledgers, ledgers, key_by, HasEntry, Derives, SameEntries, CostsNothing, EndsLogin, Accepted, StoppedLogin}
 use Rattle.mongo_scram.specs.Entry.{salted_of, IsUsable}
-use Rattle.mongo_scram.specs.Key.{PasswordRow}
-use Rattle.mongo_scram.specs.Plan.{Handed, Challenge, salted_by, opened, opening, closing}
-use Rattle.mongo_scram.specs.Rounds.{frames_opened, Opens, key_for, IsAnswered, AnswerRow}
-use Rattle.mongo_scram.specs.User.{User, IsUser, CredentialRow}
-use Rattle.mongo_scram.proofs.OpeningSteps.{user_stopped, opening_reached, answer_stopped}
+use Rattle.mongo_scram.specs.Plan.{Handed, salted_by, opening, closing}
+use Rattle.mongo_scram.specs.Rounds.{frames_opened, Opens, key_for, IsAnswered}
+use Rattle.mongo_scram.specs.User.{User, IsUser}
+use Rattle.mongo_scram.proofs.OpeningSteps.{opening_reached}
 use Rattle.mongo_scram.proofs.ScramPlan.{challenge_of}
 
 -- ---- before anything was derived

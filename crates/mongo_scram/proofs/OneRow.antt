@@ -1,5 +1,5 @@
 -- A credential has one user, and each step of a login is refused for one reason at most.
-use Rattle.std.proofs.Common.{◌≡◌, ◌≢◌, ℕ, ◌<◌, ◌≤◌, Bool, true, false, Option, None, Some, IsSome, List, refl, sym, ap, ◌∙◌, subst, arith, Any, All}
+use Rattle.std.proofs.Common.{◌≡◌, ℕ, ◌<◌, ◌≤◌, Bool, true, false, Option, None, Some, IsSome, List, refl, sym, ap, ◌∙◌, subst, arith, Any, All}
 use Rattle.std.proofs.lemmas.Bool.{false≢true}
 use Rattle.mongo_bson.specs.declared.owned_value.OwnedValue.{OwnedValue}
 use Rattle.mongo_wire.specs.declared.auth_fault.AuthFault.{AuthFault}

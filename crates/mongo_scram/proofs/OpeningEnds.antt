@@ -1,13 +1,11 @@
 -- What an opening that was followed to its end says of its events, and the other way round.
 use Rattle.std.proofs.Common.{◌≡◌, ℕ, refl, ap, sym, ◌∙◌, subst, inr, Option, None, Some, List, [], ◌∷◌}
-use Rattle.mongo_wire.specs.declared.error.ErrorKind.{ErrorKind}
-use Rattle.mongo_command.specs.Conversation.{Said, Event, exchanged, Turn, says, ends, Plan, HasNone, unless, ending, reading, IsSendable}
+use Rattle.mongo_command.specs.Conversation.{Event, exchanged, Turn, ends, Plan, HasNone, ending, IsSendable}
 use Rattle.mongo_command.proofs.Ends.{Ends, ends_ending, ends_unless, ends_reading, ends_saying}
 use Rattle.mongo_command.proofs.Talked.{follows_more}
-use Rattle.mongo_scram.specs.declared.server_first.ServerFirst.{ServerFirst}
-use Rattle.mongo_scram.specs.User.{User, IsUser, CredentialRow}
+use Rattle.mongo_scram.specs.User.{User, IsUser}
 use Rattle.mongo_scram.specs.Key.{PasswordRow}
-use Rattle.mongo_scram.specs.Replies.{CarriesFirst, FirstReplyRow}
+use Rattle.mongo_scram.specs.Replies.{CarriesFirst}
 use Rattle.mongo_scram.specs.Validity.{IsValidFirst, FirstRow}
 use Rattle.mongo_scram.specs.Plan.{Speculated, Handed, Challenge, nonce_by, start_said, ChallengeRow, challenged, opened, opening}
 use Rattle.mongo_scram.proofs.OneMessage.{one_first, no_first_row}

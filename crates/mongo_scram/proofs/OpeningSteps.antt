@@ -1,31 +1,19 @@
 -- What a login's first round and its derivation show of its opening.
-use Rattle.std.proofs.Common.{◌≡◌, ◌⊎◌, ℕ, ℤ, refl, ap, sym, ◌∙◌, subst, inl, inr, Option, None, Some, Result, Ok, Err, List, IfErr, OnOk, OnErr}
-use Rattle.mongo_wire.specs.declared.error.Error.{Error}
+use Rattle.std.proofs.Common.{◌≡◌, ◌⊎◌, ℕ, ℤ, ◌∙◌, subst, inl, inr, Option, None, Some, List}
 use Rattle.mongo_wire.specs.declared.error.ErrorKind.{ErrorKind}
 use Rattle.mongo_wire.specs.declared.error.ErrorKind.TheVariants.{OutOfMemory}
 use Rattle.mongo_wire.specs.Outside.{State}
-use Rattle.mongo_command.specs.Conversation.{Said, HasNone, ending, reading, unless, Reached, Stopped, ReachedGiven}
+use Rattle.mongo_command.specs.Conversation.{HasNone, ending, reading, unless, Reached, Stopped}
 use Rattle.mongo_command.proofs.Steps.{reached_ending, reached_unless, reached_reading, reached_saying, stopped_memory, stopped_row, stopped_unless, stopped_reading, stopped_later}
-use Rattle.mongo_scram.specs.declared.cache.SaltedCache.{SaltedCache}
-use Rattle.mongo_scram.specs.declared.cache.SaltedKey.{SaltedKey}
-use Rattle.mongo_scram.specs.declared.messages.ClientFinal.{ClientFinal}
 use Rattle.mongo_scram.specs.declared.rounds.Opened.{Opened}
-use Rattle.mongo_scram.specs.declared.scram_version.ScramVersion.{ScramVersion}
-use Rattle.mongo_scram.specs.declared.server_final.ServerFinal.{ServerFinal}
 use Rattle.mongo_scram.specs.declared.server_first.ServerFirst.{ServerFirst}
-use Rattle.mongo_bson.specs.declared.owned_value.OwnedValue.{OwnedValue}
-use Rattle.mongo_scram.specs.Cache.{entries_of, rounds_of, Adds}
-use Rattle.mongo_scram.specs.Client.{nonce_of, bare_of, message_of, final_of, auth_message_of, conversation_of, final_source_of, final_api_of}
-use Rattle.mongo_scram.specs.Costs.{Ledgers, ledgers, key_by, HasEntry, Counts, Derives, SameEntries, CostsNothing, Accepted, StoppedClosing, StoppedLogin, EndsLogin}
-use Rattle.mongo_scram.specs.Entry.{salted_of, IsUsable}
+use Rattle.mongo_scram.specs.Client.{nonce_of}
 use Rattle.mongo_scram.specs.Key.{PasswordRow}
-use Rattle.mongo_scram.specs.Messages.{transcript, close_message, verifier}
-use Rattle.mongo_scram.specs.Plan.{Speculated, Handed, Challenge, message_by, nonce_by, salted_by, auth_message_by, close_by, verifier_by, start_said, close_said, ChallengeRow, challenged, opened, opening, closing}
+use Rattle.mongo_scram.specs.Plan.{Speculated, Handed, Challenge, nonce_by, start_said, ChallengeRow, challenged, opened, opening}
 use Rattle.mongo_scram.specs.Replies.{CarriesFirst, FirstReplyRow}
-use Rattle.mongo_scram.specs.Rounds.{Replies, Opens, key_for, IsAnswered, AnswerRow, final_said, RoundRow, last_round, IsTaken}
+use Rattle.mongo_scram.specs.Rounds.{Replies, Opens, AnswerRow}
 use Rattle.mongo_scram.specs.User.{User, IsUser, CredentialRow}
 use Rattle.mongo_scram.specs.Validity.{IsValidFirst, FirstRow}
-use Rattle.mongo_scram.specs.Version.{digest_of}
 use Rattle.mongo_scram.proofs.NoRows.{none_else, valid_first_row}
 use Rattle.mongo_scram.proofs.OneMessage.{no_first_row}
 use Rattle.mongo_scram.proofs.OneRow.{no_credential_row}

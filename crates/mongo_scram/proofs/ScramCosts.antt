@@ -4,7 +4,7 @@ use Rattle.mongo_wire.specs.declared.error.ErrorKind.{ErrorKind}
 use Rattle.mongo_wire.specs.Outside.{State}
 use Rattle.mongo_command.specs.Conversation.{Reached, Stopped}
 use Rattle.mongo_command.proofs.FollowedBy.{reached_both, stopped_first, stopped_second}
-use Rattle.mongo_scram.specs.Plan.{Handed, Challenge, opening, closing, scram_plan}
+use Rattle.mongo_scram.specs.Plan.{Handed, opening, closing, scram_plan}
 use Rattle.mongo_scram.specs.Costs.{Ledgers, Accepted, StoppedLogin}
 
 pub accepted_reached : (handed : Handed) (document : List ℕ) (old new : State) (before after : ℤ) (first last : Ledgers) → (is : Accepted handed document old new before after first last) → Reached (scram_plan handed) is.challenge old new before after

@@ -2,7 +2,6 @@
 use Rattle.std.proofs.Common.{◌≡◌, ℕ, ℤ, inl, inr, Some, Result, Ok, Err, List, IfErr, OnOk}
 use Rattle.std.specs.Result.{IsErrAnd}
 use Rattle.mongo_wire.specs.declared.error.Error.{Error}
-use Rattle.mongo_wire.specs.declared.error.ErrorKind.{ErrorKind}
 use Rattle.mongo_wire.specs.declared.error.ErrorKind.TheVariants.{OutOfMemory}
 use Rattle.mongo_wire.specs.Outside.{State, Rose}
 use Rattle.mongo_command.specs.Conversation.{Said, Turn, refuses, ends, Leads}

@@ -1,6 +1,5 @@
 -- The plan of a SCRAM login has one turn, whatever has happened.
-use Rattle.std.proofs.Common.{◌≡◌, ℕ, sym, ◌∙◌, Option, None, Some, List}
-use Rattle.mongo_wire.specs.declared.error.ErrorKind.{ErrorKind}
+use Rattle.std.proofs.Common.{ℕ, sym, ◌∙◌, Option, None, Some, List}
 use Rattle.mongo_command.specs.Conversation.{IsOne, HasOneTurn}
 use Rattle.mongo_command.proofs.Plans.{one_else, one_ending, one_unless, one_reading, one_saying, one_followed}
 use Rattle.mongo_scram.specs.declared.server_first.ServerFirst.{ServerFirst}

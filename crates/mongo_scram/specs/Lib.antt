@@ -6,6 +6,7 @@ pub mod Costs
 pub mod Entry
 pub mod Key
 pub mod KeyOrder
+pub mod Keys
 pub mod Led
 pub mod Messages
 pub mod Parsed
@@ -14,6 +15,7 @@ pub mod Replies
 pub mod Rounds
 pub mod Script
 pub mod ServerMessages
+pub mod SigningKey
 pub mod User
 pub mod UserName
 pub mod Validity

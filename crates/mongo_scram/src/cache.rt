@@ -3,6 +3,7 @@ ghost use Rattle.mongo_scram.specs.Entry.{IsSaltedEntry};
 ghost use Rattle.mongo_wire.specs.declared.error.ErrorKind.TheVariants.{OutOfMemory};
 
 use crate::ScramVersion;
+use crate::salted_password::SaltedPassword;
 use mongo_bson::{BsonFault, Bytes, Text};
 use mongo_mac::Tag;
 use mongo_wire::Error;
@@ -129,7 +130,7 @@ impl Eq for SaltedKey {
 /// derives nothing. Finding a key takes a logarithm of their number.
 #[derive(Drop)]
 pub struct SaltedCache {
-    entries: BTreeMap<SaltedKey, Tag>,
+    entries: BTreeMap<SaltedKey, SaltedPassword>,
     rounds: u64,
     pub ghost salted: { All IsSaltedEntry entries.entries },
     pub ghost within: { rounds < 2 ^ 64 },
@@ -154,6 +155,19 @@ impl SaltedCache {
     pub fn get(&self, key: &SaltedKey) -> Option<&Tag>
         ensures found { IfSome result (λ tag. Contains (entries_of self.now) (key.now, tag.now)) }
         ensures salted { IfSome result (λ tag. tag.now ≡ salted_of key.now) }
+        ensures usable { IfSome result (λ _. IsUsable key.now) }
+        ensures absent { IfNone result ((tag : List ℕ) → Contains (entries_of self.now) (key.now, tag) → ⊥) }
+    {
+        match self.entry(key) {
+            Some(salted) => Some(salted.tag()),
+            None => None,
+        }
+    }
+
+    // The same with the keys beside it.
+    pub(crate) fn entry(&self, key: &SaltedKey) -> Option<&SaltedPassword>
+        ensures found { IfSome result (λ salted. Contains (entries_of self.now) (key.now, salted.now)) }
+        ensures salted { IfSome result (λ salted. salted.now ≡ salted_of key.now) }
         ensures usable { IfSome result (λ _. IsUsable key.now) }
         ensures absent { IfNone result ((tag : List ℕ) → Contains (entries_of self.now) (key.now, tag) → ⊥) }
     {
@@ -182,16 +196,16 @@ impl SaltedCache {
     }
 
     // Puts a key in that has no entry, with its salted password. Want of memory leaves the entries as they were.
-    pub(crate) fn insert(&mut self, key: SaltedKey, tag: Tag) -> Result<(), Error>
+    pub(crate) fn insert(&mut self, key: SaltedKey, salted: SaltedPassword) -> Result<(), Error>
         requires usable { IsUsable key }
-        requires salted { tag ≡ salted_of key }
+        requires salted { salted ≡ salted_of key }
         requires absent { (other : List ℕ) → Contains (entries_of self.old) (key, other) → ⊥ }
-        ensures added { OnOk result (Adds (entries_of self.old) (entries_of self.new) (key, tag)) }
+        ensures added { OnOk result (Adds (entries_of self.old) (entries_of self.new) (key, salted)) }
         ensures unchanged { OnErr result (entries_of self.new ≡ entries_of self.old) }
         ensures rounds { rounds_of self.new ≡ rounds_of self.old }
         ensures refused { IfErr result (λ e. e.kind ≡ OutOfMemory) }
     {
-        self.entries.insert(key, tag)?;
+        self.entries.insert(key, salted)?;
         Ok(())
     }
 

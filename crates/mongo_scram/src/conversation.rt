@@ -123,10 +123,10 @@ impl ScramVersion {
             salted,
             steps,
         )?;
-        let client_final = ClientFinal::new(
+        let client_final = ClientFinal::signed_by(
             alloc,
             user.source,
-            &derived.tag,
+            &derived.salted,
             &opened.client_first,
             &opened.server_first,
             self,
@@ -139,7 +139,7 @@ impl ScramVersion {
             ids,
             buffer,
             *self,
-            &derived.tag,
+            &derived.salted,
             &client_final,
         )?;
         keep(salted, derived)

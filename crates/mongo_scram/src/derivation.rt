@@ -11,10 +11,11 @@ ghost use Rattle.mongo_scram.specs.Rounds.{key_for, IsAnswered, AnswerRow};
 
 use crate::auth_info::ClientAuthInfo;
 use crate::cache::{SaltedCache, SaltedKey};
+use crate::salted_password::SaltedPassword;
 use crate::scram_version::ScramVersion;
 use crate::server_first::ServerFirst;
 use mongo_bson::Text;
-use mongo_mac::{Steps, Tag};
+use mongo_mac::Steps;
 use mongo_wire::Error;
 use std::alloc::Global;
 use std::sync::ledger::Ledger;
@@ -25,7 +26,7 @@ pub struct Derived {
     /// The key.
     pub key: SaltedKey,
     /// Its salted password.
-    pub tag: Tag,
+    pub salted: SaltedPassword,
 }
 
 /// Goes on from the server's first message, as a client with this nonce that derives by at most `most` iterations: the
@@ -44,14 +45,14 @@ pub fn answer<G: Ledger>(
     steps: &mut Steps<G>,
 ) -> Result<Derived, Error>
     ensures key { IfOk result (λ derived. derived.key ≡ key_for version (user_of user.now) server_first.now) }
-    ensures answered { IfOk result (λ derived. IsAnswered server_first.now nonce.now most derived.key derived.tag (ledgers steps.old cache.old) (ledgers steps.new cache.new)) }
+    ensures answered { IfOk result (λ derived. IsAnswered server_first.now nonce.now most derived.key derived.salted (ledgers steps.old cache.old) (ledgers steps.new cache.new)) }
     ensures refused { IfErr result (λ e. AnswerRow server_first.now nonce.now most version (user_of user.now).password e.kind ⊎ (e.kind ≡ OutOfMemory)) }
     ensures no_cost { OnErr result (CostsNothing (ledgers steps.old cache.old) (ledgers steps.new cache.new)) }
 {
     server_first.validate(nonce, most)?;
     let key = key_of(alloc, version, user, server_first)?;
-    let tag = salted_password(&key, cache, steps)?;
-    Ok(Derived { key, tag })
+    let salted = salted_password(&key, cache, steps)?;
+    Ok(Derived { key, salted })
 }
 
 // The key that a server's first message asks for.
@@ -78,17 +79,17 @@ fn salted_password<G: Ledger>(
     key: &SaltedKey,
     cache: &mut SaltedCache,
     steps: &mut Steps<G>,
-) -> Result<Tag, Error>
+) -> Result<SaltedPassword, Error>
     requires { 1 ≤ key.now.count }
-    ensures tag { IfOk result (λ tag. tag ≡ salted_of key.now) }
+    ensures salted { IfOk result (λ salted. salted ≡ salted_of key.now) }
     ensures usable { OnOk result (IsUsable key.now) }
     ensures derived { OnOk result (Derives key.now (ledgers steps.old cache.old) (ledgers steps.new cache.new)) }
     ensures entries { entries_of cache.new ≡ entries_of cache.old }
     ensures refused { IfErr result (λ e. PasswordRow key.now.version key.now.password e.kind) }
     ensures no_cost { OnErr result (Counts 0 (ledgers steps.old cache.old) (ledgers steps.new cache.new)) }
 {
-    match cache.get(key) {
-        Some(tag) => Ok(*tag),
+    match cache.entry(key) {
+        Some(salted) => Ok(salted.copy()),
         None => derive(key, cache, steps),
     }
 }
@@ -98,9 +99,9 @@ fn derive<G: Ledger>(
     key: &SaltedKey,
     cache: &mut SaltedCache,
     steps: &mut Steps<G>,
-) -> Result<Tag, Error>
+) -> Result<SaltedPassword, Error>
     requires { 1 ≤ key.now.count }
-    ensures tag { IfOk result (λ tag. tag ≡ salted_of key.now) }
+    ensures salted { IfOk result (λ salted. salted ≡ salted_of key.now) }
     ensures usable { OnOk result (IsUsable key.now) }
     ensures counts { OnOk result (Counts key.now.count (ledgers steps.old cache.old) (ledgers steps.new cache.new)) }
     ensures entries { entries_of cache.new ≡ entries_of cache.old }
@@ -115,22 +116,22 @@ fn derive<G: Ledger>(
         steps,
     )?;
     cache.add_rounds(key.count);
-    Ok(tag)
+    Ok(SaltedPassword::new(key.version, tag))
 }
 
 /// Puts a key in with its salted password, where it has no entry. Want of memory is the only refusal, and leaves the entries
 /// as they were.
 pub fn keep(cache: &mut SaltedCache, derived: Derived) -> Result<(), Error>
     requires usable { IsUsable derived.key }
-    requires salted { derived.tag ≡ salted_of derived.key }
+    requires salted { derived.salted ≡ salted_of derived.key }
     ensures kept { OnOk result ((HasEntry cache.old derived.key × (entries_of cache.new ≡ entries_of cache.old)) ⊎ Adds (entries_of cache.old) (entries_of cache.new) (derived.key, salted_of derived.key)) }
     ensures unchanged { OnErr result (entries_of cache.new ≡ entries_of cache.old) }
     ensures rounds { rounds_of cache.new ≡ rounds_of cache.old }
     ensures refused { IfErr result (λ e. e.kind ≡ OutOfMemory) }
 {
-    let Derived { key, tag } = derived;
-    match cache.get(&key) {
+    let Derived { key, salted } = derived;
+    match cache.entry(&key) {
         Some(_) => Ok(()),
-        None => cache.insert(key, tag),
+        None => cache.insert(key, salted),
     }
 }

@@ -12,7 +12,8 @@
 //! ```
 //!
 //! [`ClientFirst`] and [`ClientFinal`] are what the client says, [`ServerFirst`] and [`ServerFinal`] what it hears.
-//! [`ScramVersion::compute_salted_password`] derives the key, and [`SaltedCache`] keeps it for the next login.
+//! [`ScramVersion::compute_salted_password`] derives the key, [`Keys`] are what both sides sign with, and [`SaltedCache`]
+//! keeps them for the next login.
 //! [`ScramVersion::authenticate_stream`] is the whole of it, over a connection.
 //!
 //! Proved: each message is RFC 5802's equation over lists of bytes, which `specs/Messages.antt` states; a message of the
@@ -30,12 +31,15 @@ mod conversation;
 mod derivation;
 mod first_round;
 mod key;
+mod keys;
 mod messages;
 mod parse;
 mod rounds;
+mod salted_password;
 mod scram_version;
 mod server_final;
 mod server_first;
+mod signing_key;
 #[cfg(test)]
 mod tests;
 mod user_name;
@@ -43,6 +47,7 @@ mod user_name;
 pub use auth_info::ClientAuthInfo;
 pub use cache::{SaltedCache, SaltedKey};
 pub use conversation::FirstRound;
+pub use keys::Keys;
 pub use messages::{ClientFinal, ClientFirst, nonce_text};
 pub use scram_version::ScramVersion;
 pub use server_final::{ServerFinal, ServerFinalBody};

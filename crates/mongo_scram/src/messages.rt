@@ -1,16 +1,16 @@
 ghost use Rattle.std.specs.Prelude.{◌≡◌, ◌++◌, codes, take, IfOk, IfErr, OnOk, string_bytes};
 ghost use Rattle.mongo_scram.specs.Base64.{base64_of};
-ghost use Rattle.mongo_scram.specs.Messages.{open_message, no_proof, transcript, proof, verifier};
-ghost use Rattle.mongo_scram.specs.Version.{digest_of};
+ghost use Rattle.mongo_scram.specs.Messages.{open_message, no_proof, transcript};
 ghost use Rattle.mongo_wire.specs.declared.error.ErrorKind.TheVariants.{OutOfMemory};
 
 use crate::ScramVersion;
 use crate::base64_text::encoded;
+use crate::salted_password::SaltedPassword;
 use crate::server_first::ServerFirst;
 use crate::user_name::push_user_name;
 use mongo_bson::{Bytes, OwnedValue, RawValue, Text};
 use mongo_command::{Command, ServerApi};
-use mongo_mac::{Tag, xor};
+use mongo_mac::Tag;
 use mongo_sasl::{SaslContinue, SaslStart};
 use mongo_wire::Error;
 use std::alloc::{AllocError, Global};
@@ -216,11 +216,42 @@ impl ClientFinal {
 
     /// The message that proves the salted password to the server: `c=biws,r=` the server's nonce `,p=` the proof in
     /// base64 (RFC 5802, section 3). With a server API its command declares it.
-    #[tactic(auto, unfolding(crate::specs::Messages::close_message))]
     pub fn new(
         alloc: Global,
         source: &str,
         salted: &Tag,
+        client_first: &ClientFirst,
+        server_first: &ServerFirst,
+        version: &ScramVersion,
+        server_api: Option<ServerApi>,
+    ) -> Result<ClientFinal, Error>
+        ensures auth_message { IfOk result (λ last. auth_message_of last ≡
+            transcript (bare_of client_first.now) server_first.now.message server_first.now.nonce) }
+        ensures message { IfOk result (λ last. final_of last ≡
+            close_message (digest_of version.now) salted.now (auth_message_of last) server_first.now.nonce) }
+        ensures conversation { IfOk result (λ last. conversation_of last ≡ server_first.now.conversation_id) }
+        ensures source { IfOk result (λ last. final_source_of last ≡ source.now) }
+        ensures api { IfOk result (λ last. final_api_of last ≡ server_api) }
+        ensures refused { IfErr result (λ e. e.kind ≡ OutOfMemory) }
+    {
+        let salted = SaltedPassword::new(*version, *salted);
+        ClientFinal::signed_by(
+            alloc,
+            source,
+            &salted,
+            client_first,
+            server_first,
+            version,
+            server_api,
+        )
+    }
+
+    // The same by a salted password whose keys were kept.
+    #[tactic(auto, unfolding(crate::specs::Messages::close_message))]
+    pub(crate) fn signed_by(
+        alloc: Global,
+        source: &str,
+        salted: &SaltedPassword,
         client_first: &ClientFirst,
         server_first: &ServerFirst,
         version: &ScramVersion,
@@ -242,7 +273,7 @@ impl ClientFinal {
             server_first.message.as_str(),
             nonce,
         )?;
-        let proof = client_proof(salted, auth_message.as_bytes(), version);
+        let proof = salted.proof(version, auth_message.as_bytes());
         let message = close_text(alloc, nonce, &proof)?;
         Ok(ClientFinal {
             source: Text::from_slice(alloc, source)?,
@@ -351,24 +382,4 @@ fn push_no_proof(text: &mut String, nonce: &str) -> Result<(), AllocError>
 {
     text.push_str("c=biws,r=")?;
     text.push_str(nonce)
-}
-
-// ClientProof := ClientKey XOR ClientSignature.
-#[tactic(auto, unfolding(crate::specs::Messages::client_key, crate::specs::Messages::proof))]
-pub(crate) fn client_proof(salted: &Tag, auth_message: &[u8], version: &ScramVersion) -> Tag
-    ensures { result ≡ proof (digest_of version.now) salted.now auth_message.now }
-{
-    let client_key = version.hmac(salted.as_bytes(), b"Client Key");
-    let stored_key = version.h(client_key.as_bytes());
-    let signature = version.hmac(stored_key.as_bytes(), auth_message);
-    xor(&client_key, &signature)
-}
-
-// ServerSignature := HMAC(ServerKey, AuthMessage).
-#[tactic(auto, unfolding(crate::specs::Messages::server_key, crate::specs::Messages::verifier))]
-pub(crate) fn server_signature(salted: &Tag, auth_message: &[u8], version: &ScramVersion) -> Tag
-    ensures { result ≡ verifier (digest_of version.now) salted.now auth_message.now }
-{
-    let server_key = version.hmac(salted.as_bytes(), b"Server Key");
-    version.hmac(server_key.as_bytes(), auth_message)
 }

@@ -18,12 +18,12 @@ ghost use Rattle.mongo_scram.specs.Version.{digest_of};
 use crate::auth_info::ClientAuthInfo;
 use crate::conversation::FirstRound;
 use crate::messages::{ClientFinal, ClientFirst};
+use crate::salted_password::SaltedPassword;
 use crate::scram_version::ScramVersion;
 use crate::server_final::ServerFinal;
 use crate::server_first::ServerFirst;
 use mongo_bson::RawDocument;
 use mongo_command::{Connection, ServerApi};
-use mongo_mac::Tag;
 use mongo_sasl::{Credential, held_reply, refused};
 use mongo_wire::{AuthFault, Error, FrameBuffer, Link, RequestIds};
 use std::alloc::Global;
@@ -158,7 +158,7 @@ pub fn close<L: Link>(
     ids: &mut RequestIds,
     buffer: &mut FrameBuffer,
     version: ScramVersion,
-    salted: &Tag,
+    salted: &SaltedPassword,
     client_final: &ClientFinal,
 ) -> Result<(), Error>
     ensures closed { (c : Challenge) → OnOk result (Reached (last_round (final_said client_final.now (frame_maximum connection.old.stream_description)) (conversation_of client_final.now) (verifier (digest_of version) salted.now (auth_message_of client_final.now)) c) c
@@ -185,7 +185,7 @@ fn take_last(
     alloc: Global,
     reply: RawDocument<'_>,
     version: ScramVersion,
-    salted: &Tag,
+    salted: &SaltedPassword,
     client_final: &ClientFinal,
 ) -> Result<(), Error>
     ensures taken { OnOk result (IsTaken (conversation_of client_final.now) (verifier (digest_of version) salted.now (auth_message_of client_final.now)) reply.entry.bytes.now) }
@@ -193,7 +193,7 @@ fn take_last(
 {
     let last = ServerFinal::parse(alloc, reply)?;
     let done = last.done;
-    last.validate(salted, client_final, &version)?;
+    last.validate_by(salted, client_final, &version)?;
     if done {
         Ok(())
     } else {

@@ -10,8 +10,9 @@ ghost use Rattle.mongo_scram.specs.Validity.{IsValidFinal, FinalRow};
 ghost use Rattle.mongo_scram.specs.Version.{digest_of};
 
 use crate::ScramVersion;
-use crate::messages::{ClientFinal, server_signature};
+use crate::messages::ClientFinal;
 use crate::parse::{conversation_id_of, read_server_final};
+use crate::salted_password::SaltedPassword;
 use mongo_bson::{BsonFault, Bytes, OwnedValue, RawDocument, Text};
 use mongo_mac::{Tag, are_same_bytes};
 use mongo_sasl::{SaslView, refused};
@@ -96,6 +97,20 @@ impl ServerFinal {
         ensures valid { OnOk result (IsValidFinal self (conversation_of client_final.now) (verifier (digest_of version.now) salted.now (auth_message_of client_final.now))) }
         ensures refused { IfErr result (λ e. FinalRow self (conversation_of client_final.now) (verifier (digest_of version.now) salted.now (auth_message_of client_final.now)) e.kind) }
     {
+        let salted = SaltedPassword::new(*version, *salted);
+        self.validate_by(&salted, client_final, version)
+    }
+
+    // The same by a salted password whose keys were kept.
+    pub(crate) fn validate_by(
+        self,
+        salted: &SaltedPassword,
+        client_final: &ClientFinal,
+        version: &ScramVersion,
+    ) -> Result<(), Error>
+        ensures valid { OnOk result (IsValidFinal self (conversation_of client_final.now) (verifier (digest_of version.now) salted.now (auth_message_of client_final.now))) }
+        ensures refused { IfErr result (λ e. FinalRow self (conversation_of client_final.now) (verifier (digest_of version.now) salted.now (auth_message_of client_final.now)) e.kind) }
+    {
         let ServerFinal {
             conversation_id,
             body,
@@ -109,7 +124,7 @@ impl ServerFinal {
             ServerFinalBody::Verifier(None) => Err(refused(AuthFault::Malformed)),
             ServerFinalBody::Verifier(Some(verifier)) => {
                 let auth_message = client_final.auth_message().as_bytes();
-                let signature = server_signature(salted, auth_message, version);
+                let signature = salted.verifier(version, auth_message);
                 if are_same_bytes(verifier.as_bytes(), signature.as_bytes()) {
                     Ok(())
                 } else {

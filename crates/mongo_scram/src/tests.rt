@@ -1,6 +1,7 @@
 mod cache;
 mod commands;
 mod conversation;
+mod kept_keys;
 mod messages;
 mod replies;
 

@@ -2,21 +2,18 @@
 use Rattle.std.proofs.Common.{◌≡◌, ℕ, None, Some, Result, Ok, Err, List, ◌++◌, codes, decimal, IfOk, IfErr, MatchResult, OnOk, refl, ap, sym, subst, ◌∙◌}
 use Rattle.std.proofs.lemmas.List.Elements.{All-append}
 use Rattle.base64.specs.GeneralPurpose.{IsBytes}
-use Rattle.mongo_mac.specs.Bytes.{xor_bytes}
-use Rattle.mongo_mac.specs.Hmac.{hmac_of}
-use Rattle.mongo_scram.specs.declared.scram_version.ScramVersion.{ScramVersion}
 use Rattle.mongo_scram.specs.Base64.{base64_of}
-use Rattle.mongo_scram.specs.Messages.{bare_message, no_proof, transcript, client_key, server_key, proof, verifier, close_message}
+use Rattle.mongo_scram.specs.Keys.{proof_under, verifier_under}
+use Rattle.mongo_scram.specs.Messages.{bare_message, no_proof, transcript, proof, close_message}
 use Rattle.mongo_scram.specs.ServerMessages.{IsServerFirst}
 use Rattle.mongo_scram.specs.Version.{digest_of}
+use Rattle.mongo_scram.proofs.Signed.{verifier_is, proof_is}
 use Rattle.mongo_server.specs.declared.fault.ServerFault.{ServerFault}
 use Rattle.mongo_server.specs.declared.fault.ServerFault.TheVariants.{Malformed, Nonce, Proof, NotStarted, OutOfMemory}
-use Rattle.mongo_server.specs.declared.keys.Keys.{Keys}
 use Rattle.mongo_server.specs.declared.server_core.Conversation.{Conversation}
 use Rattle.mongo_server.specs.declared.server_core.ServerCore.{ServerCore}
 use Rattle.mongo_server.specs.ClientMessages.{IsPrintable, IsNonce, IsClientFirst, IsClientFinal}
 use Rattle.mongo_server.specs.Exchange.{Exchange, joined_of, salted_of, open_of, first_of, auth_message_of, close_of, final_of, IsReadAs}
-use Rattle.mongo_server.specs.Keys.{AreKeysOf, proof_under, verifier_under}
 use Rattle.mongo_server.specs.Server.{user_of, salt_of, suffix_of, username_of, conversation_of, first_by, conversation_by, FirstRow, IsTaken, FinalRefused, Serves, HasBegun}
 use Rattle.mongo_server.specs.ServerTexts.{server_first, server_final}
 use Rattle.mongo_server.proofs.ClientFinals.{one_final}
@@ -27,20 +24,6 @@ use Rattle.mongo_server.proofs.Accepted.{accepts}
 use Rattle.mongo_server.proofs.ReadFirst.{read_first, read_count}
 use Rattle.mongo_server.proofs.ServerRows.{first_no_row}
 use Rattle.mongo_server.proofs.ProofBytes.{proof_bytes}
-
--- ---- what is signed
-
-verifier_is : (keys : Keys) (version : ScramVersion) (key auth_message : List ℕ) → keys.version ≡ version → AreKeysOf key keys → verifier_under keys auth_message ≡ verifier (digest_of version) key auth_message
-unfolding verifier
-verifier_is keys version key auth_message same are =
-    ap (λ k. hmac_of (digest_of keys.version) k auth_message) are.server_key_is
-    ∙ ap (λ v. hmac_of (digest_of v) (server_key (digest_of v) key) auth_message) same
-
-proof_is : (keys : Keys) (version : ScramVersion) (key auth_message : List ℕ) → keys.version ≡ version → AreKeysOf key keys → proof_under keys auth_message ≡ proof (digest_of version) key auth_message
-unfolding proof
-proof_is keys version key auth_message same are =
-    (λ i. xor_bytes (are.client_key_is i) (hmac_of (digest_of keys.version) (are.stored_key_is i) auth_message))
-    ∙ ap (λ v. xor_bytes (client_key (digest_of v) key) (hmac_of (digest_of v) (digest_of v (client_key (digest_of v) key)) auth_message)) same
 
 -- ---- the first message
 

@@ -6,7 +6,7 @@ use Rattle.mongo_server.specs.declared.fault.ServerFault.TheVariants.{Malformed,
 use Rattle.mongo_server.specs.declared.server_core.Conversation.{Conversation}
 use Rattle.mongo_server.specs.declared.server_core.ServerCore.{ServerCore}
 use Rattle.mongo_server.specs.ClientMessages.{IsClientFirst}
-use Rattle.mongo_server.specs.Keys.{proof_under}
+use Rattle.mongo_scram.specs.Keys.{proof_under}
 use Rattle.mongo_server.specs.Server.{username_of, conversation_of, FirstRow, FinalRow, FinalRefused, IsTaken}
 use Rattle.mongo_server.proofs.ClientFirsts.{one_first}
 use Rattle.mongo_server.proofs.UserNames.{escaped_same}

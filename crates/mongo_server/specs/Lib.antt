@@ -1,7 +1,6 @@
 pub mod Acceptance
 pub mod ClientMessages
 pub mod Exchange
-pub mod Keys
 pub mod Parsed
 pub mod SaslName
 pub mod Server

@@ -1,6 +1,7 @@
 -- What a server holds, what it answers, and why it refuses.
 use Rattle.std.specs.Prelude.{◌≡◌, ◌≢◌, ℕ, Option, None, Some, IsSome, List, ◌++◌}
 use Rattle.base64.specs.GeneralPurpose.{IsBytes}
+use Rattle.mongo_scram.specs.Keys.{proof_under, verifier_under}
 use Rattle.mongo_scram.specs.Messages.{bare_message, transcript}
 use Rattle.mongo_server.specs.declared.fault.ServerFault.{ServerFault}
 use Rattle.mongo_server.specs.declared.fault.ServerFault.TheVariants.{Malformed, UnknownUser, Nonce, Proof, NotStarted, OutOfMemory}
@@ -10,7 +11,6 @@ use Rattle.mongo_server.specs.declared.server_core.Conversation.{Conversation}
 use Rattle.mongo_server.specs.declared.user.ServerUser.{ServerUser}
 use Rattle.mongo_server.specs.ClientMessages.{IsNonce, IsClientFirst, IsClientFinal}
 use Rattle.mongo_server.specs.Exchange.{Exchange, joined_of, auth_message_of}
-use Rattle.mongo_server.specs.Keys.{proof_under, verifier_under}
 use Rattle.mongo_server.specs.ServerTexts.{server_first, server_final}
 use Rattle.mongo_server.specs.User.{IsUserOf}
 

@@ -3,8 +3,8 @@ use Rattle.std.specs.Prelude.{◌≡◌, ℕ, ◌^◌, ◌<◌, List}
 use Rattle.std.specs.Str.{IsUtf8}
 use Rattle.mongo_scram.specs.declared.scram_version.ScramVersion.{ScramVersion}
 use Rattle.mongo_scram.specs.Key.{salted}
+use Rattle.mongo_scram.specs.Keys.{AreKeysOf}
 use Rattle.mongo_server.specs.declared.user.ServerUser.{ServerUser}
-use Rattle.mongo_server.specs.Keys.{AreKeysOf}
 
 -- the user of this name, by this salted password, salt and iteration count
 pub record IsUserWith (version : ScramVersion) (username key salt : List ℕ) (count : ℕ) (user : ServerUser) : Type 0 where

@@ -25,7 +25,6 @@
 #![tactic(auto)]
 
 mod fault;
-mod keys;
 mod messages;
 mod parse;
 mod server_core;

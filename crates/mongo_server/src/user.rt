@@ -2,10 +2,9 @@ ghost use Rattle.std.specs.Prelude.{◌≡◌, IfOk, IfErr};
 ghost use Rattle.mongo_wire.specs.declared.error.ErrorKind.TheVariants.{OutOfMemory};
 ghost use Rattle.mongo_scram.specs.UserName.{escaped};
 
-use crate::keys::Keys;
 use mongo_bson::{Bytes, Text};
 use mongo_mac::{Steps, Tag};
-use mongo_scram::{ScramVersion, push_user_name};
+use mongo_scram::{Keys, ScramVersion, push_user_name};
 use mongo_wire::Error;
 use std::alloc::Global;
 use std::fmt;

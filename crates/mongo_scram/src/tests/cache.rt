@@ -2,6 +2,7 @@ ghost use Rattle.std.specs.Prelude.{◌≡◌, ◌<◌, ◌≤◌, ℕ, List, Co
 ghost use Rattle.std.specs.Bool.{OnTrue};
 ghost use Rattle.mongo_scram.specs.Cache.{entries_of};
 
+use crate::salted_password::SaltedPassword;
 use crate::{SaltedCache, SaltedKey, ScramVersion};
 use mongo_bson::{Bytes, Text};
 use mongo_mac::Steps;
@@ -97,8 +98,8 @@ fn put_new<G: Ledger>(blank: Blank, cache: &mut SaltedCache, key: SaltedKey) -> 
         key.salt.as_bytes(),
         &mut steps,
     )?;
-    let count = key.count;
-    cache.insert(key, tag)?;
+    let (version, count) = (key.version, key.count);
+    cache.insert(key, SaltedPassword::new(version, tag))?;
     cache.add_rounds(count);
     Ok(())
 }

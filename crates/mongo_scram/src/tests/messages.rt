@@ -28,8 +28,8 @@ pub(super) struct Exchange {
     nonce: &'static str,
     open: &'static str,
     server_first: &'static str,
-    close: &'static str,
-    verifier: &'static str,
+    pub(super) close: &'static str,
+    pub(super) verifier: &'static str,
 }
 
 // The conversations of RFC 5802, section 5, of RFC 7677, section 3, of SCRAM-SHA-1 in the MongoDB authentication
@@ -211,7 +211,7 @@ fn server_final(alloc: Global, number: i32, message: &str) -> Result<ServerFinal
 #[derive(Drop)]
 pub(super) struct Conversation {
     pub(super) open: ClientFirst,
-    salted: Tag,
+    pub(super) salted: Tag,
     pub(super) close: ClientFinal,
 }
 

@@ -38,8 +38,8 @@ returns-in_err-client_final-clause-refused g c faultless =
     let user = user_of c.in_ok-user.user in
     let o = c.in_ok-opened.opened in
     let derived = c.in_ok-derived.derived in
-    let between = between_by handed user o derived.key derived.tag c.nonce.result.now _ _ _ _ (ledgers c.args.steps.now c.args.salted.now) (ledgers c.answer.new.steps c.answer.new.cache) c.in_ok-user.ensures.user c.in_ok-opened.ensures.opened c.nonce.ensures c.in_ok-derived.ensures.key c.in_ok-derived.ensures.answered in
-    stopped_late handed user o derived.key derived.tag c.in_err-client_final.field-0.0 c.from_residual-in_err-client_final.result _ _ _ _ _ _ _ _ c.from_residual-in_err-client_final.ensures.1 between
+    let between = between_by handed user o derived.key derived.salted c.nonce.result.now _ _ _ _ (ledgers c.args.steps.now c.args.salted.now) (ledgers c.answer.new.steps c.answer.new.cache) c.in_ok-user.ensures.user c.in_ok-opened.ensures.opened c.nonce.ensures c.in_ok-derived.ensures.key c.in_ok-derived.ensures.answered in
+    stopped_late handed user o derived.key derived.salted c.in_err-client_final.field-0.0 c.from_residual-in_err-client_final.result _ _ _ _ _ _ _ _ c.from_residual-in_err-client_final.ensures.1 between
     (stopped_memory (closing handed (challenge_of user o.server_first)) _ _ _ c.in_err-client_final.ensures.refused)
 
 pub returns-in_err-close-clause-refused : goal.returns-in_err-close-clause-refused
@@ -48,14 +48,14 @@ returns-in_err-close-clause-refused g c faultless =
     let user = user_of c.in_ok-user.user in
     let o = c.in_ok-opened.opened in
     let derived = c.in_ok-derived.derived in
-    let between = between_by handed user o derived.key derived.tag c.nonce.result.now _ _ _ _ (ledgers c.args.steps.now c.args.salted.now) (ledgers c.answer.new.steps c.answer.new.cache) c.in_ok-user.ensures.user c.in_ok-opened.ensures.opened c.nonce.ensures c.in_ok-derived.ensures.key c.in_ok-derived.ensures.answered in
+    let between = between_by handed user o derived.key derived.salted c.nonce.result.now _ _ _ _ (ledgers c.args.steps.now c.args.salted.now) (ledgers c.answer.new.steps c.answer.new.cache) c.in_ok-user.ensures.user c.in_ok-opened.ensures.opened c.nonce.ensures c.in_ok-derived.ensures.key c.in_ok-derived.ensures.answered in
     let challenge = challenge_of user o.server_first in
     let made = c.in_ok-client_final.ensures in
     let final = c.in_ok-client_final.client_final in
-    let is = final_by handed challenge derived.tag o.client_first final (between_tag handed user o derived.key derived.tag _ _ _ _ _ _ between) c.in_ok-opened.ensures.opened.message made.auth_message made.message made.conversation made.source (made.api ∙ c.copied.ensures) in
+    let is = final_by handed challenge derived.salted o.client_first final (between_tag handed user o derived.key derived.salted _ _ _ _ _ _ between) c.in_ok-opened.ensures.opened.message made.auth_message made.message made.conversation made.source (made.api ∙ c.copied.ensures) in
     let same = ap frame_maximum c.in_ok-opened.ensures.connection.description in
-    stopped_late handed user o derived.key derived.tag c.in_err-close.field-0.0 c.from_residual-in_err-close.result _ _ _ _ _ _ _ _ c.from_residual-in_err-close.ensures.1 between
-    (closing_stopped handed challenge derived.tag final _ _ _ _ _ _ same is (c.in_err-close.ensures.refused challenge (c.in_ok-opened.ensures.faultless faultless)))
+    stopped_late handed user o derived.key derived.salted c.in_err-close.field-0.0 c.from_residual-in_err-close.result _ _ _ _ _ _ _ _ c.from_residual-in_err-close.ensures.1 between
+    (closing_stopped handed challenge derived.salted final _ _ _ _ _ _ same is (c.in_err-close.ensures.refused challenge (c.in_ok-opened.ensures.faultless faultless)))
 
 pub returns-in_err-close-clause-kept : goal.returns-in_err-close-clause-kept
 returns-in_err-close-clause-kept g c kind kept =
@@ -69,15 +69,15 @@ returns-clause-accepted g c =
     let user = user_of c.in_ok-user.user in
     let o = c.in_ok-opened.opened in
     let derived = c.in_ok-derived.derived in
-    let between = between_by handed user o derived.key derived.tag c.nonce.result.now _ _ _ _ (ledgers c.args.steps.now c.args.salted.now) (ledgers c.answer.new.steps c.answer.new.cache) c.in_ok-user.ensures.user c.in_ok-opened.ensures.opened c.nonce.ensures c.in_ok-derived.ensures.key c.in_ok-derived.ensures.answered in
+    let between = between_by handed user o derived.key derived.salted c.nonce.result.now _ _ _ _ (ledgers c.args.steps.now c.args.salted.now) (ledgers c.answer.new.steps c.answer.new.cache) c.in_ok-user.ensures.user c.in_ok-opened.ensures.opened c.nonce.ensures c.in_ok-derived.ensures.key c.in_ok-derived.ensures.answered in
     let challenge = challenge_of user o.server_first in
     let made = c.in_ok-client_final.ensures in
     let final = c.in_ok-client_final.client_final in
-    let is = final_by handed challenge derived.tag o.client_first final (between_tag handed user o derived.key derived.tag _ _ _ _ _ _ between) c.in_ok-opened.ensures.opened.message made.auth_message made.message made.conversation made.source (made.api ∙ c.copied.ensures) in
+    let is = final_by handed challenge derived.salted o.client_first final (between_tag handed user o derived.key derived.salted _ _ _ _ _ _ between) c.in_ok-opened.ensures.opened.message made.auth_message made.message made.conversation made.source (made.api ∙ c.copied.ensures) in
     let same = ap frame_maximum c.in_ok-opened.ensures.connection.description in
-    let closed = closing_reached handed challenge derived.tag final _ _ _ _ _ same is (c.in_ok-close.ensures.closed challenge) in
-    accepted_by c.keep.result handed user o derived.key derived.tag _ _ _ _ _ _ _ _ c.answer.new.steps c.answer.new.cache c.keep.new.cache between closed
-    (ends_login handed challenge derived.tag final _ is c.in_ok-close.ensures.taken) c.keep.ensures.rounds c.keep.ensures.kept
+    let closed = closing_reached handed challenge derived.salted final _ _ _ _ _ same is (c.in_ok-close.ensures.closed challenge) in
+    accepted_by c.keep.result handed user o derived.key derived.salted _ _ _ _ _ _ _ _ c.answer.new.steps c.answer.new.cache c.keep.new.cache between closed
+    (ends_login handed challenge derived.salted final _ is c.in_ok-close.ensures.taken) c.keep.ensures.rounds c.keep.ensures.kept
 
 pub returns-clause-refused : goal.returns-clause-refused
 returns-clause-refused g c faultless =
@@ -85,14 +85,14 @@ returns-clause-refused g c faultless =
     let user = user_of c.in_ok-user.user in
     let o = c.in_ok-opened.opened in
     let derived = c.in_ok-derived.derived in
-    let between = between_by handed user o derived.key derived.tag c.nonce.result.now _ _ _ _ (ledgers c.args.steps.now c.args.salted.now) (ledgers c.answer.new.steps c.answer.new.cache) c.in_ok-user.ensures.user c.in_ok-opened.ensures.opened c.nonce.ensures c.in_ok-derived.ensures.key c.in_ok-derived.ensures.answered in
+    let between = between_by handed user o derived.key derived.salted c.nonce.result.now _ _ _ _ (ledgers c.args.steps.now c.args.salted.now) (ledgers c.answer.new.steps c.answer.new.cache) c.in_ok-user.ensures.user c.in_ok-opened.ensures.opened c.nonce.ensures c.in_ok-derived.ensures.key c.in_ok-derived.ensures.answered in
     let challenge = challenge_of user o.server_first in
     let made = c.in_ok-client_final.ensures in
     let final = c.in_ok-client_final.client_final in
-    let is = final_by handed challenge derived.tag o.client_first final (between_tag handed user o derived.key derived.tag _ _ _ _ _ _ between) c.in_ok-opened.ensures.opened.message made.auth_message made.message made.conversation made.source (made.api ∙ c.copied.ensures) in
+    let is = final_by handed challenge derived.salted o.client_first final (between_tag handed user o derived.key derived.salted _ _ _ _ _ _ between) c.in_ok-opened.ensures.opened.message made.auth_message made.message made.conversation made.source (made.api ∙ c.copied.ensures) in
     let same = ap frame_maximum c.in_ok-opened.ensures.connection.description in
-    let closed = closing_reached handed challenge derived.tag final _ _ _ _ _ same is (c.in_ok-close.ensures.closed challenge) in
-    stopped_last c.keep.result handed user o derived.key derived.tag _ _ _ _ _ _ _ c.answer.new.steps c.answer.new.cache c.keep.new.cache between closed c.keep.ensures.rounds c.keep.ensures.unchanged c.keep.ensures.refused
+    let closed = closing_reached handed challenge derived.salted final _ _ _ _ _ same is (c.in_ok-close.ensures.closed challenge) in
+    stopped_last c.keep.result handed user o derived.key derived.salted _ _ _ _ _ _ _ c.answer.new.steps c.answer.new.cache c.keep.new.cache between closed c.keep.ensures.rounds c.keep.ensures.unchanged c.keep.ensures.refused
 
 pub returns-clause-frames : goal.returns-clause-frames
 returns-clause-frames g c =
@@ -135,10 +135,10 @@ returns-in_err-client_final-clause-answers g c kind kept =
     let user = user_of c.in_ok-user.user in
     let o = c.in_ok-opened.opened in
     let derived = c.in_ok-derived.derived in
-    let between = between_by handed user o derived.key derived.tag c.nonce.result.now _ _ _ _ (ledgers c.args.steps.now c.args.salted.now) (ledgers c.answer.new.steps c.answer.new.cache) c.in_ok-user.ensures.user c.in_ok-opened.ensures.opened c.nonce.ensures c.in_ok-derived.ensures.key c.in_ok-derived.ensures.answered in
+    let between = between_by handed user o derived.key derived.salted c.nonce.result.now _ _ _ _ (ledgers c.args.steps.now c.args.salted.now) (ledgers c.answer.new.steps c.answer.new.cache) c.in_ok-user.ensures.user c.in_ok-opened.ensures.opened c.nonce.ensures c.in_ok-derived.ensures.key c.in_ok-derived.ensures.answered in
     let still = c.in_ok-opened.ensures.kept kind kept in
     kept_stopped c.from_residual-in_err-client_final.result handed kind _ _ _ _ _ _ (ap g.L.Outside.state still.0) still.1
-    (stopped_late handed user o derived.key derived.tag c.in_err-client_final.field-0.0 c.from_residual-in_err-client_final.result _ _ _ _ _ _ _ _ c.from_residual-in_err-client_final.ensures.1 between
+    (stopped_late handed user o derived.key derived.salted c.in_err-client_final.field-0.0 c.from_residual-in_err-client_final.result _ _ _ _ _ _ _ _ c.from_residual-in_err-client_final.ensures.1 between
     (stopped_memory (closing handed (challenge_of user o.server_first)) _ _ _ c.in_err-client_final.ensures.refused))
 
 pub returns-in_err-close-clause-answers : goal.returns-in_err-close-clause-answers
@@ -147,11 +147,11 @@ returns-in_err-close-clause-answers g c kind kept =
     let user = user_of c.in_ok-user.user in
     let o = c.in_ok-opened.opened in
     let derived = c.in_ok-derived.derived in
-    let between = between_by handed user o derived.key derived.tag c.nonce.result.now _ _ _ _ (ledgers c.args.steps.now c.args.salted.now) (ledgers c.answer.new.steps c.answer.new.cache) c.in_ok-user.ensures.user c.in_ok-opened.ensures.opened c.nonce.ensures c.in_ok-derived.ensures.key c.in_ok-derived.ensures.answered in
+    let between = between_by handed user o derived.key derived.salted c.nonce.result.now _ _ _ _ (ledgers c.args.steps.now c.args.salted.now) (ledgers c.answer.new.steps c.answer.new.cache) c.in_ok-user.ensures.user c.in_ok-opened.ensures.opened c.nonce.ensures c.in_ok-derived.ensures.key c.in_ok-derived.ensures.answered in
     let challenge = challenge_of user o.server_first in
     let made = c.in_ok-client_final.ensures in
     let final = c.in_ok-client_final.client_final in
-    let is = final_by handed challenge derived.tag o.client_first final (between_tag handed user o derived.key derived.tag _ _ _ _ _ _ between) c.in_ok-opened.ensures.opened.message made.auth_message made.message made.conversation made.source (made.api ∙ c.copied.ensures) in
+    let is = final_by handed challenge derived.salted o.client_first final (between_tag handed user o derived.key derived.salted _ _ _ _ _ _ between) c.in_ok-opened.ensures.opened.message made.auth_message made.message made.conversation made.source (made.api ∙ c.copied.ensures) in
     let same = ap frame_maximum c.in_ok-opened.ensures.connection.description in
     let still = c.in_ok-opened.ensures.kept kind kept in
     let r = c.from_residual-in_err-close.result in
@@ -160,7 +160,7 @@ returns-in_err-close-clause-answers g c kind kept =
     elim (c.in_err-close.ensures.answers challenge kind still.2) [
       | inl fault ↦ fault_answered r e handed kind _ _ _ _ handed_on fault
       | inr stopped ↦ kept_stopped r handed kind _ _ _ _ _ _ (ap g.L.Outside.state still.0) still.1
-          (stopped_late handed user o derived.key derived.tag e r _ _ _ _ _ _ _ _ handed_on between (closing_stopped handed challenge derived.tag final _ _ _ _ _ _ same is stopped))
+          (stopped_late handed user o derived.key derived.salted e r _ _ _ _ _ _ _ _ handed_on between (closing_stopped handed challenge derived.salted final _ _ _ _ _ _ same is stopped))
     ]
 
 pub returns-clause-answers : goal.returns-clause-answers

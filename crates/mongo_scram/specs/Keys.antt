@@ -1,10 +1,10 @@
--- The keys that a server keeps of a user, and what is signed with them (RFC 5802, section 3).
+-- The keys of a user, and what is signed with them (RFC 5802, section 3).
 use Rattle.std.specs.Prelude.{◌≡◌, ℕ, List}
 use Rattle.mongo_mac.specs.Bytes.{xor_bytes}
 use Rattle.mongo_mac.specs.Hmac.{hmac_of}
 use Rattle.mongo_scram.specs.Messages.{client_key, server_key}
 use Rattle.mongo_scram.specs.Version.{digest_of}
-use Rattle.mongo_server.specs.declared.keys.Keys.{Keys}
+use Rattle.mongo_scram.specs.declared.keys.Keys.{Keys}
 
 -- the keys of this salted password
 pub record AreKeysOf (salted : List ℕ) (keys : Keys) : Type 0 where

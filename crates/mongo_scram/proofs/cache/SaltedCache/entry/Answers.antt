@@ -1,5 +1,5 @@
 use Rattle.mongo_scram.proofs.Cached.{get_found, get_salted, get_usable, get_absent}
-use Rattle.mongo_scram.proofs.cache.SaltedCache.get.Goals as goal
+use Rattle.mongo_scram.proofs.cache.SaltedCache.entry.Goals as goal
 
 pub returns-clause-found : goal.returns-clause-found
 returns-clause-found c = get_found c.get.result c.args.key.now c.args.self.now.entries.entries c.get.ensures.value
