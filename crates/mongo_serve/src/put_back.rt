@@ -45,6 +45,12 @@ impl<L: Link> PutBack<L> {
         self.at = 0;
         Ok(())
     }
+
+    /// The link.
+    #[cfg(test)]
+    pub fn link(&self) -> &L {
+        &self.link
+    }
 }
 
 impl<L: Link> Outside for PutBack<L> {

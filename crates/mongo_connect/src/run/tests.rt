@@ -1,23 +1,16 @@
 ghost use Rattle.std.specs.Prelude.{◌<◌};
 
+mod logins;
+
 use super::run_counted;
 use crate::status::Status;
+use logins::{Login, PLAIN, SCRAM, fault_at};
 use mongo_bson::Bytes;
 use mongo_wire::FailingLink;
 use std::alloc::{AllocError, Global};
 use std::marker::Brand;
 use std::sync::ledger::Blank;
 use std::test::Fail;
-
-// A login by PLAIN whose settings, replies and report an independent model made.
-const LINE: &str =
-    "{\"host\": \"localhost\", \"credential\": {\"username\": \"user\", \"password\": \"pencil\", \"mechanism\": \"PLAIN\"}}";
-
-const REPLIES: &[u8] =
-    b"V\0\0\0\x01\0\0\0\0\0\0\0\xdd\x07\0\0\0\0\0\0\0A\0\0\0\x01ok\0\0\0\0\0\0\0\xf0?\x10maxBsonObjectSize\0\0\0\0\x01\x10maxMessageSizeBytes\0\0l\xdc\x02\0O\0\0\0\x01\0\0\0\0\0\0\0\xdd\x07\0\0\0\0\0\0\0:\0\0\0\x01ok\0\0\0\0\0\0\0\xf0?\x10conversationId\0\x01\0\0\0\x08done\0\x01\x05payload\0\0\0\0\0\0\0";
-
-const REPORT: &str =
-    "sent ec0000000000000000000000dd0700000000000000d70000001069734d617374657200010000000868656c6c6f4f6b0001026261636b70726573737572650002000000320003636c69656e74008f000000036472697665720034000000026e616d6500120000006d6f6e676f2d727573742d647269766572000276657273696f6e0006000000332e392e310000036f73002e000000027479706500060000006c696e7578000261726368697465637475726500070000007838365f3634000002706c6174666f726d000e000000726174746c65202f2073796e63000002246462000600000061646d696e0000\nsent 6b0000000100000000000000dd070000000000000056000000107361736c53746172740001000000026d656368616e69736d0006000000504c41494e00057061796c6f6164000c0000000000757365720070656e63696c02246462000a0000002465787465726e616c0000\nread 165\nok\ntype Standalone\nwire - -\nmechs -\nsession -\nsizes 16777216 100000 48000000\nhello-ok false\nservice -\ngeneration normal 0\nserver-id -\n";
 
 // What a run leaves: how it ended, its report, and how many bytes of the link are unread.
 #[derive(Drop)]
@@ -75,71 +68,107 @@ fn failing_at(alloc: Global, call: usize) -> Result<Bytes, AllocError> {
 
 const NEVER: usize = 1000;
 
+// How a run ended.
+#[derive(Clone, Copy, Debug, PartialEq, Eq)]
+struct Ended {
+    status: Status,
+    // Whether its report is just the wanted one.
+    is_told: bool,
+    unread: usize,
+}
+
+// Logs in over a link that moves so many bytes at a time and fails at the call of this number, and compares the report with these
+// parts.
+fn log_in(
+    alloc: Global,
+    login: Login,
+    most: usize,
+    link_fails: usize,
+    report: [&'static str; 3],
+) -> Result<Ended, Fail>
+    requires { 0 < most }
+{
+    let mut wanted = Vec::new(alloc);
+    for part in report {
+        wanted.extend_from_slice(part.as_bytes())?;
+    }
+    let pieces = [login.line.as_bytes(), b"\n".as_slice(), login.replies];
+    let left = run_over(alloc, &pieces, most, link_fails, NEVER)?;
+    Ok(Ended {
+        status: left.status,
+        is_told: left.report.as_slice() == wanted.as_slice(),
+        unread: left.unread,
+    })
+}
+
 #[test]
 fn the_report_is_that_of_a_rehearsal(rt: HostRuntime) -> Result<(), Fail> {
-    let line = LINE.as_bytes();
+    for (login, most) in [(PLAIN, 1), (PLAIN, 7), (SCRAM, 1), (SCRAM, 7)] {
+        let report = [login.sent_hello, login.sent_login, login.told];
+        let ended = log_in(rt.alloc(), login, most, NEVER, report)?;
+        assert_eq!(rt;
+            ended,
+            Ended {
+                status: Status::Done,
+                is_told: true,
+                unread: 0,
+            }
+        );
+    }
+    Ok(())
+}
+
+#[test]
+fn nothing_past_the_last_reply_is_read(rt: HostRuntime) -> Result<(), Fail> {
     for most in [1, 7, 4096] {
-        let pieces = [line, b"\n".as_slice(), REPLIES, b"more".as_slice()];
+        let pieces = [
+            PLAIN.line.as_bytes(),
+            b"\n".as_slice(),
+            PLAIN.replies,
+            b"more".as_slice(),
+        ];
         let left = run_over(rt.alloc(), &pieces, most, NEVER, NEVER)?;
         assert_eq!(rt; left.status, Status::Done);
-        assert_eq!(rt; left.report.as_slice(), REPORT.as_bytes());
         assert_eq!(rt; left.unread, 4);
     }
     Ok(())
 }
 
-// The calls are one for each byte of the line, then for each of two exchanges three writes of a frame's pieces, a flush, and a read
-// of the header and of the rest.
 #[test]
-fn a_fault_at_each_call_is_told(rt: HostRuntime) -> Result<(), Fail> {
-    let line = LINE.as_bytes();
-    for (call, status, end) in [
-        (0, Status::LinkFault, ""),
-        (line.len(), Status::LinkFault, ""),
-        (line.len() + 1, Status::Refused, UNWRITTEN_HELLO),
-        (line.len() + 3, Status::Refused, UNWRITTEN_HELLO),
-        (line.len() + 4, Status::Refused, UNWRITTEN_HELLO),
-        (line.len() + 5, Status::Refused, UNREAD_HELLO),
-        (line.len() + 6, Status::Refused, CUT_HELLO),
-        (line.len() + 7, Status::Refused, UNWRITTEN_LOGIN),
-        (line.len() + 10, Status::Refused, UNWRITTEN_LOGIN),
-        (line.len() + 11, Status::Refused, UNREAD_LOGIN),
-        (line.len() + 12, Status::Refused, CUT_LOGIN),
-        (line.len() + 13, Status::Done, "server-id -\n"),
-    ] {
-        let pieces = [line, b"\n".as_slice(), REPLIES];
-        let left = run_over(rt.alloc(), &pieces, 4096, call, NEVER)?;
-        assert_eq!(rt; left.status, status, "at {call}");
-        assert!(rt;
-            left.report.as_slice().ends_with(end.as_bytes()),
-            "at {call}"
-        );
+fn a_fault_at_each_call_of_plain_is_told(rt: HostRuntime) -> Result<(), Fail> {
+    for call in 0..PLAIN.line.len() + 14 {
+        let wanted = fault_at(PLAIN, call);
+        let ended = log_in(rt.alloc(), PLAIN, 4096, call, wanted.report)?;
         assert_eq!(rt;
-            left.report.is_empty(),
-            status == Status::LinkFault,
+            ended,
+            Ended {
+                status: wanted.status,
+                is_told: true,
+                unread: wanted.unread,
+            },
             "at {call}"
         );
     }
     Ok(())
 }
 
-const UNWRITTEN_HELLO: &str =
-    "read 0\nrefused\nphase PreHello\nkind WriteFault\nreason -\ncode -\ntext -\n";
-
-const UNREAD_HELLO: &str =
-    "read 0\nrefused\nphase PreHello\nkind ReadFault\nreason -\ncode -\ntext -\n";
-
-const CUT_HELLO: &str =
-    "read 16\nrefused\nphase PreHello\nkind ReadFault\nreason -\ncode -\ntext -\n";
-
-const UNWRITTEN_LOGIN: &str =
-    "read 86\nrefused\nphase PostHello\nkind WriteFault\nreason -\ncode -\ntext -\n";
-
-const UNREAD_LOGIN: &str =
-    "read 86\nrefused\nphase PostHello\nkind ReadFault\nreason -\ncode -\ntext -\n";
-
-const CUT_LOGIN: &str =
-    "read 102\nrefused\nphase PostHello\nkind ReadFault\nreason -\ncode -\ntext -\n";
+#[test]
+fn a_fault_at_each_call_of_scram_is_told(rt: HostRuntime) -> Result<(), Fail> {
+    for call in 0..SCRAM.line.len() + 14 {
+        let wanted = fault_at(SCRAM, call);
+        let ended = log_in(rt.alloc(), SCRAM, 4096, call, wanted.report)?;
+        assert_eq!(rt;
+            ended,
+            Ended {
+                status: wanted.status,
+                is_told: true,
+                unread: wanted.unread,
+            },
+            "at {call}"
+        );
+    }
+    Ok(())
+}
 
 #[test]
 fn the_line_and_the_sink_decide_too(rt: HostRuntime) -> Result<(), Fail> {
@@ -183,21 +212,21 @@ const ENDED: &str = "read 0\nrefused\nphase PreHello\nkind EndOfInput\nreason -\
 
 // Runs on the line with so many blanks after it.
 fn run_padded(alloc: Global, blanks: usize) -> Result<Left, Fail> {
-    let mut text = Vec::from_slice(alloc, LINE.as_bytes())?;
+    let mut text = Vec::from_slice(alloc, PLAIN.line.as_bytes())?;
     text.extend_from_slice(&vec![in alloc; b' '; blanks]?)?;
     text.extend_from_slice(b"\n")?;
-    text.extend_from_slice(REPLIES)?;
+    text.extend_from_slice(PLAIN.replies)?;
     run_over(alloc, &[text.as_slice()], 4096, NEVER, NEVER)
 }
 
 #[test]
 fn blanks_to_the_limit_are_settings(rt: HostRuntime) -> Result<(), Fail> {
     for (blanks, status, unread) in [
-        (4_194_304 - LINE.len(), Status::Done, 0),
+        (4_194_304 - PLAIN.line.len(), Status::Done, 0),
         (
-            4_194_305 - LINE.len(),
+            4_194_305 - PLAIN.line.len(),
             Status::BadSettings,
-            REPLIES.len() + 1,
+            PLAIN.replies.len() + 1,
         ),
     ] {
         let left = run_padded(rt.alloc(), blanks)?;

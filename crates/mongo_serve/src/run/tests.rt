@@ -1,8 +1,11 @@
 ghost use Rattle.std.specs.Prelude.{◌<◌};
 
+mod login;
+
 use super::run_counted;
 use crate::put_back::PutBack;
 use crate::status::Status;
+use login::{EMPTY, FIRST, LAST, PING_AFTER, REPLIES, USERS, Wanted, fault_at, whole};
 use mongo_bson::{BsonFault, Bytes};
 use mongo_wire::{FailingLink, MemoryLink};
 use std::alloc::Global;
@@ -163,5 +166,159 @@ fn greatest_frame_is_answered(rt: HostRuntime) -> Result<(), Fail> {
     let (status, says) = ends(rt.alloc(), SETTINGS, frame.as_bytes(), line)?;
     assert_eq!(rt; status, Status::Ended);
     assert!(rt; says);
+    Ok(())
+}
+
+// How a run over a link ended.
+#[derive(Clone, Copy, Debug, PartialEq, Eq)]
+struct Ended {
+    status: Status,
+    // Whether the report is just the wanted one.
+    is_told: bool,
+    // Whether just the wanted bytes of the replies were written.
+    is_answered: bool,
+}
+
+// Serves a client that sends these pieces, on a link that moves at most so many bytes and fails at the call of this number after
+// those that read the settings, and compares what comes of it.
+fn serve_client(
+    alloc: Global,
+    pieces: &[&[u8]],
+    most: usize,
+    fails: usize,
+    wanted: Wanted,
+) -> Result<Ended, BsonFault>
+    requires { 0 < most }
+{
+    let mut input = Bytes::from_slice(alloc, USERS)?;
+    for piece in pieces {
+        input.extend_from_slice(piece)?;
+    }
+    let mut told = Bytes::new(alloc);
+    for line in wanted.report {
+        told.extend_from_slice(line.as_bytes())?;
+    }
+    let failing = failing_at(alloc, fails)?;
+    let mut link = PutBack::new(alloc, FailingLink::new(alloc, input, failing, most));
+    let mut report = MemoryLink::new(alloc, Bytes::new(alloc));
+    let status = run_counted::<_, _, Brand>(alloc, &mut link, &mut report, Blank::new(1));
+    let written = link.link().written();
+    Ok(Ended {
+        status,
+        is_told: report.written() == told.as_bytes(),
+        is_answered: written.len() == wanted.written && REPLIES.starts_with(written),
+    })
+}
+
+// Fails at the call of this number after the reads of the settings, a byte each, or at none.
+fn failing_at(alloc: Global, call: usize) -> Result<Bytes, BsonFault> {
+    let mut calls = Bytes::new(alloc);
+    if call < NEVER {
+        let before = vec![in alloc; 0; USERS.len()]?;
+        calls.extend_from_slice(before.as_slice())?;
+        let more = vec![in alloc; 0; call]?;
+        calls.extend_from_slice(more.as_slice())?;
+        calls.extend_from_slice(&[1])?;
+    }
+    Ok(calls)
+}
+
+const NEVER: usize = 1000;
+
+// What a client sends that logs in and asks for a ping.
+const CLIENT: [&[u8]; 4] = [FIRST, LAST, EMPTY, PING_AFTER];
+
+fn as_wanted(wanted: Wanted) -> Ended {
+    Ended {
+        status: wanted.status,
+        is_told: true,
+        is_answered: true,
+    }
+}
+
+#[test]
+fn a_fault_at_each_call_of_a_login_is_told(rt: HostRuntime) -> Result<(), Fail> {
+    for call in 0..27 {
+        let wanted = fault_at(call);
+        let ended = serve_client(rt.alloc(), &CLIENT, 4096, call, wanted)?;
+        assert_eq!(rt; ended, as_wanted(wanted), "at {call}");
+    }
+    Ok(())
+}
+
+// How a client is served that isn't done: what it sends in place of what is left of the login and the ping.
+const NOBODY_ENDED: [&str; 2] = ["nobody was logged in\n", "the client ended its stream\n"];
+
+const NOBODY_CUT: [&str; 2] = [
+    "nobody was logged in\n",
+    "the stream ended within a frame\n",
+];
+
+const USER_NO_FRAME: [&str; 2] = [
+    "logged in: \"user\"\n",
+    "what came is no frame of this protocol\n",
+];
+
+#[test]
+fn the_next_client_is_served_whole(rt: HostRuntime) -> Result<(), Fail> {
+    for (second, third, fourth, status, report, written) in [
+        // it ends its stream after the first reply
+        (
+            b"".as_slice(),
+            b"".as_slice(),
+            b"".as_slice(),
+            Status::Ended,
+            NOBODY_ENDED,
+            157,
+        ),
+        // within the header of its second frame, and within its document
+        (
+            b"\xaf\0\0\0l".as_slice(),
+            b"",
+            b"",
+            Status::Broken,
+            NOBODY_CUT,
+            157,
+        ),
+        (
+            b"\xaf\0\0\0l\0\0\0\0\0\0\0\xdd\x07\0\0\0\0\0\0\0\x9a\0\0\0\x10saslContinue\0",
+            b"",
+            b"",
+            Status::Broken,
+            NOBODY_CUT,
+            157,
+        ),
+        // after its key is proved
+        (LAST, b"", b"", Status::Ended, NOBODY_ENDED, 266),
+        // it speaks another protocol after the login
+        (
+            LAST,
+            EMPTY,
+            b"GET / HTTP/1.1\r\n",
+            Status::Broken,
+            USER_NO_FRAME,
+            345,
+        ),
+    ] {
+        let wanted = Wanted {
+            status,
+            report,
+            written,
+        };
+        let pieces = [FIRST, second, third, fourth];
+        let ended = serve_client(rt.alloc(), &pieces, 4096, NEVER, wanted)?;
+        assert_eq!(rt; ended, as_wanted(wanted), "at {second:?}");
+        let next = serve_client(rt.alloc(), &CLIENT, 4096, NEVER, whole())?;
+        assert_eq!(rt; next, as_wanted(whole()), "after {second:?}");
+    }
+    Ok(())
+}
+
+#[test]
+fn a_login_a_few_bytes_at_a_time(rt: HostRuntime) -> Result<(), Fail> {
+    for most in [1, 2, 17] {
+        let ended = serve_client(rt.alloc(), &CLIENT, most, NEVER, whole())?;
+        assert_eq!(rt; ended, as_wanted(whole()), "at {most}");
+    }
     Ok(())
 }
