@@ -1,6 +1,6 @@
 use Rattle.std.proofs.Common.{rules, ap, ◌∙◌, option_copied, Err}
 use Rattle.std.proofs.lemmas.Result.{err_from_is_err_and}
-use Rattle.mongo_scram.proofs.Derived.{costs_nothing}
+use Rattle.mongo_scram.proofs.Derived.{costs_nothing, on_refused}
 use Rattle.mongo_establish.specs.Handshaker.{options_in}
 use Rattle.mongo_establish.proofs.Shaking.{unmade_stopped, unmade_costs, ungreeted_stopped, ungreeted_costs, login_stopped, login_stopped_costs, shook, shook_costs, err_of, ok_of, if_err_of}
 use Rattle.mongo_establish.proofs.handshaker.Handshaker.handshake.Goals as goal
@@ -42,6 +42,9 @@ returns-in_err-log_in-clause-costs g c =
     c.in_ok-first.ensures.made c.in_ok-first.first c.in_ok-first.ensures.first _ _ _ c.in_ok-reply.reply c.say_hello.new.connection c.in_ok-reply.ensures.greeted
     c.answered_round-round.result c.answered_round-round.ensures.there c.answered_round-round.ensures.scram
     _ c.in_err-log_in.field-0.0 _ _ _ _ (e.1 ∙ ap Err e.2) (if_err_of c.log_in.result c.in_err-log_in.field-0.0 _ c.in_err-log_in.was c.log_in.ensures.refused)
+
+pub returns-in_err-log_in-clause-entries : goal.returns-in_err-log_in-clause-entries
+returns-in_err-log_in-clause-entries g c = on_refused c.from_residual-in_err-log_in.result _ c.in_err-log_in.ensures.entries
 
 pub returns-clause-shook : goal.returns-clause-shook
 returns-clause-shook g c =
