@@ -27,6 +27,7 @@
 mod auth_info;
 mod base64_text;
 mod cache;
+mod client_texts;
 mod conversation;
 mod derivation;
 mod first_round;

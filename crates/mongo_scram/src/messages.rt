@@ -1,23 +1,19 @@
-ghost use Rattle.std.specs.Prelude.{◌≡◌, ◌++◌, codes, take, IfOk, IfErr, OnOk, string_bytes};
+ghost use Rattle.std.specs.Prelude.{◌≡◌, codes, take, IfOk, IfErr, string_bytes};
 ghost use Rattle.mongo_scram.specs.Base64.{base64_of};
-ghost use Rattle.mongo_scram.specs.Messages.{open_message, no_proof, transcript};
 ghost use Rattle.mongo_wire.specs.declared.error.ErrorKind.TheVariants.{OutOfMemory};
 
 use crate::ScramVersion;
 use crate::base64_text::encoded;
+use crate::client_texts::{GS2_HEADER, close_text, open_text, transcript_text};
 use crate::salted_password::SaltedPassword;
 use crate::server_first::ServerFirst;
-use crate::user_name::push_user_name;
 use mongo_bson::{Bytes, OwnedValue, RawValue, Text};
 use mongo_command::{Command, ServerApi};
 use mongo_mac::Tag;
 use mongo_sasl::{SaslContinue, SaslStart};
 use mongo_wire::Error;
-use std::alloc::{AllocError, Global};
+use std::alloc::Global;
 use std::fmt;
-
-/// What the client says of channel binding: it has none, and names no other user (RFC 5802, section 7, `gs2-header`).
-const GS2_HEADER: &str = "n,,";
 
 /// A nonce for a message: 32 bytes in base64, 44 characters.
 pub fn nonce_text(alloc: Global, nonce: &[u8; 32]) -> Result<Text, Error>
@@ -65,14 +61,7 @@ impl ClientFirst {
         ensures refused { IfErr result (λ e. e.kind ≡ OutOfMemory) }
     {
         let nonce = nonce_text(alloc, nonce)?;
-        ClientFirst::with_nonce(
-            alloc,
-            source,
-            username,
-            include_db,
-            server_api,
-            nonce.as_str(),
-        )
+        ClientFirst::of_nonce(alloc, source, username, include_db, server_api, nonce)
     }
 
     /// The same with the text of a nonce. RFC 5802 has nonces of printable ASCII without a comma.
@@ -91,11 +80,31 @@ impl ClientFirst {
         ensures api { IfOk result (λ first. server_api_of first ≡ server_api) }
         ensures refused { IfErr result (λ e. e.kind ≡ OutOfMemory) }
     {
-        let message = open_text(alloc, username, nonce)?;
+        let nonce = Text::from_slice(alloc, nonce)?;
+        ClientFirst::of_nonce(alloc, source, username, include_db, server_api, nonce)
+    }
+
+    // The same with the nonce itself.
+    fn of_nonce(
+        alloc: Global,
+        source: &str,
+        username: &str,
+        include_db: bool,
+        server_api: Option<ServerApi>,
+        nonce: Text,
+    ) -> Result<ClientFirst, Error>
+        ensures message { IfOk result (λ first. message_of first ≡ open_message username.now nonce) }
+        ensures nonce { IfOk result (λ first. nonce_of first ≡ nonce) }
+        ensures source { IfOk result (λ first. source_of first ≡ source.now) }
+        ensures db { IfOk result (λ first. includes_db first ≡ include_db) }
+        ensures api { IfOk result (λ first. server_api_of first ≡ server_api) }
+        ensures refused { IfErr result (λ e. e.kind ≡ OutOfMemory) }
+    {
+        let message = open_text(alloc, username, nonce.as_str())?;
         Ok(ClientFirst {
             source: Text::from_slice(alloc, source)?,
             message,
-            nonce: Text::from_slice(alloc, nonce)?,
+            nonce,
             include_db,
             server_api,
         })
@@ -169,20 +178,6 @@ impl ClientFirst {
             server_api: self.server_api,
         })
     }
-}
-
-// `n,,n=` the user name `,r=` the nonce.
-#[tactic(auto, unfolding(crate::specs::Messages::bare_message, crate::specs::Messages::open_message))]
-fn open_text(alloc: Global, username: &str, nonce: &str) -> Result<String, Error>
-    ensures message { IfOk result (λ text. string_bytes text ≡ open_message username.now nonce.now) }
-    ensures refused { IfErr result (λ e. e.kind ≡ OutOfMemory) }
-{
-    let mut text = String::from_str(alloc, GS2_HEADER)?;
-    text.push_str("n=")?;
-    push_user_name(&mut text, username)?;
-    text.push_str(",r=")?;
-    text.push_str(nonce)?;
-    Ok(text)
 }
 
 /// The client's last message, and what it and the server sign.
@@ -342,44 +337,4 @@ impl ClientFinal {
     {
         &self.conversation_id
     }
-}
-
-// The bare first message, the server's first and the last one without its proof, parted by commas.
-#[tactic(auto, unfolding(crate::specs::Messages::transcript))]
-fn transcript_text(
-    alloc: Global,
-    bare: &str,
-    server_first: &str,
-    nonce: &str,
-) -> Result<String, Error>
-    ensures text { IfOk result (λ text. string_bytes text ≡ transcript bare.now server_first.now nonce.now) }
-    ensures refused { IfErr result (λ e. e.kind ≡ OutOfMemory) }
-{
-    let mut text = String::from_str(alloc, bare)?;
-    text.push_str(",")?;
-    text.push_str(server_first)?;
-    text.push_str(",")?;
-    push_no_proof(&mut text, nonce)?;
-    Ok(text)
-}
-
-// `c=biws,r=` the nonce `,p=` the proof in base64.
-fn close_text(alloc: Global, nonce: &str, proof: &Tag) -> Result<String, Error>
-    ensures text { IfOk result (λ text. string_bytes text ≡ no_proof nonce.now ++ (codes ",p=" ++ base64_of proof.now)) }
-    ensures refused { IfErr result (λ e. e.kind ≡ OutOfMemory) }
-{
-    let mut text = String::new(alloc);
-    push_no_proof(&mut text, nonce)?;
-    text.push_str(",p=")?;
-    let proof = encoded(alloc, proof.as_bytes())?;
-    text.push_str(proof.as_str())?;
-    Ok(text)
-}
-
-#[tactic(auto, unfolding(crate::specs::Messages::no_proof))]
-fn push_no_proof(text: &mut String, nonce: &str) -> Result<(), AllocError>
-    ensures { OnOk result (string_bytes text.new ≡ string_bytes text.old ++ no_proof nonce.now) }
-{
-    text.push_str("c=biws,r=")?;
-    text.push_str(nonce)
 }

@@ -1,3 +1,6 @@
+ghost use Rattle.std.specs.Prelude.{◌≡◌};
+ghost use Rattle.std.specs.Option.{ForSome};
+ghost use Rattle.mongo_scram.specs.Keys.{verifier_under};
 ghost use Rattle.mongo_server.specs.ClientMessages.{IsNonce};
 
 use crate::fault::ServerFault;
@@ -5,7 +8,7 @@ use crate::messages::{auth_message_text, joined_nonce, server_final_text, server
 use crate::parse::{FirstMessage, read_client_final, read_client_first};
 use crate::user::ServerUser;
 use mongo_bson::Text;
-use mongo_mac::are_same_bytes;
+use mongo_mac::{Tag, are_same_bytes};
 use std::alloc::Global;
 use std::fmt;
 
@@ -31,7 +34,10 @@ pub struct ServerCore {
     user: ServerUser,
     suffix: Text,
     conversation: Option<Conversation>,
+    // What the server owes in that conversation, signed once.
+    verifier: Tag,
     pub ghost printable: { IsNonce suffix },
+    pub ghost signed: { ForSome conversation (λ held. verifier ≡ verifier_under user.keys held.auth_message) },
 }
 
 impl ServerCore {
@@ -59,6 +65,7 @@ impl ServerCore {
             user,
             suffix,
             conversation: None,
+            verifier: Tag::from_slice(&[]),
         }
     }
 
@@ -89,6 +96,8 @@ impl ServerCore {
                     server_first,
                 },
             ) => {
+                let auth_message = conversation.auth_message.as_bytes();
+                self.verifier = self.user.keys.verifier(auth_message);
                 self.conversation = Some(conversation);
                 Ok(server_first)
             }
@@ -109,10 +118,7 @@ impl ServerCore {
             MatchResult result (λ text. (text ≡ final_of x) × Accepts x text) (λ fault. fault ≡ OutOfMemory) }
     {
         match &self.conversation {
-            Some(conversation) => {
-                let auth_message = conversation.auth_message.as_bytes();
-                server_final_text(alloc, &self.user.keys.verifier(auth_message))
-            }
+            Some(_conversation) => server_final_text(alloc, &self.verifier),
             None => Err(ServerFault::NotStarted),
         }
     }
