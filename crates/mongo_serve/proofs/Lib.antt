@@ -1,3 +1,4 @@
+pub mod Accounts
 pub mod Sent
 pub mod Turns
 pub mod FieldsPut
@@ -11,3 +12,4 @@ pub mod Parts
 pub mod Stream
 pub mod Ran
 pub mod Said
+pub mod Continued

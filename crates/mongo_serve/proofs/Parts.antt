@@ -22,7 +22,7 @@ use Rattle.mongo_serve.proofs.Turns.{turn_taken, turn_cut, none_taken}
 
 -- an OP_MSG was taken and answered, and the answer sent or cut
 pub message_part : (settings : Settings) (requests : List (List ℕ)) (old mid new : State) (before after : Session) (frame : List ℕ) (parts : Frame) (document : List ℕ) → IsFrame frame parts → parts.body ≡ document → Consumes old.left mid.left frame
-    → mid.written ≡ old.written → new.left ≡ mid.left → (reply : Reply) → IsAnswered before document after reply → Remembers settings (requests ++ document ∷ []) after → (to : ℤ) → to ≡ parts.request_id → (flags : ℕ) → flags ≡ parts.flags
+    → mid.written ≡ old.written → new.left ≡ mid.left → (reply : Reply) → IsAnswered settings before document after reply → Remembers settings (requests ++ document ∷ []) after → (to : ℤ) → to ≡ parts.request_id → (flags : ℕ) → flags ≡ parts.flags
     → (r : Result ⊤ ServeFault) → OnOk r (IsSent mid new to flags reply) → AppendsSome mid new → PartEnds settings requests old new before after r
 message_part settings requests old mid new before after frame parts document is_frame body_is consumed unwritten unread reply answered remembers to to_is flags flags_are (Ok done) h some =
     let answer : IsAnswerTo parts.request_id parts.flags reply h.sent = subst (λ f. IsAnswerTo parts.request_id f reply h.sent) flags_are (subst (λ t. IsAnswerTo t flags reply h.sent) to_is h.is_answer) in
@@ -34,7 +34,7 @@ message_part settings requests old mid new before after frame parts document is_
 
 -- an OP_QUERY was taken and answered, and the answer sent or cut
 pub query_part : (settings : Settings) (requests : List (List ℕ)) (old mid new : State) (before after : Session) (head body command : List ℕ) → IsQuery (head ++ body) command → length head ≡ 16 → Consumes old.left mid.left (head ++ body)
-    → mid.written ≡ old.written → new.left ≡ mid.left → (reply : Reply) → IsAnswered before command after reply → IsGreeting command → Remembers settings (requests ++ command ∷ []) after → (to : ℤ) → to ≡ signed_at 4 head
+    → mid.written ≡ old.written → new.left ≡ mid.left → (reply : Reply) → IsAnswered settings before command after reply → IsGreeting command → Remembers settings (requests ++ command ∷ []) after → (to : ℤ) → to ≡ signed_at 4 head
     → (r : Result ⊤ ServeFault) → OnOk r (IsSentToQuery mid new to reply) → AppendsSome mid new → PartEnds settings requests old new before after r
 query_part settings requests old mid new before after head body command is_query sixteen consumed unwritten unread reply answered greeting remembers to to_is (Ok done) h some =
     let sent = query_reply h.id to (reply_document reply) in

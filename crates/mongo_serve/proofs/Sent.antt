@@ -1,13 +1,15 @@
 -- What a session remembers, as requests come.
-use Rattle.std.proofs.Common.{◌≡◌, ℕ, Bool, true, false, Option, None, Some, IfSome, List, [], ◌∷◌, ◌++◌, refl, sym, ap, ◌∙◌, subst, append_assoc}
+use Rattle.std.proofs.Common.{◌≡◌, ℕ, Bool, true, false, Option, None, Some, IfSome, List, [], ◌∷◌, ◌++◌, option_copied, refl, sym, ap, ◌∙◌, subst, append_assoc}
 use Rattle.std.specs.Borrow.{Bor}
 use Rattle.mongo_server.specs.Exchange.{Exchange, open_of, close_of}
 use Rattle.mongo_serve.specs.declared.open.Opened.{Opened}
+use Rattle.mongo_serve.specs.declared.request.SaslStart.{SaslStart}
 use Rattle.mongo_serve.specs.declared.session.Login.{Login}
 use Rattle.mongo_serve.specs.declared.session.Session.{Session}
 use Rattle.mongo_serve.specs.declared.settings.Settings.{Settings}
 use Rattle.mongo_serve.specs.Requests.{Opens, Continues}
-use Rattle.mongo_serve.specs.Login.{HasOpened, HasProved, HasLoggedIn, IsLoginOf, IsOpened, IsOpenedBy, Remembers}
+use Rattle.mongo_serve.specs.Login.{HasOpened, HasProved, HasLoggedIn, IsLoginOf, Remembers}
+use Rattle.mongo_serve.specs.Opened.{OpensBy}
 
 -- ---- one request more
 
@@ -66,19 +68,21 @@ remembers_alone settings requests d session none h = record { user = user_later 
 
 -- ---- a login that begins
 
-pub opens_with : (settings : Settings) (requests : List (List ℕ)) (d : List ℕ) (payload : Option (Bor (List ℕ))) (opened : Opened) → IsOpenedBy settings payload opened → IfSome payload (λ p. Opens d p.now)
+-- the text that an option holds
+said_is : (P : List ℕ → Type 0) (message : Option (Bor (List ℕ))) (text : List ℕ) → option_copied message ≡ Some text → IfSome message (λ m. P m.now) → P text
+said_is P None text is h = let never : None ≡ Some text = is in absurd (cc never)
+said_is P (Some m) text is h = let same : Some m.now ≡ Some text = is in let one : m.now ≡ text = cc in subst P one h
+
+pub opens_with : (settings : Settings) (requests : List (List ℕ)) (d : List ℕ) (start : SaslStart) (opened : Opened) → OpensBy settings start (Some opened) → IfSome start.payload (λ p. Opens d p.now)
     → IsLoginOf settings (requests ++ d ∷ []) opened.login
-opens_with settings requests d payload opened h said =
-    let message : IfSome (Some h.message) (λ p. Opens d p.now) = subst (λ o. IfSome o (λ p. Opens d p.now)) h.given said in
-    let opens : Opens d (open_of h.is_opened.x) = subst (Opens d) h.is_opened.begins.said message in
-    record {
-      x = h.is_opened.x;
-      of_settings = h.is_opened.of_settings;
-      name_is = h.is_opened.begins.name_is;
-      begun = h.is_opened.begins.begun;
-      opened = opened_now h.is_opened.x requests d opens;
-      proved = λ is. absurd (differ h.is_opened.begins.unproved is);
-    }
+opens_with settings requests d start opened (x, asked, begins) said = record {
+  x = x;
+  of_settings = asked.of_settings;
+  name_is = begins.begun.name_is;
+  begun = begins.begun.begun;
+  opened = opened_now x requests d (said_is (Opens d) start.payload (open_of x) asked.said said);
+  proved = λ is. absurd (differ begins.begun.unproved is);
+}
   where
     differ : {b : Bool} → b ≡ false → b ≡ true → ⊥
     differ p q = cc

@@ -19,7 +19,7 @@ one_more settings old mid new before after h t =
     let last = t.turn ∷ [] in
     record {
       turns = h.turns ++ last;
-      answered = turns_more fresh before after h.turns t.turn h.answered t.is_turn;
+      answered = turns_more settings fresh before after h.turns t.turn h.answered t.is_turn;
       each = each_joined h.turns last h.each (t.is_taken, tt);
       consumed =
           subst (Consumes old.left new.left) (sym (joined_append h.turns last ∙ ap (λ l. joined h.turns ++ l) (append-nil t.turn.frame))) (Consumes-trans old.left mid.left new.left (joined h.turns) t.turn.frame h.consumed t.consumed);

@@ -36,7 +36,7 @@ one_joined f turn = append-nil (f turn)
 
 -- a request was taken, answered, and the answer sent
 pub turn_taken : (settings : Settings) (requests : List (List ℕ)) (old mid new : State) (before after : Session) (turn : Turn) → IsTaken turn → Consumes old.left mid.left turn.frame → mid.written ≡ old.written → new.left ≡ mid.left
-    → Appends mid.written new.written turn.sent → IsTurn before turn after → Remembers settings (requests ++ turn.document ∷ []) after → TakesTurn settings requests old new before after
+    → Appends mid.written new.written turn.sent → IsTurn settings before turn after → Remembers settings (requests ++ turn.document ∷ []) after → TakesTurn settings requests old new before after
 turn_taken settings requests old mid new before after turn is_taken consumed unwritten unread appended is_turn remembers = record {
   turn = turn;
   is_taken = is_taken;
@@ -100,6 +100,6 @@ refused_taken PasswordNotAscii most old new fo fn eo en h = absurd h
 
 -- ---- turns after turns
 
-pub turns_more : (before between after : Session) (turns : List Turn) (turn : Turn) → AreTurns before turns between → IsTurn between turn after → AreTurns before (turns ++ turn ∷ []) after
-turns_more before between after [] turn same is_turn = (after, subst (λ s. IsTurn s turn after) same is_turn, refl)
-turns_more before between after (first ∷ turns) turn are is_turn = (are.0, are.1, turns_more are.0 between after turns turn are.2 is_turn)
+pub turns_more : (settings : Settings) (before between after : Session) (turns : List Turn) (turn : Turn) → AreTurns settings before turns between → IsTurn settings between turn after → AreTurns settings before (turns ++ turn ∷ []) after
+turns_more settings before between after [] turn same is_turn = (after, subst (λ s. IsTurn settings s turn after) same is_turn, refl)
+turns_more settings before between after (first ∷ turns) turn are is_turn = (are.0, are.1, turns_more settings are.0 between after turns turn are.2 is_turn)

@@ -1,41 +1,52 @@
 -- What a session answers.
-use Rattle.std.specs.Prelude.{◌≡◌, ℕ, ◌⊎◌, Bool, true, false, Option, None, Some, List, IsSome}
+use Rattle.std.specs.Prelude.{◌≡◌, ℕ, Option, None, Some, List}
 use Rattle.mongo_serve.specs.declared.reply.HelloReply.{HelloReply}
 use Rattle.mongo_serve.specs.declared.reply.Refusal.{Refusal}
 use Rattle.mongo_serve.specs.declared.reply.Refusal.TheVariants.{AuthenticationFailed, Unauthorized, CommandNotFound}
 use Rattle.mongo_serve.specs.declared.reply.Reply.{Reply}
 use Rattle.mongo_serve.specs.declared.reply.Reply.TheVariants.{Hello as Described, Sasl, BuildInfo as Version, Done, Refused}
 use Rattle.mongo_serve.specs.declared.reply.SaslReply.{SaslReply}
+use Rattle.mongo_serve.specs.declared.request.Hello.{Hello as Greeting}
 use Rattle.mongo_serve.specs.declared.request.Request.{Request}
 use Rattle.mongo_serve.specs.declared.request.Request.TheVariants.{Hello, SaslStart, SaslContinue, Ping, BuildInfo, EndSessions, Other}
+use Rattle.mongo_serve.specs.declared.request.SaslStart.{SaslStart as Start}
 use Rattle.mongo_serve.specs.declared.session.Session.{Session}
+use Rattle.mongo_serve.specs.declared.settings.Settings.{Settings}
+use Rattle.mongo_serve.specs.Accounts.{AreMechanismsOf}
+use Rattle.mongo_serve.specs.Sasl.{AnswersStart, AnswersContinue}
 
 -- the reply where somebody is logged in
 abbrev pub guarded_by : Option (List ℕ) → Reply → Reply
 guarded_by None reply = Refused Unauthorized
 guarded_by (Some name) reply = reply
 
--- what a login's command is answered
-abbrev pub IsLoginReply : Option SaslReply → Reply → Type 0
-IsLoginReply None reply = reply ≡ Refused AuthenticationFailed
-IsLoginReply (Some message) reply = reply ≡ Sasl message
+-- what a login's command is answered: a message of the login, or its failure, which says no cause
+abbrev pub login_reply : Option SaslReply → Reply
+login_reply None = Refused AuthenticationFailed
+login_reply (Some message) = Sasl message
 
--- A message of a login, or its failure, which says no cause. Who is logged in changes only with a message that ends the login.
-abbrev pub IsLoginAnswer : Session → Session → Reply → Type 0
-IsLoginAnswer old new (Sasl message) = (message.is_done ≡ true → IsSome new.user) × (message.is_done ≡ false → new.user ≡ old.user)
-IsLoginAnswer old new (Refused AuthenticationFailed) = new.user ≡ old.user
-IsLoginAnswer old new reply = ⊥
+-- the login that a hello carries is answered as if it came alone
+abbrev pub AnswersCarried : Settings → Session → Option Start → Session → Option SaslReply → Type 0
+AnswersCarried settings old None new answer = (answer ≡ None) × (new ≡ old)
+AnswersCarried settings old (Some start) new answer = AnswersStart settings start new answer
 
-abbrev pub IsDescription : Session → Session → Reply → Type 0
-IsDescription old new (Described hello) = new.user ≡ old.user
-IsDescription old new reply = ⊥
+-- A hello is answered by the mechanisms of the user that it asks for, and by what the login comes to that it carries.
+pub record Greets (settings : Settings) (old : Session) (hello : Greeting) (new : Session) (reply : HelloReply) : Type 0 where
+  pub user : new.user ≡ old.user
+  pub legacy : reply.is_legacy ≡ hello.is_legacy
+  pub mechanisms : AreMechanismsOf settings.accounts.items hello.mechanisms_of reply.mechanisms
+  pub speculation : AnswersCarried settings old hello.speculation new reply.speculation
+
+abbrev pub IsDescription : Settings → Session → Greeting → Session → Reply → Type 0
+IsDescription settings old hello new (Described reply) = Greets settings old hello new reply
+IsDescription settings old hello new reply = ⊥
 
 -- Only a hello and the commands of a login are answered before somebody is logged in.
-abbrev pub IsAnswer : Session → Request → Session → Reply → Type 0
-IsAnswer old (Hello hello) new reply = IsDescription old new reply
-IsAnswer old (SaslStart start) new reply = IsLoginAnswer old new reply × (new.user ≡ old.user)
-IsAnswer old (SaslContinue next) new reply = IsLoginAnswer old new reply
-IsAnswer old Ping new reply = (new ≡ old) × (reply ≡ guarded_by old.user Done)
-IsAnswer old BuildInfo new reply = (new ≡ old) × (reply ≡ guarded_by old.user Version)
-IsAnswer old EndSessions new reply = (new ≡ old) × (reply ≡ guarded_by old.user Done)
-IsAnswer old (Other name) new reply = (new ≡ old) × (reply ≡ guarded_by old.user (Refused (CommandNotFound name.now)))
+abbrev pub IsAnswer : Settings → Session → Request → Session → Reply → Type 0
+IsAnswer settings old (Hello hello) new reply = IsDescription settings old hello new reply
+IsAnswer settings old (SaslStart start) new reply = (message : Option SaslReply) × (reply ≡ login_reply message) × AnswersStart settings start new message × (new.user ≡ old.user)
+IsAnswer settings old (SaslContinue next) new reply = (message : Option SaslReply) × (reply ≡ login_reply message) × AnswersContinue old next new message
+IsAnswer settings old Ping new reply = (new ≡ old) × (reply ≡ guarded_by old.user Done)
+IsAnswer settings old BuildInfo new reply = (new ≡ old) × (reply ≡ guarded_by old.user Version)
+IsAnswer settings old EndSessions new reply = (new ≡ old) × (reply ≡ guarded_by old.user Done)
+IsAnswer settings old (Other name) new reply = (new ≡ old) × (reply ≡ guarded_by old.user (Refused (CommandNotFound name.now)))

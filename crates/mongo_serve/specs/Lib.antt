@@ -1,11 +1,15 @@
+pub mod Accounts
 pub mod Answers
 pub mod Faults
+pub mod Last
 pub mod Login
+pub mod Opened
 pub mod PutBack
 pub mod Replies
 pub mod Report
 pub mod Requests
 pub mod Run
+pub mod Sasl
 pub mod Sent
 pub mod Served
 pub mod Settings

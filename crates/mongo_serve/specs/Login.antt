@@ -1,10 +1,11 @@
 -- When a user has logged in: which requests the client has sent, in their order.
-use Rattle.std.specs.Prelude.{◌≡◌, ℕ, Bool, true, false, Option, Some, List, ◌∷◌, ◌++◌, IfSome, Contains}
-use Rattle.std.specs.Borrow.{Bor}
+use Rattle.std.specs.Prelude.{◌≡◌, ℕ, Bool, true, List, ◌∷◌, ◌++◌, IfSome}
+use Rattle.mongo_scram.specs.Key.{PasswordRow}
 use Rattle.mongo_server.specs.ClientMessages.{IsNonce}
-use Rattle.mongo_server.specs.Exchange.{Exchange, open_of, first_of, close_of}
+use Rattle.mongo_server.specs.Exchange.{Exchange, open_of, close_of}
 use Rattle.mongo_server.specs.Server.{HasBegun}
-use Rattle.mongo_serve.specs.declared.open.Opened.{Opened}
+use Rattle.mongo_wire.specs.declared.error.ErrorKind.{ErrorKind}
+use Rattle.mongo_serve.specs.Accounts.{IsFirst}
 use Rattle.mongo_serve.specs.declared.session.Login.{Login}
 use Rattle.mongo_serve.specs.declared.session.Session.{Session}
 use Rattle.mongo_serve.specs.declared.settings.Account.{Account}
@@ -15,10 +16,11 @@ use Rattle.mongo_serve.specs.Requests.{Opens, Continues}
 abbrev pub exchange_of : Account → List ℕ → List ℕ → Exchange
 exchange_of account suffix nonce = record { version = account.version; username = account.name; password = account.password; salt = account.salt; count = account.count; nonce = nonce; suffix = suffix }
 
--- an exchange of one of the settings' accounts
+-- An exchange of the settings: of an account that counts, whose password its mechanism takes.
 pub record IsExchange (settings : Settings) (x : Exchange) : Type 0 where
   pub account : Account
-  pub known : Contains settings.accounts.items account
+  pub counts : IsFirst settings.accounts.items account
+  pub usable : (kind : ErrorKind) → PasswordRow account.version account.password kind → ⊥
   pub printable : IsNonce x.nonce
   pub exchange_is : x ≡ exchange_of account settings.suffix x.nonce
 
@@ -62,31 +64,3 @@ pub record IsLoginOf (settings : Settings) (requests : List (List ℕ)) (login :
 pub record Remembers (settings : Settings) (requests : List (List ℕ)) (session : Session) : Type 0 where
   pub user : IfSome session.user (λ name. HasLoggedIn settings name requests)
   pub login : IfSome session.login (IsLoginOf settings requests)
-
--- ---- how a login begins
-
--- The message is the client's first of the exchange, which has begun; the answer is the server's first.
-pub record BeginsExchange (x : Exchange) (payload : List ℕ) (opened : Opened) : Type 0 where
-  pub said : payload ≡ open_of x
-  pub answer_is : opened.answer ≡ first_of x
-  pub name_is : opened.login.name ≡ x.username
-  pub begun : HasBegun opened.login.core x
-  pub unproved : opened.login.is_proved ≡ false
-
--- the exchange is the account's, of some nonce
-pub record IsOpenedFor (account : Account) (suffix payload : List ℕ) (opened : Opened) : Type 0 where
-  pub nonce : List ℕ
-  pub printable : IsNonce nonce
-  pub begins : BeginsExchange (exchange_of account suffix nonce) payload opened
-
--- the exchange is one of the settings
-pub record IsOpened (settings : Settings) (payload : List ℕ) (opened : Opened) : Type 0 where
-  pub x : Exchange
-  pub of_settings : IsExchange settings x
-  pub begins : BeginsExchange x payload opened
-
--- the same, of a message that may be absent
-pub record IsOpenedBy (settings : Settings) (payload : Option (Bor (List ℕ))) (opened : Opened) : Type 0 where
-  pub message : Bor (List ℕ)
-  pub given : payload ≡ Some message
-  pub is_opened : IsOpened settings message.now opened

@@ -43,21 +43,21 @@ abbrev pub AnswersIn : Turn → Reply → Type 0
 AnswersIn turn reply = AnswersMessage turn.frame turn.document reply turn.sent ⊎ (IsQuery turn.frame turn.document × IsGreeting turn.document × AnswersQuery turn.frame reply turn.sent)
 
 -- what a session answers to a document
-pub record IsAnswered (before : Session) (document : List ℕ) (after : Session) (reply : Reply) : Type 0 where
+pub record IsAnswered (settings : Settings) (before : Session) (document : List ℕ) (after : Session) (reply : Reply) : Type 0 where
   pub request : Request
   pub says : Says document request
-  pub is_answer : IsAnswer before request after reply
+  pub is_answer : IsAnswer settings before request after reply
 
 -- a turn: the request was answered by the session, and the reply sent
-pub record IsTurn (before : Session) (turn : Turn) (after : Session) : Type 0 where
+pub record IsTurn (settings : Settings) (before : Session) (turn : Turn) (after : Session) : Type 0 where
   pub reply : Reply
-  pub answered : IsAnswered before turn.document after reply
+  pub answered : IsAnswered settings before turn.document after reply
   pub sent : AnswersIn turn reply
 
 -- each turn begins with the session that the one before it left
-abbrev pub AreTurns : Session → List Turn → Session → Type 0
-AreTurns before [] after = after ≡ before
-AreTurns before (turn ∷ turns) after = (between : Session) × IsTurn before turn between × AreTurns between turns after
+abbrev pub AreTurns : Settings → Session → List Turn → Session → Type 0
+AreTurns settings before [] after = after ≡ before
+AreTurns settings before (turn ∷ turns) after = (between : Session) × IsTurn settings before turn between × AreTurns settings between turns after
 
 -- nobody is logged in, and no login goes on
 abbrev pub fresh : Session
@@ -68,7 +68,7 @@ fresh = record { user = None; login = None }
 pub record TakesTurn (settings : Settings) (requests : List (List ℕ)) (old new : State) (before after : Session) : Type 0 where
   pub turn : Turn
   pub is_taken : IsTaken turn
-  pub is_turn : IsTurn before turn after
+  pub is_turn : IsTurn settings before turn after
   pub consumed : Consumes old.left new.left turn.frame
   pub appended : Appends old.written new.written turn.sent
   pub remembers : Remembers settings (requests ++ turn.document ∷ []) after
@@ -118,7 +118,7 @@ pub record IsBackAt (before now : State) : Type 0 where
 -- the turns so far, each answered, and what the session remembers of them
 pub record HasServed (settings : Settings) (old new : State) (session : Session) : Type 0 where
   pub turns : List Turn
-  pub answered : AreTurns fresh turns session
+  pub answered : AreTurns settings fresh turns session
   pub each : AllByRecursion IsTaken turns
   pub consumed : Consumes old.left new.left (joined turns)
   pub appended : Appends old.written new.written (sent_for turns)
@@ -130,7 +130,7 @@ pub record HasServed (settings : Settings) (old new : State) (session : Session)
 pub record IsServed (settings : Settings) (old new : State) (served : Served) : Type 0 where
   pub turns : List Turn
   pub session : Session
-  pub answered : AreTurns fresh turns session
+  pub answered : AreTurns settings fresh turns session
   pub cut : List Turn
   pub one : length cut ≤ 1
   pub each : AllByRecursion IsTaken (turns ++ cut)

@@ -1,7 +1,8 @@
 //! One step of a session: a request, and the reply to it.
 
-ghost use Rattle.std.specs.Prelude.{◌≡◌, ℕ, false, List, [], ◌∷◌, ◌++◌, IfSome, IfOk, IfErr, OnOk, OnErr};
-ghost use Rattle.mongo_serve.specs.Answers.{guarded_by, IsAnswer, IsLoginReply};
+ghost use Rattle.std.specs.Prelude.{◌≡◌, ◌↔◌, ℕ, List, [], ◌∷◌, ◌++◌, IsTrue, IfSome, IfOk, IfErr, OnOk, OnErr};
+ghost use Rattle.mongo_serve.specs.Accounts.{AreMechanismsOf, Lists, HasAccount, IsOf};
+ghost use Rattle.mongo_serve.specs.Answers.{guarded_by, AnswersCarried, Greets, IsAnswer, login_reply};
 ghost use Rattle.mongo_serve.specs.Login.{Remembers};
 ghost use Rattle.mongo_serve.specs.Requests.{CarriesStart, IsGreeting, Says, SaysHello};
 ghost use Rattle.mongo_serve.specs.declared.fault.ServeFault.TheVariants.{OutOfMemory};
@@ -27,7 +28,8 @@ pub fn answer<G: Ledger>(
 ) -> Result<Reply, ServeFault>
     // Who is logged in afterwards has sent the messages of a login, this request among them.
     ensures remembers { (requests : List (List ℕ)) (document : List ℕ) → Remembers settings.now requests session.old → Says document request.entry → OnOk result (Remembers settings.now (requests ++ document ∷ []) session.new) }
-    ensures answered { IfOk result (IsAnswer session.old request.entry session.new) }
+    // How it is answered, and which commands of a login are refused.
+    ensures answered { IfOk result (IsAnswer settings.now session.old request.entry session.new) }
     ensures kept { OnErr result (session.new.user ≡ session.old.user) }
     ensures refused { IfErr result (λ fault. fault ≡ OutOfMemory) }
 {
@@ -54,19 +56,14 @@ pub fn greet<G: Ledger>(
     steps: &mut Steps<G>,
 ) -> Result<HelloReply, ServeFault>
     ensures remembers { (requests : List (List ℕ)) (document : List ℕ) → Remembers settings.now requests session.old → SaysHello document hello.entry → Remembers settings.now (requests ++ document ∷ []) session.new }
+    ensures answered { IfOk result (Greets settings.now session.old hello.entry session.new) }
     ensures user { session.new.user ≡ session.old.user }
-    ensures legacy { IfOk result (λ reply. reply.is_legacy ≡ hello.entry.is_legacy) }
-    ensures undone { IfOk result (λ reply. IfSome reply.speculation (λ message. message.is_done ≡ false)) }
     ensures refused { IfErr result (λ fault. fault ≡ OutOfMemory) }
 {
     let speculation = begin(alloc, settings, session, hello.speculation, steps)?;
-    let mechanisms = match hello.mechanisms_of {
-        Some(user) => mechanisms_of(settings.accounts.as_slice(), user),
-        None => None,
-    };
     Ok(HelloReply {
         is_legacy: hello.is_legacy,
-        mechanisms,
+        mechanisms: mechanisms_of(settings.accounts.as_slice(), hello.mechanisms_of),
         speculation,
     })
 }
@@ -81,8 +78,8 @@ fn begin<G: Ledger>(
 ) -> Result<Option<SaslReply>, ServeFault>
     ensures remembers { (requests : List (List ℕ)) (document : List ℕ) → Remembers settings.now requests session.old → IsGreeting document → IfSome speculation.entry (CarriesStart document) →
         Remembers settings.now (requests ++ document ∷ []) session.new }
+    ensures answered { IfOk result (AnswersCarried settings.now session.old speculation.entry session.new) }
     ensures user { session.new.user ≡ session.old.user }
-    ensures undone { IfOk result (λ answer. IfSome answer (λ message. message.is_done ≡ false)) }
     ensures refused { IfErr result (λ fault. fault ≡ OutOfMemory) }
 {
     match speculation {
@@ -91,8 +88,19 @@ fn begin<G: Ledger>(
     }
 }
 
-// The mechanisms of a user; None where no account is the user's.
-fn mechanisms_of(accounts: &[Account], user: &str) -> Option<Mechanisms> {
+// The mechanisms of the user that is asked for; None where no account is the user's, and where none is asked for.
+fn mechanisms_of(accounts: &[Account], user: Option<&str>) -> Option<Mechanisms>
+    ensures { AreMechanismsOf accounts.now user.entry result }
+{
+    match user {
+        Some(user) => mechanisms_of_user(accounts, user),
+        None => None,
+    }
+}
+
+fn mechanisms_of_user(accounts: &[Account], user: &str) -> Option<Mechanisms>
+    ensures { Lists accounts.now user.now result }
+{
     let by_sha1 = has_account(accounts, user, ScramVersion::Sha1);
     let by_sha256 = has_account(accounts, user, ScramVersion::Sha256);
     match (by_sha1, by_sha256) {
@@ -103,18 +111,26 @@ fn mechanisms_of(accounts: &[Account], user: &str) -> Option<Mechanisms> {
     }
 }
 
-fn has_account(accounts: &[Account], user: &str, version: ScramVersion) -> bool {
-    for account in accounts {
-        if account.version == version && account.name.as_str() == user {
+fn has_account(accounts: &[Account], user: &str, version: ScramVersion) -> bool
+    ensures { IsTrue result ↔ HasAccount accounts.now user.now version }
+{
+    'looking: for account in accounts {
+        if is_of(account, user, version) {
             return true;
         }
     }
     false
 }
 
+fn is_of(account: &Account, user: &str, version: ScramVersion) -> bool
+    ensures { IsTrue result ↔ IsOf user.now version account.now }
+{
+    account.version == version && account.name.as_str() == user
+}
+
 // What a login's command is answered.
 fn login_reply(message: Option<SaslReply>) -> Reply
-    ensures { IsLoginReply message result }
+    ensures { result ≡ login_reply message }
 {
     match message {
         Some(message) => Reply::Sasl(message),

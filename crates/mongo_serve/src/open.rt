@@ -1,8 +1,8 @@
 //! How a login begins: which account the client's first message is of, and the server's answer to it.
 
-ghost use Rattle.std.specs.Prelude.{◌≡◌, Contains, IfSome, IfOk, IfErr};
+ghost use Rattle.std.specs.Prelude.{◌≡◌, ◌↔◌, IsTrue, IfOk, IfErr};
 ghost use Rattle.mongo_server.specs.ClientMessages.{IsNonce};
-ghost use Rattle.mongo_serve.specs.Login.{IsOpened, IsOpenedBy, IsOpenedFor};
+ghost use Rattle.mongo_serve.specs.Opened.{Names, Suits, Finds, OpensFor, OpensBy};
 ghost use Rattle.mongo_serve.specs.declared.fault.ServeFault.TheVariants.{OutOfMemory};
 
 use crate::fault::ServeFault;
@@ -26,14 +26,15 @@ pub struct Opened {
     pub answer: Text,
 }
 
-/// Opens the login that a `saslStart` asks for. None where it names no account.
+/// Opens the login that a `saslStart` asks for: that of the first account of its mechanism whose user the client's first message
+/// names. None where there is no such account, where its mechanism doesn't take its password, and where the message's nonce isn't one.
 pub fn open_login<G: Ledger>(
     alloc: Global,
     settings: &Settings,
     start: SaslStart<'_>,
     steps: &mut Steps<G>,
 ) -> Result<Option<Opened>, ServeFault>
-    ensures opened { IfOk result (λ found. IfSome found (IsOpenedBy settings.now start.entry.payload)) }
+    ensures opened { IfOk result (OpensBy settings.now start.entry) }
     ensures refused { IfErr result (λ fault. fault ≡ OutOfMemory) }
 {
     let (Some(version), Some(payload)) = (start.version, start.payload) else {
@@ -52,25 +53,42 @@ pub fn open_login<G: Ledger>(
     }
 }
 
-// The account of that mechanism whose user the client's first message names.
+// The first account of that mechanism whose user the client's first message names.
 fn account_of<'a>(
     alloc: Global,
     accounts: &'a [Account],
     version: ScramVersion,
     payload: &[u8],
 ) -> Result<Option<&'a Account>, AllocError>
-    ensures { IfOk result (λ found. IfSome found (λ account. Contains accounts.now account.now)) }
+    ensures { IfOk result (Finds accounts.now version payload.now) }
 {
-    for account in accounts {
-        if account.version == version && names(alloc, account.name.as_str(), payload)? {
+    'looking: for account in accounts {
+        if suits(alloc, account, version, payload)? {
             return Ok(Some(account));
         }
     }
     Ok(None)
 }
 
+fn suits(
+    alloc: Global,
+    account: &Account,
+    version: ScramVersion,
+    payload: &[u8],
+) -> Result<bool, AllocError>
+    ensures { IfOk result (λ is. IsTrue is ↔ Suits version payload.now account.now) }
+{
+    if account.version == version {
+        names(alloc, account.name.as_str(), payload)
+    } else {
+        Ok(false)
+    }
+}
+
 // Whether a client's first message begins as one of that user does (RFC 5802, section 7).
-fn names(alloc: Global, name: &str, payload: &[u8]) -> Result<bool, AllocError> {
+fn names(alloc: Global, name: &str, payload: &[u8]) -> Result<bool, AllocError>
+    ensures { IfOk result (λ is. IsTrue is ↔ Names payload.now name.now) }
+{
     let mut front = String::from_str(alloc, "n,,n=")?;
     push_user_name(&mut front, name)?;
     front.push_str(",r=")?;
@@ -87,7 +105,7 @@ fn open<G: Ledger>(
     steps: &mut Steps<G>,
 ) -> Result<Option<Opened>, ServeFault>
     requires { IsNonce suffix.now }
-    ensures opened { IfOk result (λ found. IfSome found (IsOpenedFor account.now suffix.now payload.now)) }
+    ensures opened { IfOk result (OpensFor account.now suffix.now payload.now skips_empty_exchange) }
     ensures refused { IfErr result (λ fault. fault ≡ OutOfMemory) }
 {
     let salt = account.salt.try_clone(alloc)?;
@@ -119,7 +137,9 @@ fn open<G: Ledger>(
             },
             answer,
         })),
-        Err(ServerFault::OutOfMemory) => Err(ServeFault::OutOfMemory),
-        Err(_) => Ok(None),
+        Err(fault) => match fault {
+            ServerFault::OutOfMemory => Err(ServeFault::OutOfMemory),
+            _ => Ok(None),
+        },
     }
 }

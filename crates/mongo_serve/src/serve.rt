@@ -166,7 +166,7 @@ fn answer_document<G: Ledger>(
     steps: &mut Steps<G>,
 ) -> Result<Reply, ServeFault>
     ensures remembers { (requests : List (List ℕ)) → Remembers settings.now requests session.old → OnOk result (Remembers settings.now (requests ++ document.entry.bytes.now ∷ []) session.new) }
-    ensures answered { IfOk result (IsAnswered session.old document.entry.bytes.now session.new) }
+    ensures answered { IfOk result (IsAnswered settings.now session.old document.entry.bytes.now session.new) }
     ensures kept { OnErr result (session.new.user ≡ session.old.user) }
 {
     answer(alloc, settings, session, request_of(document), steps)
@@ -223,7 +223,7 @@ fn greet_query<G: Ledger>(
     steps: &mut Steps<G>,
 ) -> Result<Reply, ServeFault>
     ensures remembers { (requests : List (List ℕ)) → Remembers settings.now requests session.old → OnOk result (Remembers settings.now (requests ++ document.entry.bytes.now ∷ []) session.new) }
-    ensures answered { IfOk result (IsAnswered session.old document.entry.bytes.now session.new) }
+    ensures answered { IfOk result (IsAnswered settings.now session.old document.entry.bytes.now session.new) }
     ensures greeting { OnOk result (IsGreeting document.entry.bytes.now) }
     ensures kept { OnErr result (session.new.user ≡ session.old.user) }
 {

@@ -34,9 +34,11 @@ pub struct Session {
 }
 
 impl Session {
-    ghost use Rattle.std.specs.Prelude.{◌≡◌, ℕ, true, false, List, [], ◌∷◌, ◌++◌, None, IsSome, IsNone, IfSome, IfOk, IfErr, OnOk, OnErr};
+    ghost use Rattle.std.specs.Prelude.{◌≡◌, ℕ, true, List, [], ◌∷◌, ◌++◌, None, IfSome, IfOk, IfErr, OnErr};
+    ghost use Rattle.mongo_serve.specs.Last.{AnswersLast, AnswersEmpty};
     ghost use Rattle.mongo_serve.specs.Login.{HasLoggedIn, IsLoginOf, Remembers};
     ghost use Rattle.mongo_serve.specs.Requests.{Opens, Continues};
+    ghost use Rattle.mongo_serve.specs.Sasl.{AnswersStart, AnswersContinue};
     ghost use Rattle.mongo_serve.specs.declared.settings.Settings.{Settings as SettingsValue};
     ghost use Rattle.mongo_serve.specs.declared.fault.ServeFault.TheVariants.{OutOfMemory};
 
@@ -51,8 +53,8 @@ impl Session {
         }
     }
 
-    /// Begins a login, in place of one that went on. None where it is refused: an unknown mechanism or user, another message than
-    /// a client's first, or a password that the mechanism doesn't take.
+    /// Begins a login, in place of one that went on, and answers the client's first message by the server's. None where it is refused:
+    /// an unknown mechanism or user, another message than a client's first, or a password that the mechanism doesn't take.
     pub fn start<G: Ledger>(
         &mut self,
         alloc: Global,
@@ -63,8 +65,8 @@ impl Session {
         // Of all that the client sent, the session knows a login that this request begins, and who is logged in already.
         ensures remembers { (requests : List (List ℕ)) (document : List ℕ) → Remembers settings.now requests self.old → IfSome start.entry.payload (λ payload. Opens document payload.now) →
             Remembers settings.now (requests ++ document ∷ []) self.new }
+        ensures answered { IfOk result (AnswersStart settings.now start.entry self.new) }
         ensures user { self.new.user ≡ self.old.user }
-        ensures undone { IfOk result (λ answer. IfSome answer (λ message. message.is_done ≡ false)) }
         ensures refused { IfErr result (λ fault. fault ≡ OutOfMemory) }
     {
         self.login = None;
@@ -80,8 +82,9 @@ impl Session {
         }
     }
 
-    /// Goes on with the login. None where it is refused: none goes on, or the message isn't the one that the client owes; then
-    /// the login is given up.
+    /// Goes on with the login: answers the client's last message by the server's, and then an empty one by an empty one, which a login
+    /// may skip; the user is logged in with the last answer. None where it is refused: none goes on, or the message isn't the one that
+    /// the client owes; then the login is given up.
     pub fn go_on(
         &mut self,
         alloc: Global,
@@ -89,9 +92,7 @@ impl Session {
     ) -> Result<Option<SaslReply>, ServeFault>
         ensures remembers { (settings : SettingsValue) (requests : List (List ℕ)) (document : List ℕ) → Remembers settings requests self.old → IfSome next.entry.payload (λ payload. Continues document payload.now) →
             Remembers settings (requests ++ document ∷ []) self.new }
-        ensures user { IfOk result (λ answer. IsNone answer → self.new.user ≡ self.old.user) }
-        ensures undone { IfOk result (λ answer. IfSome answer (λ message. message.is_done ≡ false → self.new.user ≡ self.old.user)) }
-        ensures done { IfOk result (λ answer. IfSome answer (λ message. message.is_done ≡ true → IsSome self.new.user)) }
+        ensures answered { IfOk result (AnswersContinue self.old next.entry self.new) }
         ensures kept { OnErr result (self.new.user ≡ self.old.user) }
         ensures refused { IfErr result (λ fault. fault ≡ OutOfMemory) }
     {
@@ -117,9 +118,7 @@ impl Session {
         requires { self.old.login ≡ None }
         ensures remembers { (settings : SettingsValue) (requests : List (List ℕ)) (document : List ℕ) → IfSome self.old.user (λ name. HasLoggedIn settings name requests) → IsLoginOf settings requests login → Continues document payload.now →
             Remembers settings (requests ++ document ∷ []) self.new }
-        ensures user { IfOk result (λ answer. IsNone answer → self.new.user ≡ self.old.user) }
-        ensures undone { IfOk result (λ answer. IfSome answer (λ message. message.is_done ≡ false → self.new.user ≡ self.old.user)) }
-        ensures done { IfOk result (λ answer. IfSome answer (λ message. message.is_done ≡ true → IsSome self.new.user)) }
+        ensures answered { IfOk result (AnswersLast self.old login payload.now self.new) }
         ensures kept { OnErr result (self.new.user ≡ self.old.user) }
         ensures refused { IfErr result (λ fault. fault ≡ OutOfMemory) }
     {
@@ -149,8 +148,10 @@ impl Session {
                     payload: answer,
                 }))
             }
-            Err(ServerFault::OutOfMemory) => Err(ServeFault::OutOfMemory),
-            Err(_) => Ok(None),
+            Err(fault) => match fault {
+                ServerFault::OutOfMemory => Err(ServeFault::OutOfMemory),
+                _ => Ok(None),
+            },
         }
     }
 
@@ -165,8 +166,7 @@ impl Session {
         requires proved { login.is_proved ≡ true }
         ensures remembers { (settings : SettingsValue) (requests : List (List ℕ)) (document : List ℕ) → IfSome self.old.user (λ name. HasLoggedIn settings name requests) → IsLoginOf settings requests login →
             Remembers settings (requests ++ document ∷ []) self.new }
-        ensures user { IfOk result (λ answer. IsNone answer → self.new.user ≡ self.old.user) }
-        ensures done { IfOk result (λ answer. IfSome answer (λ message. (message.is_done ≡ true) × IsSome self.new.user)) }
+        ensures answered { IfOk result (AnswersEmpty self.old login payload.now self.new) }
         ensures kept { OnErr result (self.new.user ≡ self.old.user) }
         ensures refused { IfErr result (λ fault. fault ≡ OutOfMemory) }
     {

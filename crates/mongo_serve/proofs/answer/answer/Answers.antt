@@ -1,4 +1,4 @@
-use Rattle.mongo_serve.proofs.Carried.{start_opens}
+use Rattle.mongo_serve.proofs.Carried.{start_opens, next_continues}
 use Rattle.mongo_serve.proofs.Sent.{remembers_later}
 use Rattle.mongo_serve.proofs.answer.answer.Goals as goal
 
@@ -26,3 +26,19 @@ returns-in-EndSessions-clause-remembers g c = λ requests document h says. remem
 pub returns-in_ok-name-in-Other-clause-remembers :
     goal.returns-in_ok-name-in-Other-clause-remembers
 returns-in_ok-name-in-Other-clause-remembers g c = λ requests document h says. remembers_later c.args.settings.now requests document c.args.session.now h
+
+pub returns-in_ok-start-in-SaslStart-clause-answered :
+    goal.returns-in_ok-start-in-SaslStart-clause-answered
+returns-in_ok-start-in-SaslStart-clause-answered g c =
+    rw c.in-SaslStart.is (c.in_ok-start-in-SaslStart.field-0, c.login_reply.ensures, c.in_ok-start-in-SaslStart.ensures.answered, c.start.ensures.user)
+
+pub returns-in_ok-go_on-in-SaslContinue-clause-remembers :
+    goal.returns-in_ok-go_on-in-SaslContinue-clause-remembers
+returns-in_ok-go_on-in-SaslContinue-clause-remembers g c = λ requests document h says.
+    let next = rw c.in-SaslContinue.is at says in
+    c.go_on.ensures.remembers c.args.settings.now requests document h (next_continues document c.in-SaslContinue.next next)
+
+pub returns-in_ok-go_on-in-SaslContinue-clause-answered :
+    goal.returns-in_ok-go_on-in-SaslContinue-clause-answered
+returns-in_ok-go_on-in-SaslContinue-clause-answered g c =
+    rw c.in-SaslContinue.is (c.in_ok-go_on-in-SaslContinue.field-0, c.login_reply-in-SaslContinue.ensures, c.in_ok-go_on-in-SaslContinue.ensures.answered)

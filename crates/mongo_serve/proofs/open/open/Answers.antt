@@ -1,5 +1,5 @@
 use Rattle.std.proofs.Common.{◌∙◌}
-use Rattle.mongo_serve.proofs.Begun.{begins}
+use Rattle.mongo_serve.proofs.Begun.{begins, unheard}
 use Rattle.mongo_serve.proofs.open.open.Goals as goal
 
 pub returns-in-Ok-first-clause-opened : goal.returns-in-Ok-first-clause-opened
@@ -7,4 +7,13 @@ returns-in-Ok-first-clause-opened g c =
     let answered = c.in-Ok-first.ensures.answered in
     begins c.args.account.now c.args.suffix.now c.args.payload.now c.new-core.result c.first.new.self c.in-Ok-first.answer c.in-Ok.user c.as_str.result.now c.as_str-2.result.now c.in_ok-salt.salt
     c.as_str.ensures c.as_str-2.ensures c.in_ok-salt.ensures.copied c.in-Ok.ensures.user c.new-core.ensures.user (c.new-core.ensures.suffix ∙ c.in_ok-from_slice.ensures.copied)
+    c.in-Ok.ensures.usable
     answered.0 answered.1 c.in-Ok-first.ensures.accepts c.in_ok-try_clone-in-Ok-first.field-0 c.args.skips_empty_exchange c.in_ok-try_clone-in-Ok-first.ensures.copied
+
+pub returns : goal.returns
+returns g c = record {
+  opened =
+      unheard c.args.account.now c.args.suffix.now c.args.payload.now c.new-core.result c.in-Ok.user c.as_str.result.now c.as_str-2.result.now c.in_ok-salt.salt c.in-Err-first.fault c.as_str.ensures c.as_str-2.ensures
+      c.in_ok-salt.ensures.copied c.in-Ok.ensures.user c.new-core.ensures.user (c.new-core.ensures.suffix ∙ c.in_ok-from_slice.ensures.copied) c.in-Err-first.ensures.accepts c.in_default-fault.not-OutOfMemory;
+  refused = tt;
+}

@@ -1,11 +1,27 @@
-use Rattle.std.proofs.Common.{Contains, IfSome, Some, subst}
+use Rattle.std.proofs.Common.{Option, None, Some, subst, ap, sym, ◌∙◌}
 use Rattle.std.specs.Borrow.{Bor}
+use Rattle.mongo_serve.specs.Opened.{Finds}
 use Rattle.mongo_serve.specs.declared.settings.Account.{Account}
-use Rattle.mongo_serve.proofs.Begun.{opened_all}
+use Rattle.mongo_serve.proofs.Begun.{none_suits, opens_all}
 use Rattle.mongo_serve.proofs.open.open_login.Goals as goal
 
 pub returns-in-Some-clause-opened : goal.returns-in-Some-clause-opened
 returns-in-Some-clause-opened g c =
-    let found : IfSome (Some c.in-Some.account) (λ (account : Bor Account). Contains c.as_slice.result.now account.now) = rw c.in-Some.is at c.in_ok-account.ensures in
-    let known = subst (λ accounts. Contains accounts c.in-Some.account.now) c.as_slice.ensures.value found in
-    opened_all c.args.settings.now c.in-Some.account.now c.as_str.result.now c.args.start.payload c.in-Some-Some.payload known c.as_str.ensures c.in-Some-Some.is-1 c.open.result c.open.ensures.opened
+    let settings = c.args.settings.now in
+    let start = c.args.start in
+    let version = c.in-Some-Some.version in
+    let message = c.in-Some-Some.payload in
+    let account = c.in-Some.account in
+    let found : Finds settings.accounts.items version message.now (Some account) =
+    subst (λ accounts. Finds accounts version message.now (Some account)) c.as_slice.ensures.value (rw c.in-Some.is at c.in_ok-account.ensures) in
+    opens_all settings start version message c.in-Some-Some.is-0 c.in-Some-Some.is-1 account.now c.as_str.result.now found c.as_str.ensures c.open.result c.open.ensures.opened
+
+pub returns-in-None-clause-opened : goal.returns-in-None-clause-opened
+returns-in-None-clause-opened g c =
+    let settings = c.args.settings.now in
+    let version = c.in-Some-Some.version in
+    let message = c.in-Some-Some.payload in
+    let none : Option (Bor Account) = None in
+    let found : Finds settings.accounts.items version message.now none =
+    subst (λ accounts. Finds accounts version message.now none) c.as_slice.ensures.value (rw c.in-None.is at c.in_ok-account.ensures) in
+    none_suits settings c.args.start version message c.in-Some-Some.is-0 c.in-Some-Some.is-1 found

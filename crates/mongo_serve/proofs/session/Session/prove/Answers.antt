@@ -19,15 +19,13 @@ returns-in-Ok-clause-remembers c = λ settings requests document user login clos
       };
     }
 
-pub returns-in-Err-OutOfMemory-clause-remembers : goal.returns-in-Err-OutOfMemory-clause-remembers
-returns-in-Err-OutOfMemory-clause-remembers c = λ settings requests document user login closes. remembers_alone settings requests document c.args.self.now c.requires user
+pub returns-in-OutOfMemory-clause-remembers : goal.returns-in-OutOfMemory-clause-remembers
+returns-in-OutOfMemory-clause-remembers c = λ settings requests document user login closes. remembers_alone settings requests document c.args.self.now c.requires user
 
 pub returns : goal.returns
 returns c = record {
   remembers = λ settings requests document user login closes. remembers_alone settings requests document c.args.self.now c.requires user;
-  user = λ _. refl;
-  undone = tt;
-  done = tt;
+  answered = (λ x begun said. c.in_default.not-OutOfMemory (c.in-Err.ensures.accepts x begun said), refl);
   kept = tt;
   refused = tt;
 }

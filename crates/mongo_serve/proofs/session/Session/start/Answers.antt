@@ -10,7 +10,7 @@ returns-in-Some-clause-remembers g c = λ requests document h opens.
     let opened = rw c.in-Some.is at c.in_ok-opened.ensures.opened in
     record {
       user = user_later c.args.settings.now c.args.self.now.user requests document h.user;
-      login = opens_with c.args.settings.now requests document c.args.start.payload c.in-Some.opened opened opens;
+      login = opens_with c.args.settings.now requests document c.args.start c.in-Some.opened opened opens;
     }
 
 pub returns-in-None-clause-remembers : goal.returns-in-None-clause-remembers
