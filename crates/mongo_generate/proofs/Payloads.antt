@@ -11,11 +11,10 @@ use Rattle.mongo_bson.specs.Value.{IsValue, has_variant}
 use Rattle.mongo_bson.specs.declared.raw_value.RawValue.{RawValue}
 use Rattle.mongo_bson.specs.declared.raw_value.RawValue.TheVariants.{Double, Str, Document, Array, Binary, ObjectId, Bool as Boolean, DateTime, Null, Int32, Int64, Other}
 use Rattle.mongo_bson.proofs.Found.{first_in_document, none_in_document, broken_no_document}
-use Rattle.mongo_wire.specs.declared.error.Error.{Error}
-use Rattle.mongo_wire.specs.declared.error.ErrorKind.{ErrorKind}
-use Rattle.mongo_wire.specs.declared.error.ErrorKind.TheVariants.{ReadFault, OutOfMemory}
-use Rattle.mongo_wire.specs.Frame.{Frame}
-use Rattle.mongo_wire.specs.Message.{ReadRefused, ReadsAgain, IsUnreadable}
+use Rattle.mongo_wire.specs.declared.fault.FrameFault.{FrameFault}
+use Rattle.mongo_wire.specs.declared.fault.FrameFault.TheVariants as frame_fault
+use Rattle.mongo_wire.specs.Error.{kind_of_frame_fault}
+use Rattle.mongo_wire.specs.Message.{ReadRefused, IsUnreadable}
 use Rattle.mongo_command.specs.Field.{field_of, Required}
 use Rattle.mongo_sasl.specs.Reply.{ReadsGeneric}
 use Rattle.mongo_generate.specs.Written.{IsContent, CarriesPayload}
@@ -85,10 +84,10 @@ payload_broken document payload carries broken = broken_no_document document (co
 
 -- ---- reading
 
--- a frame of a link that doesn't fail is read again, or memory runs out
-pub only_memory : (e : Error) (most : ℤ) (old new : Option (List ℕ)) (ends_old ends_new : ℕ) (parts : Frame) (rest : List ℕ) → ReadsAgain parts rest new (Err e) → ReadRefused e.kind most old new 0 0 ends_old ends_new → e.kind ≡ OutOfMemory
-only_memory e most old new ends_old ends_new parts rest again refused = by_kind e.kind again refused where
-  by_kind : (kind : ErrorKind) → IsUnreadable kind → ReadRefused kind most old new 0 0 ends_old ends_new → kind ≡ OutOfMemory
-  by_kind ReadFault u r = let rose = r.0 in absurd (omega arith)
-  by_kind OutOfMemory u r = refl
-  by_kind kind u r = absurd u
+-- a frame of a link that doesn't fail is taken again, or memory runs out
+pub only_memory : (fault : FrameFault) (most : ℤ) (old new : Option (List ℕ)) (ends_old ends_new : ℕ) → IsUnreadable (kind_of_frame_fault fault) → ReadRefused (kind_of_frame_fault fault) most old new 0 0 ends_old ends_new → fault ≡ frame_fault.OutOfMemory
+only_memory frame_fault.ReadFault most old new ends_old ends_new again refused = let rose = refused.0 in absurd (omega arith)
+only_memory frame_fault.EndOfInput most old new ends_old ends_new again refused = absurd again
+only_memory frame_fault.OutOfMemory most old new ends_old ends_new again refused = refl
+only_memory (frame_fault.InvalidArgument fault) most old new ends_old ends_new again refused = absurd again
+only_memory (frame_fault.InvalidResponse fault) most old new ends_old ends_new again refused = absurd again

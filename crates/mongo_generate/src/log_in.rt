@@ -58,7 +58,7 @@ impl Client {
         let Some(written) = self.establish(alloc, login, replies, state, steps)? else {
             return Ok(None);
         };
-        let Some(client_final) = client_final(alloc, written.as_bytes())? else {
+        let Some(client_final) = client_final(alloc, written)? else {
             return Ok(None);
         };
         match server.last(alloc, client_final.as_bytes()) {

@@ -1,55 +1,68 @@
 //! What a client wrote.
 ghost use Rattle.std.specs.Prelude.{◌≡◌, ℕ, pos, ◌≤ℤ◌, List, ◌++◌, Some, length, IfOk, MatchResult};
-ghost use Rattle.mongo_wire.specs.declared.error.ErrorKind.TheVariants.{OutOfMemory};
+ghost use Rattle.mongo_wire.specs.declared.fault.FrameFault.TheVariants.{OutOfMemory};
+ghost use Rattle.mongo_wire.specs.Buffer.{HoldsFrame};
 ghost use Rattle.mongo_wire.specs.Bytes.{first_maximum};
 ghost use Rattle.mongo_wire.specs.Frame.{Frame, IsFrame};
 ghost use Rattle.mongo_wire.specs.Memory.{bytes_left};
 ghost use Rattle.mongo_generate.specs.Written.{IsContent, CarriesPayload, Carries};
 
-use mongo_bson::{Bytes, RawDocumentBuf, RawValue};
-use mongo_wire::{Error, ErrorKind, MemoryLink, Message};
+use mongo_bson::{Bytes, RawDocument, RawValue};
+use mongo_wire::{FrameBuffer, FrameFault, MemoryLink};
 use std::alloc::{AllocError, Global};
 
 /// The client's last message: the payload of the command in the second frame. None where it has none.
-pub fn client_final(alloc: Global, written: &[u8]) -> Result<Option<Bytes>, AllocError>
-    ensures found { (payload : List ℕ) → Carries payload written.now → IfOk result (λ found. found ≡ Some payload) }
+pub fn client_final(alloc: Global, written: Bytes) -> Result<Option<Bytes>, AllocError>
+    ensures found { (payload : List ℕ) → Carries payload written → IfOk result (λ found. found ≡ Some payload) }
 {
-    match second_document(alloc, written) {
-        Ok(document) => payload_of(alloc, &document),
-        Err(error) => match error.kind {
-            ErrorKind::OutOfMemory => Err(AllocError),
+    let mut link = MemoryLink::new(alloc, written);
+    let mut buffer = FrameBuffer::new(alloc);
+    match take_second(&mut link, &mut buffer) {
+        Ok(()) => payload_held(alloc, &buffer),
+        Err(fault) => match fault {
+            FrameFault::OutOfMemory => Err(AllocError),
             _ => Ok(None),
         },
     }
 }
 
-// The document of the second frame.
-fn second_document(alloc: Global, written: &[u8]) -> Result<RawDocumentBuf, Error>
-    ensures second { (payload : List ℕ) → Carries payload written.now → MatchResult result (CarriesPayload payload) (λ e. e.kind ≡ OutOfMemory) }
+// Takes two frames, and holds the second.
+fn take_second(link: &mut MemoryLink, buffer: &mut FrameBuffer) -> Result<(), FrameFault>
+    ensures second { (payload : List ℕ) (carries : Carries payload (bytes_left link.old)) →
+        MatchResult result (λ _. HoldsFrame carries.second carries.second_parts buffer.new) (λ fault. fault ≡ OutOfMemory) }
 {
-    let mut link = MemoryLink::new(alloc, Bytes::from_slice(alloc, written)?);
-    match next_document(alloc, &mut link) {
-        Ok(_) => next_document(alloc, &mut link),
-        Err(error) => Err(error),
+    match take_next(link, buffer) {
+        Ok(()) => take_next(link, buffer),
+        Err(fault) => Err(fault),
     }
 }
 
-// The document of the next frame.
-fn next_document(alloc: Global, link: &mut MemoryLink) -> Result<RawDocumentBuf, Error>
+// Takes the next frame, and holds it.
+fn take_next(link: &mut MemoryLink, buffer: &mut FrameBuffer) -> Result<(), FrameFault>
     ensures next { (frame rest : List ℕ) (parts : Frame) → bytes_left link.old ≡ frame ++ rest → IsFrame frame parts → pos (length frame) ≤ℤ first_maximum →
-        MatchResult result (λ document. (document ≡ parts.body) × (bytes_left link.new ≡ rest)) (λ e. e.kind ≡ OutOfMemory) }
+        MatchResult result (λ _. HoldsFrame frame parts buffer.new × (bytes_left link.new ≡ rest)) (λ fault. fault ≡ OutOfMemory) }
 {
-    match Message::read_from(alloc, link, None) {
-        Ok(message) => Ok(message.document_payload),
-        Err(error) => Err(error),
+    match buffer.take_frame(link, None) {
+        Ok(()) => Ok(()),
+        Err(fault) => Err(fault),
+    }
+}
+
+// The payload of the frame that a buffer holds.
+fn payload_held(alloc: Global, buffer: &FrameBuffer) -> Result<Option<Bytes>, AllocError>
+    ensures found { (frame payload : List ℕ) (parts : Frame) → HoldsFrame frame parts buffer.now → CarriesPayload payload parts.body → IfOk result (λ found. found ≡ Some payload) }
+{
+    match buffer.message() {
+        Some(message) => payload_of(alloc, message.document_payload),
+        None => Ok(None),
     }
 }
 
 // The bytes of the binary value under `payload`.
-fn payload_of(alloc: Global, document: &RawDocumentBuf) -> Result<Option<Bytes>, AllocError>
-    ensures found { (payload : List ℕ) → CarriesPayload payload document.now → IfOk result (λ found. found ≡ Some payload) }
+fn payload_of(alloc: Global, document: RawDocument<'_>) -> Result<Option<Bytes>, AllocError>
+    ensures found { (payload : List ℕ) → CarriesPayload payload document.entry.bytes.now → IfOk result (λ found. found ≡ Some payload) }
 {
-    match document.borrow().get("payload") {
+    match document.get("payload") {
         Ok(Some(value)) => content_of(alloc, value),
         Ok(None) => Ok(None),
         Err(_) => Ok(None),

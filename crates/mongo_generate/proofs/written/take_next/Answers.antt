@@ -1,7 +1,6 @@
 use Rattle.std.proofs.Common.{◌≡◌, Some, ap, List, ℕ}
-use Rattle.mongo_wire.specs.Frame.{Frame}
 use Rattle.mongo_generate.proofs.Payloads.{only_memory}
-use Rattle.mongo_generate.proofs.written.next_document.Goals as goal
+use Rattle.mongo_generate.proofs.written.take_next.Goals as goal
 
 same_rest : (a b : List ℕ) → Some a ≡ Some b → a ≡ b
 same_rest a b same = cc
@@ -10,11 +9,11 @@ pub returns-in-Ok : goal.returns-in-Ok
 returns-in-Ok c = record {
   next = λ frame rest parts is frame_is within.
       let again = c.in-Ok.ensures.again frame rest parts (ap Some is) frame_is within in
-      (ap (λ (p : Frame). p.body) again.0, same_rest _ _ again.1);
+      (again.0, same_rest _ _ again.1);
 }
 
 pub returns-in-Err : goal.returns-in-Err
 returns-in-Err c = record {
   next = λ frame rest parts is frame_is within.
-      only_memory c.in-Err.error _ _ _ _ _ parts rest (c.in-Err.ensures.again frame rest parts (ap Some is) frame_is within) c.in-Err.ensures.refused;
+      only_memory c.in-Err.fault _ _ _ _ _ (c.in-Err.ensures.again frame rest parts (ap Some is) frame_is within) c.in-Err.ensures.refused;
 }
