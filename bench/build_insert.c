@@ -37,12 +37,12 @@ static void append_body(bson_t *command)
     bson_t documents;
     unsigned number;
     BSON_APPEND_UTF8(command, "insert", "items");
+    BSON_APPEND_BOOL(command, "ordered", true);
     BSON_APPEND_ARRAY_BEGIN(command, "documents", &documents);
     for (number = 0; number < 1000; number++) {
         append_document(&documents, number);
     }
     bson_append_array_end(command, &documents);
-    BSON_APPEND_BOOL(command, "ordered", true);
     BSON_APPEND_UTF8(command, "$db", "shop");
 }
 

@@ -45,7 +45,7 @@ pub fn insert_document(alloc: Global) -> Result<RawDocumentBuf, Error> {
     command.to_document(alloc)
 }
 
-// The body: the collection, the documents, and whether the first failure ends the insert.
+// The body: the collection, whether the first failure ends the insert, and the documents.
 fn insert_body(alloc: Global) -> Result<RawDocumentBuf, Error> {
     let mut documents = RawArrayBuf::new(alloc)?;
     for number in 0..DOCUMENTS {
@@ -54,8 +54,8 @@ fn insert_body(alloc: Global) -> Result<RawDocumentBuf, Error> {
     }
     let mut body = RawDocumentBuf::new(alloc)?;
     body.append("insert", RawValue::Str("items"))?;
-    body.append("documents", RawValue::Array(documents.borrow()))?;
     body.append("ordered", RawValue::Bool(true))?;
+    body.append("documents", RawValue::Array(documents.borrow()))?;
     Ok(body)
 }
 
