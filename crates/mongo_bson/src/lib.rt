@@ -40,8 +40,6 @@ mod raw_document_buf;
 mod raw_value;
 mod readable;
 mod shape;
-#[cfg(test)]
-mod tests;
 mod text;
 mod try_clone;
 mod writing;

@@ -42,5 +42,3 @@ pub use mongo_wire::{
 };
 pub use options::{EstablisherOptions, HandshakerOptions, TopologySpec, auth_options_from_options};
 
-#[cfg(test)]
-mod tests;

@@ -18,8 +18,6 @@ mod logins;
 mod numbering;
 mod options;
 mod replies;
-#[cfg(test)]
-mod tests;
 mod user_login;
 mod written;
 

@@ -24,8 +24,6 @@ mod fields;
 mod form;
 mod os_metadata;
 mod runtime_environment;
-#[cfg(test)]
-mod tests;
 
 pub use client_metadata::{AppMetadata, ClientMetadata, DriverMetadata};
 pub use client_options::ClientOptions;

@@ -28,8 +28,6 @@ mod sasl_continue;
 mod sasl_response;
 mod sasl_start;
 mod sasl_view;
-#[cfg(test)]
-mod tests;
 mod validation;
 pub mod x509;
 

@@ -41,8 +41,6 @@ mod scram_version;
 mod server_final;
 mod server_first;
 mod signing_key;
-#[cfg(test)]
-mod tests;
 mod user_name;
 
 pub use auth_info::ClientAuthInfo;

@@ -28,8 +28,6 @@ mod fault;
 mod messages;
 mod parse;
 mod server_core;
-#[cfg(test)]
-mod tests;
 mod user;
 mod user_name;
 

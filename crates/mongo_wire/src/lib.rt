@@ -70,5 +70,3 @@ pub use write_error::{
 };
 pub use writing::write_all;
 
-#[cfg(test)]
-mod tests;

@@ -1,0 +1,293 @@
+ghost use Rattle.std.specs.Prelude.{◌<◌};
+
+use mongo_command::{Command, Connection, ServerAddress, hello_command};
+use mongo_bson::{Bytes, Text};
+use mongo_wire::{Error, ErrorKind, FailingLink, FrameBuffer, Link, RequestIds, Sink, Source};
+use std::alloc::Global;
+use std::test::Fail;
+
+// The hello `{isMaster: 1, helloOk: true, backpressure: "2", $db: "admin"}` under the id 0, laid out by the OP_MSG
+// specification: a header of 16 bytes, flags and the kind byte in 5, a document of 64.
+const HELLO: &[u8] =
+    b"\x55\0\0\0\0\0\0\0\0\0\0\0\xdd\x07\0\0\0\0\0\0\0\x40\0\0\0\x10isMaster\0\x01\0\0\0\x08helloOk\0\x01\x02backpressure\0\x02\0\0\x002\0\x02$db\0\x06\0\0\0admin\0\0";
+
+const HELLO_LEN: usize = 85;
+
+// A reply to it: a header of 16 bytes, and 70 more of `{ok: 1.0, maxBsonObjectSize: 16777216, maxMessageSizeBytes:
+// 48000000}`.
+const REPLY: &[u8] =
+    b"\x56\0\0\0\x01\0\0\0\0\0\0\0\xdd\x07\0\0\0\0\0\0\0\x41\0\0\0\x01ok\0\0\0\0\0\0\0\xf0\x3f\x10maxBsonObjectSize\0\0\0\0\x01\x10maxMessageSizeBytes\0\0\x6c\xdc\x02\0";
+
+const REPLY_LEN: usize = 86;
+
+// Where a reply's document begins: after its header, its flags and the kind byte.
+const DOCUMENT_START: usize = 21;
+
+// One of the calls that exchange a hello and its reply.
+#[derive(Clone, Copy, Debug)]
+enum Asked {
+    SendMessage,
+    Exchange,
+    RunHello,
+}
+
+const EACH: [Asked; 3] = [Asked::SendMessage, Asked::Exchange, Asked::RunHello];
+
+// How a call ended: with the reply, or with this fault. A connection's fault, too, where Done is none.
+#[derive(Clone, Copy, Debug, PartialEq)]
+enum Told {
+    Done,
+    ReadFault,
+    WriteFault,
+    Other,
+}
+
+// What is seen after a call: how it ended and what the connection keeps, how many bytes were written and how many of the
+// replies taken, how often a read and a write failed, and the next id.
+#[derive(Clone, Copy, Debug, PartialEq)]
+struct Seen {
+    told: Told,
+    kept: Told,
+    written: usize,
+    taken: usize,
+    read_faults: u64,
+    write_faults: u64,
+    next_id: i32,
+}
+
+// What is seen after a call that ended so and moved so many bytes, the first that was made.
+fn seen_first(told: Told, written: usize, taken: usize) -> Seen {
+    Seen {
+        told,
+        kept: told,
+        written,
+        taken,
+        read_faults: u64::from(told == Told::ReadFault),
+        write_faults: u64::from(told == Told::WriteFault),
+        next_id: 1,
+    }
+}
+
+// What is seen after one more call. A fault is told again, and nothing is done; else the connection goes on, with one more
+// frame and its reply.
+fn seen_next(seen: Seen) -> Seen {
+    match seen.told {
+        Told::Done => Seen {
+            written: seen.written.saturating_add(HELLO_LEN),
+            taken: seen.taken.saturating_add(REPLY_LEN),
+            next_id: seen.next_id.saturating_add(1),
+            ..seen
+        },
+        _ => seen,
+    }
+}
+
+// What is seen after each of four calls of which the first is seen so.
+fn seen_of_four(first: Seen) -> [Seen; 4] {
+    let second = seen_next(first);
+    let third = seen_next(second);
+    [first, second, third, seen_next(third)]
+}
+
+// A connection beside its link and its ids.
+#[derive(Drop)]
+struct Talk {
+    connection: Connection,
+    link: FailingLink,
+    ids: RequestIds,
+}
+
+fn told_by(kind: &ErrorKind) -> Told {
+    match kind {
+        ErrorKind::ReadFault => Told::ReadFault,
+        ErrorKind::WriteFault => Told::WriteFault,
+        _ => Told::Other,
+    }
+}
+
+// How a call ended that gave these bytes as the reply's document.
+fn told_of(document: &[u8]) -> Told {
+    if REPLY.get(DOCUMENT_START..) == Some(document) {
+        Told::Done
+    } else {
+        Told::Other
+    }
+}
+
+fn send_message<L: Link>(
+    alloc: Global,
+    connection: &mut Connection,
+    link: &mut L,
+    ids: &mut RequestIds,
+    command: Command,
+) -> Told {
+    match connection.send_message(alloc, link, ids, command) {
+        Ok(response) => told_of(response.as_bytes()),
+        Err(error) => told_by(&error.kind),
+    }
+}
+
+fn exchange<L: Link>(
+    alloc: Global,
+    connection: &mut Connection,
+    link: &mut L,
+    ids: &mut RequestIds,
+    command: Command,
+) -> Told {
+    let mut buffer = FrameBuffer::new(alloc);
+    match connection.exchange(alloc, link, ids, command, &mut buffer) {
+        Ok(document) => told_of(document.as_bytes()),
+        Err(error) => told_by(&error.kind),
+    }
+}
+
+fn run_hello<L: Link>(
+    alloc: Global,
+    connection: &mut Connection,
+    link: &mut L,
+    ids: &mut RequestIds,
+    command: Command,
+) -> Told {
+    match mongo_command::run_hello(alloc, connection, link, ids, command) {
+        Ok(reply) => told_of(reply.raw_command_response.as_bytes()),
+        Err(error) => told_by(&error.kind),
+    }
+}
+
+impl Talk {
+    // A new connection over a link that has four replies, moves so many bytes a call, and fails at just this call. Its ids
+    // begin with 0.
+    fn failing_at(alloc: Global, call: usize, most: usize) -> Result<Talk, Error>
+        requires { 0 < most }
+    {
+        let path = Text::from_slice(alloc, "/server.sock")?;
+        let mut replies = Bytes::new(alloc);
+        for _ in 0..4 {
+            replies.extend_from_slice(REPLY)?;
+        }
+        let mut schedule = Vec::new(alloc);
+        for _ in 0..call {
+            schedule.push(0)?;
+        }
+        schedule.push(1)?;
+        Ok(Talk {
+            connection: Connection::new(ServerAddress::Unix { path }, 5),
+            link: FailingLink::new(alloc, replies, Bytes::from_vec(schedule), most),
+            ids: RequestIds::new(0),
+        })
+    }
+
+    // Makes a call, and gives what is seen after it.
+    fn ask(&mut self, alloc: Global, asked: Asked) -> Result<Seen, Error> {
+        let command = hello_command(alloc, None, Some(false), None, None)?;
+        let (connection, link, ids) = (&mut self.connection, &mut self.link, &mut self.ids);
+        let told = match asked {
+            Asked::SendMessage => send_message(alloc, connection, link, ids, command),
+            Asked::Exchange => exchange(alloc, connection, link, ids, command),
+            Asked::RunHello => run_hello(alloc, connection, link, ids, command),
+        };
+        Ok(self.seen(told))
+    }
+
+    // What is seen after a call that ended so.
+    fn seen(&self, told: Told) -> Seen {
+        Seen {
+            told: if self.has_written_hellos() {
+                told
+            } else {
+                Told::Other
+            },
+            kept: match self.connection.fault() {
+                Some(kind) => told_by(kind),
+                None => Told::Done,
+            },
+            written: self.link.written().len(),
+            taken: REPLY_LEN
+                .saturating_mul(4)
+                .saturating_sub(self.link.left().len()),
+            read_faults: self.link.read_faults(),
+            write_faults: self.link.write_faults(),
+            next_id: self.ids.next(),
+        }
+    }
+
+    // Whether what was written is the front of hellos under the ids 0, 1, 2 and 3.
+    fn has_written_hellos(&self) -> bool {
+        self.link.written().iter().enumerate().all(|(at, byte)| {
+            if at % HELLO_LEN == 4 {
+                usize::from(*byte) == at / HELLO_LEN
+            } else {
+                HELLO.get(at % HELLO_LEN) == Some(byte)
+            }
+        })
+    }
+}
+
+// What is seen after each of four calls, of which the first is this one and then each is made. Just this call of the link
+// fails, and a call moves so many bytes.
+fn four_calls(alloc: Global, first: Asked, failing: usize, most: usize) -> Result<[Seen; 4], Error>
+    requires { 0 < most }
+{
+    let mut talk = Talk::failing_at(alloc, failing, most)?;
+    Ok([
+        talk.ask(alloc, first)?,
+        talk.ask(alloc, Asked::SendMessage)?,
+        talk.ask(alloc, Asked::Exchange)?,
+        talk.ask(alloc, Asked::RunHello)?,
+    ])
+}
+
+#[test]
+fn a_fault_in_any_piece_is_told_and_kept(rt: HostRuntime) -> Result<(), Fail> {
+    // the header, the flags and the kind byte, the document; the flush; the reply's header and its rest; and no failure
+    for (call, told, written, taken) in [
+        (0, Told::WriteFault, 0, 0),
+        (1, Told::WriteFault, 16, 0),
+        (2, Told::WriteFault, 21, 0),
+        (3, Told::WriteFault, 85, 0),
+        (4, Told::ReadFault, 85, 0),
+        (5, Told::ReadFault, 85, 16),
+        (24, Told::Done, 85, 86),
+    ] {
+        for first in EACH {
+            let seen = four_calls(rt.alloc(), first, call, 4096)?;
+            let wanted = seen_of_four(seen_first(told, written, taken));
+            assert_eq!(rt; seen, wanted, "{first:?} {call}");
+        }
+    }
+    Ok(())
+}
+
+// What is seen after a call of which each byte is written or read by a call of the link's own, and this one fails.
+fn seen_byte_by_byte(call: usize) -> Seen {
+    if call <= HELLO_LEN {
+        // the flush is the last of these
+        seen_first(Told::WriteFault, call, 0)
+    } else {
+        seen_first(Told::ReadFault, HELLO_LEN, call - HELLO_LEN - 1)
+    }
+}
+
+#[test]
+fn a_fault_at_any_byte_is_told_and_kept(rt: HostRuntime) -> Result<(), Fail> {
+    // 85 writes, the flush and 86 reads
+    for call in 0..172 {
+        for first in EACH {
+            let seen = four_calls(rt.alloc(), first, call, 1)?;
+            let wanted = seen_of_four(seen_byte_by_byte(call));
+            assert_eq!(rt; seen, wanted, "{first:?} {call}");
+        }
+    }
+    Ok(())
+}
+
+#[test]
+fn a_connection_without_a_fault_goes_on_byte_by_byte(rt: HostRuntime) -> Result<(), Fail> {
+    for first in EACH {
+        // the fifth exchange would begin with this call
+        let seen = four_calls(rt.alloc(), first, 688, 1)?;
+        let wanted = seen_of_four(seen_first(Told::Done, HELLO_LEN, REPLY_LEN));
+        assert_eq!(rt; seen, wanted, "{first:?}");
+    }
+    Ok(())
+}

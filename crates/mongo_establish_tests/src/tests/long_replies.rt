@@ -1,0 +1,128 @@
+ghost use Rattle.std.specs.Prelude.{◌≡◌, ◌<◌, ◌≤◌};
+
+use super::logging_in::{ACCEPTED, CHALLENGE, End, NEGOTIATED, Told, end_of, log_in, new_state};
+use mongo_establish::{Bytes, MemoryLink};
+use mongo_wire::Error;
+use std::alloc::Global;
+use std::marker::Brand;
+use std::sync::ledger::{Blank, Ledger};
+use std::test::Fail;
+
+// Puts so many letters at the end.
+fn push_letters(bytes: &mut Vec<u8>, count: u32) -> Result<(), Error> {
+    const PIECE: [u8; 1024] = [0x41; 1024];
+    for _ in 0..count / 1024 {
+        bytes.extend_from_slice(&PIECE)?;
+    }
+    bytes.extend_from_slice(&PIECE[..(count % 1024) as usize])?;
+    Ok(())
+}
+
+// What a login hears that starts after its hello, but for a last reply whose verifier fills a frame of this length.
+fn heard_with_verifier(alloc: Global, length: u32) -> Result<Vec<u8>, Error>
+    requires { 109 ≤ length }
+{
+    let mut heard = Vec::from_slice(alloc, NEGOTIATED)?;
+    heard.extend_from_slice(CHALLENGE)?;
+    let reply = *ACCEPTED;
+    heard.extend_from_slice(&length.to_le_bytes())?;
+    heard.extend_from_slice(&reply[4..21])?;
+    heard.extend_from_slice(&(length - 21).to_le_bytes())?;
+    heard.extend_from_slice(&reply[25..73])?;
+    heard.extend_from_slice(&(length - 79).to_le_bytes())?;
+    heard.extend_from_slice(b"\0v=")?;
+    push_letters(&mut heard, length - 81)?;
+    heard.push(0)?;
+    Ok(heard)
+}
+
+// The same with its own last reply, and a challenge with a field more, of bytes without a meaning, so that its frame has
+// this length.
+fn heard_with_filler(alloc: Global, length: u32) -> Result<Vec<u8>, Error>
+    requires { 175 ≤ length }
+{
+    let mut heard = Vec::from_slice(alloc, NEGOTIATED)?;
+    let reply = *CHALLENGE;
+    heard.extend_from_slice(&length.to_le_bytes())?;
+    heard.extend_from_slice(&reply[4..21])?;
+    heard.extend_from_slice(&(length - 21).to_le_bytes())?;
+    heard.extend_from_slice(&reply[25..161])?;
+    heard.extend_from_slice(b"\x05filler\0")?;
+    heard.extend_from_slice(&(length - 175).to_le_bytes())?;
+    heard.push(0)?;
+    push_letters(&mut heard, length - 175)?;
+    heard.push(0)?;
+    heard.extend_from_slice(ACCEPTED)?;
+    Ok(heard)
+}
+
+// The front of the same whose challenge is one byte longer than the server allows.
+fn heard_past_the_maximum(alloc: Global) -> Result<Vec<u8>, Error> {
+    let mut heard = Vec::from_slice(alloc, NEGOTIATED)?;
+    let reply = *CHALLENGE;
+    heard.extend_from_slice(&48_000_001u32.to_le_bytes())?;
+    heard.extend_from_slice(&reply[4..])?;
+    Ok(heard)
+}
+
+// The end of a login that heard so many bytes and said all.
+fn end_with(told: Told, heard: usize, entries: usize) -> End {
+    End {
+        told,
+        described: true,
+        next_id: 3,
+        said: 830,
+        heard,
+        rounds: 4096,
+        entries,
+    }
+}
+
+// What a login hears that starts after its hello, from a server that takes messages of 48000000 bytes, and how it ends.
+fn long_at(alloc: Global, place: u8) -> Result<(Vec<u8>, End), Error> {
+    match place {
+        0 => Ok((
+            heard_with_filler(alloc, 48_000_000)?,
+            end_with(Told::Nothing, 48_000_350, 1),
+        )),
+        1 => Ok((
+            heard_with_verifier(alloc, 4_000_001)?,
+            end_with(Told::Verifier, 4_000_404, 0),
+        )),
+        _ => Ok((
+            heard_past_the_maximum(alloc)?,
+            End {
+                next_id: 2,
+                said: 650,
+                rounds: 0,
+                // no more than the header
+                ..end_with(Told::OverMaximum, 257, 0)
+            },
+        )),
+    }
+}
+
+// The end of a login over a link that doesn't fail.
+fn ended_on<G: Ledger>(blank: Blank, alloc: Global, heard: Vec<u8>) -> Result<End, Error>
+    requires name { blank.name ≡ G.name }
+    requires parts { blank.parts ≡ G.parts }
+    requires has_a_part { 0 < G.parts }
+{
+    let length = heard.len();
+    let mut link = MemoryLink::new(alloc, Bytes::from_vec(heard));
+    let mut state = new_state(alloc);
+    let answer = log_in::<_, G>(blank, alloc, &mut link, &mut state)?;
+    let taken = length.saturating_sub(link.left().len());
+    Ok(end_of(&answer, &state, link.written().len(), taken))
+}
+
+#[test]
+fn replies_may_be_as_long_as_the_server_says(rt: HostRuntime) -> Result<(), Fail> {
+    let alloc = rt.alloc();
+    for place in 0..3 {
+        let (heard, wanted) = long_at(alloc, place)?;
+        let end = ended_on::<Brand>(Blank::new(1), alloc, heard)?;
+        assert_eq!(rt; end, wanted, "at {place}");
+    }
+    Ok(())
+}
