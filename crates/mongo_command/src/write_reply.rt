@@ -1,6 +1,7 @@
 ghost use Rattle.std.specs.Prelude.{◌≡◌, None, option_copied, IfOk, IfErr, OnOk};
 ghost use Rattle.mongo_command.specs.WriteReply.{IsWriteReply, WriteReplyRefused, first_error, first_cause, write_failure, insert_failure, SaysOfWrite, SingleWriteRefused, InsertManyRefused};
 
+use crate::command_reply::refused_as;
 use crate::error_table::labels_of;
 use crate::field::FieldFault;
 use crate::fields::Fields;
@@ -63,10 +64,7 @@ fn read_write_reply(alloc: Global, document: RawDocument<'_>) -> Result<InsertMa
 {
     match read_table(alloc, document) {
         Ok(reply) => Ok(reply),
-        Err(FieldFault::Unreadable) => {
-            Err(ErrorKind::InvalidResponse(ResponseFault::Body).into())
-        }
-        Err(FieldFault::OutOfMemory) => Err(ErrorKind::OutOfMemory.into()),
+        Err(fault) => Err(refused_as(ResponseFault::Body, fault)),
     }
 }
 
