@@ -63,4 +63,4 @@ pub use raw_document::RawDocument;
 pub use raw_document_buf::{Documents, RawDocumentBuf};
 pub use raw_value::RawValue;
 pub use text::{Text, Texts};
-pub use try_clone::TryClone;
+pub use try_clone::{TryClone, copy_of};

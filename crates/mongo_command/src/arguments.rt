@@ -80,8 +80,10 @@ pub(crate) fn append_arguments(
     append_fields(document, fields)
 }
 
-// Puts the fields that are there at the end of a document.
-pub(crate) fn append_fields(
+/// Puts the fields that are there at the end of a document, in their order.
+///
+/// `TooLong` where the document would pass 2147483647 bytes.
+pub fn append_fields(
     document: &mut RawDocumentBuf,
     fields: &[ArgumentField<'_>],
 ) -> Result<(), BsonFault>

@@ -10,9 +10,8 @@ use crate::arguments::{
     ArgumentField, append_arguments, copy_with_room, document_field, int64_field, size_of_field,
     size_of_fields, truth_field, version_field, write_concern_field,
 };
-use crate::copies::copy_of;
 use crate::read_concern::ReadConcern;
-use mongo_bson::{BsonFault, RawDocumentBuf, RawValue};
+use mongo_bson::{BsonFault, RawDocumentBuf, RawValue, copy_of};
 use std::alloc::Global;
 
 // The fields that a command of any name can carry beside its body, in the order in which they are sent.

@@ -4,8 +4,7 @@ ghost use Rattle.mongo_command.specs.Command.{read_concern_elements, read_concer
 ghost use Rattle.mongo_command.specs.Arguments.{field_elements, IsNamed, TooLongFor};
 
 use crate::arguments::{ArgumentField, append_fields, text_field, timestamp_field};
-use crate::copies::copy_of;
-use mongo_bson::{BsonFault, RawDocumentBuf, Text};
+use mongo_bson::{BsonFault, RawDocumentBuf, Text, copy_of};
 use std::alloc::Global;
 
 // What a read may see, by the read concern specification. A time is in seconds since 1970, with a count within the second.

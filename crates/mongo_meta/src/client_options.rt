@@ -1,8 +1,7 @@
 ghost use Rattle.std.specs.Prelude.{◌≡◌, IfOk, IfErr};
 
-use crate::copies::text_copy;
 use crate::{DriverInfo, Environment, OsMetadata};
-use mongo_bson::{BsonFault, Text};
+use mongo_bson::{BsonFault, Text, copy_of};
 use mongo_command::ServerApi;
 use std::alloc::Global;
 
@@ -33,13 +32,9 @@ impl ClientOptions {
         ensures copied { IfOk result (λ options. options ≡ self.now) }
         ensures refused { IfErr result (λ fault. fault ≡ BsonFault.OutOfMemory) }
     {
-        let driver_info = match &self.driver_info {
-            Some(info) => Some(info.try_clone(alloc)?),
-            None => None,
-        };
         Ok(ClientOptions {
-            app_name: text_copy(alloc, &self.app_name)?,
-            driver_info,
+            app_name: copy_of(alloc, &self.app_name)?,
+            driver_info: copy_of(alloc, &self.driver_info)?,
             server_api: self.server_api,
             load_balanced: self.load_balanced,
             os: self.os.try_clone(alloc)?,

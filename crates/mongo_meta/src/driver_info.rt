@@ -1,7 +1,6 @@
 ghost use Rattle.std.specs.Prelude.{◌≡◌, ◌↔◌, IsTrue, Contains, IfOk, IfErr};
 
-use crate::copies::text_copy;
-use mongo_bson::{BsonFault, Items, Text, TryClone};
+use mongo_bson::{BsonFault, Items, Text, TryClone, copy_of};
 use std::alloc::Global;
 
 /// What a library that stands on the driver says of itself.
@@ -23,8 +22,8 @@ impl DriverInfo {
     {
         Ok(DriverInfo {
             name: self.name.try_clone(alloc)?,
-            version: text_copy(alloc, &self.version)?,
-            platform: text_copy(alloc, &self.platform)?,
+            version: copy_of(alloc, &self.version)?,
+            platform: copy_of(alloc, &self.platform)?,
         })
     }
 }

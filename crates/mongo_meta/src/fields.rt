@@ -7,6 +7,7 @@ ghost use Rattle.mongo_command.specs.Command.{given};
 ghost use Rattle.mongo_command.specs.Arguments.{field_elements, IsNamed, TooLongFor};
 
 use mongo_bson::{BsonFault, RawDocumentBuf, RawValue, Text};
+use mongo_command::append_fields;
 use std::alloc::Global;
 
 // A field of a document that may be there: its key and its value.
@@ -21,35 +22,6 @@ pub(crate) fn document_of(alloc: Global, fields: &[Field<'_>]) -> Result<RawDocu
     let mut document = RawDocumentBuf::new(alloc)?;
     append_fields(&mut document, fields)?;
     Ok(document)
-}
-
-// Puts the fields that are there at the end of a document.
-fn append_fields(document: &mut RawDocumentBuf, fields: &[Field<'_>]) -> Result<(), BsonFault>
-    requires framed { IsFramed document.old }
-    requires sealed { document.old ≡ enclosed (body_of document.old) }
-    requires named { AllByRecursion IsNamed fields.now }
-    ensures added { OnOk result (document.new ≡ enclosed (body_of document.old ++ flat_map spell (flat_map field_elements fields.now))) }
-    ensures refused { IfErr result (λ fault. TooLongFor fault (enclosed (body_of document.old ++ flat_map spell (flat_map field_elements fields.now)))) }
-{
-    for field in fields {
-        append_field(document, *field)?;
-    }
-    Ok(())
-}
-
-// Puts a field at the end of a document, where it is there.
-fn append_field(document: &mut RawDocumentBuf, field: Field<'_>) -> Result<(), BsonFault>
-    requires framed { IsFramed document.old }
-    requires sealed { document.old ≡ enclosed (body_of document.old) }
-    requires named { IsNamed field }
-    ensures added { OnOk result (document.new ≡ enclosed (body_of document.old ++ flat_map spell (field_elements field.entry))) }
-    ensures framed { OnOk result (IsFramed document.new) }
-    ensures refused { IfErr result (λ fault. TooLongFor fault (enclosed (body_of document.old ++ flat_map spell (field_elements field.entry)))) }
-{
-    match field {
-        Some((key, value)) => document.append(key, value),
-        None => Ok(()),
-    }
 }
 
 // A text.

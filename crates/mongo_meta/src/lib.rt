@@ -16,7 +16,6 @@ mod client_document;
 mod client_metadata;
 mod client_options;
 mod container;
-mod copies;
 mod driver_info;
 mod environment;
 mod faas;

@@ -1,9 +1,8 @@
 ghost use Rattle.std.specs.Prelude.{◌≡◌, IfOk, IfErr, OnOk};
 ghost use Rattle.mongo_command.specs.Arguments.{TooLongFor};
 
-use crate::copies::text_copy;
 use crate::fields::{document_of, optional_text_field, text_field};
-use mongo_bson::{BsonFault, RawDocumentBuf, Text};
+use mongo_bson::{BsonFault, RawDocumentBuf, Text, copy_of};
 use std::alloc::Global;
 
 /// The operating system that the client runs on.
@@ -30,9 +29,9 @@ impl OsMetadata {
     {
         Ok(OsMetadata {
             os_type: self.os_type.try_clone(alloc)?,
-            name: text_copy(alloc, &self.name)?,
-            architecture: text_copy(alloc, &self.architecture)?,
-            version: text_copy(alloc, &self.version)?,
+            name: copy_of(alloc, &self.name)?,
+            architecture: copy_of(alloc, &self.architecture)?,
+            version: copy_of(alloc, &self.version)?,
         })
     }
 

@@ -6,12 +6,11 @@ ghost use Rattle.mongo_meta.specs.Providers.{name_text, provider, taken_of};
 ghost use Rattle.mongo_wire.specs.declared.error.ErrorKind.TheVariants.{OutOfMemory};
 
 use crate::container::container_in;
-use crate::copies::text_copy;
 use crate::fields::{
     Field, document_of, optional_document_field, optional_int32_field, optional_text_field,
 };
 use crate::{Environment, FaasEnvironmentName};
-use mongo_bson::{BsonFault, RawDocumentBuf, RawValue, Text};
+use mongo_bson::{BsonFault, RawDocumentBuf, RawValue, Text, copy_of};
 use mongo_wire::Error;
 use std::alloc::Global;
 
@@ -77,17 +76,13 @@ impl RuntimeEnvironment {
         ensures copied { IfOk result (λ environment. environment ≡ self.now) }
         ensures refused { IfErr result (λ fault. fault ≡ BsonFault.OutOfMemory) }
     {
-        let container = match &self.container {
-            Some(container) => Some(container.try_clone(alloc)?),
-            None => None,
-        };
         Ok(RuntimeEnvironment {
             name: self.name,
-            runtime: text_copy(alloc, &self.runtime)?,
+            runtime: copy_of(alloc, &self.runtime)?,
             timeout_sec: self.timeout_sec,
             memory_mb: self.memory_mb,
-            region: text_copy(alloc, &self.region)?,
-            container,
+            region: copy_of(alloc, &self.region)?,
+            container: copy_of(alloc, &self.container)?,
         })
     }
 

@@ -2,7 +2,7 @@ ghost use Rattle.std.specs.Prelude.{◌≡◌, ◌++◌, codes, IfOk, IfErr};
 ghost use Rattle.mongo_wire.specs.declared.error.ErrorKind.TheVariants.{OutOfMemory};
 
 use crate::AuthMechanism;
-use mongo_bson::{BsonFault, RawDocumentBuf, RawValue, Text};
+use mongo_bson::{BsonFault, RawDocumentBuf, RawValue, Text, copy_of};
 use mongo_wire::Error;
 use std::alloc::Global;
 use std::fmt;
@@ -112,14 +112,11 @@ impl Credential {
         ensures refused { IfErr result (λ fault. fault ≡ BsonFault.OutOfMemory) }
     {
         Ok(Credential {
-            username: copy_of_text(alloc, &self.username)?,
-            source: copy_of_text(alloc, &self.source)?,
-            password: copy_of_text(alloc, &self.password)?,
+            username: copy_of(alloc, &self.username)?,
+            source: copy_of(alloc, &self.source)?,
+            password: copy_of(alloc, &self.password)?,
             mechanism: self.mechanism,
-            mechanism_properties: match &self.mechanism_properties {
-                Some(properties) => Some(properties.try_clone(alloc)?),
-                None => None,
-            },
+            mechanism_properties: copy_of(alloc, &self.mechanism_properties)?,
         })
     }
 }
@@ -143,15 +140,4 @@ fn user_of_admin(alloc: Global, username: &Text) -> Result<Text, Error>
     let mut user = Text::from_slice(alloc, "admin.")?;
     user.push_str(username.as_str())?;
     Ok(user)
-}
-
-// A copy of a text that may be absent.
-fn copy_of_text(alloc: Global, text: &Option<Text>) -> Result<Option<Text>, BsonFault>
-    ensures copied { IfOk result (λ copy. copy ≡ text.now) }
-    ensures refused { IfErr result (λ fault. fault ≡ BsonFault.OutOfMemory) }
-{
-    match text {
-        Some(text) => Ok(Some(text.try_clone(alloc)?)),
-        None => Ok(None),
-    }
 }

@@ -4,10 +4,10 @@ ghost use Rattle.mongo_sasl.specs.Commands.{document_of_fields, have_plain_keys,
 use mongo_bson::{BsonFault, RawDocumentBuf, RawValue};
 use std::alloc::Global;
 
-// The document of these fields, in their order.
-//
-// `TooLong` where it would pass 2147483647 bytes.
-pub(crate) fn document_of(
+/// The document of these fields, in their order: what a command or a reply of a login is written as.
+///
+/// `TooLong` where it would pass 2147483647 bytes.
+pub fn document_of(
     alloc: Global,
     fields: &[(&str, RawValue<'_>)],
 ) -> Result<RawDocumentBuf, BsonFault>

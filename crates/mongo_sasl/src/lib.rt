@@ -34,6 +34,7 @@ pub mod x509;
 pub use auth_options::AuthOptions;
 pub use buffered_reply::held_reply;
 pub use credential::Credential;
+pub use documents::document_of;
 pub use mechanism::AuthMechanism;
 pub use moment::Moment;
 pub use properties::{

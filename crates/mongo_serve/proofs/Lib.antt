@@ -1,7 +1,6 @@
 pub mod Accounts
 pub mod Sent
 pub mod Turns
-pub mod FieldsPut
 pub mod Begun
 pub mod Carried
 pub mod Prepended

@@ -7,11 +7,12 @@ ghost use Rattle.mongo_command.specs.Literal.{document_of};
 ghost use Rattle.mongo_serve.specs.Faults.{IsOfDocument};
 ghost use Rattle.mongo_serve.specs.Replies.{description, hello_elements, mechanism_elements, speculation_elements, names_document, writable_key};
 
-use crate::documents::{ONE, document_of};
+use crate::documents::ONE;
 use crate::fault::ServeFault;
 use crate::reply::{HelloReply, Mechanisms, SaslReply};
 use crate::reply_document::{MAX_BSON_OBJECT_SIZE, sasl_document};
 use mongo_bson::{RawDocument, RawDocumentBuf, RawValue};
+use mongo_sasl::document_of;
 use std::alloc::Global;
 
 /// The document of a hello's reply.

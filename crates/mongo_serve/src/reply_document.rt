@@ -4,11 +4,12 @@ ghost use Rattle.std.specs.Prelude.{◌≡◌, ℤ, IfOk, IfErr};
 ghost use Rattle.mongo_serve.specs.Replies.{reply_document, done_document, error_document, refusal_document, sasl_document, build_info_document, version_document};
 ghost use Rattle.mongo_serve.specs.Faults.{IsOfDocument};
 
-use crate::documents::{ONE, ZERO, document_of};
+use crate::documents::{ONE, ZERO};
 use crate::fault::ServeFault;
 use crate::hello_document::hello_document;
 use crate::reply::{Refusal, Reply, SaslReply};
 use mongo_bson::{RawDocument, RawDocumentBuf, RawValue, Text};
+use mongo_sasl::document_of;
 use std::alloc::Global;
 
 // The number of each conversation: there is one at a time.

@@ -18,12 +18,12 @@ array_element s = record { kind = 0x04; key = s.identifier; value = array_of (do
 abbrev pub arrays_bytes : List DocumentSequence → List ℕ
 arrays_bytes sequences = flat_map (λ s. spell (array_element s)) sequences
 
-abbrev pub command_document : Message → List ℕ
-command_document m = enclosed (body_of m.document_payload ++ arrays_bytes m.document_sequences)
+abbrev pub joined_document : Message → List ℕ
+joined_document m = enclosed (body_of m.document_payload ++ arrays_bytes m.document_sequences)
 
 -- an identifier holds a zero, or else the document passes 2147483647 bytes, or memory ran out
-abbrev pub CommandRefused : ErrorKind → Message → Type 0
-CommandRefused (InvalidArgument IdentifierHasZero) m = HasNames m → ⊥
-CommandRefused (InvalidArgument (Bson TooLong)) m = HasNames m × (2 ^ 31 - 1 < length (command_document m))
-CommandRefused OutOfMemory m = HasNames m
-CommandRefused kind m = ⊥
+abbrev pub JoinRefused : ErrorKind → Message → Type 0
+JoinRefused (InvalidArgument IdentifierHasZero) m = HasNames m → ⊥
+JoinRefused (InvalidArgument (Bson TooLong)) m = HasNames m × (2 ^ 31 - 1 < length (joined_document m))
+JoinRefused OutOfMemory m = HasNames m
+JoinRefused kind m = ⊥

@@ -3,7 +3,7 @@ ghost use Rattle.std.specs.List.{AllByRecursion};
 ghost use Rattle.mongo_bson.specs.Framed.{body_of, enclosed, IsFramed};
 ghost use Rattle.mongo_bson.specs.Document.{spell};
 ghost use Rattle.mongo_bson.specs.Refusals.{PushRefuses};
-ghost use Rattle.mongo_wire.specs.CommandDocument.{command_document, CommandRefused, array_element, arrays_bytes};
+ghost use Rattle.mongo_wire.specs.CommandDocument.{joined_document, JoinRefused, array_element, arrays_bytes};
 ghost use Rattle.mongo_wire.specs.Measure.{IsWithoutZero};
 ghost use Rattle.mongo_wire.specs.Message.{HasNames};
 
@@ -19,10 +19,10 @@ impl Message {
     /// Refusals, in this order: `IdentifierHasZero` where an identifier holds a zero byte, `Bson(TooLong)` where the
     /// document would pass 2147483647 bytes.
     pub fn get_raw_command_document(&self, alloc: Global) -> Result<RawDocumentBuf, Error>
-        ensures document { IfOk result (λ document. document ≡ command_document self.now) }
+        ensures document { IfOk result (λ document. document ≡ joined_document self.now) }
         ensures named { IfOk result (λ _. HasNames self.now) }
-        ensures fits { IfOk result (λ _. length (command_document self.now) < 2 ^ 31) }
-        ensures refused { IfErr result (λ e. CommandRefused e.kind self.now) }
+        ensures fits { IfOk result (λ _. length (joined_document self.now) < 2 ^ 31) }
+        ensures refused { IfErr result (λ e. JoinRefused e.kind self.now) }
     {
         let sequences = self.document_sequences.as_slice();
         if !are_named(sequences) {

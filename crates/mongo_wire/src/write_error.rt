@@ -1,6 +1,6 @@
 ghost use Rattle.std.specs.Prelude.{◌≡◌, IfOk, IfErr};
 
-use mongo_bson::{BsonFault, Items, RawDocumentBuf, Text, Texts, TryClone};
+use mongo_bson::{BsonFault, Items, RawDocumentBuf, Text, Texts, TryClone, copy_of};
 use std::alloc::Global;
 
 /// A write that a server refused.
@@ -24,9 +24,9 @@ impl WriteError {
     {
         Ok(WriteError {
             code: self.code,
-            code_name: copy_of_text(alloc, &self.code_name)?,
+            code_name: copy_of(alloc, &self.code_name)?,
             message: self.message.try_clone(alloc)?,
-            details: copy_of_document(alloc, &self.details)?,
+            details: copy_of(alloc, &self.details)?,
         })
     }
 }
@@ -87,7 +87,7 @@ impl WriteConcernError {
             code: self.code,
             code_name: self.code_name.try_clone(alloc)?,
             message: self.message.try_clone(alloc)?,
-            details: copy_of_document(alloc, &self.details)?,
+            details: copy_of(alloc, &self.details)?,
             labels: self.labels.try_clone(alloc)?,
         })
     }
@@ -158,10 +158,7 @@ impl InsertManyError {
         ensures copied { IfOk result (λ error. error ≡ self.now) }
         ensures refused { IfErr result (λ fault. fault ≡ BsonFault.OutOfMemory) }
     {
-        let write_errors = match &self.write_errors {
-            Some(errors) => Some(errors.try_clone(alloc)?),
-            None => None,
-        };
+        let write_errors = copy_of(alloc, &self.write_errors)?;
         let write_concern_error = match &self.write_concern_error {
             Some(error) => Some(error.try_clone(alloc)?),
             None => None,
@@ -171,30 +168,5 @@ impl InsertManyError {
             write_concern_error,
             labels: self.labels.try_clone(alloc)?,
         })
-    }
-}
-
-// A copy of the text, where there is one.
-fn copy_of_text(alloc: Global, text: &Option<Text>) -> Result<Option<Text>, BsonFault>
-    ensures copied { IfOk result (λ copy. copy ≡ text.now) }
-    ensures refused { IfErr result (λ fault. fault ≡ BsonFault.OutOfMemory) }
-{
-    match text {
-        Some(text) => Ok(Some(text.try_clone(alloc)?)),
-        None => Ok(None),
-    }
-}
-
-// A copy of the document, where there is one.
-fn copy_of_document(
-    alloc: Global,
-    document: &Option<RawDocumentBuf>,
-) -> Result<Option<RawDocumentBuf>, BsonFault>
-    ensures copied { IfOk result (λ copy. copy ≡ document.now) }
-    ensures refused { IfErr result (λ fault. fault ≡ BsonFault.OutOfMemory) }
-{
-    match document {
-        Some(document) => Ok(Some(document.try_clone(alloc)?)),
-        None => Ok(None),
     }
 }
