@@ -15,7 +15,7 @@ use std::alloc::Global;
 use std::marker::Model;
 
 // How many bytes a new document has memory for: most documents of a command never grow past it.
-const FIRST_CAPACITY: usize = 128;
+const FIRST_CAPACITY: usize = 256;
 
 /// A document that owns its memory. Contracts see its bytes.
 #[derive(Debug, Drop)]
@@ -40,6 +40,16 @@ impl RawDocumentBuf {
         let mut held = Vec::with_capacity(alloc, FIRST_CAPACITY)?;
         held.extend_from_slice(&[5, 0, 0, 0, 0])?;
         Ok(RawDocumentBuf { held })
+    }
+
+    /// Takes memory for so many bytes more and no further ones, where it isn't there: elements of that size are put in
+    /// without asking for more. The document stays as it is.
+    pub fn reserve_exact(&mut self, additional: usize) -> Result<(), BsonFault>
+        ensures unchanged { self.new ≡ self.old }
+        ensures refused { IfErr result (λ fault. fault ≡ BsonFault.OutOfMemory) }
+    {
+        self.held.reserve_exact(additional)?;
+        Ok(())
     }
 
     /// The document that the bytes are.

@@ -31,6 +31,13 @@ impl Text {
         })
     }
 
+    /// The text that a string holds. Nothing is copied.
+    pub fn from_string(text: String) -> Text
+        ensures { result ≡ string_bytes text }
+    {
+        Text { text }
+    }
+
     /// The text.
     pub fn as_str(&self) -> &str
         ensures { result.now ≡ self.now }

@@ -13,6 +13,9 @@ use crate::{BsonFault, RawValue};
 // The greatest length of a document, the greatest `int32`.
 const MAXIMUM_LENGTH: usize = 0x7FFF_FFFF;
 
+// The length from which a document's memory doesn't double any more.
+const LONG: usize = 0x4000;
+
 // Puts an element at the end of a document. A refusal leaves the document as it was.
 #[inline(always)]
 pub(crate) fn push_element(
@@ -65,13 +68,40 @@ pub(crate) fn push_elements(document: &mut Vec<u8>, elements: &[u8]) -> Result<(
     }
 }
 
+// Takes memory for so many bytes more, where it isn't there.
+#[inline(always)]
+fn make_room(out: &mut Vec<u8>, more: usize) -> Result<(), BsonFault>
+    ensures unchanged { out.new.items ≡ out.old.items }
+    ensures refused { IfErr result (λ fault. fault ≡ BsonFault.OutOfMemory) }
+{
+    if more <= out.capacity() - out.len() {
+        Ok(())
+    } else {
+        grow(out, more)
+    }
+}
+
+// The same where the memory isn't there. A short document doubles. A long one takes a quarter more, since what it doesn't
+// fill in the end is given back, and what is given back has to be cleared again when it is taken the next time.
+#[cold]
+#[inline(never)]
+fn grow(out: &mut Vec<u8>, more: usize) -> Result<(), BsonFault>
+    ensures unchanged { out.new.items ≡ out.old.items }
+    ensures refused { IfErr result (λ fault. fault ≡ BsonFault.OutOfMemory) }
+{
+    let length = out.len();
+    let ahead = if length < LONG { length } else { length / 4 };
+    out.reserve_exact(more.saturating_add(ahead))?;
+    Ok(())
+}
+
 // Writes bytes and a final zero after what is there. What was there stays, whatever the result.
 fn write_rest(out: &mut Vec<u8>, bytes: &[u8]) -> Result<(), BsonFault>
     ensures added { OnOk result (out.new.items ≡ out.old.items ++ (bytes.now ++ 0 ∷ [])) }
     ensures kept { take (length out.old.items) out.new.items ≡ out.old.items }
     ensures refused { IfErr result (λ fault. fault ≡ BsonFault.OutOfMemory) }
 {
-    out.reserve(bytes.len() + 1)?;
+    make_room(out, bytes.len() + 1)?;
     out.extend_from_slice(bytes)?;
     out.push(0)?;
     Ok(())
@@ -86,7 +116,7 @@ fn write_after(out: &mut Vec<u8>, key: &str, value: RawValue<'_>) -> Result<(), 
     ensures refused { IfErr result (λ fault. fault ≡ BsonFault.OutOfMemory) }
 {
     // Room once for the whole element.
-    out.reserve(key.len() + value_size(value) + 2)?;
+    make_room(out, key.len() + value_size(value) + 2)?;
     out.extend_from_slice(key.as_bytes())?;
     out.push(0)?;
     write_value(out, value)?;

@@ -61,6 +61,25 @@ impl GenericArguments {
         Ok(document)
     }
 
+    // Puts `$db` and the arguments that are there at the end of a body, which takes memory for all of them at once.
+    pub(crate) fn append_to(
+        &self,
+        alloc: Global,
+        target_db: &str,
+        body: &mut RawDocumentBuf,
+    ) -> Result<(), BsonFault>
+        ensures document { OnOk result (body.new ≡ enclosed (body_of body.old ++ flat_map spell (argument_elements target_db.now self.now))) }
+        ensures framed { OnOk result (IsFramed body.new) }
+        ensures refused { IfErr result (λ fault. TooLongFor fault (enclosed (body_of body.old ++ flat_map spell (argument_elements target_db.now self.now)))) }
+    {
+        let read_concern = self.read_concern_document(alloc)?;
+        let fields = self.fields(&read_concern);
+        let db = ("$db", RawValue::Str(target_db));
+        let room = size_of_field(&Some(db)).saturating_add(size_of_fields(&fields));
+        body.reserve_exact(room)?;
+        append_arguments(body, target_db, &fields)
+    }
+
     // The arguments but `$db`, in their order.
     fn fields<'a>(&'a self, read_concern: &'a Option<RawDocumentBuf>) -> [ArgumentField<'a>; 12]
         requires { read_concern.now ≡ option_map read_concern_document self.now.read_concern }

@@ -20,6 +20,9 @@ use mongo_wire::{Error, Link, RequestIds};
 use std::alloc::Global;
 use std::sync::ledger::Ledger;
 
+// How many bytes memory is taken for behind the common hello: most logins and metadata fit.
+const LOGIN_ROOM: usize = 448;
+
 /// Says hello and logs in.
 #[derive(Debug, Drop)]
 pub struct Handshaker {
@@ -135,7 +138,7 @@ impl Handshaker {
         ensures hello { IfOk result (λ hello. hello ≡ hello_with (options_in self.now) (option_copied credential.entry) (option_map first_document first.now)) }
         ensures refused { IfErr result (λ e. BodyRefused (hello_with (options_in self.now) (option_copied credential.entry) (option_map first_document first.now)).body e.kind) }
     {
-        let mut hello = self.hello.try_clone(alloc)?;
+        let mut hello = self.hello.try_clone_with_room(alloc, LOGIN_ROOM)?;
         ask_mechanisms(alloc, credential, &mut hello.body)?;
         speculate(alloc, first, &mut hello.body)?;
         introduce_client(alloc, &self.options.metadata, &mut hello.body)?;

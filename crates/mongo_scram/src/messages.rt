@@ -20,8 +20,7 @@ pub fn nonce_text(alloc: Global, nonce: &[u8; 32]) -> Result<Text, Error>
     ensures nonce { IfOk result (λ text. text ≡ base64_of nonce.now) }
     ensures refused { IfErr result (λ e. e.kind ≡ OutOfMemory) }
 {
-    let text = encoded(alloc, nonce.as_slice())?;
-    Ok(Text::from_slice(alloc, text.as_str())?)
+    Ok(Text::from_string(encoded(alloc, nonce.as_slice())?))
 }
 
 /// The client's first message.

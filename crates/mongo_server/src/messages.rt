@@ -13,14 +13,18 @@ use mongo_bson::Text;
 use mongo_mac::Tag;
 use std::alloc::Global;
 
+// How many bytes stand in a message beside the texts that it is made of, at most: letters, commas, equals signs and a count.
+const MARKS: usize = 24;
+
 /// The client's nonce and the server's suffix joined.
 pub fn joined_nonce(alloc: Global, nonce: &str, suffix: &str) -> Result<Text, ServerFault>
     ensures text { IfOk result (λ text. text ≡ nonce.now ++ suffix.now) }
     ensures refused { IfErr result (λ fault. fault ≡ OutOfMemory) }
 {
-    let mut text = Text::from_slice(alloc, nonce)?;
+    let mut text = String::with_capacity(alloc, nonce.len().saturating_add(suffix.len()))?;
+    text.push_str(nonce)?;
     text.push_str(suffix)?;
-    Ok(text)
+    Ok(Text::from_string(text))
 }
 
 /// The server's first message: `r=` nonce `,s=` salt in base64 `,i=` iteration count.
@@ -35,15 +39,16 @@ pub fn server_first_text(
     ensures bytes { OnOk result (IsBytes salt.now) }
     ensures refused { IfErr result (λ fault. fault ≡ OutOfMemory) }
 {
-    let mut text = Text::from_slice(alloc, "r=")?;
+    let salt = STANDARD.encode(alloc, salt)?;
+    let mut text = String::with_capacity(alloc, room(nonce.len(), salt.len()))?;
+    text.push_str("r=")?;
     text.push_str(nonce)?;
     text.push_str(",s=")?;
-    let encoded = STANDARD.encode(alloc, salt)?;
-    text.push_str(encoded.as_str())?;
+    text.push_str(salt.as_str())?;
     text.push_str(",i=")?;
     let mut digits = Buffer::new();
     text.push_str(digits.format(count))?;
-    Ok(text)
+    Ok(Text::from_string(text))
 }
 
 /// AuthMessage: the client's first message without its header, the server's first, and the client's last without its
@@ -58,12 +63,14 @@ pub fn auth_message_text(
     ensures text { IfOk result (λ text. text ≡ transcript bare.now server_first.now nonce.now) }
     ensures refused { IfErr result (λ fault. fault ≡ OutOfMemory) }
 {
-    let mut text = Text::from_slice(alloc, bare)?;
+    let others = server_first.len().saturating_add(nonce.len());
+    let mut text = String::with_capacity(alloc, room(bare.len(), others))?;
+    text.push_str(bare)?;
     text.push_str(",")?;
     text.push_str(server_first)?;
     text.push_str(",c=biws,r=")?;
     text.push_str(nonce)?;
-    Ok(text)
+    Ok(Text::from_string(text))
 }
 
 /// The server's last message: `v=` and the verifier in base64.
@@ -73,7 +80,13 @@ pub fn server_final_text(alloc: Global, verifier: &Tag) -> Result<Text, ServerFa
     ensures refused { IfErr result (λ fault. fault ≡ OutOfMemory) }
 {
     let verifier = STANDARD.encode(alloc, verifier.as_bytes())?;
-    let mut text = Text::from_slice(alloc, "v=")?;
+    let mut text = String::with_capacity(alloc, room(verifier.len(), 0))?;
+    text.push_str("v=")?;
     text.push_str(verifier.as_str())?;
-    Ok(text)
+    Ok(Text::from_string(text))
+}
+
+// The room for a message of two texts of these lengths.
+fn room(first: usize, second: usize) -> usize {
+    first.saturating_add(second).saturating_add(MARKS)
 }

@@ -5,6 +5,9 @@ use mongo_bson::Bytes;
 use std::alloc::Global;
 use std::io::Read;
 
+// How many bytes memory is taken for at the first write: a frame is written in pieces, and most logins fit.
+const FIRST_ROOM: usize = 1024;
+
 /// A [`Link`] over lists in memory: it gives the bytes of its input and keeps what is written. It tells both and never
 /// fails.
 #[derive(Drop)]
@@ -44,6 +47,13 @@ impl MemoryLink {
         ensures { result.now ≡ bytes_written self.now }
     {
         self.output.as_slice()
+    }
+
+    /// All that was written, for a caller that is done with the link. Nothing is copied.
+    pub fn into_written(self) -> Bytes
+        ensures { result ≡ bytes_written self }
+    {
+        Bytes::from_vec(self.output)
     }
 
     /// What is left of the input.
@@ -87,6 +97,9 @@ impl Source for MemoryLink {
 
 impl Sink for MemoryLink {
     fn write(&mut self, piece: &[u8]) -> Result<usize, SinkError> {
+        if self.output.capacity() == 0 && self.output.reserve(FIRST_ROOM).is_err() {
+            return Err(SinkError::OutOfMemory);
+        }
         match self.output.extend_from_slice(piece) {
             Ok(()) => Ok(piece.len()),
             Err(_) => Err(SinkError::OutOfMemory),

@@ -153,7 +153,19 @@ fn lengthen(store: &mut Vec<u8>, wanted: usize)
     ensures size { length store.new.items ≡ max (length store.old.items) wanted }
     ensures memory { vec_capacity store.new ≡ vec_capacity store.old }
 {
+    let held = std::mem::replace(store, Vec::new(*store.allocator()));
+    *store = lengthened(held, wanted);
+}
+
+// The same of a store that is owned, whose length the loop can hold apart from its bytes: it compiles to one fill.
+fn lengthened(mut store: Vec<u8>, wanted: usize) -> Vec<u8>
+    requires { wanted ≤ vec_capacity store }
+    ensures kept { take (length store.items) result.items ≡ store.items }
+    ensures size { length result.items ≡ max (length store.items) wanted }
+    ensures memory { vec_capacity result ≡ vec_capacity store }
+{
     'lengthening: while store.len() < wanted {
         store.push_reserved(0);
     }
+    store
 }

@@ -1,5 +1,5 @@
 use Rattle.std.proofs.Common.{◌≡◌, length, take, max, vec_capacity, ◌-◌, ◌≤◌}
-use Rattle.mongo_wire.proofs.reading.lengthen.Given as goal
+use Rattle.mongo_wire.proofs.reading.lengthened.Given as goal
 
 -- what was there stands in front, in the same memory
 abbrev pub invariant-lengthening : goal.invariant-lengthening
