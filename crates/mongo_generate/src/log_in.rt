@@ -99,10 +99,7 @@ impl Client {
         if !is_accepted(ended)? {
             return Ok(None);
         }
-        match Bytes::from_slice(alloc, link.written()) {
-            Ok(written) => Ok(Some(written)),
-            Err(_) => Err(AllocError),
-        }
+        Ok(Some(link.into_written()))
     }
 }
 

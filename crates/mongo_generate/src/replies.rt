@@ -24,7 +24,7 @@ pub fn replies_of(alloc: Global, server_first: &[u8], server_final: &[u8]) -> Re
     let mut link = MemoryLink::new(alloc, Bytes::new(alloc));
     write_reply(alloc, hello_reply(alloc, server_first)?, &mut link)?;
     write_reply(alloc, final_reply(alloc, server_final)?, &mut link)?;
-    Ok(Bytes::from_slice(alloc, link.written())?)
+    Ok(link.into_written())
 }
 
 // Writes a document as the frame of a reply.

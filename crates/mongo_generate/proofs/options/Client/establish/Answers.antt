@@ -32,23 +32,23 @@ returns-then-not-branch-clause-steps g c =
     let made = c.establish_connection-ended in
     some_rise (ledgers c.args.steps.now c.args.state.now.salted) (ledgers made.new.steps made.new.state.salted) (costs_some made.result _ _ _ _ _ _ made.ensures.costs)
 
-pub returns-in-Ok-clause-written : goal.returns-in-Ok-clause-written
-returns-in-Ok-clause-written g c = λ x logs heard.
+pub returns-clause-written : goal.returns-clause-written
+returns-clause-written g c = λ x logs heard.
     let made = c.establish_connection-ended in
     let link = c.new-link in
     let told = ap Some (ap (λ n. drop n link.result.input.items) link.ensures.at ∙ link.ensures.input) in
     accepted_writes c.in_ok-pending.pending (options_of_establisher c.args.self.now.establisher) c.new-state.result x c.args.login.now c.args.replies logs heard c.in_ok-pending.ensures.generation c.args.self.now.options c.new-state.ensures
-    made.result _ _ _ c.in-Ok.written (subst (IsAcceptedAs made.result) c.if-not-branch.false c.in_ok-is_accepted.ensures) made.ensures.established told (ap Some link.ensures.output) (ap Some (sym (c.in-Ok.ensures.copied ∙ c.written.ensures)))
+    made.result _ _ _ c.into_written.result (subst (IsAcceptedAs made.result) c.if-not-branch.false c.in_ok-is_accepted.ensures) made.ensures.established told (ap Some link.ensures.output) (ap Some (sym c.into_written.ensures))
 
-pub returns-in-Ok-clause-takes : goal.returns-in-Ok-clause-takes
-returns-in-Ok-clause-takes g c = λ x logs heard.
+pub returns-clause-takes : goal.returns-clause-takes
+returns-clause-takes g c = λ x logs heard.
     let made = c.establish_connection-ended in
     let link = c.new-link in
     let told = ap Some (ap (λ n. drop n link.result.input.items) link.ensures.at ∙ link.ensures.input) in
     accepted_takes c.in_ok-pending.pending (options_of_establisher c.args.self.now.establisher) c.new-state.result x c.args.login.now c.args.replies logs heard c.in_ok-pending.ensures.generation c.args.self.now.options c.new-state.ensures
     made.result (ledgers c.args.steps.now c.args.state.now.salted) (ledgers made.new.steps made.new.state.salted) (subst (IsAcceptedAs made.result) c.if-not-branch.false c.in_ok-is_accepted.ensures) (made.ensures.led.over c.args.replies told no_fault no_fault)
 
-pub returns-in-Ok-clause-steps : goal.returns-in-Ok-clause-steps
-returns-in-Ok-clause-steps g c =
+pub returns-clause-steps : goal.returns-clause-steps
+returns-clause-steps g c =
     let made = c.establish_connection-ended in
     some_rise (ledgers c.args.steps.now c.args.state.now.salted) (ledgers made.new.steps made.new.state.salted) (costs_some made.result _ _ _ _ _ _ made.ensures.costs)
