@@ -42,7 +42,7 @@ pub fn insert_document(alloc: Global) -> Result<RawDocumentBuf, Error> {
     let mut command = Command::new_raw(alloc, "insert", "shop", insert_body(alloc)?)?;
     set_session(alloc, &mut command)?;
     set_reads_and_writes(alloc, &mut command)?;
-    command.to_document(alloc)
+    Ok(command.into_message(alloc)?.document_payload)
 }
 
 // The body: the collection, whether the first failure ends the insert, and the documents.
