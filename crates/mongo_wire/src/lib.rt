@@ -69,4 +69,3 @@ pub use write_error::{
     WriteFailureCause,
 };
 pub use writing::write_all;
-
