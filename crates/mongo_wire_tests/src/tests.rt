@@ -7,12 +7,12 @@ mod small;
 mod standard;
 mod writing;
 
+use bitflags::Flags;
+use mongo_bson::{Bytes, Documents, RawDocumentBuf, Text};
 use mongo_wire::{
     ArgumentFault, DocumentSequence, Error, ErrorKind, FailingLink, MemoryLink, Message,
     MessageFlags, RequestIds, ResponseFault, Sequences, Sink, Source,
 };
-use bitflags::Flags;
-use mongo_bson::{Bytes, Documents, RawDocumentBuf, Text};
 use std::alloc::Global;
 
 // An OP_MSG without flags and with an empty body, laid out by the OP_MSG specification: a header of 16 bytes, four bytes
@@ -101,7 +101,7 @@ pub(crate) enum Told {
     Other,
 }
 
-pub(crate) fn told_by(kind: &ErrorKind) -> Told {
+fn told_by(kind: &ErrorKind) -> Told {
     match kind {
         ErrorKind::ReadFault => Told::ReadFault,
         ErrorKind::WriteFault => Told::WriteFault,
@@ -112,6 +112,22 @@ pub(crate) fn told_by(kind: &ErrorKind) -> Told {
     }
 }
 
+// What a call gave, or the cause that it told.
+pub(crate) fn or_told<T>(answer: Result<T, Error>) -> Result<T, Told> {
+    match answer {
+        Ok(given) => Ok(given),
+        Err(error) => Err(told_by(&error.kind)),
+    }
+}
+
+// How a call ended.
+pub(crate) fn end<T: Drop>(answer: Result<T, Error>) -> Told {
+    match answer {
+        Ok(_given) => Told::Done,
+        Err(error) => told_by(&error.kind),
+    }
+}
+
 // The next message of a source.
 pub(crate) fn read<S: Source>(alloc: Global, source: &mut S) -> Result<Message, Error> {
     Message::read_from(alloc, source, None)
@@ -119,10 +135,7 @@ pub(crate) fn read<S: Source>(alloc: Global, source: &mut S) -> Result<Message, 
 
 // How the read of the next message of a source ends.
 pub(crate) fn read_end<S: Source>(alloc: Global, source: &mut S) -> Told {
-    match read(alloc, source) {
-        Ok(_message) => Told::Done,
-        Err(error) => told_by(&error.kind),
-    }
+    end(read(alloc, source))
 }
 
 // How the write of a message ends.
@@ -133,8 +146,5 @@ pub(crate) fn write_end<K: Sink>(
     maximum: Option<i32>,
     ids: &mut RequestIds,
 ) -> Told {
-    match message.write_op_msg_to(alloc, sink, maximum, ids) {
-        Ok(()) => Told::Done,
-        Err(error) => told_by(&error.kind),
-    }
+    end(message.write_op_msg_to(alloc, sink, maximum, ids))
 }

@@ -1,10 +1,10 @@
 // A copy wants memory, and where it is there each copy is made.
 use super::message_with_sequence;
+use mongo_bson::{RawDocumentBuf, Text, Texts};
 use mongo_wire::{
     AuthFault, CommandError, Error, ErrorKind, IndexedWriteError, InsertManyError,
     WriteConcernError, WriteError, WriteErrors, WriteFailure, WriteFailureCause,
 };
-use mongo_bson::{RawDocumentBuf, Text, Texts};
 use std::alloc::Global;
 use std::test::Fail;
 

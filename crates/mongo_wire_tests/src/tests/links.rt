@@ -1,6 +1,6 @@
 use super::{EMPTY_MESSAGE, Told, empty_message, failing_link, giving, read, read_end, write_end};
-use mongo_wire::{Message, RequestIds, Source};
 use bitflags::Flags;
+use mongo_wire::{Message, RequestIds, Source};
 use std::test::Fail;
 
 #[test]

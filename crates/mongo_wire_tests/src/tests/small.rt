@@ -1,4 +1,4 @@
-use super::{Told, failing_link, giving, message_with_sequence, told_by};
+use super::{Told, end, failing_link, giving, message_with_sequence, or_told};
 use mongo_wire::{
     ArgumentFault, Header, MemoryLink, OpCode, RequestIds, ResponseFault, Sink, Source,
     SyncCountReader, SyncLittleEndianRead, read_document_bytes,
@@ -26,10 +26,7 @@ fn a_header_is_16_bytes(rt: HostRuntime) {
 
 // The next header of a source, or why none is read.
 fn next_header<S: Source>(source: &mut S) -> Result<Header, Told> {
-    match Header::read_from(source) {
-        Ok(header) => Ok(header),
-        Err(error) => Err(told_by(&error.kind)),
-    }
+    or_told(Header::read_from(source))
 }
 
 #[test]
@@ -70,13 +67,9 @@ fn numbers_have_their_low_byte_first(rt: HostRuntime) -> Result<(), Fail> {
     Ok(())
 }
 
-// How the read of the next document ends; where it is another than the empty one, by none of the causes.
+// How the read of the next document ends.
 fn document_end(alloc: Global, link: &mut MemoryLink) -> Told {
-    match read_document_bytes(alloc, link) {
-        Ok(document) if document.as_bytes() == [5, 0, 0, 0, 0].as_slice() => Told::Done,
-        Ok(_) => Told::Other,
-        Err(error) => told_by(&error.kind),
-    }
+    end(read_document_bytes(alloc, link))
 }
 
 #[test]

@@ -2,12 +2,12 @@ use super::{
     MESSAGE_WITH_SEQUENCE, Told, empty_message, failing_link, giving, message_with_sequence,
     one_empty_document, write_end,
 };
+use bitflags::Flags;
+use mongo_bson::{Documents, Text};
 use mongo_wire::{
     ArgumentFault, DocumentSequence, Error, MemoryLink, Message, MessageFlags, RequestIds,
     Sequences, Sink, write_sections,
 };
-use bitflags::Flags;
-use mongo_bson::{Documents, Text};
 use std::alloc::Global;
 use std::test::Fail;
 
