@@ -1,49 +1,53 @@
-mod cache;
-mod commands;
-mod conversation;
-mod kept_keys;
+mod logins;
 mod messages;
-mod replies;
 
 use mongo_bson::{BsonFault, RawDocumentBuf, RawValue};
 use mongo_wire::{AuthFault, Error, ErrorKind};
 use std::alloc::Global;
 
-// A reply to a command of a login: it succeeded, in the conversation of this number.
+// A reply to a command of a login, in the conversation of this number.
 fn reply(
     alloc: Global,
     number: i32,
+    ok: i32,
     done: bool,
     payload: &[u8],
 ) -> Result<RawDocumentBuf, BsonFault> {
     let mut document = RawDocumentBuf::new(alloc)?;
     document.append("conversationId", RawValue::Int32(number))?;
+    document.append("ok", RawValue::Int32(ok))?;
     document.append("done", RawValue::Bool(done))?;
     document.append("payload", RawValue::Binary(0, payload))?;
     Ok(document)
 }
 
 // The name of the fault that a login was refused for.
-fn name_of(answer: &Result<(), Error>) -> Option<&'static str> {
-    match answer {
-        Ok(()) => None,
-        Err(error) => match &error.kind {
-            ErrorKind::Authentication(AuthFault::Refused(_)) => Some("Refused"),
-            ErrorKind::Authentication(AuthFault::Malformed) => Some("Malformed"),
-            ErrorKind::Authentication(AuthFault::CountUnreadable) => Some("CountUnreadable"),
-            ErrorKind::Authentication(AuthFault::EndedEarly) => Some("EndedEarly"),
-            ErrorKind::Authentication(AuthFault::Nonce) => Some("Nonce"),
-            ErrorKind::Authentication(AuthFault::CountLow) => Some("CountLow"),
-            ErrorKind::Authentication(AuthFault::CountHigh) => Some("CountHigh"),
-            ErrorKind::Authentication(AuthFault::Conversation) => Some("Conversation"),
-            ErrorKind::Authentication(AuthFault::ServerError(_)) => Some("ServerError"),
-            ErrorKind::Authentication(AuthFault::Verifier) => Some("Verifier"),
-            ErrorKind::Authentication(AuthFault::PasswordControl) => Some("PasswordControl"),
-            ErrorKind::Authentication(AuthFault::NotCompleted) => Some("NotCompleted"),
-            ErrorKind::PasswordNotAscii => Some("PasswordNotAscii"),
-            ErrorKind::ReadFault => Some("ReadFault"),
-            ErrorKind::WriteFault => Some("WriteFault"),
-            _ => Some("another"),
-        },
+fn name_of(error: &Error) -> &'static str {
+    match &error.kind {
+        ErrorKind::Authentication(fault) => fault_name(fault),
+        ErrorKind::PasswordNotAscii => "PasswordNotAscii",
+        ErrorKind::ReadFault => "ReadFault",
+        ErrorKind::WriteFault => "WriteFault",
+        _ => "another",
+    }
+}
+
+fn fault_name(fault: &AuthFault) -> &'static str {
+    match fault {
+        AuthFault::NoUsername => "NoUsername",
+        AuthFault::NoPassword => "NoPassword",
+        AuthFault::Refused(_) => "Refused",
+        AuthFault::Malformed => "Malformed",
+        AuthFault::CountUnreadable => "CountUnreadable",
+        AuthFault::EndedEarly => "EndedEarly",
+        AuthFault::Nonce => "Nonce",
+        AuthFault::CountLow => "CountLow",
+        AuthFault::CountHigh => "CountHigh",
+        AuthFault::Conversation => "Conversation",
+        AuthFault::ServerError(_) => "ServerError",
+        AuthFault::Verifier => "Verifier",
+        AuthFault::PasswordControl => "PasswordControl",
+        AuthFault::NotCompleted => "NotCompleted",
+        _ => "another",
     }
 }

@@ -1,8 +1,10 @@
 ghost use Rattle.std.specs.Prelude.{◌≡◌, ◌<◌, ◌≤◌};
 
 use super::{name_of, reply};
-use mongo_scram::{ClientFinal, ClientFirst, ScramVersion, ServerFinal, ServerFirst};
+use base64::engine::general_purpose::STANDARD;
+use mongo_command::{Command, ServerApi, ServerApiVersion};
 use mongo_mac::{Sha1Fn, Steps, Tag, hi};
+use mongo_scram::{ClientFinal, ClientFirst, Keys, ScramVersion, ServerFinal, ServerFirst};
 use mongo_wire::Error;
 use std::alloc::Global;
 use std::marker::Brand;
@@ -20,21 +22,21 @@ enum Prepared {
 
 /// A whole conversation.
 #[derive(Clone, Copy)]
-pub(super) struct Exchange {
-    pub(super) version: ScramVersion,
+struct Exchange {
+    version: ScramVersion,
     prepared: Prepared,
     username: &'static str,
     password: &'static str,
     nonce: &'static str,
     open: &'static str,
     server_first: &'static str,
-    pub(super) close: &'static str,
-    pub(super) verifier: &'static str,
+    close: &'static str,
+    verifier: &'static str,
 }
 
 // The conversations of RFC 5802, section 5, of RFC 7677, section 3, of SCRAM-SHA-1 in the MongoDB authentication
 // specification, and, by Python's hashlib and hmac, one whose user name is escaped and one with a nonce of 32 bytes of 1.
-pub(super) fn row_at(place: u8) -> Exchange {
+fn row_at(place: u8) -> Exchange {
     match place {
         0 => Exchange {
             version: ScramVersion::Sha1,
@@ -94,162 +96,347 @@ pub(super) fn row_at(place: u8) -> Exchange {
     }
 }
 
+// The server's first message, as a reply carries it.
+fn server_first(alloc: Global, ok: i32, done: bool, message: &[u8]) -> Result<ServerFirst, Error> {
+    let document = reply(alloc, 1, ok, done, message)?;
+    ServerFirst::parse(alloc, document.borrow())
+}
+
+// The server's last message, as a reply of the conversation of this number carries it.
+fn server_final(alloc: Global, number: i32, message: &[u8]) -> Result<ServerFinal, Error> {
+    let document = reply(alloc, number, 1, true, message)?;
+    ServerFinal::parse(alloc, document.borrow())
+}
+
+// A server's first message, `ok` and `done` of the reply that carries it, and what a client with the nonce `nonce` and the
+// ceiling 10000000 answers it.
+fn first_message(place: u8) -> (&'static [u8], i32, bool, &'static str) {
+    match place {
+        // nothing is wrong with these
+        0 => (
+            b"r=nonceserver,s=W22ZaJ0SNY7soEsUEjb6gQ==,i=4096",
+            1,
+            false,
+            "none",
+        ),
+        1 => (b"r=nonce,s=,i=+4096,x=more", 1, false, "none"),
+        2 => (b"r=nonce,s=,i=10000000", 1, false, "none"),
+        // of two faults the one that stands first is named
+        3 => (b"r=nonce,s=,i=x", 0, false, "Refused"),
+        4 => (b"", 1, false, "Malformed"),
+        5 => (b"v=", 1, false, "Malformed"),
+        6 => (b"e=no such user", 1, false, "Malformed"),
+        7 => (b"r=n\xff,s=,i=4096", 1, false, "Malformed"),
+        8 => (b"r=nonce,s=W22ZaJ0SNY7soEsUEjb6gQ==", 1, false, "Malformed"),
+        9 => (b"n=nonce,s=,i=4096", 1, false, "Malformed"),
+        10 => (b"r=nonce,t=,i=4096", 1, false, "Malformed"),
+        11 => (
+            b"r=nonce,s=W22ZaJ0SNY7soEsUEjb6gR==,i=4096",
+            1,
+            false,
+            "Malformed",
+        ),
+        12 => (b"r=nonce,s=,j=4096", 1, false, "Malformed"),
+        13 => (b"r=nonce,s=*,i=x", 1, false, "Malformed"),
+        14 => (b"r=nonce,s=,i=", 1, false, "CountUnreadable"),
+        15 => (b"r=nonce,s=,i=4096x", 1, false, "CountUnreadable"),
+        16 => (b"r=nonce,s=,i=-4096", 1, false, "CountUnreadable"),
+        17 => (b"r=nonce,s=,i=4294967296", 1, false, "CountUnreadable"),
+        18 => (b"r=other,s=,i=1", 1, true, "EndedEarly"),
+        19 => (b"r=other,s=,i=1", 1, false, "Nonce"),
+        20 => (b"r=nonc,s=,i=4096", 1, false, "Nonce"),
+        21 => (b"r=nonce,s=,i=42", 1, false, "CountLow"),
+        22 => (b"r=nonce,s=,i=4095", 1, false, "CountLow"),
+        _ => (b"r=nonce,s=,i=10000001", 1, false, "CountHigh"),
+    }
+}
+
+fn is_validated(first: &ServerFirst, fault: &str) -> bool {
+    match first.validate("nonce", 10_000_000) {
+        Ok(()) => fault == "none",
+        Err(error) => name_of(&error) == fault,
+    }
+}
+
+// Whether the client answers the message so.
+fn first_is_answered(alloc: Global, ok: i32, done: bool, message: &[u8], fault: &str) -> bool {
+    match server_first(alloc, ok, done, message) {
+        Ok(first) => is_validated(&first, fault),
+        Err(error) => name_of(&error) == fault,
+    }
+}
+
+#[test]
+fn server_first_messages(rt: HostRuntime) {
+    for place in 0..24 {
+        let (message, ok, done, fault) = first_message(place);
+        assert!(rt;
+            first_is_answered(rt.alloc(), ok, done, message, fault),
+            "{place}"
+        );
+    }
+}
+
+fn is_read(first: &ServerFirst) -> bool {
+    first.conversation_id.kind == 0x10
+        && first.conversation_id.bytes.as_bytes() == [1, 0, 0, 0].as_slice()
+        && first.done
+        && first.message.as_str() == "r=nonce,s=AQI=,i=+5,x=more"
+        && first.nonce.as_str() == "nonce"
+        && first.salt.as_bytes() == [1, 2].as_slice()
+        && first.i == 5
+}
+
+fn copy_is_read(alloc: Global, first: &ServerFirst) -> bool {
+    match first.try_clone(alloc) {
+        Ok(copy) => is_read(&copy),
+        Err(_) => false,
+    }
+}
+
+#[test]
+fn a_server_first_message_is_read(rt: HostRuntime) {
+    match server_first(rt.alloc(), 1, true, b"r=nonce,s=AQI=,i=+5,x=more") {
+        Ok(first) => assert!(rt; is_read(&first) && copy_is_read(rt.alloc(), &first)),
+        Err(_) => assert!(rt; false),
+    }
+}
+
+/// What a client has when it has said all.
+#[derive(Drop)]
+struct Conversation {
+    open: ClientFirst,
+    close: ClientFinal,
+}
+
+fn client_first(alloc: Global, username: &str, nonce: &str) -> Result<ClientFirst, Error> {
+    ClientFirst::with_nonce(alloc, "admin", username, false, None, nonce)
+}
+
+// The salted password of a row, with a counter of its own, of the ledger that `blank` opens.
+fn salted_with<G: Ledger>(blank: Blank, row: &Exchange, first: &ServerFirst) -> Result<Tag, Error>
+    requires name { blank.name ≡ G.name }
+    requires parts { blank.parts ≡ G.parts }
+    requires has_a_part { 0 < G.parts }
+    requires counted { 1 ≤ first.now.i }
+{
+    let mut steps = Steps::<G>::new(blank);
+    let salt = first.salt.as_bytes();
+    match row.prepared {
+        Prepared::Plain => Ok(hi::<Sha1Fn, G>(row.password.as_bytes(), salt, first.i, &mut steps)),
+        Prepared::Mechanism => row
+            .version
+            .compute_salted_password(row.username, row.password, first.i, salt, &mut steps),
+    }
+}
+
+// The same; None where the count is 0 or the password is refused.
+fn salted_of(row: &Exchange, first: &ServerFirst) -> Option<Tag> {
+    if first.i == 0 {
+        return None;
+    }
+    match salted_with::<Brand>(Blank::new(1), row, first) {
+        Ok(salted) => Some(salted),
+        Err(_) => None,
+    }
+}
+
+fn closed(
+    alloc: Global,
+    row: &Exchange,
+    salted: &Tag,
+    open: ClientFirst,
+    first: &ServerFirst,
+) -> Result<Conversation, Error> {
+    let close = ClientFinal::new(alloc, "admin", salted, &open, first, &row.version, None)?;
+    Ok(Conversation { open, close })
+}
+
+/// What a client has, and the salted password.
+type Held = (Tag, Conversation);
+
+// A row's conversation up to the client's last message.
+fn conversation_of(alloc: Global, row: &Exchange) -> Result<Held, Fail> {
+    let first = server_first(alloc, 1, false, row.server_first.as_bytes())?;
+    let Some(salted) = salted_of(row, &first) else {
+        return Err(Fail::from("no salted password"));
+    };
+    let open = client_first(alloc, row.username, row.nonce)?;
+    Ok((salted, closed(alloc, row, &salted, open, &first)?))
+}
+
+fn is_encoded(alloc: Global, tag: &Tag, text: Option<&str>) -> bool {
+    match STANDARD.encode(alloc, tag.as_bytes()) {
+        Ok(encoded) => text == Some(encoded.as_str()),
+        Err(_) => false,
+    }
+}
+
+// Whether the keys sign what the messages of the row hold.
+fn signs_so(alloc: Global, row: &Exchange, keys: &Keys, transcript: &[u8]) -> bool {
+    let proof = match row.close.split_once(",p=") {
+        Some((_, proof)) => Some(proof),
+        None => None,
+    };
+    is_encoded(alloc, &keys.proof(transcript), proof)
+        && is_encoded(
+            alloc,
+            &keys.verifier(transcript),
+            row.verifier.strip_prefix("v="),
+        )
+}
+
+// Whether the client of a row's conversation answers the last message so.
+fn final_is_answered(
+    alloc: Global,
+    version: &ScramVersion,
+    held: &Held,
+    number: i32,
+    message: &[u8],
+    fault: &str,
+) -> bool {
+    let (salted, conversation) = held;
+    let answer = match server_final(alloc, number, message) {
+        Ok(last) => last.validate(salted, &conversation.close, version),
+        Err(error) => Err(error),
+    };
+    match answer {
+        Ok(()) => fault == "none",
+        Err(error) => name_of(&error) == fault,
+    }
+}
+
 #[test]
 fn conversations_of_the_standards(rt: HostRuntime) -> Result<(), Fail> {
     for place in 0..5 {
         let row = row_at(place);
-        let held = conversation_of::<Brand>(Blank::new(1), rt.alloc(), &row)?;
-        assert_eq!(rt; held.open.message(), row.open);
-        assert_eq!(rt; held.close.message(), row.close);
-        let last = server_final(rt.alloc(), 1, row.verifier)?;
-        assert!(rt;
-            last.validate(&held.salted, &held.close, &row.version)
-                .is_ok()
-        );
+        let held = conversation_of(rt.alloc(), &row)?;
+        assert!(rt; is_as_it_stands(rt.alloc(), &row, &held), "{place}");
     }
     Ok(())
 }
 
-// A server final message, the conversation that it names, and what the client of the first conversation answers it.
-fn final_message(place: u8) -> (&'static str, i32, &'static str) {
+// Whether the messages are the row's, and the server's last is taken.
+fn is_as_it_stands(alloc: Global, row: &Exchange, held: &Held) -> bool {
+    let (salted, conversation) = held;
+    let transcript = conversation.close.auth_message().as_bytes();
+    conversation.open.message() == row.open
+        && conversation.close.message() == row.close
+        && signs_so(alloc, row, &Keys::new(row.version, salted), transcript)
+        && final_is_answered(
+            alloc,
+            &row.version,
+            held,
+            1,
+            row.verifier.as_bytes(),
+            "none",
+        )
+}
+
+// A server's last message, the conversation that it names, and what the client of the first conversation answers it.
+fn final_message(place: u8) -> (&'static [u8], i32, &'static str) {
     match place {
-        0 => ("v=rmF9pqV8S7suAoZWja4dJRkFsKU=", 1, "Verifier"),
-        1 => ("v=rmF9", 1, "Verifier"),
-        2 => ("v=rmF9pqV8S7suAoZWja4dJRkFsKQ", 1, "Malformed"),
-        3 => ("e=other-error", 1, "ServerError"),
-        4 => ("v=rmF9pqV8S7suAoZWja4dJRkFsKQ=", 2, "Conversation"),
-        _ => ("e=other-error", 2, "Conversation"),
+        0 => (b"v=rmF9pqV8S7suAoZWja4dJRkFsKQ=", 1, "none"),
+        1 => (b"v=rmF9pqV8S7suAoZWja4dJRkFsKU=", 1, "Verifier"),
+        2 => (b"v=rmF9", 1, "Verifier"),
+        3 => (b"v=rmF9pqV8S7suAoZWja4dJRkFsKQ", 1, "Malformed"),
+        4 => (b"e=other-error", 1, "ServerError"),
+        5 => (b"v=rmF9pqV8S7suAoZWja4dJRkFsKQ=", 2, "Conversation"),
+        6 => (b"e=other-error", 2, "Conversation"),
+        7 => (b"", 2, "Malformed"),
+        8 => (b"e", 2, "Malformed"),
+        9 => (b"v", 2, "Malformed"),
+        10 => (b"x=", 2, "Malformed"),
+        11 => (b"=v", 2, "Malformed"),
+        12 => (b"ve=", 2, "Malformed"),
+        13 => (b"v=\xff", 2, "Malformed"),
+        _ => (b"r=n,s=,i=4096", 2, "Malformed"),
     }
 }
 
 #[test]
 fn server_final_messages(rt: HostRuntime) -> Result<(), Fail> {
-    let row = row_at(0);
-    let held = conversation_of::<Brand>(Blank::new(1), rt.alloc(), &row)?;
-    for place in 0..6 {
+    let held = conversation_of(rt.alloc(), &row_at(0))?;
+    for place in 0..15 {
         let (message, number, fault) = final_message(place);
-        let last = server_final(rt.alloc(), number, message)?;
-        let answer = last.validate(&held.salted, &held.close, &row.version);
-        assert_eq!(rt; name_of(&answer), Some(fault), "{message}");
+        assert!(rt;
+            final_is_answered(
+                rt.alloc(),
+                &ScramVersion::Sha1,
+                &held,
+                number,
+                message,
+                fault
+            ),
+            "{place}"
+        );
     }
+    assert!(rt; is_shown_as(rt.alloc(), &held.1.close, "ClientFinal { .. }"));
     Ok(())
 }
 
-// A server first message, whether its reply says that the conversation is done, and what a client with the nonce `nonce`
-// and the ceiling 10000000 answers it.
-fn first_message(place: u8) -> (&'static str, bool, Option<&'static str>) {
-    match place {
-        0 => (
-            "r=nonceserver,s=W22ZaJ0SNY7soEsUEjb6gQ==,i=4096",
-            false,
-            None,
-        ),
-        1 => ("r=nonce,s=,i=+4096,x=more", false, None),
-        2 => ("r=nonce,s=,i=10000000", false, None),
-        3 => ("", false, Some("Malformed")),
-        4 => (
-            "r=nonce,s=W22ZaJ0SNY7soEsUEjb6gQ==",
-            false,
-            Some("Malformed"),
-        ),
-        5 => ("n=nonce,s=,i=4096", false, Some("Malformed")),
-        6 => ("r=nonce,t=,i=4096", false, Some("Malformed")),
-        7 => (
-            "r=nonce,s=W22ZaJ0SNY7soEsUEjb6gR==,i=4096",
-            false,
-            Some("Malformed"),
-        ),
-        8 => ("r=nonce,s=,j=4096", false, Some("Malformed")),
-        9 => ("r=nonce,s=*,i=x", false, Some("Malformed")),
-        10 => ("r=nonce,s=,i=", false, Some("CountUnreadable")),
-        11 => ("r=nonce,s=,i=4096x", false, Some("CountUnreadable")),
-        12 => ("r=nonce,s=,i=-4096", false, Some("CountUnreadable")),
-        13 => ("r=nonce,s=,i=4294967296", false, Some("CountUnreadable")),
-        14 => ("r=other,s=,i=1", true, Some("EndedEarly")),
-        15 => ("r=other,s=,i=1", false, Some("Nonce")),
-        16 => ("r=nonc,s=,i=4096", false, Some("Nonce")),
-        17 => ("r=nonce,s=,i=42", false, Some("CountLow")),
-        18 => ("r=nonce,s=,i=4095", false, Some("CountLow")),
-        _ => ("r=nonce,s=,i=10000001", false, Some("CountHigh")),
+// A proof is never shown.
+fn is_shown_as(alloc: Global, close: &ClientFinal, text: &str) -> bool {
+    match format!(in alloc; "{close:?}") {
+        Ok(shown) => shown.as_str() == text,
+        Err(_) => false,
+    }
+}
+
+// The first message that goes with a hello, by a nonce of 32 bytes of 0.
+const WITH_HELLO: &[u8] =
+    b"\xa7\0\0\0\x10saslStart\0\x01\0\0\0\x02mechanism\0\x0e\0\0\0SCRAM-SHA-256\0\x05payload\0\x38\0\0\0\0n,,n=user,r=AAAAAAAAAAAAAAAAAAAAAAAAAAAAAAAAAAAAAAAAAAA=\x03options\0\x19\0\0\0\x08skipEmptyExchange\0\x01\0\x02db\0\x06\0\0\0admin\0\0";
+
+// The end of a command on `orders` that declares the server API.
+const DECLARED: &[u8] = b"\x02$db\0\x07\0\0\0orders\0\x02apiVersion\0\x02\0\0\x001\0\0";
+
+fn ends_with(alloc: Global, command: &Command, end: &[u8]) -> bool {
+    match command.to_document(alloc) {
+        Ok(document) => document.as_bytes().ends_with(end) || command.body.as_bytes() == end,
+        Err(_) => false,
+    }
+}
+
+fn is_sent(alloc: Global, first: &ClientFirst, version: ScramVersion, end: &[u8]) -> bool {
+    match first.to_command(alloc, &version) {
+        Ok(command) => ends_with(alloc, &command, end),
+        Err(_) => false,
     }
 }
 
 #[test]
-fn server_first_messages(rt: HostRuntime) -> Result<(), Fail> {
-    for place in 0..20 {
-        let (message, done, fault) = first_message(place);
-        let answer = match server_first(rt.alloc(), done, message) {
-            Ok(first) => first.validate("nonce", 10_000_000),
-            Err(error) => Err(error),
-        };
-        assert_eq!(rt; name_of(&answer), fault, "{message}");
-    }
+fn commands_of_a_first_message(rt: HostRuntime) -> Result<(), Fail> {
+    let api = ServerApi {
+        version: ServerApiVersion::V1,
+        strict: None,
+        deprecation_errors: None,
+    };
+    let alloc = rt.alloc();
+    let first = ClientFirst::new(alloc, "orders", "user", false, Some(api), &[0; 32])?;
+    assert!(rt; is_sent(alloc, &first, ScramVersion::Sha1, DECLARED));
+    let first = ClientFirst::new(alloc, "admin", "user", true, None, &[0; 32])?;
+    assert!(rt; is_sent(alloc, &first, ScramVersion::Sha256, WITH_HELLO));
     Ok(())
 }
 
+fn copy_is(alloc: Global, first: &ClientFirst, message: &str) -> bool {
+    match first.try_clone(alloc) {
+        Ok(copy) => copy.message() == message,
+        Err(_) => false,
+    }
+}
+
+// Whether the user's first message is this, and its copy's too.
+fn is_message(alloc: Global, username: &str, message: &str) -> bool {
+    match client_first(alloc, username, "x") {
+        Ok(first) => first.message() == message && copy_is(alloc, &first, message),
+        Err(_) => false,
+    }
+}
+
 #[test]
-fn messages_that_are_no_final_ones(rt: HostRuntime) {
-    for message in ["", "e", "v", "x=", "=v", "ve=", "i=1"] {
-        let answer = server_final(rt.alloc(), 1, message).map(|_last| ());
-        assert_eq!(rt; name_of(&answer), Some("Malformed"), "{message}");
-    }
-}
-
-// The server's first message, as a reply carries it.
-fn server_first(alloc: Global, done: bool, message: &str) -> Result<ServerFirst, Error> {
-    let document = reply(alloc, 1, done, message.as_bytes())?;
-    ServerFirst::parse(alloc, document.borrow())
-}
-
-// The server's last message, as a reply of the conversation of this number carries it.
-fn server_final(alloc: Global, number: i32, message: &str) -> Result<ServerFinal, Error> {
-    let document = reply(alloc, number, true, message.as_bytes())?;
-    ServerFinal::parse(alloc, document.borrow())
-}
-
-/// What a client has when it has said all.
-#[derive(Drop)]
-pub(super) struct Conversation {
-    pub(super) open: ClientFirst,
-    pub(super) salted: Tag,
-    pub(super) close: ClientFinal,
-}
-
-// A row's conversation up to the client's last message, with a counter of its own, of the ledger that `blank` opens.
-pub(super) fn conversation_of<G: Ledger>(
-    blank: Blank,
-    alloc: Global,
-    row: &Exchange,
-) -> Result<Conversation, Error>
-    requires name { blank.name ≡ G.name }
-    requires parts { blank.parts ≡ G.parts }
-    requires has_a_part { 0 < G.parts }
-{
-    let mut steps = Steps::<G>::new(blank);
-    let open = ClientFirst::with_nonce(alloc, "admin", row.username, false, None, row.nonce)?;
-    let first = server_first(alloc, false, row.server_first)?;
-    first.validate(open.nonce(), 10_000)?;
-    let salted = salted_password(row, &first, &mut steps)?;
-    let close = ClientFinal::new(alloc, "admin", &salted, &open, &first, &row.version, None)?;
-    Ok(Conversation {
-        open,
-        salted,
-        close,
-    })
-}
-
-fn salted_password<G: Ledger>(
-    row: &Exchange,
-    first: &ServerFirst,
-    steps: &mut Steps<G>,
-) -> Result<Tag, Error>
-    requires { 1 ≤ first.now.i }
-{
-    let salt = first.salt.as_bytes();
-    match row.prepared {
-        Prepared::Plain => Ok(hi::<Sha1Fn, G>(row.password.as_bytes(), salt, first.i, steps)),
-        Prepared::Mechanism => row
-            .version
-            .compute_salted_password(row.username, row.password, first.i, salt, steps),
-    }
+fn user_names_are_escaped(rt: HostRuntime) {
+    assert!(rt; is_message(rt.alloc(), "a=b", "n,,n=a=3Db,r=x"));
+    assert!(rt; is_message(rt.alloc(), "=,=", "n,,n==3D=2C=3D,r=x"));
+    assert!(rt; is_message(rt.alloc(), "\u{fc},", "n,,n=\u{fc}=2C,r=x"));
 }
