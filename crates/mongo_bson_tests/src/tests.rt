@@ -1,7 +1,4 @@
 mod building;
-mod comparing;
 mod hostile;
-mod kinds;
-mod plain_reader;
 mod reading;
-mod whole_numbers;
+mod spelling;

@@ -1,3 +1,4 @@
+use super::spelling::bytes_of;
 use mongo_bson::{
     BsonFault, Bytes, Documents, Items, ObjectId, OwnedValue, RawArrayBuf, RawDocument,
     RawDocumentBuf, RawValue, Text, Texts, TryClone, array_entry_size_bytes,
@@ -8,137 +9,83 @@ use mongo_num::NumFault;
 use std::alloc::Global;
 use std::test::Fail;
 
-// The document of one int32.
-fn number_under(alloc: Global, key: &str, number: i32) -> Result<RawDocumentBuf, BsonFault> {
+fn append(document: &mut RawDocumentBuf, key: &str) -> Result<(), BsonFault> {
+    document.append(key, RawValue::Int32(1))
+}
+
+// The document of `a: 1`.
+fn one(alloc: Global) -> Result<RawDocumentBuf, BsonFault> {
     let mut document = RawDocumentBuf::new(alloc)?;
-    document.append(key, RawValue::Int32(number))?;
+    append(&mut document, "a")?;
     Ok(document)
 }
 
-// The document that the bytes are.
-fn document_from(alloc: Global, bytes: &[u8]) -> Result<RawDocumentBuf, BsonFault> {
-    RawDocumentBuf::from_bytes(Bytes::from_slice(alloc, bytes)?)
+// The document that the bytes of a row are.
+fn document_from(alloc: Global, row: &str) -> Result<RawDocumentBuf, Fail> {
+    let bytes = Bytes::from_vec(bytes_of(alloc, row)?);
+    Ok(RawDocumentBuf::from_bytes(bytes)?)
 }
 
-#[test]
-fn a_small_document_has_its_bytes(rt: HostRuntime) -> Result<(), Fail> {
-    let document = number_under(rt.alloc(), "a", 1)?;
-    assert!(rt; document.as_bytes() == b"\x0C\x00\x00\x00\x10a\x00\x01\x00\x00\x00\x00".as_slice());
-    let copy = document_from(rt.alloc(), document.as_bytes())?;
-    assert!(rt; copy == document);
-    Ok(())
-}
-
-// What appending under the key answers, and whether the document is as it was.
-fn append_null(alloc: Global, key: &str) -> Result<(Result<(), BsonFault>, bool), BsonFault> {
-    let mut document = RawDocumentBuf::new(alloc)?;
-    let answer = document.append(key, RawValue::Null);
-    let is_empty = document.as_bytes().len() == 5;
-    Ok((answer, is_empty))
+// What appending under a key answers, and what the document of `a: 1` is then.
+fn appended(alloc: Global, key: &str) -> Result<String, Fail> {
+    let mut document = one(alloc)?;
+    let answer = append(&mut document, key);
+    Ok(format!(in alloc; "{answer:?} {:?}", document.as_bytes())?)
 }
 
 #[test]
 fn a_key_holds_no_zero(rt: HostRuntime) -> Result<(), Fail> {
-    for key in ["\0", "a\0", "\0a", "a\0b"] {
-        let answered = append_null(rt.alloc(), key)?;
-        assert!(rt; answered == (Err(BsonFault::KeyHasZero), true), "{key:?}");
+    let refused = "Err(KeyHasZero) [12, 0, 0, 0, 16, 97, 0, 1, 0, 0, 0, 0]";
+    for (key, wanted) in [
+        (
+            "b",
+            "Ok(()) [19, 0, 0, 0, 16, 97, 0, 1, 0, 0, 0, 16, 98, 0, 1, 0, 0, 0, 0]",
+        ),
+        ("\0", refused),
+        ("a\0", refused),
+        ("\0a", refused),
+        ("a\0b", refused),
+    ] {
+        assert_eq!(rt; appended(rt.alloc(), key)?.as_str(), wanted);
     }
     Ok(())
 }
 
-// Whether no key stands twice in a document of two elements.
-fn are_apart(alloc: Global, first: &str, second: &str) -> Result<bool, BsonFault> {
-    let mut document = number_under(alloc, first, 1)?;
-    document.append(second, RawValue::Int32(1))?;
-    document.borrow().distinct_keys(alloc)
-}
-
-#[test]
-fn a_key_that_stands_twice_is_found(rt: HostRuntime) -> Result<(), Fail> {
-    assert!(rt; are_apart(rt.alloc(), "a", "b")?);
-    assert!(rt; !are_apart(rt.alloc(), "a", "a")?);
-    Ok(())
-}
-
-// A list of one empty document.
-fn one_document(alloc: Global) -> Result<Documents, BsonFault> {
+// The two arrays of one empty document, and whether the first is copied.
+fn arrays(alloc: Global) -> Result<(RawArrayBuf, RawArrayBuf), BsonFault> {
     let mut documents = Documents::new(alloc);
     documents.push(RawDocumentBuf::new(alloc)?)?;
-    Ok(documents)
+    let first = to_raw_bson_array(alloc, &documents)?;
+    Ok((first, vec_to_raw_array_buf(alloc, documents)?))
 }
 
-#[test]
-fn an_array_of_documents_has_its_bytes(rt: HostRuntime) -> Result<(), Fail> {
-    let bytes = b"\x0D\x00\x00\x00\x030\x00\x05\x00\x00\x00\x00\x00".as_slice();
-    let documents = one_document(rt.alloc())?;
-    assert!(rt;
-        to_raw_bson_array(rt.alloc(), &documents)?
-            .borrow()
-            .as_bytes()
-            == bytes
-    );
-    assert!(rt;
-        vec_to_raw_array_buf(rt.alloc(), documents)?
-            .borrow()
-            .as_bytes()
-            == bytes
-    );
-    Ok(())
+fn push(array: &mut RawArrayBuf, value: RawValue<'_>) -> Result<(), BsonFault> {
+    array.push(value)
 }
 
-// An array of so many nulls.
-fn nulls(alloc: Global, count: usize) -> Result<RawArrayBuf, BsonFault> {
-    let mut array = RawArrayBuf::new(alloc)?;
-    for _ in 0..count {
-        array.push(RawValue::Null)?;
-    }
-    Ok(array)
-}
-
-#[test]
-fn an_array_counts_its_keys(rt: HostRuntime) -> Result<(), Fail> {
-    let array = nulls(rt.alloc(), 11)?;
-    assert_eq!(rt; array.len(), 11);
-    assert!(rt; array.borrow().get("10")? == Some(RawValue::Null));
-    assert!(rt; array.borrow().get("11")?.is_none());
-    Ok(())
-}
-
-#[test]
-fn an_entry_has_a_size_where_one_fits(rt: HostRuntime) {
-    for (index, length, size) in [
-        (0, 5, Ok(8)),
-        (9, 5, Ok(8)),
-        (10, 5, Ok(9)),
-        (0, usize::MAX - 3, Ok(usize::MAX)),
-        (0, usize::MAX - 2, Err(NumFault::Failed)),
-        (10, usize::MAX - 3, Err(NumFault::Failed)),
-    ] {
-        assert!(rt;
-            array_entry_size_bytes(index, length) == size,
-            "{index}, {length}"
-        );
-    }
-}
-
-// How many bytes an array grows by when an empty document is pushed.
+// How many bytes an array of so many empty documents is longer by than one of one fewer.
 fn growth(array: &mut RawArrayBuf, document: RawDocument<'_>) -> Result<usize, BsonFault> {
     let before = array.borrow().as_bytes().len();
-    array.push(RawValue::Document(document))?;
+    push(array, RawValue::Document(document))?;
     Ok(array.borrow().as_bytes().len().saturating_sub(before))
 }
 
 #[test]
-fn an_entry_is_as_long_as_it_says(rt: HostRuntime) -> Result<(), Fail> {
-    let document = RawDocument::from_bytes(b"\x05\x00\x00\x00\x00")?;
+fn an_array_has_its_documents_under_their_numbers(rt: HostRuntime) -> Result<(), Fail> {
+    let (first, second) = arrays(rt.alloc())?;
+    let bytes = b"\x0D\x00\x00\x00\x030\x00\x05\x00\x00\x00\x00\x00".as_slice();
+    assert!(rt; first.borrow().as_bytes() == bytes && second == first);
+    let empty = RawDocument::from_bytes(b"\x05\x00\x00\x00\x00")?;
     let mut array = RawArrayBuf::new(rt.alloc())?;
     for index in 0..12 {
-        let grown = growth(&mut array, document)?;
-        assert!(rt;
-            array_entry_size_bytes(index, 5) == Ok(grown),
-            "entry {index}"
-        );
+        let grown = growth(&mut array, empty)?;
+        assert!(rt; array_entry_size_bytes(index, 5) == Ok(grown), "{index}");
+        assert_eq!(rt; grown, if index < 10 { 8 } else { 9 });
     }
+    assert!(rt; array.len() == 12 && array.borrow().get("11")? == Some(RawValue::Document(empty)));
+    assert!(rt; array_entry_size_bytes(0, usize::MAX - 3) == Ok(usize::MAX));
+    assert!(rt; array_entry_size_bytes(0, usize::MAX - 2) == Err(NumFault::Failed));
+    assert!(rt; array_entry_size_bytes(10, usize::MAX - 3) == Err(NumFault::Failed));
     Ok(())
 }
 
@@ -178,109 +125,83 @@ fn owned_binary(alloc: Global) -> Result<OwnedValue, BsonFault> {
 }
 
 #[test]
-fn texts_and_bytes_are_put_together(rt: HostRuntime) -> Result<(), Fail> {
-    assert!(rt; joined(rt.alloc())?.as_str() == "ab");
-    assert!(rt; joined_bytes(rt.alloc())?.as_bytes() == b"abc".as_slice());
-    Ok(())
-}
-
-#[test]
 fn what_wants_memory_is_copied(rt: HostRuntime) -> Result<(), Fail> {
     let alloc = rt.alloc();
+    assert!(rt; joined(alloc)?.as_str() == "ab");
+    assert!(rt; joined_bytes(alloc)?.as_bytes() == b"abc".as_slice());
     assert!(rt; is_copied(alloc, joined_bytes(alloc)?)?);
     assert!(rt; is_copied(alloc, owned_binary(alloc)?)?);
     assert!(rt; is_copied(alloc, one_text(alloc)?)?);
-    assert!(rt; is_copied(alloc, number_under(alloc, "a", 1)?)?);
-    assert!(rt; is_copied(alloc, nulls(alloc, 1)?)?);
+    assert!(rt; is_copied(alloc, one(alloc)?)?);
+    let (array, _) = arrays(alloc)?;
+    assert!(rt; is_copied(alloc, array)?);
+    let document = one(alloc)?;
+    assert!(rt; document.borrow().to_raw_document_buf(alloc)? == document);
     Ok(())
 }
 
-#[test]
-fn a_borrowed_document_is_copied(rt: HostRuntime) -> Result<(), Fail> {
-    let document = number_under(rt.alloc(), "a", 1)?;
-    assert!(rt; document.borrow().to_raw_document_buf(rt.alloc())? == document);
-    Ok(())
+// What extending the document of `a: 1` by a row's answers, and what it is then.
+fn extended(alloc: Global, row: &str) -> Result<String, Fail> {
+    let other = document_from(alloc, row)?;
+    let mut document = one(alloc)?;
+    let answer = extend_raw_document_buf(alloc, &mut document, &other);
+    Ok(format!(in alloc; "{answer:?} {:?}", document.as_bytes())?)
 }
 
-// What extending one document by another answers, and what it is then.
-fn extended(
-    alloc: Global,
-    this: &[u8],
-    other: &[u8],
-) -> Result<(Result<(), BsonFault>, RawDocumentBuf), BsonFault> {
-    let mut this = document_from(alloc, this)?;
-    let other = document_from(alloc, other)?;
-    let answer = extend_raw_document_buf(alloc, &mut this, &other);
-    Ok((answer, this))
+// Another value under the same key, another key, and an element that breaks off.
+const EXTENDED: &str =
+    "0c 00 00 00 10 61 00 02 00 00 00 00 => Err(DuplicateKey) [12, 0, 0, 0, 16, 97, 0, 1, 0, 0, 0, 0]
+0c 00 00 00 10 62 00 02 00 00 00 00 => Ok(()) [19, 0, 0, 0, 16, 97, 0, 1, 0, 0, 0, 16, 98, 0, 2, 0, 0, 0, 0]
+06 00 00 00 10 00 => Err(Malformed) [12, 0, 0, 0, 16, 97, 0, 1, 0, 0, 0, 0]";
+
+// What is told of a document as an update and as a replacement.
+fn checked(alloc: Global, row: &str) -> Result<String, Fail> {
+    let held = document_from(alloc, row)?;
+    let document = held.borrow();
+    let (update, replacement) = (
+        update_document_check(document),
+        replacement_document_check(document),
+    );
+    let raw = replacement_raw_document_check(document);
+    Ok(format!(in alloc; "{update:?} {replacement:?} {raw:?}")?)
 }
 
+// An empty document, one of the key `a`, and one of the key `$set`.
+const CHECKED: &str = "05 00 00 00 00 => Err(UpdateEmpty) Ok(()) Ok(())
+0c 00 00 00 10 61 00 01 00 00 00 00 => Err(UpdateNotModifiers) Ok(()) Ok(())
+0f 00 00 00 10 24 73 65 74 00 01 00 00 00 00 => Ok(()) Err(ReplacementHasModifiers) Err(ReplacementHasModifiers)";
+
 #[test]
-fn extending_keeps_keys_apart(rt: HostRuntime) -> Result<(), Fail> {
-    let this = b"\x0C\x00\x00\x00\x10a\x00\x01\x00\x00\x00\x00".as_slice();
-    // another value under the same key, another key, and an element that breaks off
-    let table: [(&[u8], Result<(), BsonFault>, &[u8]); 3] = [
-        (
-            b"\x0C\x00\x00\x00\x10a\x00\x02\x00\x00\x00\x00",
-            Err(BsonFault::DuplicateKey),
-            this,
-        ),
-        (
-            b"\x0C\x00\x00\x00\x10b\x00\x02\x00\x00\x00\x00",
-            Ok(()),
-            b"\x13\x00\x00\x00\x10a\x00\x01\x00\x00\x00\x10b\x00\x02\x00\x00\x00\x00",
-        ),
-        (b"\x06\x00\x00\x00\x10\x00", Err(BsonFault::Malformed), this),
-    ];
-    for (other, wanted, after) in table {
-        let (answer, document) = extended(rt.alloc(), this, other)?;
-        assert!(rt; answer == wanted && document.as_bytes() == after);
+fn documents_are_extended_and_checked(rt: HostRuntime) -> Result<(), Fail> {
+    for row in EXTENDED.lines() {
+        let (spelled, wanted) = row.split_once(" => ").unwrap_or((row, "no arrow"));
+        assert_eq!(rt; extended(rt.alloc(), spelled)?.as_str(), wanted, "{row}");
+    }
+    for row in CHECKED.lines() {
+        let (spelled, wanted) = row.split_once(" => ").unwrap_or((row, "no arrow"));
+        assert_eq!(rt; checked(rt.alloc(), spelled)?.as_str(), wanted, "{row}");
     }
     Ok(())
 }
 
-// The id that a document of the element `a` has after it was asked for twice, with another id the second time, and the
-// document then.
-fn with_id(alloc: Global, id: ObjectId) -> Result<(bool, RawDocumentBuf), BsonFault> {
-    let mut document = number_under(alloc, "a", 1)?;
-    let put = get_or_prepend_id_field(alloc, &mut document, id)?;
-    let there = get_or_prepend_id_field(alloc, &mut document, ObjectId([9; 12]))?;
-    let same = there == put && put.kind == 7 && put.bytes.as_bytes() == id.0.as_slice();
-    Ok((same, document))
+// The id that a document has after one was asked for, as it is printed.
+fn id_of(alloc: Global, document: &mut RawDocumentBuf, id: ObjectId) -> Result<String, Fail> {
+    let there = get_or_prepend_id_field(alloc, document, id)?;
+    Ok(format!(in alloc; "{} {:?}", there.kind, there.bytes.as_bytes())?)
 }
 
 #[test]
 fn an_id_is_put_first_once(rt: HostRuntime) -> Result<(), Fail> {
-    let id = ObjectId([0, 1, 2, 3, 4, 5, 6, 7, 8, 9, 10, 11]);
-    let (same, document) = with_id(rt.alloc(), id)?;
-    assert!(rt; same);
-    assert!(rt;
-        document.as_bytes()
-            == b"\x1D\x00\x00\x00\x07_id\x00\x00\x01\x02\x03\x04\x05\x06\x07\x08\x09\x0A\x0B\x10a\x00\x01\x00\x00\x00\x00".as_slice()
-    );
-    Ok(())
-}
-
-#[test]
-fn updates_have_modifiers_and_replacements_none(rt: HostRuntime) -> Result<(), Fail> {
-    // an empty document, one of the key `a`, and one of the key `$set`
-    let table: [(&[u8], Result<(), BsonFault>, Result<(), BsonFault>); 3] = [
-        (b"\x05\x00\x00\x00\x00", Err(BsonFault::UpdateEmpty), Ok(())),
-        (
-            b"\x0C\x00\x00\x00\x10a\x00\x01\x00\x00\x00\x00",
-            Err(BsonFault::UpdateNotModifiers),
-            Ok(()),
-        ),
-        (
-            b"\x0F\x00\x00\x00\x10$set\x00\x01\x00\x00\x00\x00",
-            Ok(()),
-            Err(BsonFault::ReplacementHasModifiers),
-        ),
-    ];
-    for (bytes, update, replacement) in table {
-        let document = RawDocument::from_bytes(bytes)?;
-        assert!(rt; update_document_check(document) == update);
-        assert!(rt; replacement_document_check(document) == replacement);
-        assert!(rt; replacement_raw_document_check(document) == replacement);
+    let alloc = rt.alloc();
+    let mut document = one(alloc)?;
+    // the second time another id is given
+    for first in [0, 9] {
+        let id = ObjectId([first, 1, 2, 3, 4, 5, 6, 7, 8, 9, 10, 11]);
+        let there = id_of(alloc, &mut document, id)?;
+        assert_eq!(rt; there.as_str(), "7 [0, 1, 2, 3, 4, 5, 6, 7, 8, 9, 10, 11]");
     }
+    let whole =
+        b"\x1D\x00\x00\x00\x07_id\x00\x00\x01\x02\x03\x04\x05\x06\x07\x08\x09\x0A\x0B\x10a\x00\x01\x00\x00\x00\x00";
+    assert_eq!(rt; document.as_bytes(), whole.as_slice());
     Ok(())
 }

@@ -1,144 +1,181 @@
-use crate::tests::kinds::{document_of, value_of_kind};
-use mongo_bson::{BsonFault, ObjectId, RawDocument, RawDocumentBuf, RawValue, first_key, take_cstring};
+use super::spelling::{bytes_of, document_of};
+use mongo_bson::{
+    BsonFault, RawDocument, RawDocumentBuf, RawValue, first_key, get_int_raw, get_u64_raw,
+    take_cstring,
+};
 use std::alloc::Global;
 use std::test::Fail;
 
-// Whether a document of one value of this kind and these bytes is readable.
-fn is_readable(alloc: Global, kind: u8, value: &[u8]) -> Result<bool, BsonFault> {
-    Ok(document_of(alloc, kind, value)?.borrow().readable())
+// A row for each kind of BSON 1.1, as its grammar spells it, and more for numbers: the kind byte, the value's bytes, what they
+// mean, and the whole number that they are, with a sign and without. The doubles are 1.0, -2.0, 0.5, 2^63, 2^64 and an
+// infinity.
+const VALUES: &str = r#"01 00 00 00 00 00 00 f0 3f => Double(4607182418800017408) Some(1) Some(1)
+01 00 00 00 00 00 00 00 c0 => Double(13835058055282163712) Some(-2) None
+01 00 00 00 00 00 00 e0 3f => Double(4602678819172646912) None None
+01 00 00 00 00 00 00 e0 43 => Double(4890909195324358656) Some(9223372036854775807) Some(9223372036854775808)
+01 00 00 00 00 00 00 f0 43 => Double(4895412794951729152) None Some(18446744073709551615)
+01 00 00 00 00 00 00 f0 7f => Double(9218868437227405312) None None
+02 02 00 00 00 62 00 => Str("b") None None
+02 04 00 00 00 62 00 63 00 => Str("b\0c") None None
+03 05 00 00 00 00 => Document(RawDocument { bytes: [5, 0, 0, 0, 0] }) None None
+04 05 00 00 00 00 => Array(RawDocument { bytes: [5, 0, 0, 0, 0] }) None None
+05 02 00 00 00 80 78 79 => Binary(128, [120, 121]) None None
+06 => Other(6, []) None None
+07 00 01 02 03 04 05 06 07 08 09 0a 0b => ObjectId(ObjectId([0, 1, 2, 3, 4, 5, 6, 7, 8, 9, 10, 11])) None None
+08 01 => Bool(true) None None
+08 00 => Bool(false) None None
+09 ff ff ff ff ff ff ff ff => DateTime(-1) None None
+0a => Null None None
+0b 70 00 69 00 => Other(11, [112, 0, 105, 0]) None None
+0c 02 00 00 00 62 00 00 01 02 03 04 05 06 07 08 09 0a 0b => Other(12, [2, 0, 0, 0, 98, 0, 0, 1, 2, 3, 4, 5, 6, 7, 8, 9, 10, 11]) None None
+0d 02 00 00 00 62 00 => Other(13, [2, 0, 0, 0, 98, 0]) None None
+0e 02 00 00 00 62 00 => Other(14, [2, 0, 0, 0, 98, 0]) None None
+0f 0f 00 00 00 02 00 00 00 62 00 05 00 00 00 00 => Other(15, [15, 0, 0, 0, 2, 0, 0, 0, 98, 0, 5, 0, 0, 0, 0]) None None
+10 fe ff ff ff => Int32(-2) Some(-2) None
+10 07 00 00 00 => Int32(7) Some(7) Some(7)
+10 00 00 00 80 => Int32(-2147483648) Some(-2147483648) None
+11 01 00 00 00 00 00 00 00 => Other(17, [1, 0, 0, 0, 0, 0, 0, 0]) None None
+12 01 00 00 00 00 00 00 00 => Int64(1) Some(1) Some(1)
+12 00 00 00 00 00 00 00 00 => Int64(0) Some(0) Some(0)
+12 ff ff ff ff ff ff ff ff => Int64(-1) Some(-1) None
+12 ff ff ff ff ff ff ff 7f => Int64(9223372036854775807) Some(9223372036854775807) Some(9223372036854775807)
+13 01 00 00 00 00 00 00 00 00 00 00 00 00 00 40 30 => Other(19, [1, 0, 0, 0, 0, 0, 0, 0, 0, 0, 0, 0, 0, 0, 64, 48]) None None
+7f => Other(127, []) None None
+ff => Other(255, []) None None"#;
+
+// What a value means and the whole numbers that it is, as they are printed.
+fn meaning(alloc: Global, value: RawValue<'_>) -> Result<String, Fail> {
+    let (signed, unsigned) = (get_int_raw(value), get_u64_raw(value));
+    Ok(format!(in alloc; "{value:?} {signed:?} {unsigned:?}")?)
 }
 
-// Whether the only value of a document of one value is read as its kind and bytes.
-fn is_read_whole(alloc: Global, kind: u8, value: &[u8]) -> Result<bool, BsonFault> {
-    let document = document_of(alloc, kind, value)?;
-    Ok(
-        document.borrow().iter().count() == 1
-            && document.borrow().get_bytes("a")? == Some((kind, value)),
+// Whether the value alone under `a` in a new document makes this document.
+fn is_written(alloc: Global, value: RawValue<'_>, document: RawDocument<'_>) -> Result<bool, Fail> {
+    let mut written = RawDocumentBuf::new(alloc)?;
+    written.append("a", value)?;
+    Ok(written.as_bytes() == document.as_bytes())
+}
+
+// What the only value of a document means, where each way to read it gives it.
+fn told_of(
+    alloc: Global,
+    document: RawDocument<'_>,
+    kind: u8,
+    bytes: &[u8],
+) -> Result<String, Fail> {
+    let Some(value) = document.get("a")? else {
+        return Err(Fail::new("no value"));
+    };
+    if document.readable()
+        && document.iter().count() == 1
+        && document.get_bytes("a")? == Some((kind, bytes))
+        && is_written(alloc, value, document)?
+    {
+        meaning(alloc, value)
+    } else {
+        Err(Fail::new("read in two ways"))
+    }
+}
+
+// The same of a value of this kind.
+fn told(alloc: Global, kind: u8, value: &[u8]) -> Result<String, Fail> {
+    let bytes = document_of(alloc, kind, value)?;
+    told_of(
+        alloc,
+        RawDocument::from_bytes(bytes.as_slice())?,
+        kind,
+        value,
     )
 }
 
-// Whether no value is found where these bytes are no value of the kind.
-fn is_refused(alloc: Global, kind: u8, value: &[u8]) -> Result<bool, BsonFault> {
-    let document = document_of(alloc, kind, value)?;
-    Ok(!document.borrow().readable() && document.borrow().get("a") == Err(BsonFault::Malformed))
+// Whether these bytes are no value of the kind.
+fn is_refused(alloc: Global, kind: u8, value: &[u8]) -> Result<bool, Fail> {
+    let bytes = document_of(alloc, kind, value)?;
+    let document = RawDocument::from_bytes(bytes.as_slice())?;
+    Ok(!document.readable() && document.get("a") == Err(BsonFault::Malformed))
+}
+
+// Whether the value of a row means what stands behind the arrow, and is refused where it is cut.
+fn is_row_read(alloc: Global, row: &str) -> Result<bool, Fail> {
+    let (spelled, wanted) = row.split_once(" => ").unwrap_or((row, "no arrow"));
+    let bytes = bytes_of(alloc, spelled)?;
+    let [kind, value @ ..] = bytes.as_slice() else {
+        return Ok(false);
+    };
+    for cut in 0..value.len() {
+        if !is_refused(alloc, *kind, &value[..cut])? {
+            return Ok(false);
+        }
+    }
+    Ok(told(alloc, *kind, value)?.as_str() == wanted)
+}
+
+// Texts that aren't UTF-8, with no room for the zero and without it, and a boolean that is 2.
+const REFUSED: &str = "02 02 00 00 00 ff 00
+02 00 00 00 00
+02 01 00 00 00 62
+08 02";
+
+// Whether the value of a row is refused.
+fn is_row_refused(alloc: Global, row: &str) -> Result<bool, Fail> {
+    match bytes_of(alloc, row)?.as_slice() {
+        [kind, value @ ..] => is_refused(alloc, *kind, value),
+        [] => Ok(false),
+    }
 }
 
 #[test]
 fn each_kind_is_read_whole_and_refused_cut(rt: HostRuntime) -> Result<(), Fail> {
-    for kind in 0..=255u8 {
-        let Some(value) = value_of_kind(kind) else {
-            assert!(rt; is_refused(rt.alloc(), kind, b"")?, "kind {kind}");
-            continue;
-        };
-        assert!(rt; is_readable(rt.alloc(), kind, value)?, "kind {kind}");
-        assert!(rt; is_read_whole(rt.alloc(), kind, value)?, "kind {kind}");
-        for cut in 0..value.len() {
-            assert!(rt;
-                is_refused(rt.alloc(), kind, &value[..cut])?,
-                "kind {kind} cut to {cut}"
-            );
+    for row in VALUES.lines() {
+        assert!(rt; is_row_read(rt.alloc(), row)?, "{row}");
+    }
+    for row in REFUSED.lines() {
+        assert!(rt; is_row_refused(rt.alloc(), row)?, "{row}");
+    }
+    // The kinds between those of BSON 1.1
+    for kind in [0x00, 0x14, 0x7E, 0x80, 0xFE] {
+        assert!(rt; is_refused(rt.alloc(), kind, b"")?, "{kind}");
+    }
+    Ok(())
+}
+
+// Frames with a length below 5, without the zero, of another length and of a negative one; an empty document; and keys
+// that are UTF-8 and not. Of a document its first key, and what stands under a letter with an accent.
+const FRAMES: &str = r#" => Malformed
+04 00 00 00 => Malformed
+05 00 00 00 01 => Malformed
+04 00 00 00 00 => Malformed
+06 00 00 00 00 => Malformed
+05 00 00 80 00 => Malformed
+05 00 00 00 00 => Ok(None) Ok(None)
+09 00 00 00 0a c3 a9 00 00 => Ok(Some("é")) Ok(Some(Null))
+08 00 00 00 0a ff 00 00 => Err(Malformed) Err(Malformed)"#;
+
+// What a document says, as it is printed.
+fn said(alloc: Global, bytes: &[u8]) -> Result<String, Fail> {
+    match RawDocument::from_bytes(bytes) {
+        Ok(document) => {
+            let (first, value) = (first_key(document), document.get("é"));
+            Ok(format!(in alloc; "{first:?} {value:?}")?)
         }
+        Err(fault) => Ok(format!(in alloc; "{fault:?}")?),
     }
-    Ok(())
 }
 
-#[test]
-fn values_mean_what_their_bytes_say(rt: HostRuntime) -> Result<(), Fail> {
-    let id = ObjectId([0, 1, 2, 3, 4, 5, 6, 7, 8, 9, 10, 11]);
-    let empty = RawDocument::from_bytes(b"\x05\x00\x00\x00\x00")?;
-    let table = [
-        (0x01, RawValue::Double(0x3FF0_0000_0000_0000)),
-        (0x02, RawValue::Str("b")),
-        (0x03, RawValue::Document(empty)),
-        (0x04, RawValue::Array(empty)),
-        (0x05, RawValue::Binary(0x80, b"xy")),
-        (0x07, RawValue::ObjectId(id)),
-        (0x08, RawValue::Bool(true)),
-        (0x09, RawValue::DateTime(-1)),
-        (0x0A, RawValue::Null),
-        (0x10, RawValue::Int32(-2)),
-        (0x12, RawValue::Int64(1)),
-    ];
-    for (kind, want) in table {
-        let bytes = value_of_kind(kind).ok_or("no bytes")?;
-        let read = document_of(rt.alloc(), kind, bytes)?;
-        assert!(rt; read.borrow().get("a")? == Some(want), "kind {kind}");
-        let mut written = RawDocumentBuf::new(rt.alloc())?;
-        written.append("a", want)?;
-        assert!(rt; written == read, "kind {kind}");
-    }
-    Ok(())
-}
-
-#[test]
-fn values_without_a_variant_are_their_bytes(rt: HostRuntime) -> Result<(), Fail> {
-    for kind in [0x06, 0x0B, 0x0C, 0x0D, 0x0E, 0x0F, 0x11, 0x13, 0x7F, 0xFF] {
-        let bytes = value_of_kind(kind).ok_or("no bytes")?;
-        let read = document_of(rt.alloc(), kind, bytes)?;
-        assert!(rt;
-            read.borrow().get("a")? == Some(RawValue::Other(kind, bytes)),
-            "kind {kind}"
-        );
-    }
-    Ok(())
+// Whether the document of a row says what stands behind the arrow.
+fn is_said(alloc: Global, row: &str) -> Result<bool, Fail> {
+    let (spelled, wanted) = row.split_once(" => ").unwrap_or((row, "no arrow"));
+    let bytes = bytes_of(alloc, spelled)?;
+    Ok(said(alloc, bytes.as_slice())?.as_str() == wanted)
 }
 
 #[test]
 fn a_frame_is_as_long_as_it_says(rt: HostRuntime) -> Result<(), Fail> {
-    let refused: [&[u8]; 6] = [
-        b"",
-        b"\x04\x00\x00\x00",
-        b"\x05\x00\x00\x00\x01",
-        b"\x04\x00\x00\x00\x00",
-        b"\x06\x00\x00\x00\x00",
-        b"\x05\x00\x00\x80\x00",
-    ];
-    for bytes in refused {
-        assert!(rt;
-            RawDocument::from_bytes(bytes) == Err(BsonFault::Malformed),
-            "{bytes:?}"
-        );
+    for row in FRAMES.lines() {
+        assert!(rt; is_said(rt.alloc(), row)?, "{row}");
     }
-    let empty = RawDocument::from_bytes(b"\x05\x00\x00\x00\x00")?;
-    assert!(rt; empty.readable());
-    assert!(rt; first_key(empty)?.is_none());
-    Ok(())
-}
-
-#[test]
-fn a_text_may_hold_a_zero(rt: HostRuntime) -> Result<(), Fail> {
-    let document = document_of(rt.alloc(), 0x02, b"\x04\x00\x00\x00b\x00c\x00")?;
-    assert!(rt; document.borrow().get("a")? == Some(RawValue::Str("b\0c")));
-    Ok(())
-}
-
-#[test]
-fn other_texts_and_booleans_are_refused(rt: HostRuntime) -> Result<(), Fail> {
-    // not UTF-8, no room for the zero, no zero, and a boolean that is 2
-    let table: [(u8, &[u8]); 4] = [
-        (0x02, b"\x02\x00\x00\x00\xFF\x00"),
-        (0x02, b"\x00\x00\x00\x00"),
-        (0x02, b"\x01\x00\x00\x00b"),
-        (0x08, b"\x02"),
-    ];
-    for (kind, value) in table {
-        assert!(rt; is_refused(rt.alloc(), kind, value)?, "{value:?}");
-    }
-    Ok(())
-}
-
-#[test]
-fn a_key_is_utf8(rt: HostRuntime) -> Result<(), Fail> {
-    let wide_key = RawDocument::from_bytes(b"\x09\x00\x00\x00\x0A\xC3\xA9\x00\x00")?;
-    assert!(rt; wide_key.get("é")? == Some(RawValue::Null));
-    let broken_key = RawDocument::from_bytes(b"\x08\x00\x00\x00\x0A\xFF\x00\x00")?;
-    assert!(rt; broken_key.get("a") == Err(BsonFault::Malformed));
-    Ok(())
-}
-
-#[test]
-fn a_cstring_ends_at_its_zero(rt: HostRuntime) {
     assert!(rt; take_cstring(b"\xC3\xA9\0b\0") == Some(("é", b"b\0".as_slice())));
     assert!(rt; take_cstring(b"a\xFF\0").is_none());
     assert!(rt; take_cstring(b"a").is_none());
+    Ok(())
 }

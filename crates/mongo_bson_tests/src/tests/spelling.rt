@@ -1,0 +1,33 @@
+use std::alloc::{AllocError, Global};
+use std::test::Fail;
+
+// The bytes that a row has as pairs of hexadecimal digits, apart by blanks.
+pub(crate) fn bytes_of(alloc: Global, row: &str) -> Result<Vec<u8>, Fail> {
+    let mut bytes = Vec::new(alloc);
+    for pair in row.split_whitespace() {
+        bytes.push(u8::from_str_radix(pair, 16)?)?;
+    }
+    Ok(bytes)
+}
+
+// A length as a document has it, the lowest byte first. The documents of these tests are shorter than 2^32 bytes.
+pub(crate) fn length_field(length: usize) -> [u8; 4] {
+    u32::try_from(length).unwrap_or(0).to_le_bytes()
+}
+
+// The bytes with the frame of a document around them.
+pub(crate) fn framed(alloc: Global, body: &[u8]) -> Result<Vec<u8>, AllocError> {
+    let mut bytes = Vec::new(alloc);
+    bytes.extend_from_slice(&length_field(body.len().saturating_add(5)))?;
+    bytes.extend_from_slice(body)?;
+    bytes.push(0)?;
+    Ok(bytes)
+}
+
+// The document of one element: a kind byte, the key `a`, and the value's bytes.
+pub(crate) fn document_of(alloc: Global, kind: u8, value: &[u8]) -> Result<Vec<u8>, AllocError> {
+    let mut body = Vec::new(alloc);
+    body.extend_from_slice(&[kind, 0x61, 0])?;
+    body.extend_from_slice(value)?;
+    framed(alloc, body.as_slice())
+}
