@@ -41,4 +41,3 @@ pub use mongo_wire::{
     WriteFailure, WriteFailureCause,
 };
 pub use options::{EstablisherOptions, HandshakerOptions, TopologySpec, auth_options_from_options};
-

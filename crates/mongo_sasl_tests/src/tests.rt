@@ -1,24 +1,15 @@
-mod commands;
 mod credentials;
-mod mechanisms;
-mod plain_logins;
-mod replies;
-mod validating;
-mod x509_logins;
+mod logins;
+mod messages;
+mod rules;
 
+use mongo_bson::{BsonFault, Bytes, Text};
 use mongo_sasl::Credential;
-use mongo_bson::{BsonFault, RawDocumentBuf, RawValue, Text};
-use mongo_command::ServerAddress;
 use mongo_wire::{AuthFault, Error, ErrorKind};
 use std::alloc::Global;
 
-// A document of these fields.
-fn document(alloc: Global, fields: &[(&str, RawValue<'_>)]) -> Result<RawDocumentBuf, BsonFault> {
-    let mut document = RawDocumentBuf::new(alloc)?;
-    for (key, value) in fields {
-        document.append(key, *value)?;
-    }
-    Ok(document)
+fn bytes(alloc: Global, given: &[u8]) -> Result<Bytes, BsonFault> {
+    Bytes::from_slice(alloc, given)
 }
 
 fn text(alloc: Global, given: Option<&str>) -> Result<Option<Text>, BsonFault> {
@@ -28,33 +19,24 @@ fn text(alloc: Global, given: Option<&str>) -> Result<Option<Text>, BsonFault> {
     }
 }
 
-// A credential of a user name, a source and a password.
-fn credential(
-    alloc: Global,
-    username: Option<&str>,
-    source: Option<&str>,
-    password: Option<&str>,
-) -> Result<Credential, BsonFault> {
-    Ok(
-        Credential::new()
-            .username(text(alloc, username)?)
-            .source(text(alloc, source)?)
-            .password(text(alloc, password)?),
-    )
+/// A user name, a source and a password.
+type Parts = (
+    Option<&'static str>,
+    Option<&'static str>,
+    Option<&'static str>,
+);
+
+fn credential(alloc: Global, parts: Parts) -> Result<Credential, BsonFault> {
+    let (username, source, password) = parts;
+    let mut made = Credential::new();
+    made.username = text(alloc, username)?;
+    made.source = text(alloc, source)?;
+    made.password = text(alloc, password)?;
+    Ok(made)
 }
 
-fn address(alloc: Global) -> Result<ServerAddress, BsonFault> {
-    Ok(ServerAddress::Tcp {
-        host: Text::from_slice(alloc, "localhost")?,
-        port: None,
-    })
-}
-
-// The name of the fault that a login was refused for, or what the server says of it.
-fn fault_of<'a>(answer: &'a Result<(), Error>) -> &'a str {
-    let Err(refused) = answer else {
-        return "none";
-    };
+// The name of the fault that a login or a reply was refused for, or what the server says of it.
+fn fault_of(refused: &Error) -> &str {
     match &refused.kind {
         ErrorKind::Authentication(AuthFault::NoUsername) => "NoUsername",
         ErrorKind::Authentication(AuthFault::NoPassword) => "NoPassword",

@@ -6,5 +6,3 @@ pub mod names;
 pub mod outcome;
 pub mod refusal;
 pub mod sent;
-#[cfg(test)]
-mod tests;

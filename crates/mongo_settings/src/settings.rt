@@ -16,8 +16,6 @@ mod options;
 mod pending;
 mod properties;
 mod reading;
-#[cfg(test)]
-mod tests;
 
 use floats::holds_float;
 use keys::judge_keys;

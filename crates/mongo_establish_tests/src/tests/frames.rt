@@ -101,14 +101,6 @@ pub const SPECULATED: &[u8] =
 pub const SERVED: &[u8] =
     b"m\0\0\0\x01\0\0\0\0\0\0\0\xdd\x07\0\0\0\0\0\0\0X\0\0\0\x01ok\0\0\0\0\0\0\0\xf0?\x10maxBsonObjectSize\0\0\0\0\x01\x10maxMessageSizeBytes\0\0l\xdc\x02\x07serviceId\0\0\x01\x02\x03\x04\x05\x06\x07\x08\x09\x0a\x0b\0";
 
-/// The reply of a router to shards.
-pub const ROUTER: &[u8] =
-    b"h\0\0\0\x01\0\0\0\0\0\0\0\xdd\x07\0\0\0\0\0\0\0S\0\0\0\x01ok\0\0\0\0\0\0\0\xf0?\x02msg\0\x09\0\0\0isdbgrid\0\x10maxBsonObjectSize\0\0\0\0\x01\x10maxMessageSizeBytes\0\0l\xdc\x02\0";
-
-/// The reply of the primary of the replica set `rs0`.
-pub const PRIMARY: &[u8] =
-    b"{\0\0\0\x01\0\0\0\0\0\0\0\xdd\x07\0\0\0\0\0\0\0f\0\0\0\x01ok\0\0\0\0\0\0\0\xf0?\x10maxBsonObjectSize\0\0\0\0\x01\x10maxMessageSizeBytes\0\0l\xdc\x02\x08isWritablePrimary\0\x01\x02setName\0\x04\0\0\0rs0\0\0";
-
 /// A login's reply that ends its conversation.
 pub const DONE: &[u8] =
     b"O\0\0\0\x01\0\0\0\0\0\0\0\xdd\x07\0\0\0\0\0\0\0:\0\0\0\x01ok\0\0\0\0\0\0\0\xf0?\x10conversationId\0\x01\0\0\0\x08done\0\x01\x05payload\0\0\0\0\0\0\0";

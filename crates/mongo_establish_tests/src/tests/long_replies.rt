@@ -1,11 +1,10 @@
-ghost use Rattle.std.specs.Prelude.{◌≡◌, ◌<◌, ◌≤◌};
+ghost use Rattle.std.specs.Prelude.{◌≤◌};
 
-use super::logging_in::{ACCEPTED, CHALLENGE, End, NEGOTIATED, Told, end_of, log_in, new_state};
+use super::failing::{ACCEPTED, CHALLENGE, NEGOTIATED};
+use super::{End, Pool, SEVENTH, Who, end_of, is_same_end, made_in_memory, new_state, told_by};
 use mongo_establish::{Bytes, MemoryLink};
 use mongo_wire::Error;
 use std::alloc::Global;
-use std::marker::Brand;
-use std::sync::ledger::{Blank, Ledger};
 use std::test::Fail;
 
 // Puts so many letters at the end.
@@ -66,10 +65,9 @@ fn heard_past_the_maximum(alloc: Global) -> Result<Vec<u8>, Error> {
 }
 
 // The end of a login that heard so many bytes and said all.
-fn end_with(told: Told, heard: usize, entries: usize) -> End {
+fn end_with(cause: &'static str, heard: usize, entries: usize) -> End {
     End {
-        told,
-        described: true,
+        told: (cause, 0, SEVENTH),
         next_id: 3,
         said: 830,
         heard,
@@ -78,51 +76,50 @@ fn end_with(told: Told, heard: usize, entries: usize) -> End {
     }
 }
 
-// What a login hears that starts after its hello, from a server that takes messages of 48000000 bytes, and how it ends.
-fn long_at(alloc: Global, place: u8) -> Result<(Vec<u8>, End), Error> {
+// What a login hears that starts after its hello, from a server that takes messages of 48000000 bytes.
+fn heard_at(alloc: Global, place: u8) -> Result<Vec<u8>, Error> {
     match place {
-        0 => Ok((
-            heard_with_filler(alloc, 48_000_000)?,
-            end_with(Told::Nothing, 48_000_350, 1),
-        )),
-        1 => Ok((
-            heard_with_verifier(alloc, 4_000_001)?,
-            end_with(Told::Verifier, 4_000_404, 0),
-        )),
-        _ => Ok((
-            heard_past_the_maximum(alloc)?,
-            End {
-                next_id: 2,
-                said: 650,
-                rounds: 0,
-                // no more than the header
-                ..end_with(Told::OverMaximum, 257, 0)
-            },
-        )),
+        0 => heard_with_filler(alloc, 48_000_000),
+        1 => heard_with_verifier(alloc, 4_000_001),
+        _ => heard_past_the_maximum(alloc),
     }
 }
 
-// The end of a login over a link that doesn't fail.
-fn ended_on<G: Ledger>(blank: Blank, alloc: Global, heard: Vec<u8>) -> Result<End, Error>
-    requires name { blank.name ≡ G.name }
-    requires parts { blank.parts ≡ G.parts }
-    requires has_a_part { 0 < G.parts }
-{
+fn long_end_at(place: u8) -> End {
+    match place {
+        0 => end_with("none", 48_000_350, 1),
+        1 => end_with("Verifier", 4_000_404, 0),
+        _ => End {
+            next_id: 2,
+            said: 650,
+            rounds: 0,
+            // no more than the header
+            ..end_with("OverMaximum", 257, 0)
+        },
+    }
+}
+
+// Whether a login over a link that doesn't fail ends so.
+fn ends_so(alloc: Global, heard: Vec<u8>, wanted: &End) -> Result<bool, Error> {
     let length = heard.len();
     let mut link = MemoryLink::new(alloc, Bytes::from_vec(heard));
     let mut state = new_state(alloc);
-    let answer = log_in::<_, G>(blank, alloc, &mut link, &mut state)?;
+    let told = told_by(&made_in_memory(
+        alloc,
+        Who::Negotiated,
+        Pool::Normal,
+        &mut link,
+        &mut state,
+    )?);
     let taken = length.saturating_sub(link.left().len());
-    Ok(end_of(&answer, &state, link.written().len(), taken))
+    Ok(is_same_end(&end_of(told, &state, link.written().len(), taken), wanted))
 }
 
 #[test]
 fn replies_may_be_as_long_as_the_server_says(rt: HostRuntime) -> Result<(), Fail> {
-    let alloc = rt.alloc();
     for place in 0..3 {
-        let (heard, wanted) = long_at(alloc, place)?;
-        let end = ended_on::<Brand>(Blank::new(1), alloc, heard)?;
-        assert_eq!(rt; end, wanted, "at {place}");
+        let heard = heard_at(rt.alloc(), place)?;
+        assert!(rt; ends_so(rt.alloc(), heard, &long_end_at(place))?, "{place}");
     }
     Ok(())
 }

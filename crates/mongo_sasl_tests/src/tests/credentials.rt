@@ -1,70 +1,143 @@
-use super::{credential, document};
+use super::{Parts, bytes, credential};
+use mongo_bson::{BsonFault, RawDocumentBuf};
 use mongo_sasl::{AuthMechanism, Credential, Moment};
-use mongo_bson::{RawDocumentBuf, RawValue};
+use mongo_wire::ArgumentFault;
+use std::alloc::Global;
 use std::test::Fail;
+
+const ANN: Parts = (Some("ann"), Some("orders"), Some("pencil"));
+
+fn is_shown_as(alloc: Global, user: &Credential, text: &str) -> bool {
+    match format!(in alloc; "{user:?}") {
+        Ok(shown) => shown.as_str() == text,
+        Err(_) => false,
+    }
+}
+
+fn is_copied(alloc: Global, user: &Credential) -> bool {
+    match user.try_clone(alloc) {
+        Ok(copy) => copy == *user,
+        Err(_) => false,
+    }
+}
+
+// A credential with properties beside all else.
+fn whole(alloc: Global) -> Result<Credential, BsonFault> {
+    let properties = RawDocumentBuf::from_bytes(bytes(alloc, b"\x0b\0\0\0\x0aCASE\0\0")?)?;
+    let mut made = credential(alloc, ANN)?;
+    made.mechanism = Some(AuthMechanism::Plain);
+    made.mechanism_properties = Some(properties);
+    Ok(made)
+}
 
 #[test]
 fn nothing_of_a_credential_is_shown(rt: HostRuntime) -> Result<(), Fail> {
-    let alloc = rt.alloc();
-    let secret = credential(alloc, Some("ann"), Some("orders"), Some("pencil"))?;
-    let shown = format!(in alloc; "{secret:?}")?;
-    assert_eq!(rt; shown.as_str(), "Credential(\"REDACTED\")");
-    let shown = format!(in alloc; "{:?}", Credential::new())?;
-    assert_eq!(rt; shown.as_str(), "Credential(\"REDACTED\")");
+    let ann = whole(rt.alloc())?;
+    assert!(rt; is_shown_as(rt.alloc(), &ann, "Credential(\"REDACTED\")"));
+    assert!(rt; is_copied(rt.alloc(), &ann));
+    assert!(rt; ann != Credential::new());
+    assert_eq!(rt; ann.resolved_source(), "$external");
+    assert_eq!(rt; Credential::new().resolved_source(), "admin");
     Ok(())
 }
 
-#[test]
-fn a_copy_of_a_credential_is_equal_to_it(rt: HostRuntime) -> Result<(), Fail> {
-    let alloc = rt.alloc();
-    let given = credential(alloc, Some("ann"), Some("orders"), Some("pencil"))?
-        .mechanism(Some(AuthMechanism::Plain))
-        .mechanism_properties(Some(document(alloc, &[("CASE", RawValue::Null)])?));
-    assert!(rt; given.try_clone(alloc)? == given);
-    assert!(rt; given != Credential::new());
-    Ok(())
-}
-
-#[test]
-fn mechanisms_are_asked_for_where_there_is_a_user_and_no_mechanism(
-    rt: HostRuntime,
-) -> Result<(), Fail> {
-    let alloc = rt.alloc();
-    let ann = credential(alloc, Some("ann"), Some("orders"), None)?;
+// Whether a credential of these parts and this mechanism makes a hello of an empty document this.
+fn asks(
+    alloc: Global,
+    parts: Parts,
+    mechanism: Option<AuthMechanism>,
+    wanted: &[u8],
+) -> Result<bool, BsonFault> {
     let mut hello = RawDocumentBuf::new(alloc)?;
-    ann.append_needed_mechanism_negotiation(alloc, &mut hello)?;
-    let asked = b"\x27\0\0\0\x02saslSupportedMechs\0\x0a\0\0\0admin.ann\0\0";
-    assert_eq!(rt; hello.as_bytes(), asked.as_slice());
+    let mut user = credential(alloc, parts)?;
+    user.mechanism = mechanism;
+    let answer = user.append_needed_mechanism_negotiation(alloc, &mut hello);
+    Ok(answer.is_ok() && hello.as_bytes() == wanted)
+}
 
-    let silent = [
-        Credential::new(),
-        credential(alloc, None, Some("orders"), Some("pencil"))?,
-        credential(alloc, Some("ann"), None, None)?.mechanism(Some(AuthMechanism::ScramSha1)),
-    ];
-    for credential in silent {
-        let mut hello = RawDocumentBuf::new(alloc)?;
-        credential.append_needed_mechanism_negotiation(alloc, &mut hello)?;
-        assert_eq!(rt; hello.as_bytes(), b"\x05\0\0\0\0".as_slice());
+// Who is asked for: a user without a mechanism, one with a mechanism, and none.
+#[test]
+fn mechanisms_are_asked_for(rt: HostRuntime) {
+    const ASKED: &[u8] = b"'\0\0\0\x02saslSupportedMechs\0\x0a\0\0\0admin.ann\0\0";
+    const SILENT: &[u8] = b"\x05\0\0\0\0";
+    let scram = Some(AuthMechanism::ScramSha1);
+    assert!(rt; matches!(asks(rt.alloc(), ANN, None, ASKED), Ok(true)));
+    assert!(rt; matches!(asks(rt.alloc(), ANN, scram, SILENT), Ok(true)));
+    assert!(rt; matches!(asks(rt.alloc(), (None, None, None), None, SILENT), Ok(true)));
+}
+
+// Each mechanism, its name, and its source without and with a database of the connection string.
+fn mechanism_at(place: u8) -> (AuthMechanism, &'static str, &'static str, &'static str) {
+    match place {
+        0 => (AuthMechanism::MongoDbCr, "MONGODB-CR", "admin", "orders"),
+        1 => (AuthMechanism::ScramSha1, "SCRAM-SHA-1", "admin", "orders"),
+        2 => (
+            AuthMechanism::ScramSha256,
+            "SCRAM-SHA-256",
+            "admin",
+            "orders",
+        ),
+        3 => (
+            AuthMechanism::MongoDbX509,
+            "MONGODB-X509",
+            "$external",
+            "$external",
+        ),
+        4 => (AuthMechanism::Plain, "PLAIN", "$external", "orders"),
+        5 => (
+            AuthMechanism::MongoDbAws,
+            "MONGODB-AWS",
+            "$external",
+            "$external",
+        ),
+        _ => (
+            AuthMechanism::MongoDbOidc,
+            "MONGODB-OIDC",
+            "$external",
+            "$external",
+        ),
     }
-    Ok(())
 }
 
 #[test]
-fn the_source_is_that_of_the_mechanism(rt: HostRuntime) -> Result<(), Fail> {
-    let orders = credential(rt.alloc(), None, Some("orders"), None)?;
-    assert_eq!(rt; orders.resolved_source(), "admin");
-    let plain = orders.mechanism(Some(AuthMechanism::Plain));
-    assert_eq!(rt; plain.resolved_source(), "$external");
-    Ok(())
+fn mechanisms_have_names_and_sources(rt: HostRuntime) {
+    for place in 0..7 {
+        let (mechanism, name, source, source_of_orders) = mechanism_at(place);
+        assert!(rt;
+            reads_as(name, Ok(mechanism)) && mechanism.as_str() == name,
+            "{name}"
+        );
+        assert_eq!(rt; mechanism.default_source(None), source);
+        assert_eq!(rt; mechanism.default_source(Some("orders")), source_of_orders);
+    }
+}
+
+fn reads_as(name: &str, wanted: Result<AuthMechanism, ArgumentFault>) -> bool {
+    name.parse::<AuthMechanism>() == wanted
 }
 
 #[test]
-fn moments_are_of_the_years_0_to_9998(rt: HostRuntime) -> Result<(), Fail> {
-    for ms in [-62_167_219_200_000, 0, 253_370_764_799_999] {
-        assert_eq!(rt; Moment::new(ms).map(|moment| moment.ms()), Some(ms));
+fn other_names_are_refused(rt: HostRuntime) {
+    for (name, wanted) in [
+        ("GSSAPI", ArgumentFault::MechanismGssapi),
+        ("", ArgumentFault::MechanismUnknown),
+        ("scram-sha-256", ArgumentFault::MechanismUnknown),
+        ("PLAIN ", ArgumentFault::MechanismUnknown),
+    ] {
+        assert!(rt; reads_as(name, Err(wanted)), "{name}");
     }
-    for ms in [i64::MIN, -62_167_219_200_001, 253_370_764_800_000, i64::MAX] {
-        assert_eq!(rt; Moment::new(ms), None);
+}
+
+// From the year 0 to the end of 9998.
+#[test]
+fn moments_are_of_the_years_0_to_9998(rt: HostRuntime) {
+    for (ms, built) in [
+        (-62_167_219_200_001, false),
+        (-62_167_219_200_000, true),
+        (253_370_764_799_999, true),
+        (253_370_764_800_000, false),
+    ] {
+        let moment = Moment::new(ms).map(|moment| moment.ms());
+        assert_eq!(rt; moment, built.then_some(ms));
     }
-    Ok(())
 }

@@ -1,0 +1,263 @@
+use super::{Parts, bytes, credential, fault_of};
+use mongo_bson::{BsonFault, Text};
+use mongo_command::{Connection, ServerAddress};
+use mongo_sasl::{Credential, plain, x509};
+use mongo_wire::{Error, FrameBuffer, MemoryLink, RequestIds};
+use std::alloc::Global;
+
+// The commands of `user` with the password `pencil` and of `CN=a`, as id 1.
+const START: &[u8] =
+    b"k\0\0\0\x01\0\0\0\0\0\0\0\xdd\x07\0\0\0\0\0\0\0V\0\0\0\x10saslStart\0\x01\0\0\0\x02mechanism\0\x06\0\0\0PLAIN\0\x05payload\0\x0c\0\0\0\0\0user\0pencil\x02$db\0\x0a\0\0\0$external\0\0";
+
+const AUTHENTICATE: &[u8] =
+    b"n\0\0\0\x01\0\0\0\0\0\0\0\xdd\x07\0\0\0\0\0\0\0Y\0\0\0\x10authenticate\0\x01\0\0\0\x02mechanism\0\x0d\0\0\0MONGODB-X509\0\x02username\0\x05\0\0\0CN=a\0\x02$db\0\x0a\0\0\0$external\0\0";
+
+/// What a login is by: PLAIN, X.509, or X.509 that the server has answered in its hello.
+#[derive(Clone, Copy)]
+enum By {
+    Plain,
+    X509,
+    Answered,
+}
+
+/// A login: what it is by, who logs in, what it hears, the fault that it ends with, and all that it says.
+#[derive(Clone, Copy)]
+struct Row {
+    by: By,
+    user: Parts,
+    heard: &'static [u8],
+    fault: &'static str,
+    said: &'static [u8],
+}
+
+fn row_at(place: u8) -> Row {
+    match place {
+        // PLAIN: a reply that ends the conversation and one that doesn't, a failure, a key that stands twice, a success without its fields, and none
+        0 => Row {
+            by: By::Plain,
+            user: (Some("user"), None, Some("pencil")),
+            heard: b"O\0\0\0\x01\0\0\0\0\0\0\0\xdd\x07\0\0\0\0\0\0\0:\0\0\0\x01ok\0\0\0\0\0\0\0\xf0?\x10conversationId\0\x01\0\0\0\x08done\0\x01\x05payload\0\0\0\0\0\0\0",
+            fault: "none",
+            said: START,
+        },
+        1 => Row {
+            by: By::Plain,
+            user: (Some("user"), None, Some("pencil")),
+            heard: b"O\0\0\0\x01\0\0\0\0\0\0\0\xdd\x07\0\0\0\0\0\0\0:\0\0\0\x01ok\0\0\0\0\0\0\0\xf0?\x10conversationId\0\x01\0\0\0\x08done\0\0\x05payload\0\0\0\0\0\0\0",
+            fault: "Malformed",
+            said: START,
+        },
+        2 => Row {
+            by: By::Plain,
+            user: (Some("user"), None, Some("pencil")),
+            heard: b"5\0\0\0\x01\0\0\0\0\0\0\0\xdd\x07\0\0\0\0\0\0\0 \0\0\0\x01ok\0\0\0\0\0\0\0\0\0\x02errmsg\0\x03\0\0\0no\0\0",
+            fault: "no",
+            said: START,
+        },
+        3 => Row {
+            by: By::Plain,
+            user: (Some("user"), None, Some("pencil")),
+            heard: b"2\0\0\0\x01\0\0\0\0\0\0\0\xdd\x07\0\0\0\0\0\0\0\x1d\0\0\0\x01ok\0\0\0\0\0\0\0\xf0?\x01ok\0\0\0\0\0\0\0\xf0?\0",
+            fault: "Malformed",
+            said: START,
+        },
+        4 => Row {
+            by: By::Plain,
+            user: (Some("user"), None, Some("pencil")),
+            heard: b"&\0\0\0\x01\0\0\0\0\0\0\0\xdd\x07\0\0\0\0\0\0\0\x11\0\0\0\x01ok\0\0\0\0\0\0\0\xf0?\0",
+            fault: "Malformed",
+            said: START,
+        },
+        5 => Row {
+            by: By::Plain,
+            user: (Some("user"), None, Some("pencil")),
+            heard: b"",
+            fault: "EndOfInput",
+            said: START,
+        },
+        // credentials that lack a part, of which the name is missed first
+        6 => Row {
+            by: By::Plain,
+            user: (None, None, Some("pencil")),
+            heard: b"",
+            fault: "NoUsername",
+            said: b"",
+        },
+        7 => Row {
+            by: By::Plain,
+            user: (None, None, None),
+            heard: b"",
+            fault: "NoUsername",
+            said: b"",
+        },
+        8 => Row {
+            by: By::Plain,
+            user: (Some("user"), None, None),
+            heard: b"",
+            fault: "NoPassword",
+            said: b"",
+        },
+        // X.509, by `ok`: the double 1.0, the int32 1, none, 0.0, 1.5, a text, and 1.0 twice
+        9 => Row {
+            by: By::X509,
+            user: (Some("CN=a"), None, None),
+            heard: b"&\0\0\0\x01\0\0\0\0\0\0\0\xdd\x07\0\0\0\0\0\0\0\x11\0\0\0\x01ok\0\0\0\0\0\0\0\xf0?\0",
+            fault: "none",
+            said: AUTHENTICATE,
+        },
+        10 => Row {
+            by: By::X509,
+            user: (Some("CN=a"), None, None),
+            heard: b"\"\0\0\0\x01\0\0\0\0\0\0\0\xdd\x07\0\0\0\0\0\0\0\x0d\0\0\0\x10ok\0\x01\0\0\0\0",
+            fault: "none",
+            said: AUTHENTICATE,
+        },
+        11 => Row {
+            by: By::X509,
+            user: (Some("CN=a"), None, None),
+            heard: b"\x1a\0\0\0\x01\0\0\0\0\0\0\0\xdd\x07\0\0\0\0\0\0\0\x05\0\0\0\0",
+            fault: "X509Failed",
+            said: AUTHENTICATE,
+        },
+        12 => Row {
+            by: By::X509,
+            user: (Some("CN=a"), None, None),
+            heard: b"&\0\0\0\x01\0\0\0\0\0\0\0\xdd\x07\0\0\0\0\0\0\0\x11\0\0\0\x01ok\0\0\0\0\0\0\0\0\0\0",
+            fault: "X509Failed",
+            said: AUTHENTICATE,
+        },
+        13 => Row {
+            by: By::X509,
+            user: (Some("CN=a"), None, None),
+            heard: b"&\0\0\0\x01\0\0\0\0\0\0\0\xdd\x07\0\0\0\0\0\0\0\x11\0\0\0\x01ok\0\0\0\0\0\0\0\xf8?\0",
+            fault: "X509Failed",
+            said: AUTHENTICATE,
+        },
+        14 => Row {
+            by: By::X509,
+            user: (Some("CN=a"), None, None),
+            heard: b"$\0\0\0\x01\0\0\0\0\0\0\0\xdd\x07\0\0\0\0\0\0\0\x0f\0\0\0\x02ok\0\x02\0\0\0\x31\0\0",
+            fault: "X509Failed",
+            said: AUTHENTICATE,
+        },
+        15 => Row {
+            by: By::X509,
+            user: (Some("CN=a"), None, None),
+            heard: b"2\0\0\0\x01\0\0\0\0\0\0\0\xdd\x07\0\0\0\0\0\0\0\x1d\0\0\0\x01ok\0\0\0\0\0\0\0\xf0?\x01ok\0\0\0\0\0\0\0\xf0?\0",
+            fault: "Malformed",
+            said: AUTHENTICATE,
+        },
+        // after an answer in the hello nothing is said
+        _ => Row {
+            by: By::Answered,
+            user: (Some("CN=a"), None, None),
+            heard: b"",
+            fault: "none",
+            said: b"",
+        },
+    }
+}
+
+/// A connection, its link and what else a login changes.
+#[derive(Drop)]
+struct Session {
+    connection: Connection,
+    link: MemoryLink,
+    ids: RequestIds,
+    buffer: FrameBuffer,
+}
+
+fn connection(alloc: Global) -> Result<Connection, BsonFault> {
+    let host = Text::from_slice(alloc, "localhost")?;
+    Ok(Connection::new(ServerAddress::Tcp { host, port: None }, 1))
+}
+
+fn new_session(alloc: Global, heard: &[u8]) -> Result<Session, BsonFault> {
+    let heard = bytes(alloc, heard)?;
+    Ok(Session {
+        connection: connection(alloc)?,
+        link: MemoryLink::new(alloc, heard),
+        ids: RequestIds::new(1),
+        buffer: FrameBuffer::new(alloc),
+    })
+}
+
+fn plain_answer(alloc: Global, session: &mut Session, user: &Credential) -> Result<(), Error> {
+    let Session {
+        connection,
+        link,
+        ids,
+        buffer,
+    } = session;
+    plain::authenticate_stream(alloc, connection, link, ids, buffer, user, None)
+}
+
+fn x509_answer(
+    alloc: Global,
+    session: &mut Session,
+    user: &Credential,
+    answered: bool,
+) -> Result<(), Error> {
+    let Session {
+        connection,
+        link,
+        ids,
+        buffer,
+    } = session;
+    x509::authenticate_stream(alloc, connection, link, ids, buffer, user, None, answered)
+}
+
+fn is_fault(answer: &Result<(), Error>, fault: &str) -> bool {
+    match answer {
+        Ok(()) => fault == "none",
+        Err(refused) => fault_of(refused) == fault,
+    }
+}
+
+// Whether the user's login ends with the row's fault.
+fn ends_so(alloc: Global, row: &Row, session: &mut Session, user: &Credential) -> bool {
+    match row.by {
+        By::Plain => is_fault(&plain_answer(alloc, session, user), row.fault),
+        By::X509 => is_fault(&x509_answer(alloc, session, user, false), row.fault),
+        By::Answered => is_fault(&x509_answer(alloc, session, user, true), row.fault),
+    }
+}
+
+// Whether a login ends so, says just that and hears all.
+fn is_so(alloc: Global, row: &Row) -> Result<bool, BsonFault> {
+    let user = credential(alloc, row.user)?;
+    let mut session = new_session(alloc, row.heard)?;
+    let ends = ends_so(alloc, row, &mut session, &user);
+    Ok(ends && session.link.written() == row.said && session.link.left().is_empty())
+}
+
+#[test]
+fn logins_of_one_command(rt: HostRuntime) {
+    for place in 0..17 {
+        assert!(rt;
+            matches!(is_so(rt.alloc(), &row_at(place)), Ok(true)),
+            "{place}"
+        );
+    }
+}
+
+// Whether the message of a user is this, RFC 4616.
+fn is_message(alloc: Global, username: &str, password: &str, message: &[u8]) -> bool {
+    match plain::payload_bytes(alloc, username, password) {
+        Ok(payload) => payload.as_bytes() == message,
+        Err(_) => false,
+    }
+}
+
+#[test]
+fn a_message_has_two_zeros(rt: HostRuntime) {
+    assert!(rt;
+        is_message(
+            rt.alloc(),
+            "tim",
+            "tanstaaftanstaaf",
+            b"\0tim\0tanstaaftanstaaf"
+        )
+    );
+    assert!(rt; is_message(rt.alloc(), "", "", b"\0\0"));
+}

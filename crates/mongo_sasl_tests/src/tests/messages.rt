@@ -1,0 +1,278 @@
+use super::{bytes, fault_of};
+use mongo_bson::{BsonFault, OwnedValue, RawDocument, Text};
+use mongo_command::{Command, ServerApi, ServerApiVersion};
+use mongo_sasl::x509::build_client_first;
+use mongo_sasl::{AuthMechanism, Credential, SaslContinue, SaslResponse, SaslStart, SaslView};
+use mongo_wire::Error;
+use std::alloc::Global;
+
+// A reply's document, by BSON 1.1, and what its readers answer: that it was read, or the fault or the server's text.
+fn reply_at(place: u8) -> (&'static [u8], &'static str) {
+    match place {
+        // one without `ok`
+        0 => (
+            b"1\0\0\0\x10conversationId\0\x01\0\0\0\x08done\0\x01\x05payload\0\x03\0\0\0\0v=x\0",
+            "read",
+        ),
+        // in another order
+        1 => (
+            b"=\0\0\0\x01ok\0\0\0\0\0\0\0\xf0?\x05payload\0\x03\0\0\0\0v=x\x08done\0\x01\x10conversationId\0\x01\0\0\0\0",
+            "read",
+        ),
+        // the int32 1, and a text that says nothing
+        2 => (
+            b"J\0\0\0\x10ok\0\x01\0\0\0\x10conversationId\0\x01\0\0\0\x08done\0\x01\x05payload\0\x03\0\0\0\0v=x\x02errmsg\0\x05\0\0\0busy\0\0",
+            "read",
+        ),
+        // the int64 1, and an id without a value
+        3 => (
+            b"9\0\0\0\x12ok\0\x01\0\0\0\0\0\0\0\x0aconversationId\0\x08done\0\x01\x05payload\0\x03\0\0\0\0v=x\0",
+            "read",
+        ),
+        // failures: the int32 0, the double 2.0, the int64 -1
+        4 => (
+            b"J\0\0\0\x10ok\0\0\0\0\0\x02errmsg\0\x05\0\0\0busy\0\x10conversationId\0\x01\0\0\0\x08done\0\x01\x05payload\0\x03\0\0\0\0v=x\0",
+            "busy",
+        ),
+        5 => (
+            b"\"\0\0\0\x01ok\0\0\0\0\0\0\0\0@\x02errmsg\0\x05\0\0\0busy\0\0",
+            "busy",
+        ),
+        6 => (
+            b"$\0\0\0\x12ok\0\xff\xff\xff\xff\xff\xff\xff\xff\x02errmsg\0\x01\0\0\0\0\x0adone\0\0",
+            "",
+        ),
+        // one that says no text, and one whose text is a number
+        7 => (
+            b"=\0\0\0\x01ok\0\0\0\0\0\0\0\0@\x10conversationId\0\x01\0\0\0\x08done\0\x01\x05payload\0\x03\0\0\0\0v=x\0",
+            "Authentication failure",
+        ),
+        8 => (
+            b"1\0\0\0\x01ok\0\0\0\0\0\0\0\0@\x10errmsg\0\x01\0\0\0\x10conversationId\0\x01\0\0\0\0",
+            "Authentication failure",
+        ),
+        // a key twice, before a failure
+        9 => (
+            b"b\0\0\0\x01ok\0\0\0\0\0\0\0\0@\x02errmsg\0\x05\0\0\0busy\0\x10conversationId\0\x01\0\0\0\x10conversationId\0\x01\0\0\0\x08done\0\x01\x05payload\0\x03\0\0\0\0v=x\0",
+            "Malformed",
+        ),
+        // the double 1.5, a truth value, and no value
+        10 => (
+            b"N\0\0\0\x01ok\0\0\0\0\0\0\0\xf8?\x02errmsg\0\x05\0\0\0busy\0\x10conversationId\0\x01\0\0\0\x08done\0\x01\x05payload\0\x03\0\0\0\0v=x\0",
+            "Malformed",
+        ),
+        11 => (
+            b"G\0\0\0\x08ok\0\x01\x02errmsg\0\x05\0\0\0busy\0\x10conversationId\0\x01\0\0\0\x08done\0\x01\x05payload\0\x03\0\0\0\0v=x\0",
+            "Malformed",
+        ),
+        12 => (
+            b"5\0\0\0\x0aok\0\x10conversationId\0\x01\0\0\0\x08done\0\x01\x05payload\0\x03\0\0\0\0v=x\0",
+            "Malformed",
+        ),
+        // no id, no truth value, a number for one, no message, one of another subtype, and a text for one
+        13 => (
+            b")\0\0\0\x01ok\0\0\0\0\0\0\0\xf0?\x08done\0\x01\x05payload\0\x03\0\0\0\0v=x\0",
+            "Malformed",
+        ),
+        14 => (
+            b"6\0\0\0\x01ok\0\0\0\0\0\0\0\xf0?\x10conversationId\0\x01\0\0\0\x05payload\0\x03\0\0\0\0v=x\0",
+            "Malformed",
+        ),
+        15 => (
+            b"@\0\0\0\x01ok\0\0\0\0\0\0\0\xf0?\x10conversationId\0\x01\0\0\0\x10done\0\x01\0\0\0\x05payload\0\x03\0\0\0\0v=x\0",
+            "Malformed",
+        ),
+        16 => (
+            b",\0\0\0\x01ok\0\0\0\0\0\0\0\xf0?\x10conversationId\0\x01\0\0\0\x08done\0\x01\0",
+            "Malformed",
+        ),
+        17 => (
+            b"=\0\0\0\x01ok\0\0\0\0\0\0\0\xf0?\x10conversationId\0\x01\0\0\0\x08done\0\x01\x05payload\0\x03\0\0\0\x05v=x\0",
+            "Malformed",
+        ),
+        18 => (
+            b"=\0\0\0\x01ok\0\0\0\0\0\0\0\xf0?\x10conversationId\0\x01\0\0\0\x08done\0\x01\x02payload\0\x04\0\0\0v=x\0\0",
+            "Malformed",
+        ),
+        _ => (b"\x05\0\0\0\0", "Malformed"),
+    }
+}
+
+fn view_answers(alloc: Global, reply: RawDocument<'_>, wanted: &str) -> bool {
+    match SaslView::parse(alloc, reply) {
+        Ok(_) => wanted == "read",
+        Err(refused) => fault_of(&refused) == wanted,
+    }
+}
+
+fn response_answers(alloc: Global, reply: RawDocument<'_>, wanted: &str) -> bool {
+    match SaslResponse::parse(alloc, reply) {
+        Ok(_) => wanted == "read",
+        Err(refused) => fault_of(&refused) == wanted,
+    }
+}
+
+#[test]
+fn replies_are_read_or_refused(rt: HostRuntime) {
+    for place in 0..20 {
+        let (reply, wanted) = reply_at(place);
+        match RawDocument::from_bytes(reply) {
+            Ok(reply) => {
+                assert!(rt; view_answers(rt.alloc(), reply, wanted), "{place}");
+                assert!(rt; response_answers(rt.alloc(), reply, wanted), "{place}");
+            }
+            Err(_) => assert!(rt; false, "{place}"),
+        }
+    }
+}
+
+// { conversationId: int64 258, done: false, payload: generic binary 01 02 }, by BSON 1.1.
+const REPLY: &[u8] =
+    b"4\0\0\0\x12conversationId\0\x02\x01\0\0\0\0\0\0\x08done\0\0\x05payload\0\x02\0\0\0\0\x01\x02\0";
+
+const ID: &[u8] = b"\x02\x01\0\0\0\0\0\0";
+
+const MESSAGE: &[u8] = b"\x01\x02";
+
+// What a reply says: the kind of the conversation's id, whether it is the one above, whether the conversation is done, and
+// whether the message is the one above.
+type Said = (u8, bool, bool, bool);
+
+fn view_said(alloc: Global, reply: RawDocument<'_>) -> Option<Said> {
+    match SaslView::parse(alloc, reply) {
+        Ok(view) => Some((
+            view.conversation_kind,
+            view.conversation_bytes == ID,
+            view.done,
+            view.payload == MESSAGE,
+        )),
+        Err(_) => None,
+    }
+}
+
+fn said_of(response: &SaslResponse) -> Said {
+    (
+        response.conversation_id.kind,
+        response.conversation_id.bytes.as_bytes() == ID,
+        response.done,
+        response.payload.as_bytes() == MESSAGE,
+    )
+}
+
+fn copy_said(alloc: Global, response: &SaslResponse) -> Option<Said> {
+    match response.try_clone(alloc) {
+        Ok(copy) => Some(said_of(&copy)),
+        Err(_) => None,
+    }
+}
+
+// The same of what owns it, and of its copy.
+fn response_said(alloc: Global, reply: RawDocument<'_>) -> (Option<Said>, Option<Said>) {
+    match SaslResponse::parse(alloc, reply) {
+        Ok(response) => (Some(said_of(&response)), copy_said(alloc, &response)),
+        Err(_) => (None, None),
+    }
+}
+
+#[test]
+fn a_reply_says_its_conversation_and_message(rt: HostRuntime) {
+    let wanted = Some((0x12, true, false, true));
+    match RawDocument::from_bytes(REPLY) {
+        Ok(reply) => {
+            assert_eq!(rt; view_said(rt.alloc(), reply), wanted);
+            assert_eq!(rt; response_said(rt.alloc(), reply), (wanted, wanted));
+        }
+        Err(_) => assert!(rt; false),
+    }
+}
+
+const API: ServerApi = ServerApi {
+    version: ServerApiVersion::V1,
+    strict: None,
+    deprecation_errors: None,
+};
+
+fn start(
+    alloc: Global,
+    source: &str,
+    mechanism: AuthMechanism,
+    payload: &[u8],
+    server_api: Option<ServerApi>,
+) -> Result<SaslStart, BsonFault> {
+    let source = Text::from_slice(alloc, source)?;
+    let payload = bytes(alloc, payload)?;
+    Ok(SaslStart::new(source, mechanism, payload, server_api))
+}
+
+fn step(alloc: Global) -> Result<SaslContinue, BsonFault> {
+    let source = Text::from_slice(alloc, "orders")?;
+    let payload = bytes(alloc, b"\0u\0p")?;
+    let id = OwnedValue {
+        kind: 0x12,
+        bytes: bytes(alloc, ID)?,
+    };
+    Ok(SaslContinue::new(source, id, payload, Some(API)))
+}
+
+// A command of a login.
+fn command_at(alloc: Global, place: u8) -> Result<Command, Error> {
+    match place {
+        0 => start(alloc, "orders", AuthMechanism::ScramSha256, b"n,,", None)?.into_command(alloc),
+        1 => start(
+            alloc,
+            "$external",
+            AuthMechanism::Plain,
+            b"\0u\0p",
+            Some(API),
+        )?
+        .into_command(alloc),
+        2 => step(alloc)?.into_command(alloc),
+        _ => build_client_first(alloc, &Credential::new(), None),
+    }
+}
+
+// Whether a command has this name and is sent as this document.
+fn is_sent_as(alloc: Global, command: &Command, name: &str, document: &[u8]) -> bool {
+    match command.to_document(alloc) {
+        Ok(sent) => command.name.as_str() == name && sent.as_bytes() == document,
+        Err(_) => false,
+    }
+}
+
+fn is_command(alloc: Global, place: u8, name: &str, document: &[u8]) -> bool {
+    match command_at(alloc, place) {
+        Ok(command) => is_sent_as(alloc, &command, name, document),
+        Err(_) => false,
+    }
+}
+
+// The name and the document of each: a start by SCRAM, which has no empty exchange; one by PLAIN with the server API; a
+// step; and what asks a server to take a certificate that says the name.
+fn document_at(place: u8) -> (&'static str, &'static [u8]) {
+    match place {
+        0 => (
+            "saslStart",
+            b"t\0\0\0\x10saslStart\0\x01\0\0\0\x02mechanism\0\x0e\0\0\0SCRAM-SHA-256\0\x05payload\0\x03\0\0\0\0n,,\x03options\0\x19\0\0\0\x08skipEmptyExchange\0\x01\0\x02$db\0\x07\0\0\0orders\0\0",
+        ),
+        1 => (
+            "saslStart",
+            b"`\0\0\0\x10saslStart\0\x01\0\0\0\x02mechanism\0\x06\0\0\0PLAIN\0\x05payload\0\x04\0\0\0\0\0u\0p\x02$db\0\x0a\0\0\0$external\0\x02apiVersion\0\x02\0\0\0\x31\0\0",
+        ),
+        2 => (
+            "saslContinue",
+            b"c\0\0\0\x10saslContinue\0\x01\0\0\0\x12conversationId\0\x02\x01\0\0\0\0\0\0\x05payload\0\x04\0\0\0\0\0u\0p\x02$db\0\x07\0\0\0orders\0\x02apiVersion\0\x02\0\0\0\x31\0\0",
+        ),
+        _ => (
+            "authenticate",
+            b"F\0\0\0\x10authenticate\0\x01\0\0\0\x02mechanism\0\x0d\0\0\0MONGODB-X509\0\x02$db\0\x0a\0\0\0$external\0\0",
+        ),
+    }
+}
+
+#[test]
+fn commands_of_a_login_are_these_documents(rt: HostRuntime) {
+    for place in 0..4 {
+        let (name, document) = document_at(place);
+        assert!(rt; is_command(rt.alloc(), place, name, document), "{place}");
+    }
+}

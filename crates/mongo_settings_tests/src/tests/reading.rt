@@ -1,0 +1,309 @@
+use mongo_establish::{
+    AuthMechanism, Credential, Generations, ObjectId, PoolGeneration, ServerAddress, Text,
+};
+use mongo_settings::{Settings, SettingsError, read};
+use std::alloc::Global;
+
+/// What settings say.
+#[derive(Clone, Copy)]
+enum Wanted {
+    /// The reply bytes, joined.
+    Replies(&'static [u8]),
+    /// The place, the port, the id and the generation of the connection.
+    Connection(&'static str, Option<u16>, u32, u32),
+    /// The pool's number for each of the two services.
+    Services(Option<u32>, Option<u32>),
+    /// Every key that is built, each with another value than that of its absence.
+    Whole,
+    /// The values of keys that are absent.
+    Defaults,
+}
+
+const FIRST: ObjectId = ObjectId([0, 1, 2, 3, 4, 5, 6, 7, 8, 9, 10, 11]);
+
+const SECOND: ObjectId = ObjectId([255, 1, 2, 3, 4, 5, 6, 7, 8, 9, 10, 11]);
+
+// The document {a: [-1, "y"], b: "x"} of BSON 1.1, whose number is an int64.
+const PROPERTIES: &[u8] =
+    b"*\0\0\0\x04a\0\x19\0\0\0\x120\0\xff\xff\xff\xff\xff\xff\xff\xff\x021\0\x02\0\0\0y\0\0\x02b\0\x02\0\0\0x\0\0";
+
+fn is_connection(
+    settings: &Settings,
+    place: &str,
+    port: Option<u16>,
+    id: u32,
+    number: u32,
+) -> bool {
+    let (its_place, its_port) = match &settings.pending.address {
+        ServerAddress::Tcp { host, port } => (host, *port),
+        ServerAddress::Unix { path } => (path, None),
+    };
+    let PoolGeneration::Normal(its_number) = settings.pending.generation else {
+        return false;
+    };
+    its_place.as_str() == place
+        && its_port == port
+        && settings.pending.id == id
+        && its_number == number
+}
+
+fn are_numbers(numbers: &Generations, first: Option<u32>, second: Option<u32>) -> bool {
+    numbers.get(FIRST) == first && numbers.get(SECOND) == second
+}
+
+fn is_text(part: &Option<Text>, text: &str) -> bool {
+    match part {
+        Some(part) => part.as_str() == text,
+        None => false,
+    }
+}
+
+fn is_whole_credential(credential: &Credential) -> bool {
+    let Some(properties) = &credential.mechanism_properties else {
+        return false;
+    };
+    is_text(&credential.username, "u")
+        && is_text(&credential.source, "s")
+        && is_text(&credential.password, "p")
+        && credential.mechanism == Some(AuthMechanism::ScramSha1)
+        && properties.as_bytes() == PROPERTIES
+}
+
+fn are_numbered(settings: &Settings, first_id: i32, max_iterations: u32, nonce: u8) -> bool {
+    settings.nonces.first == [nonce; 32]
+        && settings.nonces.second == [nonce.wrapping_add(1); 32]
+        && settings.first_id == first_id
+        && settings.max_iterations == max_iterations
+}
+
+fn say(settings: &Settings, wanted: Wanted) -> bool {
+    match wanted {
+        Wanted::Replies(replies) => settings.replies.as_bytes() == replies,
+        Wanted::Connection(place, port, id, number) => is_connection(
+            settings, place, port, id, number,
+        ),
+        Wanted::Services(first, second) => match &settings.pending.generation {
+            PoolGeneration::LoadBalanced(numbers) => {
+                settings.options.load_balanced && are_numbers(numbers, first, second)
+            }
+            PoolGeneration::Normal(_) => false,
+        },
+        Wanted::Whole => match &settings.credential {
+            Some(credential) => is_whole_credential(credential)
+                && are_numbered(settings, i32::MIN, 4096, 2),
+            None => false,
+        },
+        Wanted::Defaults => {
+            settings.credential.is_none()
+                && settings.replies.as_bytes().is_empty()
+                && are_numbered(settings, 0, 10_000_000, 0)
+        }
+    }
+}
+
+// Whether a text is settings that say this, or why it is none.
+fn reads(alloc: Global, text: &str, wanted: Wanted) -> Result<bool, SettingsError> {
+    match read(alloc, text.as_bytes()) {
+        Ok(settings) => Ok(say(&settings, wanted)),
+        Err(refused) => Err(refused),
+    }
+}
+
+// Settings, and what they say: a port beside a path says nothing, and of two keys that name one service the later in byte
+// order counts.
+fn settings_at(place: u8) -> (&'static str, Wanted) {
+    match place {
+        0 => (
+            "{\"host\": \"h\", \"replies\": [\"00fF\", \"\", \"Ab\"]} \n",
+            Wanted::Replies(&[0, 255, 171]),
+        ),
+        1 => ("{\"host\":\"h\"}", Wanted::Connection("h", None, 1, 0)),
+        2 => (
+            "{\"host\":\"h\",\"port\":0,\"id\":0}",
+            Wanted::Connection("h", Some(0), 0, 0),
+        ),
+        3 => (
+            "{\"host\":\"\",\"port\":65535,\"id\":4294967295}",
+            Wanted::Connection("", Some(65535), u32::MAX, 0),
+        ),
+        4 => (
+            "{\"unix\":\"/s\",\"port\":1,\"generation\":4294967295}",
+            Wanted::Connection("/s", None, 1, u32::MAX),
+        ),
+        5 => (
+            "{\"host\":\"h\",\"load_balanced\":true,\"generations\":{}}",
+            Wanted::Services(None, None),
+        ),
+        6 => (
+            "{\"host\":\"h\",\"load_balanced\":true,\"generations\":{\"000102030405060708090a0b\":7}}",
+            Wanted::Services(Some(7), None),
+        ),
+        7 => (
+            "{\"host\":\"h\",\"load_balanced\":true,\"generations\":{\"000102030405060708090a0b\":8,\"000102030405060708090A0B\":7,\"ff0102030405060708090a0b\":0}}",
+            Wanted::Services(Some(8), Some(0)),
+        ),
+        8 => (
+            "{\"host\":\"h\",\"replies\":[\"05\"],\"first_id\":-2147483648,\"max_iterations\":4096,\"nonces\":[\"0202020202020202020202020202020202020202020202020202020202020202\",\"0303030303030303030303030303030303030303030303030303030303030303\"],\"credential\":{\"username\":\"u\",\"source\":\"s\",\"password\":\"p\",\"mechanism\":\"SCRAM-SHA-1\",\"properties\":{\"b\":\"x\",\"a\":[-1,\"y\"]}}}",
+            Wanted::Whole,
+        ),
+        _ => ("{\"host\":\"h\"}", Wanted::Defaults),
+    }
+}
+
+#[test]
+fn settings_are_read(rt: HostRuntime) {
+    for place in 0..10 {
+        let (text, wanted) = settings_at(place);
+        assert!(rt;
+            matches!(reads(rt.alloc(), text, wanted), Ok(true)),
+            "{place}"
+        );
+    }
+}
+
+// Texts that are no settings, and why.
+fn refused_at(place: u8) -> (&'static str, SettingsError) {
+    match place {
+        0 => ("", SettingsError::BadSettings),
+        1 => ("[]", SettingsError::BadSettings),
+        2 => ("{}", SettingsError::BadSettings),
+        3 => ("{\"host\":null}", SettingsError::BadSettings),
+        4 => ("{\"port\":1}", SettingsError::BadSettings),
+        5 => (
+            "{\"hosts\":\"a\",\"credential\":{\"mechanism\":\"MONGODB-AWS\"}}",
+            SettingsError::BadSettings,
+        ),
+        6 => (
+            "{\"host\":\"a\",\"credential\":1}",
+            SettingsError::BadSettings,
+        ),
+        7 => (
+            "{\"host\":\"a\",\"credential\":{\"username\":1}}",
+            SettingsError::BadSettings,
+        ),
+        8 => (
+            "{\"host\":\"a\",\"credential\":{\"user\":\"u\"}}",
+            SettingsError::BadSettings,
+        ),
+        9 => (
+            "{\"host\":\"a\",\"credential\":{\"mechanism\":\"GSSAPI\"}}",
+            SettingsError::BadSettings,
+        ),
+        10 => (
+            "{\"host\":\"a\",\"credential\":{\"mechanism\":\"scram-sha-1\"}}",
+            SettingsError::BadSettings,
+        ),
+        11 => (
+            "{\"host\":\"a\",\"credential\":{\"properties\":[]}}",
+            SettingsError::BadSettings,
+        ),
+        12 => (
+            "{\"host\":\"a\",\"credential\":{\"properties\":{\"a\":true}}}",
+            SettingsError::BadSettings,
+        ),
+        13 => (
+            "{\"host\":\"a\",\"credential\":{\"properties\":{\"a\":[[]]}}}",
+            SettingsError::BadSettings,
+        ),
+        14 => (
+            "{\"host\":\"a\",\"credential\":{\"properties\":{\"a\":9223372036854775808}}}",
+            SettingsError::BadSettings,
+        ),
+        15 => (
+            "{\"host\":\"a\",\"credential\":{\"properties\":{\"a\\u0000\":\"b\"}}}",
+            SettingsError::BadSettings,
+        ),
+        16 => (
+            "{\"host\":\"a\",\"port\":65536}",
+            SettingsError::BadSettings,
+        ),
+        17 => ("{\"host\":\"a\",\"port\":-1}", SettingsError::BadSettings),
+        18 => ("{\"host\":\"a\",\"port\":1.5}", SettingsError::BadSettings),
+        19 => (
+            "{\"host\":\"a\",\"id\":4294967296}",
+            SettingsError::BadSettings,
+        ),
+        20 => (
+            "{\"host\":\"a\",\"generation\":true}",
+            SettingsError::BadSettings,
+        ),
+        21 => (
+            "{\"host\":\"a\",\"load_balanced\":0}",
+            SettingsError::BadSettings,
+        ),
+        22 => (
+            "{\"host\":\"a\",\"generations\":[]}",
+            SettingsError::BadSettings,
+        ),
+        23 => (
+            "{\"host\":\"a\",\"generations\":{\"00\":1}}",
+            SettingsError::BadSettings,
+        ),
+        24 => (
+            "{\"host\":\"a\",\"generations\":{\"000102030405060708090a0b\":-1}}",
+            SettingsError::BadSettings,
+        ),
+        25 => ("{\"host\":\"a\",\"nonces\":[]}", SettingsError::BadSettings),
+        26 => (
+            "{\"host\":\"a\",\"nonces\":[\"00\",\"00\"]}",
+            SettingsError::BadSettings,
+        ),
+        27 => (
+            "{\"host\":\"a\",\"first_id\":2147483648}",
+            SettingsError::BadSettings,
+        ),
+        28 => (
+            "{\"host\":\"a\",\"first_id\":-2147483649}",
+            SettingsError::BadSettings,
+        ),
+        29 => (
+            "{\"host\":\"a\",\"first_id\":null}",
+            SettingsError::BadSettings,
+        ),
+        30 => (
+            "{\"host\":\"a\",\"max_iterations\":4095}",
+            SettingsError::BadSettings,
+        ),
+        31 => (
+            "{\"host\":\"a\",\"max_iterations\":4294967296}",
+            SettingsError::BadSettings,
+        ),
+        32 => (
+            "{\"host\":\"a\",\"replies\":[\"0\"]}",
+            SettingsError::BadSettings,
+        ),
+        33 => (
+            "{\"host\":\"a\",\"replies\":[\"0g\"]}",
+            SettingsError::BadSettings,
+        ),
+        34 => (
+            "{\"host\":\"a\",\"unix\":\"b\"}",
+            SettingsError::BadSettings,
+        ),
+        35 => (
+            "{\"host\":\"a\",\"moment\":1,\"ports\":1}",
+            SettingsError::BadSettings,
+        ),
+        36 => ("{\"host\":\"a\",\"moment\":1}", SettingsError::NotBuilt),
+        37 => ("{\"host\":1,\"moment\":1}", SettingsError::NotBuilt),
+        38 => (
+            "{\"host\":1,\"credential\":{\"mechanism\":\"MONGODB-AWS\"}}",
+            SettingsError::NotBuilt,
+        ),
+        _ => (
+            "{\"first_id\":\"0\",\"credential\":{\"mechanism\":\"MONGODB-OIDC\",\"user\":1}}",
+            SettingsError::NotBuilt,
+        ),
+    }
+}
+
+#[test]
+fn each_refusal_has_its_cause(rt: HostRuntime) {
+    for place in 0..40 {
+        let (text, cause) = refused_at(place);
+        assert!(rt;
+            reads(rt.alloc(), text, Wanted::Defaults) == Err(cause),
+            "{place}"
+        );
+    }
+}
