@@ -1,4 +1,7 @@
 mod building;
+mod comparing;
 mod hostile;
+mod kinds;
+mod plain_reader;
 mod reading;
 mod spelling;

@@ -1,7 +1,7 @@
 use super::spelling::bytes_of;
 use mongo_bson::{
     BsonFault, Bytes, Documents, Items, ObjectId, OwnedValue, RawArrayBuf, RawDocument,
-    RawDocumentBuf, RawValue, Text, Texts, TryClone, array_entry_size_bytes,
+    RawDocumentBuf, RawValue, Text, Texts, TryClone, array_entry_size_bytes, copy_of,
     extend_raw_document_buf, get_or_prepend_id_field, replacement_document_check,
     replacement_raw_document_check, to_raw_bson_array, update_document_check, vec_to_raw_array_buf,
 };
@@ -135,8 +135,12 @@ fn what_wants_memory_is_copied(rt: HostRuntime) -> Result<(), Fail> {
     assert!(rt; is_copied(alloc, one(alloc)?)?);
     let (array, _) = arrays(alloc)?;
     assert!(rt; is_copied(alloc, array)?);
-    let document = one(alloc)?;
+    let mut document = one(alloc)?;
+    document.reserve_exact(1_000)?;
+    assert!(rt; document == one(alloc)?);
     assert!(rt; document.borrow().to_raw_document_buf(alloc)? == document);
+    let text = Some(Text::from_string(format!(in alloc; "ab")?));
+    assert!(rt; copy_of(alloc, &text)? == Some(joined(alloc)?));
     Ok(())
 }
 

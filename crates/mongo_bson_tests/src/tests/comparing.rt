@@ -1,0 +1,79 @@
+use super::kinds::value_of_kind;
+use super::plain_reader::is_document;
+use super::spelling::{document_of, framed};
+use mongo_bson::RawDocument;
+use std::alloc::{AllocError, Global};
+use std::test::Fail;
+
+// Whether the bytes are a document of which `iter` gives elements alone.
+fn is_walked(bytes: &[u8]) -> bool {
+    let Ok(document) = RawDocument::from_bytes(bytes) else {
+        return false;
+    };
+    for item in document.iter() {
+        if item.is_err() {
+            return false;
+        }
+    }
+    true
+}
+
+// Whether the bytes are a document that `readable` accepts.
+fn is_readable(bytes: &[u8]) -> bool {
+    match RawDocument::from_bytes(bytes) {
+        Ok(document) => document.readable(),
+        Err(_) => false,
+    }
+}
+
+// Whether the readers agree: `iter` with the plain one, and `readable` accepts no more.
+fn agree(bytes: &[u8]) -> bool {
+    let plain = is_document(bytes);
+    is_walked(bytes) == plain && (plain || !is_readable(bytes))
+}
+
+// Whether the readers agree on the document cut at each byte, as it is and in a new frame.
+fn agree_when_cut(alloc: Global, document: &[u8]) -> Result<bool, AllocError> {
+    for cut in 0..document.len() {
+        let (front, _) = document.split_at(cut);
+        let body = front.get(4..).unwrap_or(&[]);
+        if !agree(front) || !agree(framed(alloc, body)?.as_slice()) {
+            return Ok(false);
+        }
+    }
+    Ok(true)
+}
+
+// Whether the readers agree on the document with each byte, and so the kind byte, set to each value.
+fn agree_when_changed(alloc: Global, document: &[u8]) -> Result<bool, AllocError> {
+    for at in 0..document.len() {
+        let mut changed = Vec::from_slice(alloc, document)?;
+        for value in 0..=255u8 {
+            if let Some(byte) = changed.get_mut(at) {
+                *byte = value;
+            }
+            if !agree(changed.as_slice()) {
+                return Ok(false);
+            }
+        }
+    }
+    Ok(true)
+}
+
+// The fast readers beside the plain one, over a document of each kind.
+#[test]
+fn the_readers_agree_on_each_kind(rt: HostRuntime) -> Result<(), Fail> {
+    for kind in 0..=255u8 {
+        if let Some(value) = value_of_kind(kind) {
+            let document = document_of(rt.alloc(), kind, value)?;
+            let bytes = document.as_slice();
+            assert!(rt;
+                is_document(bytes) && is_walked(bytes) && is_readable(bytes),
+                "kind {kind}"
+            );
+            assert!(rt; agree_when_cut(rt.alloc(), bytes)?, "kind {kind}");
+            assert!(rt; agree_when_changed(rt.alloc(), bytes)?, "kind {kind}");
+        }
+    }
+    Ok(())
+}

@@ -1,0 +1,20 @@
+// The bytes of a value of each kind of BSON 1.1, as its grammar spells them.
+pub(crate) fn value_of_kind(kind: u8) -> Option<&'static [u8]> {
+    match kind {
+        0x01 => Some(b"\x00\x00\x00\x00\x00\x00\xF0\x3F"),
+        0x02 | 0x0D | 0x0E => Some(b"\x02\x00\x00\x00b\x00"),
+        0x03 | 0x04 => Some(b"\x05\x00\x00\x00\x00"),
+        0x05 => Some(b"\x02\x00\x00\x00\x80xy"),
+        0x06 | 0x0A | 0x7F | 0xFF => Some(b""),
+        0x07 => Some(b"\x00\x01\x02\x03\x04\x05\x06\x07\x08\x09\x0A\x0B"),
+        0x08 => Some(b"\x01"),
+        0x09 => Some(b"\xFF\xFF\xFF\xFF\xFF\xFF\xFF\xFF"),
+        0x0B => Some(b"p\x00i\x00"),
+        0x0C => Some(b"\x02\x00\x00\x00b\x00\x00\x01\x02\x03\x04\x05\x06\x07\x08\x09\x0A\x0B"),
+        0x0F => Some(b"\x0F\x00\x00\x00\x02\x00\x00\x00b\x00\x05\x00\x00\x00\x00"),
+        0x10 => Some(b"\xFE\xFF\xFF\xFF"),
+        0x11 | 0x12 => Some(b"\x01\x00\x00\x00\x00\x00\x00\x00"),
+        0x13 => Some(b"\x01\x00\x00\x00\x00\x00\x00\x00\x00\x00\x00\x00\x00\x00\x40\x30"),
+        _ => None,
+    }
+}
