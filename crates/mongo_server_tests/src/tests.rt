@@ -3,30 +3,21 @@ ghost use Rattle.std.specs.Prelude.{◌≡◌, ◌<◌, ◌≤◌};
 mod exchanges;
 mod refusals;
 
-use mongo_server::{ServerCore, ServerFault, ServerUser, is_nonce};
 use base64::engine::general_purpose::STANDARD;
 use mongo_bson::{Bytes, Text};
-use mongo_mac::{Sha1Fn, Steps, hi};
+use mongo_mac::Steps;
 use mongo_scram::ScramVersion;
+use mongo_server::{ServerCore, ServerFault, ServerUser, is_nonce};
 use mongo_wire::Error;
 use std::alloc::Global;
+use std::marker::Brand;
 use std::sync::ledger::{Blank, Ledger};
 use std::test::Fail;
-
-/// How the password becomes what Hi takes.
-#[derive(Clone, Copy)]
-enum Prepared {
-    /// As RFC 5802 has it.
-    Plain,
-    /// As the mechanism of MongoDB has it.
-    Mechanism,
-}
 
 /// A user that a server knows, and what the server adds to a nonce.
 #[derive(Clone, Copy)]
 struct Known {
     version: ScramVersion,
-    prepared: Prepared,
     username: &'static str,
     password: &'static str,
     salt: &'static str,
@@ -37,7 +28,6 @@ struct Known {
 // The user `a=b`, whose name is escaped in a message.
 const ESCAPED: Known = Known {
     version: ScramVersion::Sha256,
-    prepared: Prepared::Mechanism,
     username: "a=b",
     password: "pw",
     salt: "W22ZaJ0SNY7soEsUEjb6gQ==",
@@ -45,50 +35,63 @@ const ESCAPED: Known = Known {
     suffix: "server",
 };
 
-// The server of a user, with a counter of its own, of the ledger that `blank` opens.
-fn server_of<G: Ledger>(blank: Blank, alloc: Global, known: &Known) -> Result<ServerCore, Fail>
-    requires name { blank.name ≡ G.name }
-    requires parts { blank.parts ≡ G.parts }
-    requires has_a_part { 0 < G.parts }
-{
-    let salt = STANDARD.decode(alloc, known.salt.as_bytes())?;
-    if known.count == 0 || !is_nonce(known.suffix) {
-        return Err(Fail::from(ServerFault::Malformed));
-    }
-    let mut steps = Steps::<G>::new(blank);
-    let user = user_of(alloc, known, Bytes::from_vec(salt), &mut steps)?;
-    Ok(ServerCore::new(user, Text::from_slice(alloc, known.suffix)?))
-}
-
-fn user_of<G: Ledger>(
+// The user, with a counter of its own, of the ledger that `blank` opens.
+fn user_with<G: Ledger>(
+    blank: Blank,
     alloc: Global,
     known: &Known,
     salt: Bytes,
-    steps: &mut Steps<G>,
 ) -> Result<ServerUser, Error>
-    requires { 1 ≤ known.now.count }
+    requires name { blank.name ≡ G.name }
+    requires parts { blank.parts ≡ G.parts }
+    requires has_a_part { 0 < G.parts }
+    requires counted { 1 ≤ known.now.count }
 {
-    match known.prepared {
-        Prepared::Plain => {
-            let password = known.password.as_bytes();
-            let salted = hi::<Sha1Fn, G>(password, salt.as_bytes(), known.count, steps);
-            ServerUser::with_key(
-                alloc,
-                known.version,
-                known.username,
-                &salted,
-                salt,
-                known.count,
-            )
-        }
-        Prepared::Mechanism => ServerUser::new(
-            alloc,
-            known.version,
-            known.username,
-            known.password,
-            salt,
-            known.count,
-            steps,
-        ),
+    let mut steps = Steps::<G>::new(blank);
+    ServerUser::new(
+        alloc,
+        known.version,
+        known.username,
+        known.password,
+        salt,
+        known.count,
+        &mut steps,
+    )
+}
+
+fn server_of(alloc: Global, known: &Known) -> Result<ServerCore, Fail> {
+    if known.count == 0 || !is_nonce(known.suffix) {
+        return Err(Fail::from(ServerFault::Malformed));
     }
+    let suffix = Text::from_slice(alloc, known.suffix)?;
+    let salt = STANDARD.decode(alloc, known.salt.as_bytes())?;
+    let user = user_with::<Brand>(Blank::new(1), alloc, known, Bytes::from_vec(salt))?;
+    Ok(ServerCore::new(user, suffix))
+}
+
+fn is_answer(answer: &Result<Text, ServerFault>, wanted: Result<&str, ServerFault>) -> bool {
+    match (answer, wanted) {
+        (Ok(text), Ok(wanted)) => text.as_str() == wanted,
+        (Err(fault), Err(wanted)) => *fault == wanted,
+        _ => false,
+    }
+}
+
+// Whether the server answers a first message so.
+fn first_is(
+    alloc: Global,
+    server: &mut ServerCore,
+    message: &[u8],
+    wanted: Result<&str, ServerFault>,
+) -> bool {
+    is_answer(&server.first(alloc, message), wanted)
+}
+
+fn last_is(
+    alloc: Global,
+    server: &mut ServerCore,
+    message: &[u8],
+    wanted: Result<&str, ServerFault>,
+) -> bool {
+    is_answer(&server.last(alloc, message), wanted)
 }

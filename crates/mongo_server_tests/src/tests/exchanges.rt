@@ -1,7 +1,7 @@
-use super::{ESCAPED, Known, Prepared, server_of};
+use super::{ESCAPED, Known, first_is, last_is, server_of};
 use mongo_scram::ScramVersion;
-use std::marker::Brand;
-use std::sync::ledger::Blank;
+use mongo_server::ServerCore;
+use std::alloc::Global;
 use std::test::Fail;
 
 /// A whole exchange.
@@ -14,29 +14,13 @@ struct Row {
     server_final: &'static str,
 }
 
-// The exchanges of RFC 5802, section 5, of RFC 7677, section 3, of SCRAM-SHA-1 in the MongoDB authentication specification,
-// and, by Python's hashlib and hmac, one whose user name is escaped.
+// The exchanges of RFC 7677, section 3, of SCRAM-SHA-1 in the MongoDB authentication specification, and, by Python's hashlib
+// and hmac, one whose user name is escaped.
 fn row_at(place: u8) -> Row {
     match place {
         0 => Row {
             known: Known {
-                version: ScramVersion::Sha1,
-                prepared: Prepared::Plain,
-                username: "user",
-                password: "pencil",
-                salt: "QSXCR+Q6sek8bf92",
-                count: 4096,
-                suffix: "3rfcNHYJY1ZVvWVs7j",
-            },
-            open: "n,,n=user,r=fyko+d2lbbFgONRv9qkxdawL",
-            server_first: "r=fyko+d2lbbFgONRv9qkxdawL3rfcNHYJY1ZVvWVs7j,s=QSXCR+Q6sek8bf92,i=4096",
-            close: "c=biws,r=fyko+d2lbbFgONRv9qkxdawL3rfcNHYJY1ZVvWVs7j,p=v0X8v3Bz2T0CJGbJQyF0X+HI4Ts=",
-            server_final: "v=rmF9pqV8S7suAoZWja4dJRkFsKQ=",
-        },
-        1 => Row {
-            known: Known {
                 version: ScramVersion::Sha256,
-                prepared: Prepared::Mechanism,
                 username: "user",
                 password: "pencil",
                 salt: "W22ZaJ0SNY7soEsUEjb6gQ==",
@@ -48,10 +32,9 @@ fn row_at(place: u8) -> Row {
             close: "c=biws,r=rOprNGfwEbeRWgbNEkqO%hvYDpWUa2RaTCAfuxFIlj)hNlF$k0,p=dHzbZapWIk4jUhN+Ute9ytag9zjfMHgsqmmiz7AndVQ=",
             server_final: "v=6rriTRBi23WpRR/wtup+mMhUZUn/dB5nLTJRsjl95G4=",
         },
-        2 => Row {
+        1 => Row {
             known: Known {
                 version: ScramVersion::Sha1,
-                prepared: Prepared::Mechanism,
                 username: "user",
                 password: "pencil",
                 salt: "rQ9ZY3MntBeuP3E1TDVC4w==",
@@ -73,17 +56,38 @@ fn row_at(place: u8) -> Row {
     }
 }
 
+fn owes(alloc: Global, server: &ServerCore, text: &str) -> bool {
+    match server.expected_final(alloc) {
+        Ok(expected) => expected.as_str() == text,
+        Err(_) => false,
+    }
+}
+
 #[test]
 fn exchanges_of_the_standards(rt: HostRuntime) -> Result<(), Fail> {
-    for place in 0..4 {
+    let alloc = rt.alloc();
+    for place in 0..3 {
         let row = row_at(place);
-        let mut server = server_of::<Brand>(Blank::new(1), rt.alloc(), &row.known)?;
-        let first = server.first(rt.alloc(), row.open.as_bytes())?;
-        assert_eq!(rt; first.as_str(), row.server_first);
-        let expected = server.expected_final(rt.alloc())?;
-        assert_eq!(rt; expected.as_str(), row.server_final);
-        let last = server.last(rt.alloc(), row.close.as_bytes())?;
-        assert_eq!(rt; last.as_str(), row.server_final);
+        let mut server = server_of(alloc, &row.known)?;
+        assert!(rt;
+            first_is(
+                alloc,
+                &mut server,
+                row.open.as_bytes(),
+                Ok(row.server_first)
+            ),
+            "{place}"
+        );
+        assert!(rt; owes(alloc, &server, row.server_final), "{place}");
+        assert!(rt;
+            last_is(
+                alloc,
+                &mut server,
+                row.close.as_bytes(),
+                Ok(row.server_final)
+            ),
+            "{place}"
+        );
     }
     Ok(())
 }

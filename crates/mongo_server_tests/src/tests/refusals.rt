@@ -1,8 +1,5 @@
-use super::{ESCAPED, server_of};
+use super::{ESCAPED, first_is, last_is, server_of};
 use mongo_server::ServerFault;
-use mongo_bson::Text;
-use std::marker::Brand;
-use std::sync::ledger::Blank;
 use std::test::Fail;
 
 // The first message of the user `a=b`, its last, and what answers that.
@@ -32,19 +29,21 @@ fn first_at(place: u8) -> (&'static [u8], ServerFault) {
 
 #[test]
 fn first_messages_that_are_refused(rt: HostRuntime) -> Result<(), Fail> {
-    let mut server = server_of::<Brand>(Blank::new(1), rt.alloc(), &ESCAPED)?;
+    let alloc = rt.alloc();
+    let mut server = server_of(alloc, &ESCAPED)?;
     for place in 0..12 {
         let (message, fault) = first_at(place);
-        let answer = server.first(rt.alloc(), message);
-        assert_eq!(rt; fault_of(&answer), Some(fault));
+        assert!(rt;
+            first_is(alloc, &mut server, message, Err(fault)),
+            "{place}"
+        );
     }
     // Nothing was begun.
-    let answer = server.last(rt.alloc(), CLOSE);
-    assert_eq!(rt; fault_of(&answer), Some(ServerFault::NotStarted));
-    let answer = server.last(rt.alloc(), b"malformed");
-    assert_eq!(rt; fault_of(&answer), Some(ServerFault::NotStarted));
-    let answer = server.expected_final(rt.alloc());
-    assert_eq!(rt; fault_of(&answer), Some(ServerFault::NotStarted));
+    for message in [CLOSE, b"malformed"] {
+        assert!(rt; last_is(alloc, &mut server, message, Err(ServerFault::NotStarted)));
+    }
+    let expected = server.expected_final(alloc);
+    assert!(rt; matches!(expected, Err(ServerFault::NotStarted)));
     Ok(())
 }
 
@@ -77,28 +76,22 @@ fn last_at(place: u8) -> (&'static [u8], ServerFault) {
 
 #[test]
 fn last_messages_that_are_refused(rt: HostRuntime) -> Result<(), Fail> {
-    let mut server = server_of::<Brand>(Blank::new(1), rt.alloc(), &ESCAPED)?;
-    let first = server.first(rt.alloc(), OPEN)?;
-    assert_eq!(rt;
-        first.as_str(),
-        "r=xserver,s=W22ZaJ0SNY7soEsUEjb6gQ==,i=4096"
-    );
+    let alloc = rt.alloc();
+    let mut server = server_of(alloc, &ESCAPED)?;
+    let first = "r=xserver,s=W22ZaJ0SNY7soEsUEjb6gQ==,i=4096";
+    assert!(rt; first_is(alloc, &mut server, OPEN, Ok(first)));
     for place in 0..12 {
         let (message, fault) = last_at(place);
-        let answer = server.last(rt.alloc(), message);
-        assert_eq!(rt; fault_of(&answer), Some(fault));
+        assert!(rt; last_is(alloc, &mut server, message, Err(fault)), "{place}");
     }
     // The conversation is held still, also after a first message that is refused.
-    let answer = server.first(rt.alloc(), b"n,,n=other,r=y");
-    assert_eq!(rt; fault_of(&answer), Some(ServerFault::UnknownUser));
-    let last = server.last(rt.alloc(), CLOSE)?;
-    assert_eq!(rt; last.as_str(), FINAL);
+    let other = first_is(
+        alloc,
+        &mut server,
+        b"n,,n=other,r=y",
+        Err(ServerFault::UnknownUser),
+    );
+    assert!(rt; other);
+    assert!(rt; last_is(alloc, &mut server, CLOSE, Ok(FINAL)));
     Ok(())
-}
-
-fn fault_of(answer: &Result<Text, ServerFault>) -> Option<ServerFault> {
-    match answer {
-        Ok(_) => None,
-        Err(fault) => Some(*fault),
-    }
 }
