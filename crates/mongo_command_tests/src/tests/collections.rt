@@ -1,73 +1,129 @@
-use super::document;
+use super::notation::document;
+use mongo_bson::{Bytes, Documents, RawArrayBuf, RawDocumentBuf};
 use mongo_command::{Command, RawDocumentCollection};
-use mongo_bson::{Bytes, Documents, RawArrayBuf, RawDocumentBuf, RawValue};
-use mongo_wire::{Error, MemoryLink, RequestIds};
+use mongo_wire::{Error, MemoryLink, Message, RequestIds};
 use std::alloc::Global;
 use std::test::Fail;
 
-// The frame of an insert that carries so many empty documents, and the sum of what each of them was to add to it.
-fn frame<C: RawDocumentCollection + Drop>(
+// Puts an empty document in, and gives what it was to add.
+fn put<C: RawDocumentCollection>(
+    collection: &mut C,
+    index: usize,
+    empty: RawDocumentBuf,
+) -> Result<usize, Error> {
+    let added = C::bytes_added(index, &empty)?;
+    collection.push(empty)?;
+    Ok(added)
+}
+
+// Puts so many empty documents in, and gives the sum of what they were to add.
+fn fill<C: RawDocumentCollection>(
+    alloc: Global,
+    collection: &mut C,
+    count: usize,
+) -> Result<usize, Error> {
+    let mut sum: usize = 0;
+    for index in 0..count {
+        sum = sum.saturating_add(put(collection, index, RawDocumentBuf::new(alloc)?)?);
+    }
+    Ok(sum)
+}
+
+// An insert that carries nothing yet.
+fn insert(alloc: Global, body: RawDocumentBuf) -> Result<Command, Error> {
+    Command::new_raw(alloc, "insert", "d", body)
+}
+
+// The message of an insert of this body that carries the collection.
+fn message<C: RawDocumentCollection + Drop>(
+    alloc: Global,
+    body: RawDocumentBuf,
+    collection: C,
+) -> Result<Message, Error> {
+    let mut command = insert(alloc, body)?;
+    collection.add_to_command(alloc, "documents", &mut command)?;
+    command.into_message(alloc)
+}
+
+// The frame of a message.
+fn frame(alloc: Global, message: &Message) -> Result<Bytes, Error> {
+    let mut link = MemoryLink::new(alloc, Bytes::new(alloc));
+    message.write_op_msg_to(alloc, &mut link, None, &mut RequestIds::new(0))?;
+    Ok(Bytes::from_slice(alloc, link.written())?)
+}
+
+// The frame of an insert that carries the collection, after so many empty documents were put in, and what they were to add.
+fn carried<C: RawDocumentCollection + Drop>(
     alloc: Global,
     mut collection: C,
     count: usize,
-) -> Result<(Bytes, usize), Error> {
-    let mut sum: usize = 0;
-    for index in 0..count {
-        let empty = RawDocumentBuf::new(alloc)?;
-        sum = sum.saturating_add(C::bytes_added(index, &empty)?);
-        collection.push(empty)?;
-    }
-    let body = document(alloc, &[("insert", RawValue::Str("c"))])?;
-    let mut command = Command::new_raw(alloc, "insert", "d", body)?;
-    collection.add_to_command(alloc, "documents", &mut command)?;
-    let mut link = MemoryLink::new(alloc, Bytes::from_slice(alloc, b"")?);
-    command
-        .into_message(alloc)?
-        .write_op_msg_to(alloc, &mut link, None, &mut RequestIds::new(0))?;
-    Ok((Bytes::from_slice(alloc, link.written())?, sum))
+) -> Result<(Bytes, usize), Fail> {
+    let sum = fill(alloc, &mut collection, count)?;
+    let message = message(alloc, document(alloc, "insert=text:c")?, collection)?;
+    Ok((frame(alloc, &message)?, sum))
+}
+
+// The same beside the document.
+fn in_sequence(alloc: Global, count: usize) -> Result<(Bytes, usize), Fail> {
+    carried(alloc, Documents::new(alloc), count)
+}
+
+// The same in the document.
+fn in_array(alloc: Global, count: usize) -> Result<(Bytes, usize), Fail> {
+    carried(alloc, RawArrayBuf::new(alloc)?, count)
+}
+
+// A frame is as long as this without a document: a header of 16 bytes, 5 of flags and the kind, a body of 30; beside it a
+// section of 15 bytes, or in it an array of 16.
+const SEQUENCE_FRAME: usize = 66;
+
+const ARRAY_FRAME: usize = 67;
+
+// How long the frame is that carries so many documents, and what they were to add: beside its document and in it.
+fn sizes(alloc: Global, count: usize) -> Result<[usize; 4], Fail> {
+    let [beside, added_beside] = size(in_sequence(alloc, count)?);
+    let [inside, added_inside] = size(in_array(alloc, count)?);
+    Ok([beside, added_beside, inside, added_inside])
+}
+
+fn size(carried: (Bytes, usize)) -> [usize; 2] {
+    [carried.0.as_bytes().len(), carried.1]
 }
 
 #[test]
 fn documents_add_what_they_were_to_add(rt: HostRuntime) -> Result<(), Fail> {
-    let alloc = rt.alloc();
-    let (none, _) = frame(alloc, Documents::new(alloc), 0)?;
-    let (no_element, _) = frame(alloc, RawArrayBuf::new(alloc)?, 0)?;
     // An element of an array has a kind byte, the digits of its number, a zero and the document.
-    for (count, in_sequence, in_array) in [
+    for (count, beside, inside) in [
+        (0, 0, 0),
         (1, 5, 8),
         (10, 50, 80),
         (11, 55, 89),
         (100, 500, 890),
         (101, 505, 900),
     ] {
-        let (sequence, sum) = frame(alloc, Documents::new(alloc), count)?;
-        assert_eq!(rt; sum, in_sequence, "{count}");
-        assert_eq!(rt;
-            sequence.as_bytes().len(),
-            none.as_bytes().len().saturating_add(sum),
-            "{count}"
-        );
-        let (array, sum) = frame(alloc, RawArrayBuf::new(alloc)?, count)?;
-        assert_eq!(rt; sum, in_array, "{count}");
-        assert_eq!(rt;
-            array.as_bytes().len(),
-            no_element.as_bytes().len().saturating_add(sum),
-            "{count}"
-        );
+        let wanted = [
+            SEQUENCE_FRAME + beside,
+            beside,
+            ARRAY_FRAME + inside,
+            inside,
+        ];
+        assert_eq!(rt; sizes(rt.alloc(), count)?, wanted, "{count}");
     }
     Ok(())
 }
 
+// Both frames with one document, laid out by the OP_MSG specification and BSON 1.1.
+const BESIDE: &[u8] =
+    b"\x47\0\0\0\0\0\0\0\0\0\0\0\xdd\x07\0\0\0\0\0\0\0\x1e\0\0\0\x02insert\0\x02\0\0\0c\0\x02$db\0\x02\0\0\0d\0\0\x01\x13\0\0\0documents\0\x05\0\0\0\0";
+
+const INSIDE: &[u8] =
+    b"\x4b\0\0\0\0\0\0\0\0\0\0\0\xdd\x07\0\0\0\0\0\0\0\x36\0\0\0\x02insert\0\x02\0\0\0c\0\x04documents\0\x0d\0\0\0\x030\0\x05\0\0\0\0\0\x02$db\0\x02\0\0\0d\0\0";
+
 #[test]
 fn a_sequence_stands_behind_the_document_and_an_array_in_it(rt: HostRuntime) -> Result<(), Fail> {
-    let alloc = rt.alloc();
-    let (sequence, _) = frame(alloc, Documents::new(alloc), 1)?;
-    let beside =
-        b"\x47\0\0\0\0\0\0\0\0\0\0\0\xdd\x07\0\0\0\0\0\0\0\x1e\0\0\0\x02insert\0\x02\0\0\0c\0\x02$db\0\x02\0\0\0d\0\0\x01\x13\0\0\0documents\0\x05\0\0\0\0";
-    assert_eq!(rt; sequence.as_bytes(), beside.as_slice());
-    let (array, _) = frame(alloc, RawArrayBuf::new(alloc)?, 1)?;
-    let inside =
-        b"\x4b\0\0\0\0\0\0\0\0\0\0\0\xdd\x07\0\0\0\0\0\0\0\x36\0\0\0\x02insert\0\x02\0\0\0c\0\x04documents\0\x0d\0\0\0\x030\0\x05\0\0\0\0\0\x02$db\0\x02\0\0\0d\0\0";
-    assert_eq!(rt; array.as_bytes(), inside.as_slice());
+    let (sequence, _) = in_sequence(rt.alloc(), 1)?;
+    assert_eq!(rt; sequence.as_bytes(), BESIDE);
+    let (array, _) = in_array(rt.alloc(), 1)?;
+    assert_eq!(rt; array.as_bytes(), INSIDE);
     Ok(())
 }

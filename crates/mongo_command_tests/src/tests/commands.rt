@@ -1,6 +1,8 @@
-use super::document;
-use mongo_command::{Command, ServerApi, ServerApiVersion, hello_command};
-use mongo_bson::{Bytes, RawDocument, RawDocumentBuf, RawValue, Text};
+use super::notation::document;
+use mongo_bson::{ObjectId, RawDocumentBuf, Text};
+use mongo_command::{
+    AwaitableHelloOptions, Command, ServerApi, ServerApiVersion, TopologyVersion, hello_command,
+};
 use mongo_wire::Error;
 use std::alloc::Global;
 use std::test::Fail;
@@ -11,95 +13,156 @@ const SERVER_API: ServerApi = ServerApi {
     deprecation_errors: Some(false),
 };
 
-// `{ping: 1, $db: "admin"}`
-const PING: &[u8] = b"\x1e\0\0\0\x10ping\0\x01\0\0\0\x02$db\0\x06\0\0\0admin\0\0";
+// The document of a command.
+fn document_of(alloc: Global, command: &Command) -> Result<RawDocumentBuf, Error> {
+    command.to_document(alloc)
+}
 
-// `{x: 1}`
-const INNER: &[u8] = b"\x0c\0\0\0\x10x\0\x01\0\0\0\0";
+// Whether the document of a command has these fields.
+fn has_fields(alloc: Global, command: &Command, fields: &str) -> Result<bool, Fail> {
+    let wanted = document(alloc, fields)?;
+    Ok(document_of(alloc, command)?.as_bytes() == wanted.as_bytes())
+}
 
-// Sets every argument of a command, the last one first, and the session twice.
-fn set_all(alloc: Global, command: &mut Command) -> Result<(), Error> {
-    let inner = RawDocumentBuf::from_bytes(Bytes::from_slice(alloc, INNER)?)?;
+// A command of this body to the database `admin`.
+fn command(alloc: Global, body: RawDocumentBuf) -> Result<Command, Error> {
+    Command::new_raw(alloc, "ping", "admin", body)
+}
+
+// Sets the last arguments of a command, the last one first.
+fn set_last(alloc: Global, command: &mut Command, inner: &RawDocumentBuf) -> Result<(), Error> {
     command.set_recovery_token(inner.try_clone(alloc)?);
     command.set_write_concern(inner.try_clone(alloc)?);
     command.set_after_cluster_time(Some((9, 8)));
     command.set_read_concern_level(Text::from_slice(alloc, "local")?);
     command.set_autocommit();
+    Ok(())
+}
+
+// Sets the first, the last one first, and the session twice.
+fn set_first(alloc: Global, command: &mut Command, inner: &RawDocumentBuf) -> Result<(), Error> {
     command.set_start_transaction();
     command.set_txn_number(7);
     command.set_read_preference(inner.try_clone(alloc)?);
     command.set_server_api(&SERVER_API);
     command.set_cluster_time(inner.try_clone(alloc)?);
     command.set_session(RawDocumentBuf::new(alloc)?);
-    command.set_session(inner);
+    command.set_session(inner.try_clone(alloc)?);
     Ok(())
 }
 
-// The document of `ping` with all of them.
-fn ping_with_all(alloc: Global) -> Result<RawDocumentBuf, Error> {
-    let inner = RawValue::Document(RawDocument::from_bytes(INNER)?);
-    // the count within the second comes first
-    let concern = RawDocument::from_bytes(
-        b"\x30\0\0\0\x02level\0\x06\0\0\0local\0\x11afterClusterTime\0\x08\0\0\0\x09\0\0\0\0",
-    )?;
-    document(
-        alloc,
-        &[
-            ("ping", RawValue::Int32(1)),
-            ("$db", RawValue::Str("admin")),
-            ("lsid", inner),
-            ("$clusterTime", inner),
-            ("apiVersion", RawValue::Str("1")),
-            ("apiStrict", RawValue::Bool(true)),
-            ("apiDeprecationErrors", RawValue::Bool(false)),
-            ("$readPreference", inner),
-            ("txnNumber", RawValue::Int64(7)),
-            ("startTransaction", RawValue::Bool(true)),
-            ("autocommit", RawValue::Bool(false)),
-            ("readConcern", RawValue::Document(concern)),
-            ("writeConcern", inner),
-            ("recoveryToken", inner),
-        ],
-    )
+// The time that a read comes after has the seconds 9 and the count 8 within the second, which comes first.
+const ALL: &str =
+    "ping=int:1 $db=text:admin lsid={ x=int:1 } $clusterTime={ x=int:1 } apiVersion=text:1 apiStrict=true apiDeprecationErrors=false $readPreference={ x=int:1 } txnNumber=long:7 startTransaction=true autocommit=false readConcern={ level=text:local afterClusterTime=timestamp:38654705672 } writeConcern={ x=int:1 } recoveryToken={ x=int:1 }";
+
+const WITHOUT_CONCERNS: &str =
+    "ping=int:1 $db=text:admin lsid={ x=int:1 } $clusterTime={ x=int:1 } apiVersion=text:1 apiStrict=true apiDeprecationErrors=false $readPreference={ x=int:1 } txnNumber=long:7 startTransaction=true autocommit=false recoveryToken={ x=int:1 }";
+
+// The command `ping` with nothing set.
+fn ping(alloc: Global) -> Result<Command, Fail> {
+    Ok(command(alloc, document(alloc, "ping=int:1")?)?)
+}
+
+fn set_all(alloc: Global, command: &mut Command) -> Result<(), Fail> {
+    let inner = document(alloc, "x=int:1")?;
+    set_last(alloc, command, &inner)?;
+    Ok(set_first(alloc, command, &inner)?)
+}
+
+// Whether a copy of the command has these fields.
+fn copy_has_fields(alloc: Global, command: &Command, fields: &str) -> Result<bool, Fail> {
+    has_fields(alloc, &command.try_clone(alloc)?, fields)
 }
 
 #[test]
 fn fields_stand_in_their_order_whatever_that_of_the_calls(rt: HostRuntime) -> Result<(), Fail> {
-    let alloc = rt.alloc();
-    let body = document(alloc, &[("ping", RawValue::Int32(1))])?;
-    let mut command = Command::new_raw(alloc, "ping", "admin", body)?;
-    assert_eq!(rt; command.to_document(alloc)?.as_bytes(), PING);
-    set_all(alloc, &mut command)?;
-    let wanted = ping_with_all(alloc)?;
-    assert_eq!(rt; command.to_document(alloc)?.as_bytes(), wanted.as_bytes());
+    let mut command = ping(rt.alloc())?;
+    set_all(rt.alloc(), &mut command)?;
+    assert!(rt; copy_has_fields(rt.alloc(), &command, ALL)?);
+    command.clear_concerns();
+    assert!(rt; has_fields(rt.alloc(), &command, WITHOUT_CONCERNS)?);
     Ok(())
+}
+
+const SNAPSHOT: &str =
+    "ping=int:1 $db=text:admin readConcern={ level=text:snapshot atClusterTime=timestamp:38654705672 }";
+
+#[test]
+fn a_snapshot_has_its_time(rt: HostRuntime) -> Result<(), Fail> {
+    let mut command = ping(rt.alloc())?;
+    command.set_snapshot_read_concern(rt.alloc(), Some((9, 8)))?;
+    assert!(rt; has_fields(rt.alloc(), &command, SNAPSHOT)?);
+    Ok(())
+}
+
+// The bytes of `{ping: 1, $db: "admin"}`, by BSON 1.1: the tables' notation is one of them.
+const PING: &[u8] = b"\x1e\0\0\0\x10ping\0\x01\0\0\0\x02$db\0\x06\0\0\0admin\0\0";
+
+// The hello that is sent first, by the handshake specification and BSON 1.1.
+const HELLO: &[u8] =
+    b"\x40\0\0\0\x10isMaster\0\x01\0\0\0\x08helloOk\0\x01\x02backpressure\0\x02\0\0\x002\0\x02$db\0\x06\0\0\0admin\0\0";
+
+// A state of a server that a hello waits to see changed.
+const AWAITED: AwaitableHelloOptions = AwaitableHelloOptions {
+    topology_version: TopologyVersion {
+        process_id: ObjectId([7; 12]),
+        counter: 9,
+    },
+    max_await_time_ms: 10_000,
+};
+
+// Whether a word is true or false, or none.
+fn truth(word: &str) -> Option<bool> {
+    match word {
+        "true" => Some(true),
+        "false" => Some(false),
+        _ => None,
+    }
+}
+
+// The hello of a row's words: whether a load balancer answers, whether the server said that it knows hello, and whether a
+// server API is given or the hello waits.
+fn hello(alloc: Global, words: &str) -> Result<Command, Error> {
+    let mut words = words.split_whitespace();
+    let load_balanced = truth(words.next().unwrap_or(""));
+    let hello_ok = truth(words.next().unwrap_or(""));
+    let (api, awaited) = match words.next() {
+        Some("api") => (Some(SERVER_API), None),
+        Some("await") => (None, Some(AWAITED)),
+        _ => (None, None),
+    };
+    hello_command(alloc, api.as_ref(), load_balanced, hello_ok, awaited)
+}
+
+// Whether the row's hello has the fields behind the arrow, and may be answered more than once exactly where it waits.
+fn is_hello(alloc: Global, row: &str) -> Result<bool, Fail> {
+    let (words, fields) = row.split_once(" => ").unwrap_or((row, "no arrow"));
+    let hello = hello(alloc, words)?;
+    let may_go_on = hello.exhaust_allowed == words.ends_with("await");
+    Ok(has_fields(alloc, &hello, fields)? && may_go_on)
+}
+
+const HELLOS: &str = "true - - => hello=int:1 backpressure=text:2 $db=text:admin
+false - - => isMaster=int:1 helloOk=true backpressure=text:2 $db=text:admin
+- - - => isMaster=int:1 helloOk=true backpressure=text:2 $db=text:admin
+- false - => isMaster=int:1 backpressure=text:2 $db=text:admin
+- true - => hello=int:1 backpressure=text:2 $db=text:admin
+- false api => hello=int:1 backpressure=text:2 $db=text:admin apiVersion=text:1 apiStrict=true apiDeprecationErrors=false
+- true await => hello=int:1 backpressure=text:2 topologyVersion={ processId=id:7 counter=long:9 } maxAwaitTimeMS=long:10000 $db=text:admin";
+
+// Whether the message of a hello has this document.
+fn is_sent_as(alloc: Global, hello: Command, document: &[u8]) -> Result<bool, Error> {
+    let message = hello.into_message(alloc)?;
+    Ok(message.document_payload.as_bytes() == document)
 }
 
 #[test]
 fn a_hello_has_the_name_that_the_server_knows(rt: HostRuntime) -> Result<(), Fail> {
-    let alloc = rt.alloc();
-    let modern = ("hello", RawValue::Int32(1));
-    let legacy = ("isMaster", RawValue::Int32(1));
-    let asked = ("helloOk", RawValue::Bool(true));
-    let backpressure = ("backpressure", RawValue::Str("2"));
-    let table: [(
-        Option<ServerApi>,
-        Option<bool>,
-        Option<bool>,
-        &[(&str, RawValue<'_>)],
-    ); 6] = [
-        (None, Some(true), None, &[modern, backpressure]),
-        (None, Some(false), None, &[legacy, asked, backpressure]),
-        (None, None, None, &[legacy, asked, backpressure]),
-        (None, None, Some(false), &[legacy, backpressure]),
-        (None, None, Some(true), &[modern, backpressure]),
-        (Some(SERVER_API), None, Some(false), &[modern, backpressure]),
-    ];
-    for (server_api, load_balanced, hello_ok, fields) in table {
-        let hello = hello_command(alloc, server_api.as_ref(), load_balanced, hello_ok, None)?;
-        assert_eq!(rt; hello.body.as_bytes(), document(alloc, fields)?.as_bytes());
-        assert_eq!(rt; hello.target_db.as_str(), "admin");
-        assert!(rt; !hello.exhaust_allowed);
+    for row in HELLOS.lines() {
+        assert!(rt; is_hello(rt.alloc(), row)?, "{row}");
     }
+    assert!(rt; is_sent_as(rt.alloc(), hello(rt.alloc(), "")?, HELLO)?);
+    let ping = document(rt.alloc(), "ping=int:1 $db=text:admin")?;
+    assert_eq!(rt; ping.as_bytes(), PING);
     Ok(())
 }

@@ -1,7 +1,10 @@
 ghost use Rattle.std.specs.Prelude.{◌<◌};
 
-use mongo_command::{Command, Connection, ServerAddress, hello_command};
-use mongo_bson::{Bytes, Text};
+use super::Answered;
+use mongo_bson::{Bytes, RawDocument, Text};
+use mongo_command::{
+    Command, Connection, HelloReply, RawCommandResponse, ServerAddress, hello_command, run_hello,
+};
 use mongo_wire::{Error, ErrorKind, FailingLink, FrameBuffer, Link, RequestIds, Sink, Source};
 use std::alloc::Global;
 use std::test::Fail;
@@ -114,6 +117,28 @@ fn told_of(document: &[u8]) -> Told {
     }
 }
 
+// How the call of each kind ended.
+fn told_response(call: &Answered<RawCommandResponse>) -> Told {
+    match &call.answer {
+        Ok(response) => told_of(response.as_bytes()),
+        Err(error) => told_by(&error.kind),
+    }
+}
+
+fn told_document(call: &Answered<RawDocument<'_>>) -> Told {
+    match &call.answer {
+        Ok(document) => told_of(document.as_bytes()),
+        Err(error) => told_by(&error.kind),
+    }
+}
+
+fn told_hello(call: &Answered<HelloReply>) -> Told {
+    match &call.answer {
+        Ok(reply) => told_of(reply.raw_command_response.as_bytes()),
+        Err(error) => told_by(&error.kind),
+    }
+}
+
 fn send_message<L: Link>(
     alloc: Global,
     connection: &mut Connection,
@@ -121,10 +146,8 @@ fn send_message<L: Link>(
     ids: &mut RequestIds,
     command: Command,
 ) -> Told {
-    match connection.send_message(alloc, link, ids, command) {
-        Ok(response) => told_of(response.as_bytes()),
-        Err(error) => told_by(&error.kind),
-    }
+    let answer = connection.send_message(alloc, link, ids, command);
+    told_response(&Answered { answer })
 }
 
 fn exchange<L: Link>(
@@ -135,23 +158,19 @@ fn exchange<L: Link>(
     command: Command,
 ) -> Told {
     let mut buffer = FrameBuffer::new(alloc);
-    match connection.exchange(alloc, link, ids, command, &mut buffer) {
-        Ok(document) => told_of(document.as_bytes()),
-        Err(error) => told_by(&error.kind),
-    }
+    let answer = connection.exchange(alloc, link, ids, command, &mut buffer);
+    told_document(&Answered { answer })
 }
 
-fn run_hello<L: Link>(
+fn hello<L: Link>(
     alloc: Global,
     connection: &mut Connection,
     link: &mut L,
     ids: &mut RequestIds,
     command: Command,
 ) -> Told {
-    match mongo_command::run_hello(alloc, connection, link, ids, command) {
-        Ok(reply) => told_of(reply.raw_command_response.as_bytes()),
-        Err(error) => told_by(&error.kind),
-    }
+    let answer = run_hello(alloc, connection, link, ids, command);
+    told_hello(&Answered { answer })
 }
 
 impl Talk {
@@ -184,7 +203,7 @@ impl Talk {
         let told = match asked {
             Asked::SendMessage => send_message(alloc, connection, link, ids, command),
             Asked::Exchange => exchange(alloc, connection, link, ids, command),
-            Asked::RunHello => run_hello(alloc, connection, link, ids, command),
+            Asked::RunHello => hello(alloc, connection, link, ids, command),
         };
         Ok(self.seen(told))
     }
@@ -223,18 +242,20 @@ impl Talk {
     }
 }
 
-// What is seen after each of four calls, of which the first is this one and then each is made. Just this call of the link
-// fails, and a call moves so many bytes.
+// What is seen after each of four calls, of which the first is this one and then each is made.
+fn ask_each(alloc: Global, talk: &mut Talk, first: Asked) -> Result<[Seen; 4], Error> {
+    let first = talk.ask(alloc, first)?;
+    let second = talk.ask(alloc, Asked::SendMessage)?;
+    let third = talk.ask(alloc, Asked::Exchange)?;
+    Ok([first, second, third, talk.ask(alloc, Asked::RunHello)?])
+}
+
+// The same where just this call of the link fails, and a call moves so many bytes.
 fn four_calls(alloc: Global, first: Asked, failing: usize, most: usize) -> Result<[Seen; 4], Error>
     requires { 0 < most }
 {
     let mut talk = Talk::failing_at(alloc, failing, most)?;
-    Ok([
-        talk.ask(alloc, first)?,
-        talk.ask(alloc, Asked::SendMessage)?,
-        talk.ask(alloc, Asked::Exchange)?,
-        talk.ask(alloc, Asked::RunHello)?,
-    ])
+    ask_each(alloc, &mut talk, first)
 }
 
 #[test]

@@ -1,226 +1,237 @@
-use super::{ONE, document, response};
-use mongo_command::RawCommandResponse;
-use mongo_bson::{RawArrayBuf, RawDocument, RawDocumentBuf, RawValue};
-use mongo_wire::{
-    Error, ErrorKind, InsertManyError, ResponseFault, WriteErrors, WriteFailureCause,
-};
+use super::notation::document;
+use super::{Answered, printed, response};
+use mongo_bson::{RawArrayBuf, RawDocumentBuf, RawValue};
+use mongo_command::{RawCommandResponse, command_body};
+use mongo_wire::{Error, ErrorKind, WriteErrors};
 use std::alloc::Global;
 use std::test::Fail;
 
-const NULL: RawValue<'static> = RawValue::Null;
-
-const NUMBER: RawValue<'static> = RawValue::Int32(1);
-
-const INDEX: (&str, RawValue<'static>) = ("index", RawValue::Int32(0));
-
-const CODE: (&str, RawValue<'static>) = ("code", RawValue::Int32(11000));
-
-// What the reply to a write is taken as.
-#[derive(Clone, Copy, Debug, PartialEq, Eq)]
-enum Answer {
-    Done,
-    Write,
-    Concern,
+// One of the calls that judge a reply. The single write and the insert of many give nothing where they succeed, the count
+// gives a number, and the others give the reply's document.
+#[derive(Clone, Copy)]
+enum Call {
+    SingleWrite,
     InsertMany,
+    Count,
+    CommandBody,
     Body,
+    AuthBody,
 }
 
-// What a reply says of a single write, and of an insert of many.
-fn answers(alloc: Global, reply: &RawCommandResponse) -> Result<(Answer, Answer), Error> {
-    Ok((
-        answer_of(reply.validate_single_write(alloc))?,
-        answer_of(reply.validate_insert_many(alloc))?,
-    ))
+fn single_write(alloc: Global, reply: &RawCommandResponse) -> Result<String, Fail> {
+    printed(alloc, reply.validate_single_write(alloc))
 }
 
-fn answer_of(validated: Result<(), Error>) -> Result<Answer, Error> {
-    match validated {
-        Ok(()) => Ok(Answer::Done),
-        Err(error) => match error.kind {
-            ErrorKind::Write(failure) => match failure.cause {
-                WriteFailureCause::WriteError(_) => Ok(Answer::Write),
-                WriteFailureCause::WriteConcernError(_) => Ok(Answer::Concern),
-            },
-            ErrorKind::InsertMany(_) => Ok(Answer::InsertMany),
-            ErrorKind::InvalidResponse(ResponseFault::Body) => Ok(Answer::Body),
-            kind => Err(Error { kind }),
-        },
+fn insert_many(alloc: Global, reply: &RawCommandResponse) -> Result<(), Error> {
+    reply.validate_insert_many(alloc)
+}
+
+fn count(alloc: Global, reply: &RawCommandResponse) -> Result<String, Fail> {
+    printed(alloc, reply.extract_n())
+}
+
+fn command_document(alloc: Global, reply: &RawCommandResponse) -> Result<String, Fail> {
+    printed(alloc, command_body(alloc, reply))
+}
+
+fn body(alloc: Global, reply: &RawCommandResponse) -> Result<String, Fail> {
+    printed(alloc, reply.body(alloc))
+}
+
+fn auth_body(alloc: Global, reply: &RawCommandResponse) -> Result<String, Fail> {
+    printed(alloc, reply.auth_response_body(alloc))
+}
+
+// What a call answers of the reply of these fields, as it is printed.
+fn told(alloc: Global, call: Call, fields: &str) -> Result<String, Fail> {
+    let reply = response(alloc, document(alloc, fields)?)?;
+    match call {
+        Call::SingleWrite => single_write(alloc, &reply),
+        Call::InsertMany => printed(alloc, insert_many(alloc, &reply)),
+        Call::Count => count(alloc, &reply),
+        Call::CommandBody => command_document(alloc, &reply),
+        Call::Body => body(alloc, &reply),
+        Call::AuthBody => auth_body(alloc, &reply),
     }
 }
 
-// An array of this one value.
-fn array_of(alloc: Global, value: RawValue<'_>) -> Result<RawArrayBuf, Error> {
-    let mut array = RawArrayBuf::new(alloc)?;
-    array.push(value)?;
-    Ok(array)
+// Whether what a call answers holds a piece: a row has the piece behind the reply's fields and an arrow.
+fn is_told(alloc: Global, call: Call, row: &str) -> Result<bool, Fail> {
+    let (fields, piece) = row.split_once(" => ").unwrap_or((row, "no arrow"));
+    Ok(told(alloc, call, fields)?.as_str().find(piece).is_some())
 }
 
-// `{index: 0, code: 11000}`, alone in an array
-const ERRORS: &[u8] = b"\x22\0\0\0\x030\0\x1a\0\0\0\x10index\0\0\0\0\0\x10code\0\xf8\x2a\0\0\0\0";
+// Whether both calls of writes answer so: a row has both pieces behind arrows.
+fn are_told(alloc: Global, row: &str) -> Result<bool, Fail> {
+    let (fields, pieces) = row.split_once(" => ").unwrap_or((row, "no arrow"));
+    let (single, many) = pieces.split_once(" => ").unwrap_or((pieces, pieces));
+    let of_single = told(alloc, Call::SingleWrite, fields)?;
+    let of_many = told(alloc, Call::InsertMany, fields)?;
+    Ok(of_single.as_str().find(single).is_some() && of_many.as_str().find(many).is_some())
+}
 
-// `{code: 11000}`
-const CONCERN: &[u8] = b"\x0f\0\0\0\x10code\0\xf8\x2a\0\0\0";
+// Replies, what they say of a single write, and what of an insert of many.
+const WRITES: &str = r#"ok=int:1 => Ok(()) => Ok(())
+ok=int:1 ok=int:1 => InvalidResponse(Body)
+writeErrors=int:1 writeConcernError=int:1 errorLabels=int:1 => InvalidResponse(Body)
+writeErrors=null writeConcernError=null errorLabels=null => Ok(()) => Ok(())
+writeErrors=[ 0={ index=int:0 code=int:11000 } ] errorLabels=null => Err(Error { kind: Write(WriteFailure { cause: WriteError(WriteError { code: 11000, code_name: None, message: Text { text: "" }, details: None }), labels: Items { held: [] } }) }) => Err(Error { kind: InsertMany(InsertManyError { write_errors: Some(Items { held: [IndexedWriteError { index: 0, error: WriteError { code: 11000, code_name: None, message: Text { text: "" }, details: None } }] }), write_concern_error: None, labels: Items { held: [] } }) })
+writeConcernError={ code=int:64 errorLabels=[ 0=text:b ] } errorLabels=[ 0=text:a ] => Err(Error { kind: Write(WriteFailure { cause: WriteConcernError(WriteConcernError { code: 64, code_name: Text { text: "" }, message: Text { text: "" }, details: None, labels: Items { held: [Text { text: "b" }] } }), labels: Items { held: [Text { text: "a" }] } }) }) => InsertMany(InsertManyError { write_errors: None, write_concern_error: Some(WriteConcernError { code: 64,
+writeErrors=[ 0={ index=int:0 code=int:11000 } ] writeConcernError={ code=int:64 } => cause: WriteError(WriteError { code: 11000 => InsertMany(InsertManyError { write_errors: Some(
+writeErrors=[ ] errorLabels=[ ] => Ok(()) => InsertMany(
+writeErrors=[ ] writeConcernError={ code=int:64 } errorLabels=[ ] => cause: WriteConcernError( => InsertMany(
+writeErrors=int:1 => InvalidResponse(Body)
+writeErrors=[ 0=int:1 ] => InvalidResponse(Body)
+writeErrors={ code=int:11000 } => InvalidResponse(Body)
+writeConcernError=int:1 => InvalidResponse(Body)
+writeConcernError=[ 0={ index=int:0 code=int:11000 } ] => InvalidResponse(Body)
+writeErrors=[ 0={ index=int:0 code=int:11000 } ] errorLabels=[ 0=int:1 ] => InvalidResponse(Body)
+errorLabels=int:1 => InvalidResponse(Body)"#;
 
-// `[1]`
-const NUMBERS: &[u8] = b"\x0c\0\0\0\x100\0\x01\0\0\0\0";
+// Fields of a write error, and what a single write and an insert of many say of them.
+const ERRORS: &str =
+    r#"index=int:0 code=int:11000 errmsg=text:twice codeName=text:DuplicateKey => WriteError { code: 11000, code_name: Some(Text { text: "DuplicateKey" }), message: Text { text: "twice" }
+code=int:11000 => InvalidResponse(Body)
+index=int:0 => InvalidResponse(Body)
+index=int:-1 code=int:11000 => InvalidResponse(Body)
+index=long:4294967295 code=int:11000 => Err(Error { kind: Write( => index: 4294967295,
+index=long:4294967296 code=int:11000 => InvalidResponse(Body)
+index=double:3ff0000000000000 code=int:11000 => InvalidResponse(Body)
+index=int:0 code=long:-2147483648 => WriteError { code: -2147483648,
+index=int:0 code=long:2147483648 => InvalidResponse(Body)
+index=int:0 code=null => InvalidResponse(Body)
+index=int:0 code=int:1 codeName=null => WriteError { code: 1, code_name: None
+index=int:0 code=int:1 codeName=int:1 => InvalidResponse(Body)
+index=int:0 code=int:1 errmsg=null => InvalidResponse(Body)
+index=int:0 code=int:1 errmsg=int:1 => InvalidResponse(Body)
+index=int:0 code=int:1 errInfo=null => details: None
+index=int:0 code=int:1 errInfo={ } => details: Some(RawDocumentBuf { held: [5, 0, 0, 0, 0] })
+index=int:0 code=int:1 errInfo=[ ] => InvalidResponse(Body)
+index=int:0 code=int:1 code=int:1 => InvalidResponse(Body)"#;
+
+// The row of the reply that has the write error of a row.
+fn error_row(alloc: Global, row: &str) -> Result<String, Fail> {
+    let (fields, pieces) = row.split_once(" => ").unwrap_or((row, "no arrow"));
+    Ok(format!(in alloc; "writeErrors=[ 0={{ {fields} }} ] => {pieces}")?)
+}
 
 #[test]
 fn a_reply_says_what_was_refused(rt: HostRuntime) -> Result<(), Fail> {
-    let alloc = rt.alloc();
-    let errors = RawValue::Array(RawDocument::from_bytes(ERRORS)?);
-    let none = RawValue::Array(RawDocument::from_bytes(b"\x05\0\0\0\0")?);
-    let concern = RawValue::Document(RawDocument::from_bytes(CONCERN)?);
-    let numbers = RawValue::Array(RawDocument::from_bytes(NUMBERS)?);
-    // what the reply has as `writeErrors`, `writeConcernError` and `errorLabels`
-    let table = [
-        (NUMBER, NUMBER, NUMBER, Answer::Body, Answer::Body),
-        (NULL, NULL, NULL, Answer::Done, Answer::Done),
-        (errors, NULL, NULL, Answer::Write, Answer::InsertMany),
-        (NULL, concern, NULL, Answer::Concern, Answer::InsertMany),
-        (errors, concern, NULL, Answer::Write, Answer::InsertMany),
-        (none, NULL, none, Answer::Done, Answer::InsertMany),
-        (none, concern, none, Answer::Concern, Answer::InsertMany),
-        (NUMBER, NULL, NULL, Answer::Body, Answer::Body),
-        (numbers, NULL, NULL, Answer::Body, Answer::Body),
-        (concern, NULL, NULL, Answer::Body, Answer::Body),
-        (NULL, NUMBER, NULL, Answer::Body, Answer::Body),
-        (NULL, errors, NULL, Answer::Body, Answer::Body),
-        (errors, NULL, numbers, Answer::Body, Answer::Body),
-        (NULL, NULL, NUMBER, Answer::Body, Answer::Body),
-    ];
-    for (errors, concern, labels, single, many) in table {
-        let fields = [
-            ("writeErrors", errors),
-            ("writeConcernError", concern),
-            ("errorLabels", labels),
-        ];
-        let reply = response(alloc, document(alloc, &fields)?)?;
-        assert_eq!(rt; answers(alloc, &reply)?, (single, many), "{fields:?}");
+    for row in WRITES.lines() {
+        assert!(rt; are_told(rt.alloc(), row)?, "{row}");
     }
-    let bare = response(alloc, document(alloc, &[("ok", ONE)])?)?;
-    assert_eq!(rt; answers(alloc, &bare)?, (Answer::Done, Answer::Done));
-    let twice = response(alloc, document(alloc, &[("ok", ONE), ("ok", ONE)])?)?;
-    assert_eq!(rt; answers(alloc, &twice)?, (Answer::Body, Answer::Body));
-    Ok(())
-}
-
-// Whether a write error of these fields is read, for a single write and for an insert of many.
-fn reads_error(alloc: Global, fields: &[(&str, RawValue<'_>)]) -> Result<bool, Error> {
-    let error = document(alloc, fields)?;
-    let errors = array_of(alloc, RawValue::Document(error.borrow()))?;
-    let errors = ("writeErrors", RawValue::Array(errors.borrow()));
-    let reply = response(alloc, document(alloc, &[errors])?)?;
-    Ok(answers(alloc, &reply)? == (Answer::Write, Answer::InsertMany))
-}
-
-#[test]
-fn each_field_of_a_write_error_has_its_kind(rt: HostRuntime) -> Result<(), Fail> {
-    let alloc = rt.alloc();
-    let empty = RawDocument::from_bytes(b"\x05\0\0\0\0")?;
-    let table: [(&[(&str, RawValue<'_>)], bool); 18] = [
-        (&[INDEX, CODE], true),
-        (&[CODE], false),
-        (&[INDEX], false),
-        (&[("index", RawValue::Int32(-1)), CODE], false),
-        (&[("index", RawValue::Int64(4_294_967_295)), CODE], true),
-        (&[("index", RawValue::Int64(4_294_967_296)), CODE], false),
-        (&[("index", ONE), CODE], false),
-        (&[INDEX, ("code", RawValue::Int64(-2_147_483_648))], true),
-        (&[INDEX, ("code", RawValue::Int64(2_147_483_648))], false),
-        (&[INDEX, ("code", NULL)], false),
-        (&[INDEX, CODE, ("codeName", NULL)], true),
-        (&[INDEX, CODE, ("codeName", NUMBER)], false),
-        (&[INDEX, CODE, ("errmsg", NULL)], false),
-        (&[INDEX, CODE, ("errmsg", NUMBER)], false),
-        (&[INDEX, CODE, ("errInfo", NULL)], true),
-        (&[INDEX, CODE, ("errInfo", RawValue::Document(empty))], true),
-        (&[INDEX, CODE, ("errInfo", RawValue::Array(empty))], false),
-        (&[INDEX, CODE, CODE], false),
-    ];
-    for (fields, reads) in table {
-        assert_eq!(rt; reads_error(alloc, fields)?, reads, "{fields:?}");
+    for row in ERRORS.lines() {
+        let whole = error_row(rt.alloc(), row)?;
+        assert!(rt; are_told(rt.alloc(), whole.as_str())?, "{row}");
     }
     Ok(())
 }
 
-// The failure of an insert of many that this reply says.
-fn insert_failure(alloc: Global, reply: &RawCommandResponse) -> Result<InsertManyError, Fail> {
-    match reply.validate_insert_many(alloc) {
-        Ok(()) => Err(Fail::new("the insert was done")),
-        Err(error) => match error.kind {
-            ErrorKind::InsertMany(failure) => Ok(failure),
-            _kind => Err(Fail::new("no insert failure")),
+// Puts a write error of this place at the end.
+fn push_error(alloc: Global, errors: &mut RawArrayBuf, index: u32) -> Result<(), Fail> {
+    let fields = format!(in alloc; "index=long:{index} code=int:11000")?;
+    let error = document(alloc, fields.as_str())?;
+    Ok(errors.push(RawValue::Document(error.borrow()))?)
+}
+
+// So many write errors.
+fn many_errors(alloc: Global, count: u32) -> Result<RawArrayBuf, Fail> {
+    let mut errors = RawArrayBuf::new(alloc)?;
+    for index in 0..count {
+        push_error(alloc, &mut errors, index)?;
+    }
+    Ok(errors)
+}
+
+// The reply that has these write errors.
+fn refusing(alloc: Global, errors: &RawArrayBuf) -> Result<RawDocumentBuf, Fail> {
+    let mut reply = RawDocumentBuf::new(alloc)?;
+    reply.append("writeErrors", RawValue::Array(errors.borrow()))?;
+    Ok(reply)
+}
+
+// How many write errors an insert has, and the place of the last of them.
+fn count_and_last(inserted: &Answered<()>) -> Option<(usize, u32)> {
+    match &inserted.answer {
+        Ok(()) => None,
+        Err(error) => match &error.kind {
+            ErrorKind::InsertMany(failure) => last_of(failure.write_errors.as_ref()?),
+            _ => None,
         },
     }
 }
 
-// The place of the last of so many write errors, or None where there are more or fewer.
-fn last_place(errors: &Option<WriteErrors>, count: usize) -> Option<u32> {
-    match errors {
-        Some(errors) if errors.len() == count => match errors.as_slice().last() {
-            Some(last) => Some(last.index),
-            None => None,
-        },
-        _ => None,
-    }
+fn last_of(errors: &WriteErrors) -> Option<(usize, u32)> {
+    let last = errors.as_slice().last()?;
+    Some((errors.len(), last.index))
 }
 
 #[test]
 fn a_hundred_thousand_write_errors_are_read_in_time(rt: HostRuntime) -> Result<(), Fail> {
-    let alloc = rt.alloc();
-    let mut errors = RawArrayBuf::new(alloc)?;
-    for index in 0..100_000 {
-        let error = document(alloc, &[("index", RawValue::Int32(index)), CODE])?;
-        errors.push(RawValue::Document(error.borrow()))?;
-    }
-    let mut reply = RawDocumentBuf::new(alloc)?;
-    reply.append("writeErrors", RawValue::Array(errors.borrow()))?;
-    let failure = insert_failure(alloc, &response(alloc, reply)?)?;
-    assert_eq!(rt; last_place(&failure.write_errors, 100_000), Some(99_999));
+    let errors = many_errors(rt.alloc(), 100_000)?;
+    let reply = response(rt.alloc(), refusing(rt.alloc(), &errors)?)?;
+    let inserted = Answered {
+        answer: insert_many(rt.alloc(), &reply),
+    };
+    assert_eq!(rt; count_and_last(&inserted), Some((100_000, 99_999)));
     Ok(())
 }
 
-// The count of a reply, or why it has none.
-fn count(alloc: Global, document: RawDocumentBuf) -> Result<Result<u64, ResponseFault>, Error> {
-    match response(alloc, document)?.extract_n() {
-        Ok(n) => Ok(Ok(n)),
-        Err(
-            Error {
-                kind: ErrorKind::InvalidResponse(fault),
-            },
-        ) => Ok(Err(fault)),
-        Err(error) => Err(error),
-    }
+// The doubles are 3.0 and 1.5.
+const COUNTS: &str = "n=double:4008000000000000 => Ok(3)
+n=int:7 n=double:3ff8000000000000 => Ok(7)
+n=double:3ff8000000000000 => Err(Error { kind: InvalidResponse(NNotNumber) })
+n=long:-1 => Err(Error { kind: InvalidResponse(NNotNumber) })
+n=text:1 => Err(Error { kind: InvalidResponse(NNotNumber) })
+ok=int:1 => Err(Error { kind: InvalidResponse(NoN) })
+b=broken n=int:1 => Err(Error { kind: InvalidResponse(Body) })
+n=int:1 b=broken => Ok(1)
+b=broken => Err(Error { kind: InvalidResponse(Body) })";
+
+// The reply to a command that failed is a command error, whatever write errors it holds.
+const COMMANDS: &str =
+    r#"ok=double:3ff0000000000000 => Ok(RawDocument { bytes: [17, 0, 0, 0, 1, 111, 107, 0, 0, 0, 0, 0, 0, 0, 240, 63, 0] })
+ok=int:0 code=int:11000 errmsg=text:d writeErrors=[ 0={ index=int:0 code=int:11000 } ] => Err(Error { kind: Command(CommandError { code: 11000, code_name: Text { text: "" }, message: Text { text: "d" }, labels: Items { held: [] } }) })
+ok=int:0 => Err(Error { kind: InvalidResponse(Body) })
+ => Err(Error { kind: InvalidResponse(Body) })
+ok=int:1 ok=int:1 => Err(Error { kind: InvalidResponse(Body) })"#;
+
+// The second of these as the reply to an insert of many.
+const FAILED: &str =
+    "ok=int:0 code=int:11000 errmsg=text:d writeErrors=[ 0={ index=int:0 code=int:11000 } ] => Err(Error { kind: InsertMany(";
+
+// A well formed document, one with a key twice, and one that isn't readable.
+const BODIES: &str =
+    "a=null => Ok(RawDocument { bytes: [8, 0, 0, 0, 10, 97, 0, 0] }) => Ok(RawDocument { bytes: [8, 0, 0, 0, 10, 97, 0, 0] })
+a=null a=null => InvalidResponse(Body) => Authentication(Malformed)
+a=broken => InvalidResponse(Body) => Authentication(Malformed)";
+
+// Whether a body and that of a login are given so: a row has both pieces behind arrows.
+fn are_bodies_told(alloc: Global, row: &str) -> Result<bool, Fail> {
+    let (fields, pieces) = row.split_once(" => ").unwrap_or((row, "no arrow"));
+    let (body, auth) = pieces.split_once(" => ").unwrap_or((pieces, pieces));
+    let of_body = told(alloc, Call::Body, fields)?;
+    let of_auth = told(alloc, Call::AuthBody, fields)?;
+    Ok(of_body.as_str().find(body).is_some() && of_auth.as_str().find(auth).is_some())
 }
 
 #[test]
-fn the_count_is_a_whole_number(rt: HostRuntime) -> Result<(), Fail> {
-    let alloc = rt.alloc();
-    // the doubles 3.0 and 1.5
-    let three = RawValue::Double(0x4008_0000_0000_0000);
-    let half = RawValue::Double(0x3ff8_0000_0000_0000);
-    let table: [(&[(&str, RawValue<'_>)], Result<u64, ResponseFault>); 6] = [
-        (&[("n", three)], Ok(3)),
-        (&[("n", RawValue::Int32(7)), ("n", half)], Ok(7)),
-        (&[("n", half)], Err(ResponseFault::NNotNumber)),
-        (
-            &[("n", RawValue::Int64(-1))],
-            Err(ResponseFault::NNotNumber),
-        ),
-        (&[("n", RawValue::Str("1"))], Err(ResponseFault::NNotNumber)),
-        (&[("ok", ONE)], Err(ResponseFault::NoN)),
-    ];
-    for (fields, wanted) in table {
-        let reply = document(alloc, fields)?;
-        assert_eq!(rt; count(alloc, reply)?, wanted, "{fields:?}");
+fn a_reply_has_a_count(rt: HostRuntime) -> Result<(), Fail> {
+    for row in COUNTS.lines() {
+        assert!(rt; is_told(rt.alloc(), Call::Count, row)?, "{row}");
     }
-    // a boolean of no meaning, before `n` and after it
-    let broken = RawValue::Other(0x08, b"\x02");
-    let before = document(alloc, &[("b", broken), ("n", NUMBER)])?;
-    assert_eq!(rt; count(alloc, before)?, Err(ResponseFault::Body));
-    let after = document(alloc, &[("n", NUMBER), ("b", broken)])?;
-    assert_eq!(rt; count(alloc, after)?, Ok(1));
-    let without = document(alloc, &[("b", broken)])?;
-    assert_eq!(rt; count(alloc, without)?, Err(ResponseFault::Body));
+    Ok(())
+}
+
+#[test]
+fn a_reply_has_a_body(rt: HostRuntime) -> Result<(), Fail> {
+    for row in COMMANDS.lines() {
+        assert!(rt; is_told(rt.alloc(), Call::CommandBody, row)?, "{row}");
+    }
+    for row in BODIES.lines() {
+        assert!(rt; are_bodies_told(rt.alloc(), row)?, "{row}");
+    }
+    // a look at the write errors alone says nothing of `ok`
+    assert!(rt; is_told(rt.alloc(), Call::InsertMany, FAILED)?);
     Ok(())
 }
