@@ -1,10 +1,10 @@
-use Rattle.std.proofs.Common.{◌++◌, ◌∙◌, ap}
+use Rattle.std.proofs.Common.{rules, ◌++◌, ◌∙◌, ap}
 use Rattle.mongo_settings.proofs.batch.rehearse_next.Goals as goal
 
 pub returns-clause-joined : goal.returns-clause-joined
 returns-clause-joined g c = record {
   rehearsal = c.in_ok-rehearsal.rehearsal;
   taking = c.in_ok-rehearsal.ensures.taking;
-  report = c.in_ok-extend_from_slice.ensures.items ∙ ap (λ text. c.args.batch.now.report.items ++ text) c.as_slice.ensures.value;
+  report = c.in_ok-extend_from_slice.ensures.items ∙ ap (λ text. c.args.batch.now.report.items ++ text) (search rules);
   status = c.and-batch.ensures;
 }
