@@ -4,7 +4,7 @@ use Rattle.std.specs.List.{AllByRecursion, flat_map}
 use Rattle.mongo_bson.specs.Framed.{IsFramed}
 use Rattle.mongo_wire.specs.Frame.{Section, body, sequence, IsSection, IsSequence, section_bytes, sequences_of}
 use Rattle.mongo_bson.specs.declared.raw_document.RawDocument.{RawDocument}
-use Rattle.mongo_wire.specs.Sections.{AreDocuments, HasNoDocument, BeginsWithSection, SplitsSequenceSection, HasNoSection, Shows, ShowsSequence}
+use Rattle.mongo_wire.specs.Sections.{AreDocuments, HasNoDocument, BeginsWithSection, SplitsSequenceSection, AreSections, HasNoSection, Shows, ShowsSequence}
 use Rattle.mongo_wire.specs.declared.sections.SectionRef.TheVariants.{Body, Sequence}
 use Rattle.mongo_wire.specs.declared.sections.SequenceRef.{SequenceRef}
 use Rattle.mongo_wire.proofs.OneFrame.{one_documents, one_sections}
@@ -19,11 +19,7 @@ pub record OwnedSo (bytes rest : List ℕ) (sequences : List DocumentSequence) :
   pub spelled : bytes ≡ flat_map section_bytes sections ++ rest
   pub same : sequences ≡ sequences_of sections
 
--- the same where the bytes are sections
-abbrev pub OwnedWhere : List ℕ → List ℕ → List DocumentSequence → Type 0
-OwnedWhere bytes rest sequences = (ss : List Section) → AllByRecursion IsSection ss → bytes ≡ flat_map section_bytes ss → OwnedSo bytes rest sequences
-
-nothing_owned : (bytes : List ℕ) → OwnedSo bytes bytes []
+pub nothing_owned : (bytes : List ℕ) → OwnedSo bytes bytes []
 nothing_owned bytes = record { sections = []; each = tt; spelled = refl; same = refl }
 
 sequences_joined : (ss ts : List Section) → sequences_of (ss ++ ts) ≡ sequences_of ss ++ sequences_of ts
@@ -62,11 +58,10 @@ owned_sequence_more bytes rest after read sequences copy so begins copied =
     of (sequence s) is shown = ap (λ z. z ∷ []) (copied s is shown)
 
 -- where something is left of sections, documents fill the sequence that was split off it
-pub owned_filled : (bytes rest after : List ℕ) (read : SequenceRef) (sequences : List DocumentSequence) (ss : List Section) → OwnedSo bytes rest sequences → rest ≢ [] → SplitsSequenceSection rest read after
-    → AllByRecursion IsSection ss → bytes ≡ flat_map section_bytes ss → BeginsWithSection rest (Sequence read) after
-owned_filled bytes rest after read sequences ss so some splits each spelled =
+pub owned_filled : (bytes rest after : List ℕ) (read : SequenceRef) (sequences : List DocumentSequence) → AreSections bytes → OwnedSo bytes rest sequences → rest ≢ [] → SplitsSequenceSection rest read after → AreDocuments read.documents.now
+owned_filled bytes rest after read sequences (ss, each, spelled) so some splits =
     let (us, is, all, left) = goes_on so.sections ss rest [] so.each each (omega arith) (sym so.spelled ∙ spelled ∙ sym (append-nil (flat_map section_bytes ss))) in
-    splits.whole (first us all left)
+    first us all left
   where
     first : (us : List Section) → AllByRecursion IsSection us → rest ≡ flat_map section_bytes us ++ [] → AreDocuments read.documents.now
     first [] all left = absurd (some left)
@@ -78,9 +73,9 @@ owned_all bytes rest sequences ss so none each spelled =
     let whole : flat_map section_bytes so.sections ++ [] ≡ flat_map section_bytes ss ++ [] = ap (λ l. flat_map section_bytes so.sections ++ l) (sym none) ∙ sym so.spelled ∙ spelled ∙ sym (append-nil (flat_map section_bytes ss)) in
     so.same ∙ ap sequences_of (one_sections so.sections ss [] [] so.each each (omega arith) (omega arith) whole).0
 
--- something is left, and no section stands there: the bytes are no sections
-pub owned_stop : (bytes rest : List ℕ) (sequences : List DocumentSequence) (ss : List Section) → OwnedSo bytes rest sequences → rest ≢ [] → HasNoSection rest → AllByRecursion IsSection ss → bytes ≡ flat_map section_bytes ss → ⊥
-owned_stop bytes rest sequences ss so some none each spelled =
+-- where something is left of sections, a section stands there
+pub owned_stop : (bytes rest : List ℕ) (sequences : List DocumentSequence) → AreSections bytes → OwnedSo bytes rest sequences → rest ≢ [] → HasNoSection rest → ⊥
+owned_stop bytes rest sequences (ss, each, spelled) so some none =
     let (us, is, all, left) = goes_on so.sections ss rest [] so.each each (omega arith) (sym so.spelled ∙ spelled ∙ sym (append-nil (flat_map section_bytes ss))) in
     stop us all left
   where
@@ -89,19 +84,6 @@ owned_stop bytes rest sequences ss so some none each spelled =
     stop (u ∷ us) all left = none u (flat_map section_bytes us ++ []) all.0 (left ∙ append_assoc (section_bytes u) (flat_map section_bytes us) [])
 
 -- ---- documents
-
-joined_documents : (ds es : List (List ℕ)) → flat_map (λ d. d) (ds ++ es) ≡ flat_map (λ d. d) ds ++ flat_map (λ d. d) es
-joined_documents [] es = refl
-joined_documents (d ∷ ds) es = ap (λ l. d ++ l) (joined_documents ds es) ∙ sym (append_assoc d (flat_map (λ d. d) ds) (flat_map (λ d. d) es))
-
-pub each_document : (ds es : List (List ℕ)) → AllByRecursion IsFramed ds → AllByRecursion IsFramed es → AllByRecursion IsFramed (ds ++ es)
-each_document [] es p q = q
-each_document (d ∷ ds) es p q = (p.0, each_document ds es p.1 q)
-
-pub more_documents : (bytes rest after document : List ℕ) (ds : List (List ℕ)) → bytes ≡ flat_map (λ d. d) ds ++ rest → rest ≡ document ++ after → bytes ≡ flat_map (λ d. d) (ds ++ document ∷ []) ++ after
-more_documents bytes rest after document ds p q =
-    let flat = flat_map (λ d. d) ds in
-    p ∙ ap (λ l. flat ++ l) q ∙ sym (append_assoc flat document after) ∙ ap (λ l. (flat ++ l) ++ after) (sym (append-nil document)) ∙ ap (λ l. l ++ after) (sym (joined_documents ds (document ∷ [])))
 
 pub all_documents : (bytes rest : List ℕ) (ds es : List (List ℕ)) → AllByRecursion IsFramed ds → bytes ≡ flat_map (λ d. d) ds ++ rest → rest ≡ [] → AllByRecursion IsFramed es → bytes ≡ flat_map (λ d. d) es → ds ≡ es
 all_documents bytes rest ds es each spelled none also other =
@@ -112,6 +94,6 @@ left_documents [] rest each are = are
 left_documents (d ∷ ds) rest each are =
     left_documents ds rest each.1 (documents_back ((d ++ flat_map (λ d. d) ds) ++ rest) d (flat_map (λ d. d) ds ++ rest) (record { framed = each.0; spelled = append_assoc d (flat_map (λ d. d) ds) rest }) are)
 
-pub stop_documents : (bytes rest : List ℕ) (ds es : List (List ℕ)) → AllByRecursion IsFramed ds → bytes ≡ flat_map (λ d. d) ds ++ rest → rest ≢ [] → HasNoDocument rest → AllByRecursion IsFramed es → bytes ≡ flat_map (λ d. d) es → ⊥
-stop_documents bytes rest ds es each spelled some none also other =
-    documents_stop rest none some (left_documents ds rest each (subst AreDocuments spelled (es, also, other)))
+pub stop_documents : (bytes rest : List ℕ) (ds : List (List ℕ)) → AreDocuments bytes → AllByRecursion IsFramed ds → bytes ≡ flat_map (λ d. d) ds ++ rest → rest ≢ [] → HasNoDocument rest → ⊥
+stop_documents bytes rest ds are each spelled some none =
+    documents_stop rest none some (left_documents ds rest each (subst AreDocuments spelled are))

@@ -69,5 +69,9 @@ abbrev pub SplitsSection : List ℕ → SectionRef → List ℕ → Type 0
 SplitsSection bytes (Body read) rest = BeginsWithSection bytes (Body read) rest
 SplitsSection bytes (Sequence read) rest = SplitsSequenceSection bytes read rest
 
+-- sections, one after another, fill the bytes
+abbrev pub AreSections : List ℕ → Type 0
+AreSections bytes = (sections : List Section) × AllByRecursion IsSection sections × (bytes ≡ flat_map section_bytes sections)
+
 abbrev pub HasNoSection : List ℕ → Type 0
 HasNoSection bytes = (s : Section) (rest : List ℕ) → IsSection s → bytes ≡ section_bytes s ++ rest → ⊥

@@ -2,7 +2,7 @@ ghost use Rattle.std.specs.Prelude.{◌≡◌, ℕ, List, flat_map, IfOk, IfErr}
 ghost use Rattle.std.specs.List.{AllByRecursion};
 ghost use Rattle.mongo_bson.specs.Framed.{IsFramed};
 ghost use Rattle.mongo_wire.specs.Frame.{Frame, Section, IsSection, IsSequence, section_bytes, sequences_of};
-ghost use Rattle.mongo_wire.specs.Sections.{ShowsSequence};
+ghost use Rattle.mongo_wire.specs.Sections.{AreDocuments, AreSections, ShowsSequence};
 ghost use Rattle.mongo_wire.specs.Buffer.{HoldsFrame};
 ghost use Rattle.mongo_wire.specs.Ref.{IsOwned};
 ghost use Rattle.mongo_wire.specs.declared.error.ErrorKind.TheVariants.{OutOfMemory};
@@ -37,8 +37,9 @@ pub(crate) fn owned_message(alloc: Global, buffer: FrameBuffer) -> Result<Messag
     })
 }
 
-// The sequences of sections that fill the bytes.
+// The sequences of the sections that fill the bytes.
 fn owned_sequences(alloc: Global, bytes: &[u8]) -> Result<Sequences, BsonFault>
+    requires { AreSections bytes.now }
     ensures copied { (sections : List Section) → AllByRecursion IsSection sections → bytes.now ≡ flat_map section_bytes sections → IfOk result (λ sequences. sequences ≡ sequences_of sections) }
     ensures refused { IfErr result (λ fault. fault ≡ BsonFault.OutOfMemory) }
 {
@@ -51,13 +52,15 @@ fn owned_sequences(alloc: Global, bytes: &[u8]) -> Result<Sequences, BsonFault>
                 rest = after;
             }
             Some((SectionRef::Body(_document), after)) => rest = after,
-            None => return Ok(sequences),
+            None => unreachable!(),
         }
     }
     Ok(sequences)
 }
 
+// The sequence, whose documents fill its bytes.
 fn owned_sequence(alloc: Global, sequence: SequenceRef<'_>) -> Result<DocumentSequence, BsonFault>
+    requires { AreDocuments sequence.documents.now }
     ensures copied { (s : SequenceValue) → IsSequence s → ShowsSequence s sequence.entry → IfOk result (λ owned. owned ≡ s) }
     ensures refused { IfErr result (λ fault. fault ≡ BsonFault.OutOfMemory) }
 {
@@ -69,6 +72,7 @@ fn owned_sequence(alloc: Global, sequence: SequenceRef<'_>) -> Result<DocumentSe
 
 // The documents that fill the bytes.
 fn owned_documents(alloc: Global, bytes: &[u8]) -> Result<Documents, BsonFault>
+    requires { AreDocuments bytes.now }
     ensures copied { (documents : List (List ℕ)) → AllByRecursion IsFramed documents → bytes.now ≡ flat_map (λ d. d) documents → IfOk result (λ owned. owned ≡ documents) }
     ensures refused { IfErr result (λ fault. fault ≡ BsonFault.OutOfMemory) }
 {
@@ -80,7 +84,7 @@ fn owned_documents(alloc: Global, bytes: &[u8]) -> Result<Documents, BsonFault>
                 documents.push(document.to_raw_document_buf(alloc)?)?;
                 rest = after;
             }
-            None => return Ok(documents),
+            None => unreachable!(),
         }
     }
     Ok(documents)

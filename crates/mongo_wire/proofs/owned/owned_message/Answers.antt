@@ -1,4 +1,4 @@
-use Rattle.std.proofs.Common.{◌≡◌, to_z, of_z, refl, ap, ◌∙◌}
+use Rattle.std.proofs.Common.{to_z, of_z, refl, ap, ◌∙◌}
 use Rattle.std.proofs.lemmas.Bool.{false≢true}
 use Rattle.std.proofs.lemmas.Int.{to_z-of_z}
 use Rattle.std.specs.Int.{w32}
@@ -8,6 +8,12 @@ pub unreachable-requires : goal.unreachable-requires
 unreachable-requires c =
     let (frame, parts, holds) = c.requires.holds in
     absurd (false≢true (c.in-None.ensures.some frame parts holds))
+
+pub owned_sequences-requires : goal.owned_sequences-requires
+owned_sequences-requires c =
+    let (frame, parts, holds) = c.requires.holds in
+    let shown = c.in-Some.ensures.shown frame parts holds in
+    (shown.is_frame.sections, shown.is_frame.each, shown.sections_are)
 
 pub into_document-requires : goal.into_document-requires
 into_document-requires c = record { holds = c.requires.holds }

@@ -1,4 +1,4 @@
-use Rattle.std.proofs.Common.{◌≡◌, [], is_some, sym, ap, ◌∙◌, subst}
+use Rattle.std.proofs.Common.{[], is_some, sym, ap, ◌∙◌, subst}
 use Rattle.std.proofs.lemmas.Bool.{false≢true}
 use Rattle.mongo_bson.specs.Framed.{IsFramed}
 use Rattle.mongo_wire.proofs.Found.{body_lies, framed_body}
