@@ -9,7 +9,7 @@ ghost use Rattle.mongo_wire.specs.Message.{HasNames};
 
 use crate::measure::are_named;
 use crate::{ArgumentFault, DocumentSequence, Error, ErrorKind, Message};
-use mongo_bson::{BsonFault, Bytes, RawDocumentBuf, RawValue, to_raw_bson_array};
+use mongo_bson::{BsonFault, RawDocument, RawDocumentBuf, RawValue, to_raw_bson_array};
 use std::alloc::Global;
 
 impl Message {
@@ -61,15 +61,16 @@ fn with_arrays(
     Ok(document)
 }
 
-// The document that the bytes are.
+// A copy of the document that the bytes are. It takes a slice, since its bytes are known to be below 256 there: a document
+// is what its body makes only then.
 fn copy_of_document(alloc: Global, bytes: &[u8]) -> Result<RawDocumentBuf, BsonFault>
     requires { IsFramed bytes.now }
     ensures copied { IfOk result (λ document. document ≡ enclosed (body_of bytes.now)) }
     ensures framed { IfOk result (λ document. IsFramed document) }
     ensures refused { IfErr result (λ fault. fault ≡ BsonFault.OutOfMemory) }
 {
-    match RawDocumentBuf::from_bytes(Bytes::from_slice(alloc, bytes)?) {
-        Ok(document) => Ok(document),
+    match RawDocument::from_bytes(bytes) {
+        Ok(document) => document.to_raw_document_buf(alloc),
         Err(_) => unreachable!(),
     }
 }
