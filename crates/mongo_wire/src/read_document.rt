@@ -21,7 +21,7 @@ pub fn read_document_bytes<S: Source>(alloc: Global, source: &mut S) -> Result<B
     ensures on { ReadsOn (S.state source.old) (S.state source.new) }
 {
     let mut store = Vec::new(alloc);
-    match take_document(source, &mut store) {
+    match take_document_bytes(source, &mut store) {
         Ok(()) => Ok(Bytes::from_vec(store)),
         Err(fault) => Err(fault.into()),
     }
@@ -29,7 +29,7 @@ pub fn read_document_bytes<S: Source>(alloc: Global, source: &mut S) -> Result<B
 
 // Takes the bytes of the next document into an empty store, whose memory is for twice what came and one piece of 4096 at
 // most.
-fn take_document<S: Source>(source: &mut S, store: &mut Vec<u8>) -> Result<(), FrameFault>
+fn take_document_bytes<S: Source>(source: &mut S, store: &mut Vec<u8>) -> Result<(), FrameFault>
     requires { store.old.items ≡ [] }
     ensures read { OnOk result (TakesDocument (S.state source.old).left (S.state source.new).left store.new.items) }
     ensures refused { IfErr result (λ fault. DocumentUnread (kind_of_frame_fault fault) (S.state source.old).left (S.state source.new).left (S.state source.old).read_faults (S.state source.new).read_faults (S.state source.old).ends (S.state source.new).ends) }

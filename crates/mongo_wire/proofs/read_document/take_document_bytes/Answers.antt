@@ -5,7 +5,7 @@ use Rattle.mongo_wire.specs.Error.{kind_of_frame_fault}
 use Rattle.mongo_wire.specs.Header.{signed_at}
 use Rattle.mongo_wire.proofs.DocumentCut.{length_cut, document_cut, memory_after}
 use Rattle.mongo_wire.proofs.ReadStopped.{came_then}
-use Rattle.mongo_wire.proofs.read_document.take_document.Goals as goal
+use Rattle.mongo_wire.proofs.read_document.take_document_bytes.Goals as goal
 
 pub returns-in-Err-clause-refused : goal.returns-in-Err-clause-refused
 returns-in-Err-clause-refused g c = length_cut (kind_of_frame_fault c.in-Err.fault) _ _ _ _ _ _ c.in-Err.ensures.on.tells c.in-Err.ensures.refused
