@@ -73,14 +73,14 @@ made size id to = record { length = size; request_id = id; response_to = to; op_
 
 -- ---- what was found
 
-pub frame_found : (head bytes : List ℕ) (header : Header) (word : ℕ) (sum : Option ℕ) (offsets : Offsets) → IsBytes head → length head ≡ 16 → header ≡ header_with head Message → signed_at 12 head ≡ pos 2013
+pub frame_found : (head bytes : List ℕ) (header : Header) (word : ℕ) (sum : Option ℕ) (offsets : Offsets) → IsBytes head → length head ≡ 16 → header ≡ header_with head Message → signed_at 12 head ≡ pos message_code
     → pos (16 + length bytes) ≡ signed_at 0 head → IsContentOf bytes word sum offsets → IsHeld (head ++ bytes) (record { header = header; word = word; checksum = sum; offsets = offsets })
 frame_found head bytes header word sum offsets small sixteen header_is code size found =
     let frame = head ++ bytes in
     let counted : length frame ≡ 16 + length bytes = omega (arith, length-append head bytes, sixteen) in
     let fits : 16 + length bytes < 2 ^ 31 = size_fits (16 + length bytes) head small size in
     let number : number_at 0 head ≡ length frame = unsigned_is 0 (16 + length bytes) head small fits (sym size) ∙ sym counted in
-    let code_is : number_at 12 head ≡ message_code = unsigned_is 12 2013 head small (omega arith) code in
+    let code_is : number_at 12 head ≡ message_code = unsigned_is 12 message_code head small (omega arith) code in
     let is = found.is_content in
     let back : drop 16 frame ≡ bytes = drop_at head bytes 16 sixteen in
     let spelled = ap (λ h. h ++ bytes) (fours head sixteen) ∙ regroup (take 4 head) (take 4 (drop 4 head)) (take 4 (drop 8 head)) (take 4 (drop 12 head)) bytes

@@ -15,7 +15,7 @@ ghost use Rattle.mongo_wire.specs.Buffer.{IsFrameTaken, HoldsNothing, IsCleared,
 use crate::header::start_of;
 use crate::held_frame::HeldFrame;
 use crate::reading::{fill_or_end, take_into};
-use crate::{Error, FrameBuffer, FrameFault, MessageRef, ResponseFault, Source};
+use crate::{Error, FrameBuffer, FrameFault, Header, MessageRef, ResponseFault, Source};
 use std::alloc::Global;
 
 impl FrameBuffer {
@@ -123,7 +123,7 @@ impl FrameBuffer {
         ensures on { ReadsOn (S.state source.old) (S.state source.new) }
     {
         self.clear();
-        let mut head = [0u8; 16];
+        let mut head = [0u8; Header::LENGTH];
         match fill_or_end(source, &mut head) {
             Ok(true) => match self.take_rest(source, &head, maximum) {
                 Ok(()) => Ok(true),

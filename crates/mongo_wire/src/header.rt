@@ -1,5 +1,6 @@
 ghost use Rattle.std.specs.Prelude.{◌≡◌, ◌+◌, ◌≤◌, ℤ, pos, ◌≤ℤ◌, length, None, Some, IfOk, IfErr};
 ghost use Rattle.mongo_wire.specs.Error.{kind_of_frame_fault};
+ghost use Rattle.mongo_wire.specs.Frame.{message_code};
 ghost use Rattle.mongo_wire.specs.Header.{signed_at, number_at, op_code_of, header_with, maximum_of};
 ghost use Rattle.mongo_wire.specs.Rows.{header_row, length_row};
 ghost use Rattle.mongo_wire.specs.declared.op_code.OpCode.TheVariants as op_code;
@@ -56,7 +57,7 @@ impl Header {
             OpCode::Reply => Err(FrameFault::InvalidResponse(ResponseFault::NotMessage)),
             OpCode::Query => Err(FrameFault::InvalidResponse(ResponseFault::NotMessage)),
             OpCode::Message => {
-                if self.length < 16 {
+                if self.length < Header::LENGTH as i32 {
                     Err(FrameFault::InvalidArgument(ArgumentFault::CheckedFailure))
                 } else {
                     Ok(self.length as usize)
@@ -77,7 +78,7 @@ pub(crate) struct FrameStart {
 pub(crate) fn start_of(head: &[u8; 16], maximum: Option<i32>) -> Result<FrameStart, FrameFault>
     ensures passes { IfOk result (λ start. header_row (maximum_of maximum) head.now ≡ None) }
     ensures header { IfOk result (λ start. start.header ≡ header_with head.now op_code.Message) }
-    ensures code { IfOk result (λ start. signed_at 12 head.now ≡ pos 2013) }
+    ensures code { IfOk result (λ start. signed_at 12 head.now ≡ pos message_code) }
     ensures size { IfOk result (λ start. pos (16 + start.rest) ≡ signed_at 0 head.now) }
     ensures within { IfOk result (λ start. pos (16 + start.rest) ≤ℤ maximum_of maximum) }
     ensures row { IfErr result (λ fault. header_row (maximum_of maximum) head.now ≡ Some (kind_of_frame_fault fault)) }
@@ -86,7 +87,7 @@ pub(crate) fn start_of(head: &[u8; 16], maximum: Option<i32>) -> Result<FrameSta
         Ok(header) => match header.length_within(maximum) {
             Ok(length) => Ok(FrameStart {
                 header,
-                rest: length - 16,
+                rest: length - Header::LENGTH,
             }),
             Err(fault) => Err(fault),
         },

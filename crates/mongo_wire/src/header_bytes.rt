@@ -32,7 +32,7 @@ impl Header {
         ensures refused { IfErr result (λ e. HeaderRefused e.kind (S.state source.old).left (S.state source.new).left (S.state source.old).read_faults (S.state source.new).read_faults (S.state source.old).ends (S.state source.new).ends) }
         ensures on { ReadsOn (S.state source.old) (S.state source.new) }
     {
-        let mut bytes = [0u8; 16];
+        let mut bytes = [0u8; Header::LENGTH];
         fill(source, &mut bytes)?;
         match Header::decode(&bytes) {
             Ok(header) => Ok(header),

@@ -1,6 +1,6 @@
 ghost use Rattle.std.specs.Prelude.{◌≡◌, ◌+◌, ◌≤◌, ◌++◌, ℕ, pos, drop, length, Option, MatchOption};
 ghost use Rattle.mongo_wire.specs.Content.{HasNoSections, LiesAt};
-ghost use Rattle.mongo_wire.specs.Frame.{IsChecksum};
+ghost use Rattle.mongo_wire.specs.Frame.{IsChecksum, message_code};
 ghost use Rattle.mongo_wire.specs.Header.{signed_at, header_with};
 ghost use Rattle.mongo_wire.specs.declared.op_code.OpCode.TheVariants as op_code;
 
@@ -34,7 +34,7 @@ impl HeldFrame {
     pub(crate) fn of(head: &[u8], header: Header, bytes: &[u8]) -> Option<HeldFrame>
         requires whole_header { length head.now ≡ 16 }
         requires header { header ≡ header_with head.now op_code.Message }
-        requires code { signed_at 12 head.now ≡ pos 2013 }
+        requires code { signed_at 12 head.now ≡ pos message_code }
         requires whole { pos (16 + length bytes.now) ≡ signed_at 0 head.now }
         ensures { MatchOption result (NoFrame (head.now ++ bytes.now)) (IsHeld (head.now ++ bytes.now)) }
     {

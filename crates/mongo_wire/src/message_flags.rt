@@ -42,6 +42,9 @@ impl MessageFlags {
     pub fn word(&self) -> u32
         ensures { result ≡ bit_and self.now.0 known_flags }
     {
-        self.0 & 65_539
+        let known = MessageFlags::CHECKSUM_PRESENT.0
+            | MessageFlags::MORE_TO_COME.0
+            | MessageFlags::EXHAUST_ALLOWED.0;
+        self.0 & known
     }
 }

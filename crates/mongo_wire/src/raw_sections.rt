@@ -68,5 +68,6 @@ fn sections_length(sections: &[u8], maximum: Option<i32>) -> Result<u32, Argumen
 fn unsummed_word(flags: MessageFlags) -> [u8; 4]
     ensures { result ≡ uint32 (bit_and flags.0 unsummed_flags) }
 {
-    (flags.bits() & 65_538).to_le_bytes()
+    let unsummed = MessageFlags::MORE_TO_COME.bits() | MessageFlags::EXHAUST_ALLOWED.bits();
+    (flags.bits() & unsummed).to_le_bytes()
 }
