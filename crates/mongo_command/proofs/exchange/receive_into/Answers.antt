@@ -12,3 +12,6 @@ returns-in-Ok-clause-holds g c = let taken = c.in-Ok.ensures.taken in (taken.fra
 pub returns-in-Err-clause-refused : goal.returns-in-Err-clause-refused
 returns-in-Err-clause-refused g c =
     fault_refused c.in-Err.fault _ _ _ _ (record { written = search rules; flushed = search rules; writes = search rules }) c.from.ensures c.in-Err.ensures.refused
+
+pub returns-in-Ok-clause-taken : goal.returns-in-Ok-clause-taken
+returns-in-Ok-clause-taken g c = c.in-Ok.ensures.taken

@@ -1,4 +1,6 @@
-use Rattle.std.proofs.Common.{inr}
+use Rattle.std.proofs.Common.{inr, subst}
+use Rattle.mongo_wire.specs.Buffer.{IsFrameTaken}
+use Rattle.mongo_command.specs.Exchange.{frame_maximum}
 use Rattle.mongo_command.proofs.Kept.{received_kept}
 use Rattle.mongo_command.proofs.connection.Connection.exchange_into.Goals as goal
 
@@ -8,6 +10,12 @@ returns-in-Ok-clause-exchanged g c = record {
   sends = c.in_ok-send.ensures.sent;
   receives = rw c.frame_maximum-maximum.ensures at c.in-Ok.ensures.received;
 }
+
+-- nothing was read while the command was sent
+pub returns-in-Ok-clause-taken : goal.returns-in-Ok-clause-taken
+returns-in-Ok-clause-taken g c =
+    let maximum = frame_maximum c.args.self.now.stream_description in
+    subst (λ left. IsFrameTaken maximum left (g.L.Outside.state c.receive_into.new.link).left c.receive_into.new.buffer) c.in_ok-send.ensures.sent.unread (rw c.frame_maximum-maximum.ensures at c.in-Ok.ensures.taken)
 
 pub returns-in-Err-clause-refused : goal.returns-in-Err-clause-refused
 returns-in-Err-clause-refused g c unkept =
