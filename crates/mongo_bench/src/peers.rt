@@ -57,7 +57,7 @@ impl Peers {
         })
     }
 
-    /// One login more, which both sides accept. Want of memory is the only refusal.
+    /// One login more, which both sides accept.
     pub fn log_in<G: Ledger>(
         &mut self,
         alloc: Global,

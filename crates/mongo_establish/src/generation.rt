@@ -33,7 +33,7 @@ impl Generations {
         }
     }
 
-    /// Sets the number of a service. Want of memory is the only refusal, and leaves the numbers as they were.
+    /// Sets the number of a service. A refusal leaves the numbers as they were.
     pub fn insert(&mut self, service_id: ObjectId, generation: u32) -> Result<(), Error>
         ensures set { OnOk result (SetsNumber service_id generation self.old self.new) }
         ensures unchanged { OnErr result (self.new ≡ self.old) }
@@ -50,7 +50,7 @@ impl Generations {
         self.entries.get(&service_id.0).copied()
     }
 
-    /// A copy. Want of memory is the only refusal.
+    /// A copy.
     pub fn try_clone(&self, _alloc: Global) -> Result<Generations, Error>
         ensures copied { IfOk result (λ generations. generations ≡ self.now) }
         ensures refused { IfErr result (λ e. e.kind ≡ OutOfMemory) }
@@ -89,7 +89,7 @@ impl PoolGeneration {
     ghost use Rattle.mongo_wire.specs.declared.error.ErrorKind.TheVariants.{OutOfMemory};
     ghost use Rattle.mongo_establish.specs.Generation.{NamesService, generation_of};
 
-    /// A copy. Want of memory is the only refusal.
+    /// A copy.
     pub fn try_clone(&self, alloc: Global) -> Result<PoolGeneration, Error>
         ensures copied { IfOk result (λ generation. generation ≡ self.now) }
         ensures refused { IfErr result (λ e. e.kind ≡ OutOfMemory) }

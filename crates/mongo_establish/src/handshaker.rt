@@ -47,8 +47,7 @@ impl Handshaker {
     ghost use Rattle.mongo_establish.specs.HelloBody.{BodyRefused};
     ghost use Rattle.mongo_establish.specs.Speculation.{SpeaksFor};
 
-    /// A handshaker with these options. What the hellos of all logins have in common is built once. Want of memory is the
-    /// only refusal.
+    /// A handshaker with these options. What the hellos of all logins have in common is built once.
     pub fn new(alloc: Global, options: HandshakerOptions) -> Result<Handshaker, Error>
         ensures options { IfOk result (λ handshaker. options_in handshaker ≡ options) }
         ensures refused { IfErr result (λ e. e.kind ≡ OutOfMemory) }

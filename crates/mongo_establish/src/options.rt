@@ -44,7 +44,7 @@ impl EstablisherOptions {
     ghost use Rattle.std.specs.Prelude.{◌≡◌, IfOk, IfErr};
     ghost use Rattle.mongo_establish.specs.Options.{options_of};
 
-    /// The options of a client's establishers. Want of memory is the only refusal.
+    /// The options of a client's establishers.
     pub fn from_spec(alloc: Global, spec: &TopologySpec) -> Result<EstablisherOptions, Error>
         ensures options { IfOk result (λ options. options.handshake_options ≡ options_of spec.now) }
         ensures refused { IfErr result (λ e. e.kind ≡ OutOfMemory) }

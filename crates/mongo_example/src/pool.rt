@@ -29,7 +29,7 @@ impl Pool {
     ghost use Rattle.mongo_scram.specs.Cache.{rounds_of};
     ghost use Rattle.mongo_example.specs.Pool.{IsReady};
 
-    /// A pool for `user` at `db.example.net`, of generation 7, that has made no connection. Want of memory is the only refusal.
+    /// A pool for `user` at `db.example.net`, of generation 7, that has made no connection.
     pub fn new(alloc: Global) -> Result<Pool, Error> {
         let options = options(alloc)?;
         let metadata = ClientMetadata::from_options(alloc, &options)?;
@@ -59,7 +59,7 @@ impl Pool {
         })
     }
 
-    /// The connection that the pool makes next: its number is the pool's next. Want of memory is the only refusal.
+    /// The connection that the pool makes next: its number is the pool's next.
     pub fn next_pending(&mut self, alloc: Global) -> Result<PendingConnection, Error>
         ensures id { IfOk result (λ pending. pending.id ≡ self.old.next_id) }
         ensures address { IfOk result (λ pending. pending.address ≡ self.old.address) }

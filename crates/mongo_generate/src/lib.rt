@@ -9,7 +9,7 @@
 //!    sides accepted, the rounds of Hi that were derived, and one digest of all last messages.
 //!
 //! Proved: where a login and a server are of one exchange, both sides accept, or memory runs out; `generate` answers the
-//! numbers and the digest that `specs/Generated.antt` gives.
+//! numbers and the digest that `specs/Generated.antt` gives. Want of memory is the only refusal of each call.
 #![tactic(auto)]
 
 mod accepted;

@@ -33,8 +33,7 @@ impl Client {
     /// goes with it, and the last round. The client's last message, as it was written, is then the server's to judge. None
     /// where either side refuses. The ids of the commands begin at 0.
     ///
-    /// A server of the login's exchange, and its client, accept: the answer is their last messages. Want of memory is the
-    /// only refusal.
+    /// A server of the login's exchange, and its client, accept: the answer is their last messages.
     pub fn log_in<G: Ledger>(
         &self,
         alloc: Global,

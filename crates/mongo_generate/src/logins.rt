@@ -30,7 +30,7 @@ pub struct Generated {
 /// Makes the logins of the numbers below `count`, one after another with one cache of salted passwords, each against a
 /// server of its own. There are 1000 at most.
 ///
-/// Both sides accept each of them. Want of memory is the only refusal.
+/// Both sides accept each of them.
 pub fn generate<G: Ledger>(
     alloc: Global,
     count: u32,

@@ -63,7 +63,6 @@ pub fn generated_server<G: Ledger>(
     }
 }
 
-// Want of memory is the only refusal.
 fn server_of<G: Ledger>(
     alloc: Global,
     number: u32,

@@ -29,7 +29,6 @@ impl Client {
     }
 }
 
-// Want of memory is the only refusal.
 #[tactic(auto, unfolding(crate::specs::Options::handshaker_options))]
 fn establisher(alloc: Global) -> Result<ConnectionEstablisher, Error>
     ensures options { IfOk result (λ establisher. options_of_establisher establisher ≡ handshaker_options) }
@@ -44,7 +43,7 @@ fn establisher(alloc: Global) -> Result<ConnectionEstablisher, Error>
     ConnectionEstablisher::new(alloc, EstablisherOptions::from_spec(alloc, &spec)?)
 }
 
-// What the client says of itself. Want of memory is the only refusal.
+// What the client says of itself.
 fn client_options(alloc: Global) -> Result<ClientOptions, BsonFault>
     ensures options { IfOk result (λ options. options ≡ client_options) }
 {

@@ -39,7 +39,6 @@ impl Login {
         }
     }
 
-    // Want of memory is the only refusal.
     fn of_user(
         alloc: Global,
         version: ScramVersion,

@@ -19,7 +19,7 @@ pub struct AppMetadata {
 impl AppMetadata {
     ghost use Rattle.mongo_meta.specs.Metadata.{application_document};
 
-    /// A copy. Want of memory is the only refusal.
+    /// A copy.
     pub fn try_clone(&self, alloc: Global) -> Result<AppMetadata, BsonFault>
         ensures copied { IfOk result (λ application. application ≡ self.now) }
         ensures refused { IfErr result (λ fault. fault ≡ BsonFault.OutOfMemory) }
@@ -50,7 +50,7 @@ pub struct DriverMetadata {
 impl DriverMetadata {
     ghost use Rattle.mongo_meta.specs.Metadata.{driver_document};
 
-    /// A copy. Want of memory is the only refusal.
+    /// A copy.
     pub fn try_clone(&self, alloc: Global) -> Result<DriverMetadata, BsonFault>
         ensures copied { IfOk result (λ driver. driver ≡ self.now) }
         ensures refused { IfErr result (λ fault. fault ≡ BsonFault.OutOfMemory) }
@@ -100,9 +100,8 @@ impl ClientMetadata {
     ghost use Rattle.mongo_meta.specs.Options.{metadata_of, client_metadata_of, Appends};
     ghost use Rattle.mongo_wire.specs.declared.error.ErrorKind.TheVariants.{OutOfMemory};
 
-    /// The metadata of a client with these options: the application, the driver `mongo-rust-driver` of version 3.9.1, the
-    /// operating system, the platform, what the environment shows, and the library that the options name. Want of memory
-    /// is the only refusal.
+    /// The metadata of a client with these options: the application, the driver `mongo-rust-driver` of version 3.9.1,
+    /// the operating system, the platform, what the environment shows, and the library that the options name.
     #[tactic(auto, unfolding(crate::specs::Options::metadata_of))]
     pub fn from_options(alloc: Global, options: &ClientOptions) -> Result<ClientMetadata, Error>
         ensures metadata { IfOk result (λ metadata. metadata ≡ metadata_of options.now) }
@@ -148,7 +147,7 @@ impl ClientMetadata {
     /// platform, behind a bar each, where they are there and not empty. A library that added itself before adds nothing
     /// more.
     ///
-    /// Want of memory is the only refusal, and leaves the metadata as they were.
+    /// A refusal leaves the metadata as they were.
     pub fn append(&mut self, info: DriverInfo) -> Result<(), Error>
         ensures appended { OnOk result (Appends self.old info self.new) }
         ensures once { OnOk result ((again : ClientMetadata) → Appends self.new info again → again ≡ self.new) }
@@ -167,7 +166,7 @@ impl ClientMetadata {
         Ok(())
     }
 
-    /// A copy. Want of memory is the only refusal.
+    /// A copy.
     pub fn try_clone(&self, alloc: Global) -> Result<ClientMetadata, BsonFault>
         ensures copied { IfOk result (λ metadata. metadata ≡ self.now) }
         ensures refused { IfErr result (λ fault. fault ≡ BsonFault.OutOfMemory) }

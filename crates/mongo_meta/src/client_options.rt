@@ -27,7 +27,7 @@ pub struct ClientOptions {
 }
 
 impl ClientOptions {
-    /// A copy. Want of memory is the only refusal.
+    /// A copy.
     pub fn try_clone(&self, alloc: Global) -> Result<ClientOptions, BsonFault>
         ensures copied { IfOk result (λ options. options ≡ self.now) }
         ensures refused { IfErr result (λ fault. fault ≡ BsonFault.OutOfMemory) }

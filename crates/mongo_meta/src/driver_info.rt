@@ -15,7 +15,7 @@ pub struct DriverInfo {
 }
 
 impl DriverInfo {
-    /// A copy. Want of memory is the only refusal.
+    /// A copy.
     pub fn try_clone(&self, alloc: Global) -> Result<DriverInfo, BsonFault>
         ensures copied { IfOk result (λ info. info ≡ self.now) }
         ensures refused { IfErr result (λ fault. fault ≡ BsonFault.OutOfMemory) }

@@ -14,7 +14,7 @@ pub struct Variable {
 }
 
 impl Variable {
-    /// A copy. Want of memory is the only refusal.
+    /// A copy.
     pub fn try_clone(&self, alloc: Global) -> Result<Variable, BsonFault>
         ensures copied { IfOk result (λ variable. variable ≡ self.now) }
         ensures refused { IfErr result (λ fault. fault ≡ BsonFault.OutOfMemory) }
@@ -47,7 +47,7 @@ pub struct Environment {
 impl Environment {
     ghost use Rattle.mongo_meta.specs.Variables.{value_of, number_of, is_set};
 
-    /// A copy. Want of memory is the only refusal.
+    /// A copy.
     pub fn try_clone(&self, alloc: Global) -> Result<Environment, BsonFault>
         ensures copied { IfOk result (λ environment. environment ≡ self.now) }
         ensures refused { IfErr result (λ fault. fault ≡ BsonFault.OutOfMemory) }

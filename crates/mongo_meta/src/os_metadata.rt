@@ -22,7 +22,7 @@ impl OsMetadata {
     ghost use Rattle.mongo_meta.specs.Metadata.{os_document};
     ghost use Rattle.mongo_meta.specs.Client.{type_alone};
 
-    /// A copy. Want of memory is the only refusal.
+    /// A copy.
     pub fn try_clone(&self, alloc: Global) -> Result<OsMetadata, BsonFault>
         ensures copied { IfOk result (λ os. os ≡ self.now) }
         ensures refused { IfErr result (λ fault. fault ≡ BsonFault.OutOfMemory) }

@@ -46,9 +46,8 @@ impl RuntimeEnvironment {
         container: None,
     };
 
-    /// What an environment shows, or None where it shows nothing. Of a provider those of its variables are taken that are
-    /// there, even empty; a variable that has to be a number and isn't an `int32` in decimal counts as absent. Want of
-    /// memory is the only refusal.
+    /// What an environment shows, or None where it shows nothing. Of a provider those of its variables are taken that
+    /// are there, even empty; a variable that has to be a number and isn't an `int32` in decimal counts as absent.
     #[tactic(auto, unfolding(crate::specs::Providers::runtime_environment_in))]
     pub fn from_environment(
         alloc: Global,
@@ -71,7 +70,7 @@ impl RuntimeEnvironment {
         }
     }
 
-    /// A copy. Want of memory is the only refusal.
+    /// A copy.
     pub fn try_clone(&self, alloc: Global) -> Result<RuntimeEnvironment, BsonFault>
         ensures copied { IfOk result (λ environment. environment ≡ self.now) }
         ensures refused { IfErr result (λ fault. fault ≡ BsonFault.OutOfMemory) }

@@ -28,8 +28,8 @@ struct Login<'a> {
     source: &'a str,
 }
 
-/// The message of a login (RFC 4616, section 2): a NUL after an authorization identity that is empty, the user name, a NUL
-/// and the password. Want of memory is the only refusal.
+/// The message of a login (RFC 4616, section 2): a NUL after an authorization identity that is empty, the user name, a
+/// NUL and the password.
 pub fn payload_bytes(alloc: Global, username: &str, password: &str) -> Result<Bytes, Error>
     ensures payload { IfOk result (λ payload. payload ≡ payload_of username.now password.now) }
     ensures refused { IfErr result (λ e. e.kind ≡ OutOfMemory) }

@@ -30,7 +30,7 @@ pub struct SaltedKey {
 impl SaltedKey {
     ghost use Rattle.std.specs.Prelude.{◌≡◌, IfOk, IfErr};
 
-    /// A copy of the key. Want of memory is the only refusal.
+    /// A copy of the key.
     pub fn try_clone(&self, alloc: Global) -> Result<SaltedKey, BsonFault>
         ensures copied { IfOk result (λ key. key ≡ self.now) }
         ensures refused { IfErr result (λ fault. fault ≡ BsonFault.OutOfMemory) }

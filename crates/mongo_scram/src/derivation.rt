@@ -119,8 +119,7 @@ fn derive<G: Ledger>(
     Ok(SaltedPassword::new(key.version, tag))
 }
 
-/// Puts a key in with its salted password, where it has no entry. Want of memory is the only refusal, and leaves the entries
-/// as they were.
+/// Puts a key in with its salted password, where it has no entry. A refusal leaves the entries as they were.
 pub fn keep(cache: &mut SaltedCache, derived: Derived) -> Result<(), Error>
     requires usable { IsUsable derived.key }
     requires salted { derived.salted ≡ salted_of derived.key }

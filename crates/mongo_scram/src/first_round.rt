@@ -8,7 +8,7 @@ use std::alloc::Global;
 impl FirstRound {
     ghost use Rattle.mongo_scram.specs.Client.{speculated_of};
 
-    /// A copy of the round. Want of memory is the only refusal.
+    /// A copy of the round.
     pub fn try_clone(&self, alloc: Global) -> Result<FirstRound, Error>
         ensures said { IfOk result (λ round. speculated_of (Some round) ≡ speculated_of (Some self.now)) }
         ensures refused { IfErr result (λ e. e.kind ≡ OutOfMemory) }

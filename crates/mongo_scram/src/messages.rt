@@ -160,7 +160,7 @@ impl ClientFirst {
         Ok(command)
     }
 
-    /// A copy of the message. Want of memory is the only refusal.
+    /// A copy of the message.
     pub fn try_clone(&self, alloc: Global) -> Result<ClientFirst, Error>
         ensures message { IfOk result (λ first. message_of first ≡ message_of self.now) }
         ensures nonce { IfOk result (λ first. nonce_of first ≡ nonce_of self.now) }
@@ -312,7 +312,7 @@ impl ClientFinal {
         SaslContinue::new(source, conversation_id, payload, self.server_api).into_command(alloc)
     }
 
-    /// A copy of the message. Want of memory is the only refusal.
+    /// A copy of the message.
     pub fn try_clone(&self, alloc: Global) -> Result<ClientFinal, Error>
         ensures message { IfOk result (λ last. final_of last ≡ final_of self.now) }
         ensures auth_message { IfOk result (λ last. auth_message_of last ≡ auth_message_of self.now) }

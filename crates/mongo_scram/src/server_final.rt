@@ -52,7 +52,7 @@ impl fmt::Debug for ServerFinalBody {
 }
 
 impl ServerFinalBody {
-    /// A copy of it. Want of memory is the only refusal.
+    /// A copy of it.
     pub fn try_clone(&self, alloc: Global) -> Result<ServerFinalBody, BsonFault>
         ensures copied { IfOk result (λ body. body ≡ self.now) }
         ensures refused { IfErr result (λ fault. fault ≡ NoMemory) }
@@ -134,7 +134,7 @@ impl ServerFinal {
         }
     }
 
-    /// A copy of the message. Want of memory is the only refusal.
+    /// A copy of the message.
     pub fn try_clone(&self, alloc: Global) -> Result<ServerFinal, BsonFault>
         ensures copied { IfOk result (λ last. last ≡ self.now) }
         ensures refused { IfErr result (λ fault. fault ≡ NoMemory) }

@@ -71,7 +71,7 @@ impl ServerFirst {
         }
     }
 
-    /// A copy of the message. Want of memory is the only refusal.
+    /// A copy of the message.
     pub fn try_clone(&self, alloc: Global) -> Result<ServerFirst, BsonFault>
         ensures copied { IfOk result (λ first. first ≡ self.now) }
         ensures refused { IfErr result (λ fault. fault ≡ NoMemory) }

@@ -65,7 +65,7 @@ impl ServerUser {
         ServerUser::with_key(alloc, version, username, &salted, salt, count)
     }
 
-    // The user whose salted password this is. Want of memory is the only refusal.
+    // The user whose salted password this is.
     pub(crate) fn with_key(
         alloc: Global,
         version: ScramVersion,

@@ -62,7 +62,7 @@ pub fn prepare(alloc: Global, settings: Settings) -> Result<(Login, Bytes), Allo
     Ok((login, replies))
 }
 
-// The establisher of a client with these options. Want of memory is the only refusal.
+// The establisher of a client with these options.
 fn establisher(
     alloc: Global,
     options: ClientOptions,
