@@ -1,8 +1,12 @@
 //! `mongo_login`: the part of a MongoDB driver that turns a fresh byte stream into a described connection and logs it
 //! in, rehearsed on reply bytes that are handed in.
 //!
-//! `mongo_login rehearse` reads settings from standard input and writes a report to standard output. The call that does
-//! it is [`run::run`], and its clauses say what each end means.
+//! - `mongo_login rehearse` reads the settings of one login from standard input and writes its report to standard output.
+//! - `mongo_login batch` reads those of many, which share one cache of salted passwords, and writes their reports and the
+//!   rounds that were derived.
+//! - `mongo_login generate N` reads nothing, makes N logins against a server in memory and writes their count and digest.
+//!
+//! The call that does it is [`run::run`], and its clauses say what each end means.
 #![tactic(auto)]
 
 mod generated;

@@ -4,9 +4,9 @@ use std::process::ExitCode;
 /// How the program ended.
 #[derive(Clone, Copy, Debug, PartialEq, Eq)]
 pub enum Status {
-    /// 0: the report was written and flushed, and the connection was made.
+    /// 0: the report was written and flushed, and no login was refused.
     Done = 0,
-    /// 1: the report was written and flushed, and an establishment was refused for another cause than memory.
+    /// 1: the report was written and flushed, and a login was refused for another cause than memory.
     Refused = 1,
     /// 2: the source was read to its end or past 4194304 bytes, and its text is no settings.
     BadSettings = 2,
@@ -18,7 +18,7 @@ pub enum Status {
     SinkFault = 5,
     /// 6: memory ran out.
     NoMemory = 6,
-    /// 7: a key of the settings that isn't built yet.
+    /// 7: the settings have a key or name a mechanism that isn't built yet.
     NotBuilt = 7,
 }
 
