@@ -18,7 +18,7 @@ pub enum Status {
     SinkFault = 5,
     /// 6: memory ran out.
     NoMemory = 6,
-    /// 7: a key of the settings that isn't built yet.
+    /// 7: the settings have a key or name a mechanism that isn't built yet.
     NotBuilt = 7,
 }
 
