@@ -1,6 +1,8 @@
 pub mod OneReply
 pub mod NotBuilt
 pub mod Unsent
+pub mod KeptAfter
+pub mod LastReply
 pub mod LoginEvents
 pub mod OneExchange
 pub mod PlainPlan

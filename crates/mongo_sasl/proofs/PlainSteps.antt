@@ -1,5 +1,5 @@
 -- What a PLAIN login does is a step of its plan.
-use Rattle.std.proofs.Common.{◌≡◌, ◌⊎◌, ℕ, ℤ, refl, inl, inr, arith, Result, Ok, Err, List, IfErr, OnOk, flat_map}
+use Rattle.std.proofs.Common.{◌≡◌, ◌⊎◌, ℕ, ℤ, refl, subst, inl, inr, arith, Result, Ok, Err, List, IfErr, OnOk, flat_map}
 use Rattle.mongo_bson.specs.Document.{spell}
 use Rattle.mongo_bson.proofs.Enclosed.{length-enclosed}
 use Rattle.mongo_wire.specs.declared.error.Error.{Error}
@@ -11,8 +11,10 @@ use Rattle.mongo_command.specs.Exchange.{CountsStay, Exchanges}
 use Rattle.mongo_command.proofs.Steps.{reached_ending, reached_unless, reached_reading, reached_saying, stopped_memory, stopped_row, stopped_unless, stopped_reading, stopped_later}
 use Rattle.mongo_sasl.specs.declared.mechanism.AuthMechanism.TheVariants.{Plain}
 use Rattle.mongo_sasl.specs.Commands.{start_elements, IsNotBuilt}
+use Rattle.mongo_sasl.specs.Login.{EndsByReply}
 use Rattle.mongo_sasl.specs.Plain.{payload_of, PlainUser, IsPlainUser, PlainRow, plain_body, plain_command, PlainHanded, plain_said, UnfinishedRow, FinishedRow, plain_heard, plain_plan, IsFinished}
 use Rattle.mongo_sasl.specs.Reply.{IsSaslReply, SaslRow}
+use Rattle.mongo_sasl.proofs.LastReply.{ends_by_reply}
 use Rattle.mongo_sasl.proofs.OneReply.{sasl_reply_no_row}
 use Rattle.mongo_sasl.proofs.PlainPlan.{no_plain_row, finished_no_row}
 use Rattle.mongo_sasl.proofs.Unsent.{unbuilt_stopped}
@@ -40,6 +42,16 @@ module _ (handed : PlainHanded) (user : PlainUser) (is_user : IsPlainUser handed
       (reached_reading (IsSaslReply reply) _ is.sasl tt new new after after is.is_reply
       (reached_unless (UnfinishedRow is.sasl) (ending tt) tt new new after after (finished_no_row is.sasl is.done) (reached_ending tt new after))))))
   plain_reached (Err x) reply old new before after e counts is = tt
+
+  -- and it is the reply of the login's one exchange
+  pub plain_replied : {T : Type 0} (r : Result T Error) (reply held : List ℕ) (old new : State) (before after : ℤ) → reply ≡ held → Exchanges handed.maximum (plain_message (plain_said handed user).document) old new before after reply → CountsStay old new → OnOk r (IsFinished reply) → OnOk r (EndsByReply (plain_plan handed) tt held old new before after)
+  plain_replied (Ok x) reply held old new before after same e counts is =
+      let none = no_plain_row handed.credential user is_user in
+      subst (λ document. EndsByReply (plain_plan handed) tt document old new before after) same
+      (ends_by_reply (plain_plan handed) tt (plain_said handed user) reply old new before after
+      (inr (none, (user, is_user, refl)))
+      (inr (none, (user, is_user, inr (sasl_reply_no_row reply is.sasl is.is_reply, (is.sasl, is.is_reply, inr (finished_no_row is.sasl is.done, refl)))))) e counts)
+  plain_replied (Err x) reply held old new before after same e counts is = tt
 
   heard_stopped : (reply : List ℕ) (kind : ErrorKind) (new : State) (after : ℤ) → FinishedRow reply kind ⊎ (kind ≡ OutOfMemory) → Stopped (plain_heard reply) kind new new after after
   heard_stopped reply kind new after (inl (inl row)) = stopped_row (SaslRow reply) _ kind new after row

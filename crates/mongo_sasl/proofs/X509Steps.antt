@@ -12,7 +12,9 @@ use Rattle.mongo_command.specs.Exchange.{CountsStay, Exchanges}
 use Rattle.mongo_command.specs.Literal.{text_element, int32_element}
 use Rattle.mongo_command.proofs.Steps.{reached_ending, reached_unless, reached_reading, reached_saying, stopped_memory, stopped_row, stopped_later}
 use Rattle.mongo_sasl.specs.Commands.{IsNotBuilt}
+use Rattle.mongo_sasl.specs.Login.{EndsByReply}
 use Rattle.mongo_sasl.specs.X509.{Takes, IsTaken, X509Row, x509_body, x509_command, X509Handed, x509_said, x509_heard, x509_plan_from, x509_plan}
+use Rattle.mongo_sasl.proofs.LastReply.{ends_by_reply}
 use Rattle.mongo_sasl.proofs.Unsent.{unbuilt_stopped}
 use Rattle.mongo_sasl.proofs.X509Plan.{taken_no_row}
 
@@ -36,6 +38,15 @@ module _ (handed : X509Handed) (later : handed.speculated ≡ false) where
       (reached_unless (X509Row reply) _ tt new new after after (taken_no_row reply is.0 is.1)
       (reached_reading (Takes reply) (λ elements. ending tt) is.0 tt new new after after is.1 (reached_ending tt new after))))
   x509_reached (Err x) reply old new before after e counts is = tt
+
+  -- and it is the reply of the login's one exchange
+  pub x509_replied : {T : Type 0} (r : Result T Error) (reply held : List ℕ) (old new : State) (before after : ℤ) → reply ≡ held → Exchanges handed.maximum (plain_message (x509_said handed).document) old new before after reply → CountsStay old new → OnOk r (IsTaken reply) → OnOk r (EndsByReply (x509_plan handed) tt held old new before after)
+  x509_replied (Ok x) reply held old new before after same e counts is =
+      subst (λ s. EndsByReply (x509_plan_from s handed) tt held old new before after) (sym later)
+      (subst (λ document. EndsByReply (saying (x509_said handed) x509_heard) tt document old new before after) same
+      (ends_by_reply (saying (x509_said handed) x509_heard) tt (x509_said handed) reply old new before after refl
+      (inr (taken_no_row reply is.0 is.1, (is.0, is.1, refl))) e counts))
+  x509_replied (Err x) reply held old new before after same e counts is = tt
 
   heard_stopped : (reply : List ℕ) (kind : ErrorKind) (new : State) (after : ℤ) → X509Row reply kind ⊎ (kind ≡ OutOfMemory) → Stopped (x509_heard reply) kind new new after after
   heard_stopped reply kind new after (inl row) = stopped_row (X509Row reply) (reading (Takes reply) (λ elements. ending tt)) kind new after row

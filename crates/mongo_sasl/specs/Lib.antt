@@ -9,5 +9,6 @@ pub mod View
 pub mod Commands
 pub mod Sent
 pub mod Login
+pub mod Kept
 pub mod Plain
 pub mod X509

@@ -1,10 +1,10 @@
 -- A login over told bytes: the bytes that are one, and what a call answers by where they lead its plan.
-use Rattle.std.specs.Prelude.{◌≡◌, ℕ, ℤ, ◌⊎◌, Result, Ok, Err, List, ◌++◌}
+use Rattle.std.specs.Prelude.{◌≡◌, ℕ, ℤ, ◌⊎◌, Result, Ok, Err, List, [], ◌∷◌, ◌++◌}
 use Rattle.mongo_wire.specs.declared.error.Error.{Error}
 use Rattle.mongo_wire.specs.declared.error.ErrorKind.TheVariants.{OutOfMemory}
 use Rattle.mongo_wire.specs.Bytes.{IsSentWithin, IsWholeWithin}
 use Rattle.mongo_wire.specs.Outside.{State}
-use Rattle.mongo_command.specs.Conversation.{Said, Turn, refuses, ends, LeftBy}
+use Rattle.mongo_command.specs.Conversation.{Said, exchanged, Turn, refuses, ends, Plan, Talked, LeftBy}
 
 -- There are commands and replies of a login: the commands can be sent, and the replies' frames stand at the front of the bytes.
 pub record HasLogin (IsLogin : List (List ℕ) → List (List ℕ) → Type 0) (maximum first_id : ℤ) (bytes : List ℕ) : Type 0 where
@@ -23,3 +23,9 @@ pub record HasLogin (IsLogin : List (List ℕ) → List (List ℕ) → Type 0) (
 abbrev pub IsLed : Result (Unit {0}) Error → Turn (Unit {0}) → List Said → List ℕ → State → State → ℤ → ℤ → Type 0
 IsLed (Ok done) outcome commands unread old new before after = (outcome ≡ ends tt) × LeftBy commands unread old new before after
 IsLed (Err e) outcome commands unread old new before after = (e.kind ≡ OutOfMemory) ⊎ ((outcome ≡ refuses e.kind) × LeftBy commands unread old new before after)
+
+-- The plan was followed to its end by one exchange, and this document was the reply.
+pub record EndsByReply {A : Type 0} (plan : Plan A) (answer : A) (document : List ℕ) (old new : State) (before after : ℤ) : Type 0 where
+  pub said : Said
+  pub talked : Talked plan (exchanged said document ∷ []) old new before after
+  pub answer_is : plan (exchanged said document ∷ []) (ends answer)

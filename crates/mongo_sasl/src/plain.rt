@@ -4,12 +4,13 @@ ghost use Rattle.std.specs.Prelude.{◌≡◌, ◌⊎◌, ℕ, List, None, Some,
 ghost use Rattle.mongo_wire.specs.declared.error.ErrorKind.{ErrorKind};
 ghost use Rattle.mongo_wire.specs.declared.error.ErrorKind.TheVariants.{OutOfMemory};
 ghost use Rattle.mongo_wire.specs.Outside.{Rose, risen};
-ghost use Rattle.mongo_wire.specs.Buffer.{frames_taken};
+ghost use Rattle.mongo_wire.specs.Buffer.{frames_taken, held_document};
 ghost use Rattle.mongo_command.specs.Connection.{kept_fault, KeepsRest};
 ghost use Rattle.mongo_command.specs.Conversation.{Said, Turn, Reached, Stopped, Leads};
 ghost use Rattle.mongo_command.specs.Exchange.{frame_maximum, HoldsReply, CountsStay};
 ghost use Rattle.mongo_sasl.specs.Commands.{IsNotBuilt};
-ghost use Rattle.mongo_sasl.specs.Login.{HasLogin, IsLed};
+ghost use Rattle.mongo_sasl.specs.Kept.{KeepsAfter};
+ghost use Rattle.mongo_sasl.specs.Login.{HasLogin, IsLed, EndsByReply};
 ghost use Rattle.mongo_sasl.specs.Plain.{payload_of, IsPlainUser, PlainRow, plain_body, plain_command, plain_plan, IsPlainLogin, IsFinished, FinishedRow, user_of, plain_handed};
 
 use crate::buffered_reply::held_reply;
@@ -76,13 +77,18 @@ pub fn authenticate_stream<L: Link>(
         (Rose (L.state link.old).read_faults (L.state link.new).read_faults → ⊥) → (Rose (L.state link.old).write_faults (L.state link.new).write_faults → ⊥) →
         IsLed result outcome commands unread (L.state link.old) (L.state link.new) ids.old ids.new }
 
-    // The reply passed through the buffer.
+    // The reply passed through the buffer, which holds just the reply of the login's one exchange.
     ensures frames { OnOk result (frames_taken buffer.new ≡ risen (frames_taken buffer.old)) }
     ensures holds { OnOk result (HoldsReply buffer.new) }
+    ensures reply { OnOk result (EndsByReply (plain_plan (plain_handed credential.now (option_copied server_api.entry) (frame_maximum connection.old.stream_description))) tt (held_document buffer.new)
+        (L.state link.old) (L.state link.new) ids.old ids.new) }
 
     // Nothing else of the connection changes; one that keeps a fault is refused, and nothing is done.
     ensures connection { KeepsRest connection.old connection.new }
     ensures faultless { OnOk result (kept_fault connection.new ≡ None) }
+    // After a refusal the connection keeps the fault where it is one that ends a connection, and else none. Want of memory
+    // may be kept, where a command's id was drawn.
+    ensures keeps { kept_fault connection.old ≡ None → IfErr result (λ e. KeepsAfter e.kind (kept_fault connection.new)) }
     ensures kept { (kind : ErrorKind) → kept_fault connection.old ≡ Some kind → OnOk result ⊥ × (link.new ≡ link.old) × (ids.new ≡ ids.old) × (kept_fault connection.new ≡ Some kind) }
     // It answers the fault, unless it is stopped before the exchange.
     ensures answers { (kind : ErrorKind) → kept_fault connection.old ≡ Some kind → IfErr result (λ e. (e.kind ≡ kind) ⊎ Stopped (plain_plan (plain_handed credential.now (option_copied server_api.entry) (frame_maximum connection.old.stream_description))) e.kind

@@ -5,13 +5,14 @@ ghost use Rattle.mongo_bson.specs.Document.{Element};
 ghost use Rattle.mongo_wire.specs.declared.error.ErrorKind.{ErrorKind};
 ghost use Rattle.mongo_wire.specs.declared.error.ErrorKind.TheVariants.{OutOfMemory};
 ghost use Rattle.mongo_wire.specs.Outside.{Rose};
-ghost use Rattle.mongo_wire.specs.Buffer.{frames_taken};
+ghost use Rattle.mongo_wire.specs.Buffer.{frames_taken, held_document};
 ghost use Rattle.mongo_command.specs.Connection.{kept_fault, KeepsRest};
 ghost use Rattle.mongo_command.specs.Conversation.{Said, Turn, Reached, Stopped, Leads};
 ghost use Rattle.mongo_command.specs.Exchange.{frame_maximum, HoldsReply, CountsStay};
 ghost use Rattle.mongo_command.specs.Fields.{IsValueOf};
 ghost use Rattle.mongo_sasl.specs.Commands.{IsTooLong, IsNotBuilt};
-ghost use Rattle.mongo_sasl.specs.Login.{HasLogin, IsLed};
+ghost use Rattle.mongo_sasl.specs.Kept.{KeepsAfter};
+ghost use Rattle.mongo_sasl.specs.Login.{HasLogin, IsLed, EndsByReply};
 ghost use Rattle.mongo_sasl.specs.X509.{x509_body, x509_command, IsTaken, X509Row, x509_plan, IsX509Login, x509_handed, frames_after, SaysOk};
 
 use crate::buffered_reply::held_reply;
@@ -65,8 +66,8 @@ pub fn authenticate_stream<L: Link>(
     ensures refused { kept_fault connection.old ≡ None → IfErr result (λ e. Stopped (x509_plan (x509_handed credential.now (option_copied server_api.entry) speculated (frame_maximum connection.old.stream_description))) e.kind
         (L.state link.old) (L.state link.new) ids.old ids.new) }
 
-    // After an answer in the hello it succeeds at once.
-    ensures at_once { speculated ≡ true → (result ≡ Ok tt) × (connection.new ≡ connection.old) × (link.new ≡ link.old) × (ids.new ≡ ids.old) }
+    // After an answer in the hello it succeeds at once, and nothing changes.
+    ensures at_once { speculated ≡ true → (result ≡ Ok tt) × (connection.new ≡ connection.old) × (link.new ≡ link.old) × (ids.new ≡ ids.old) × (buffer.new ≡ buffer.old) }
 
     // A login's reply at the front of the bytes left is accepted, unless the link fails or memory runs out.
     ensures complete { (bytes : List ℕ) → kept_fault connection.old ≡ None → (L.state link.old).left ≡ Some bytes →
@@ -80,13 +81,18 @@ pub fn authenticate_stream<L: Link>(
         (Rose (L.state link.old).read_faults (L.state link.new).read_faults → ⊥) → (Rose (L.state link.old).write_faults (L.state link.new).write_faults → ⊥) →
         IsLed result outcome commands unread (L.state link.old) (L.state link.new) ids.old ids.new }
 
-    // The reply passed through the buffer, where there is one.
+    // The reply passed through the buffer, where there is one; the buffer holds just the reply of the login's one exchange.
     ensures frames { OnOk result (frames_taken buffer.new ≡ frames_after speculated (frames_taken buffer.old)) }
     ensures holds { speculated ≡ false → OnOk result (HoldsReply buffer.new) }
+    ensures reply { speculated ≡ false → OnOk result (EndsByReply (x509_plan (x509_handed credential.now (option_copied server_api.entry) speculated (frame_maximum connection.old.stream_description))) tt (held_document buffer.new)
+        (L.state link.old) (L.state link.new) ids.old ids.new) }
 
     // Nothing else of the connection changes; over one that keeps a fault nothing is done.
     ensures connection { KeepsRest connection.old connection.new }
     ensures faultless { kept_fault connection.old ≡ None → OnOk result (kept_fault connection.new ≡ None) }
+    // After a refusal the connection keeps the fault where it is one that ends a connection, and else none. Want of memory
+    // may be kept, where a command's id was drawn.
+    ensures keeps { kept_fault connection.old ≡ None → IfErr result (λ e. KeepsAfter e.kind (kept_fault connection.new)) }
     ensures kept { (kind : ErrorKind) → kept_fault connection.old ≡ Some kind → (link.new ≡ link.old) × (ids.new ≡ ids.old) × (kept_fault connection.new ≡ Some kind) }
     ensures fails { (kind : ErrorKind) → kept_fault connection.old ≡ Some kind → speculated ≡ false → OnOk result ⊥ }
     // It answers the fault, unless it is stopped before the exchange.

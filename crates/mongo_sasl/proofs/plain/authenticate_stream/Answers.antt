@@ -1,9 +1,11 @@
-use Rattle.std.proofs.Common.{option_copied, codes, inl, inr}
+use Rattle.std.proofs.Common.{◌≡◌, ◌⊎◌, option_copied, codes, inl, inr}
+use Rattle.mongo_wire.specs.declared.error.ErrorKind.TheVariants.{OutOfMemory}
 use Rattle.mongo_command.specs.Exchange.{frame_maximum}
-use Rattle.mongo_sasl.specs.Plain.{plain_handed, plain_body, plain_heard, plain_plan, IsPlainLogin, user_of}
+use Rattle.mongo_sasl.specs.Plain.{FinishedRow, plain_handed, plain_body, plain_heard, plain_plan, IsPlainLogin, user_of}
+use Rattle.mongo_sasl.proofs.KeptAfter.{kept_after, own_keeps, plain_own, unbuilt_own, finished_own, handed_keeps, row_keeps}
 use Rattle.mongo_sasl.proofs.OneExchange.{exchanged_as, unanswered_as, led, led_handed, completed}
 use Rattle.mongo_sasl.proofs.PlainPlan.{one_plain, plain_ends}
-use Rattle.mongo_sasl.proofs.PlainSteps.{credential_stopped, user_stopped, plain_unbuilt, plain_reached, plain_refused}
+use Rattle.mongo_sasl.proofs.PlainSteps.{credential_stopped, user_stopped, plain_unbuilt, plain_reached, plain_replied, plain_refused}
 use Rattle.mongo_sasl.proofs.Unsent.{handed_stopped, answered_fault, handed_kept}
 use Rattle.mongo_sasl.proofs.plain.authenticate_stream.Goals as goal
 
@@ -93,3 +95,34 @@ pub returns-clause-exact : goal.returns-clause-exact
 returns-clause-exact g c bytes taken unread outcome commands faultless is leads unfailed unwritten =
     let handed = plain_handed c.args.credential.now (option_copied c.args.server_api) (frame_maximum c.args.connection.now.stream_description) in
     led (plain_plan handed) (one_plain handed) _ _ _ _ c.finish.result bytes taken unread outcome commands (returns-clause-accepted g c) (returns-clause-refused g c faultless) is leads unfailed unwritten
+
+-- ---- the buffer, and what the connection keeps
+
+pub returns-clause-reply : goal.returns-clause-reply
+returns-clause-reply g c =
+    let handed = plain_handed c.args.credential.now (option_copied c.args.server_api) (frame_maximum c.args.connection.now.stream_description) in
+    let user = user_of c.in_ok-login.login in
+    plain_replied handed user c.in_ok-login.ensures.user c.finish.result _ _ _ _ _ _ c.held_reply.ensures
+    (exchanged_as (codes "saslStart") user.source (plain_body user) handed.server_api handed.maximum c.in_ok-command.command _ _ _ _ _ _ c.in_ok-command.ensures.command c.held_reply.ensures c.in_ok-exchange_into.ensures.exchanged)
+    c.in_ok-exchange_into.ensures.counts c.finish.ensures.finished
+
+pub returns-in_err-login-clause-keeps : goal.returns-in_err-login-clause-keeps
+returns-in_err-login-clause-keeps g c faultless =
+    let e = c.in_err-login.field-0.0 in
+    handed_keeps c.from_residual.result e _ c.from_residual.ensures.1 (own_keeps e.kind _ (plain_own c.args.credential.now e.kind c.in_err-login.ensures.refused) faultless)
+
+pub returns-in_err-command-clause-keeps : goal.returns-in_err-command-clause-keeps
+returns-in_err-command-clause-keeps g c faultless =
+    let e = c.in_err-command.field-0.0 in
+    handed_keeps c.from_residual-in_err-command.result e _ c.from_residual-in_err-command.ensures.1
+    (own_keeps e.kind _ (unbuilt_own (plain_body (user_of c.in_ok-login.login)) e.kind c.in_err-command.ensures.refused) faultless)
+
+pub returns-in_err-exchange_into-clause-keeps : goal.returns-in_err-exchange_into-clause-keeps
+returns-in_err-exchange_into-clause-keeps g c faultless =
+    let e = c.in_err-exchange_into.field-0.0 in
+    handed_keeps c.from_residual-in_err-exchange_into.result e _ c.from_residual-in_err-exchange_into.ensures.1 (kept_after e.kind _ _ _ _ _ _ _ (c.in_err-exchange_into.ensures.refused faultless))
+
+pub returns-clause-keeps : goal.returns-clause-keeps
+returns-clause-keeps g c faultless =
+    let reply = c.held_reply.result.bytes.now in
+    row_keeps c.finish.result (λ kind. FinishedRow reply kind ⊎ (kind ≡ OutOfMemory)) _ (finished_own reply) c.finish.ensures.refused c.in_ok-exchange_into.ensures.faultless

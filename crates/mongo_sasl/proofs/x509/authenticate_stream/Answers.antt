@@ -1,10 +1,12 @@
-use Rattle.std.proofs.Common.{option_copied, codes, inl, inr}
+use Rattle.std.proofs.Common.{◌≡◌, ◌⊎◌, option_copied, codes, inl, inr}
+use Rattle.mongo_wire.specs.declared.error.ErrorKind.TheVariants.{OutOfMemory}
 use Rattle.mongo_command.specs.Exchange.{frame_maximum}
-use Rattle.mongo_sasl.specs.X509.{x509_handed, x509_body, x509_heard, x509_plan, IsX509Login}
+use Rattle.mongo_sasl.specs.X509.{X509Row, x509_handed, x509_body, x509_heard, x509_plan, IsX509Login}
+use Rattle.mongo_sasl.proofs.KeptAfter.{kept_after, own_keeps, unbuilt_own, x509_own, handed_keeps, row_keeps}
 use Rattle.mongo_sasl.proofs.OneExchange.{exchanged_as, unanswered_as, led, led_handed, completed}
 use Rattle.mongo_sasl.proofs.Unsent.{handed_stopped, answered_fault, handed_kept}
 use Rattle.mongo_sasl.proofs.X509Plan.{one_x509, x509_ends}
-use Rattle.mongo_sasl.proofs.X509Steps.{x509_stopped, x509_unbuilt, x509_reached, x509_refused}
+use Rattle.mongo_sasl.proofs.X509Steps.{x509_stopped, x509_unbuilt, x509_reached, x509_replied, x509_refused}
 use Rattle.mongo_sasl.proofs.x509.authenticate_stream.Goals as goal
 
 pub returns-in_err-command-clause-refused : goal.returns-in_err-command-clause-refused
@@ -70,3 +72,27 @@ pub returns-clause-exact : goal.returns-clause-exact
 returns-clause-exact g c bytes taken unread outcome commands faultless is leads unfailed unwritten =
     let handed = x509_handed c.args.credential.now (option_copied c.args.server_api) c.args.speculated (frame_maximum c.args.connection.now.stream_description) in
     led (x509_plan handed) (one_x509 handed) _ _ _ _ c.take.result bytes taken unread outcome commands (returns-clause-accepted g c) (returns-clause-refused g c faultless) is leads unfailed unwritten
+
+-- ---- the buffer, and what the connection keeps
+
+pub returns-clause-reply : goal.returns-clause-reply
+returns-clause-reply g c later =
+    let handed = x509_handed c.args.credential.now (option_copied c.args.server_api) c.args.speculated (frame_maximum c.args.connection.now.stream_description) in
+    x509_replied handed c.if-speculated.false c.take.result _ _ _ _ _ _ c.held_reply.ensures
+    (exchanged_as (codes "authenticate") (codes "$external") (x509_body handed.credential.username) handed.server_api handed.maximum c.in_ok-command.command _ _ _ _ _ _ c.in_ok-command.ensures.command c.held_reply.ensures c.in_ok-exchange_into.ensures.exchanged)
+    c.in_ok-exchange_into.ensures.counts c.take.ensures.taken
+
+pub returns-in_err-command-clause-keeps : goal.returns-in_err-command-clause-keeps
+returns-in_err-command-clause-keeps g c faultless =
+    let e = c.in_err-command.field-0.0 in
+    handed_keeps c.from_residual.result e _ c.from_residual.ensures.1 (own_keeps e.kind _ (unbuilt_own (x509_body c.args.credential.now.username) e.kind c.in_err-command.ensures.refused) faultless)
+
+pub returns-in_err-exchange_into-clause-keeps : goal.returns-in_err-exchange_into-clause-keeps
+returns-in_err-exchange_into-clause-keeps g c faultless =
+    let e = c.in_err-exchange_into.field-0.0 in
+    handed_keeps c.from_residual-in_err-exchange_into.result e _ c.from_residual-in_err-exchange_into.ensures.1 (kept_after e.kind _ _ _ _ _ _ _ (c.in_err-exchange_into.ensures.refused faultless))
+
+pub returns-clause-keeps : goal.returns-clause-keeps
+returns-clause-keeps g c faultless =
+    let reply = c.held_reply.result.bytes.now in
+    row_keeps c.take.result (λ kind. X509Row reply kind ⊎ (kind ≡ OutOfMemory)) _ (x509_own reply) c.take.ensures.refused c.in_ok-exchange_into.ensures.faultless
