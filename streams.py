@@ -1,5 +1,6 @@
-"""What the scripts over real streams share: building a program of this repository, BSON and OP_MSG read for a person's eyes, and a
-relay between a socket and a program. Python's standard library alone."""
+"""What the scripts over real streams share: building a program of this repository, words that are numbers, BSON and OP_MSG read for a
+person's eyes, and a relay between a socket and a program. Python's standard library alone."""
+import argparse
 import os
 import selectors
 import ssl
@@ -15,6 +16,26 @@ def built(name):
     if subprocess.run([os.path.join(TOP, 'build'), name], stdout=sys.stderr).returncode:
         sys.exit(70)
     return os.path.join(TOP, 'crates', name, 'out', name)
+
+
+def whole_number(least, most):
+    """Reads a word that is a whole number in a range, for argparse."""
+    def read(text):
+        if not (text.isascii() and text.isdecimal() and len(text) <= len(str(most)) and least <= int(text) <= most):
+            raise argparse.ArgumentTypeError(f'{text} is no whole number from {least} to {most}')
+        return int(text)
+    return read
+
+
+def seconds(text):
+    """Reads a word that is a time to wait, for argparse. What select can wait for ends somewhere past the greatest."""
+    try:
+        number = float(text)
+    except ValueError:
+        number = 0
+    if not 0 < number <= 1_000_000:
+        raise argparse.ArgumentTypeError(f'{text} is no number of seconds above 0 and up to 1000000')
+    return number
 
 
 # ---- documents and frames, to be looked at
@@ -84,32 +105,38 @@ def shown(frame):
     return f'op code {code}, {head}: {frame[16:].hex()}'
 
 
-class Tracer:
-    """Says each whole frame of one direction as its bytes come."""
+class Frames:
+    """The frames of one direction, cut out as their bytes come, and each said where somebody listens."""
 
     def __init__(self, arrow, say):
-        self.arrow, self.say, self.held = arrow, say, b''
+        self.arrow, self.say, self.held = arrow, say, bytearray()
 
     def take(self, piece):
+        """Whether a frame came whole with this piece."""
         self.held += piece
+        whole = False
         while len(self.held) >= 4:
             length = struct.unpack_from('<i', self.held)[0]
             if length < 16 or len(self.held) < length:
-                return
-            self.say(f'{self.arrow} {shown(self.held[:length])}')
-            self.held = self.held[length:]
+                break
+            whole = True
+            if self.say:
+                self.say(f'{self.arrow} {shown(bytes(self.held[:length]))}')
+            del self.held[:length]
+        return whole
 
 
 # ---- a program between its settings and a socket
 
 class Closed(Exception):
-    """The time was up."""
+    """The peer was silent too long."""
 
 
 def relay(program, first_line, sock, seconds=None, trace=None):
     """Runs a program whose standard input is one line and then what the socket gives, and whose standard output goes to the socket.
-    Gives its status and what it wrote to standard error. `Closed` where nothing came for so many seconds."""
-    out, back = Tracer('->', trace) if trace else None, Tracer('<-', trace) if trace else None
+    Gives its status and what it wrote to standard error. `Closed` where nothing came for so many seconds while it was the peer's turn:
+    after a whole frame of the peer it is the program's, which may derive a key for as long as that takes."""
+    out, back, peers_turn = Frames('->', trace), Frames('<-', trace), True
     with subprocess.Popen([program], stdin=subprocess.PIPE, stdout=subprocess.PIPE, stderr=subprocess.PIPE, bufsize=0) as running, selectors.DefaultSelector() as ready:
         said = b''
         try:
@@ -117,18 +144,24 @@ def relay(program, first_line, sock, seconds=None, trace=None):
             ready.register(running.stdout, selectors.EVENT_READ)
             ready.register(running.stderr, selectors.EVENT_READ)
             ready.register(sock, selectors.EVENT_READ)
-            open_streams = 2
+            open_streams, reading = 2, True
             while open_streams:
-                waiting = getattr(sock, 'pending', lambda: 0)() > 0
-                events = [key.fileobj for key, _ in ready.select(0 if waiting else seconds)]
+                waiting = reading and getattr(sock, 'pending', lambda: 0)() > 0
+                events = [key.fileobj for key, _ in ready.select(0 if waiting else seconds if peers_turn else None)]
                 if waiting and sock not in events:
                     events.append(sock)
                 if not events:
                     raise Closed
                 for stream in events:
                     if stream is sock:
-                        if not from_socket(sock, running.stdin, back):
+                        piece = from_socket(sock, running.stdin)
+                        if piece is None:
+                            continue
+                        if not piece:
                             ready.unregister(sock)
+                            reading = False
+                        if not piece or back.take(piece):
+                            peers_turn = False
                         continue
                     piece = os.read(stream.fileno(), 65536)
                     if not piece:
@@ -137,8 +170,8 @@ def relay(program, first_line, sock, seconds=None, trace=None):
                     elif stream is running.stderr:
                         said += piece
                     else:
-                        if out:
-                            out.take(piece)
+                        if out.take(piece):
+                            peers_turn = True
                         send(sock, piece, seconds)
             return running.wait(), said.decode('utf-8', 'replace')
         finally:
@@ -146,26 +179,24 @@ def relay(program, first_line, sock, seconds=None, trace=None):
                 running.kill()
 
 
-def from_socket(sock, stdin, tracer):
-    """Hands on what the socket has. False where it has ended, and the program's input then too. It doesn't wait: what makes a TLS
-    stream ready may be a record of TLS itself, with nothing for the program in it."""
+def from_socket(sock, stdin):
+    """Hands on what the socket has, and gives it: nothing where the socket or the program's input has ended, the other then too. None
+    where there is nothing yet: what makes a TLS stream ready may be a record of TLS itself, with nothing for the program in it."""
     sock.setblocking(False)
     try:
         piece = sock.recv(65536)
     except (BlockingIOError, InterruptedError, ssl.SSLWantReadError, ssl.SSLWantWriteError):
-        return True
+        return None
     except OSError:
         piece = b''
     try:
         if piece:
-            if tracer:
-                tracer.take(piece)
             stdin.write(piece)
-            return True
-        stdin.close()
+        else:
+            stdin.close()
     except (BrokenPipeError, ValueError):
-        pass
-    return False
+        return b''
+    return piece
 
 
 def send(sock, piece, seconds):
