@@ -132,11 +132,11 @@ class Closed(Exception):
     """The peer was silent too long."""
 
 
-def relay(program, first_line, sock, seconds=None, trace=None):
+def relay(program, first_line, sock, peer_begins, seconds, trace):
     """Runs a program whose standard input is one line and then what the socket gives, and whose standard output goes to the socket.
     Gives its status and what it wrote to standard error. `Closed` where nothing came for so many seconds while it was the peer's turn:
-    after a whole frame of the peer it is the program's, which may derive a key for as long as that takes."""
-    out, back, peers_turn = Frames('->', trace), Frames('<-', trace), True
+    after a whole frame of the peer it is the program's, which may derive a key for as long as that takes. Who begins is told."""
+    out, back, peers_turn = Frames('->', trace), Frames('<-', trace), peer_begins
     with subprocess.Popen([program], stdin=subprocess.PIPE, stdout=subprocess.PIPE, stderr=subprocess.PIPE, bufsize=0) as running, selectors.DefaultSelector() as ready:
         said = b''
         try:
