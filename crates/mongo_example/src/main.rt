@@ -10,8 +10,7 @@ ghost use Rattle.std.specs.Prelude.{◌≡◌, ◌<◌, IsSome};
 mod pool;
 mod recorded;
 
-use mongo_establish::{Bytes, Error, MemoryLink, PooledConnection, ServerAddress};
-use mongo_mac::Steps;
+use mongo_establish::{Bytes, Error, MemoryLink, PooledConnection, ServerAddress, Steps};
 use pool::Pool;
 use recorded::recording_at;
 use std::alloc::{AllocError, Global};

@@ -1,12 +1,11 @@
 ghost use Rattle.std.specs.Prelude.{◌≡◌, None, IfOk};
 
 use mongo_establish::{
-    ClientMetadata, ClientOptions, ConnectionEstablisher, Credential, Error, EstablishError,
-    EstablisherOptions, Link, LoginInputs, LoginState, PendingConnection, PoolGeneration,
-    PooledConnection, RequestIds, SaltedCache, ServerAddress, Text, TopologySpec,
+    ClientMetadata, ClientOptions, ConnectionEstablisher, Credential, Environment, Error,
+    EstablishError, EstablisherOptions, Link, LoginInputs, LoginState, OsMetadata,
+    PendingConnection, PoolGeneration, PooledConnection, RequestIds, SaltedCache, ServerAddress,
+    Steps, Text, TopologySpec, Variables,
 };
-use mongo_mac::Steps;
-use mongo_meta::{Environment, OsMetadata, Variables};
 use std::alloc::Global;
 use std::sync::ledger::Ledger;
 
@@ -24,7 +23,10 @@ pub struct Pool {
 }
 
 impl Pool {
-    ghost use Rattle.std.specs.Prelude.{◌≡◌, ◌+◌, ◌-◌, ◌^◌, min, IfOk, OnOk, OnErr};
+    ghost use Rattle.std.specs.Prelude.{◌≡◌, ◌+◌, ◌-◌, ◌^◌, min, Some, IfOk, OnOk, OnErr};
+    ghost use Rattle.mongo_establish.specs.Asked.{asked_for};
+    ghost use Rattle.mongo_establish.specs.Established.{Established};
+    ghost use Rattle.mongo_establish.specs.Establisher.{options_of_establisher};
     ghost use Rattle.mongo_establish.specs.declared.generation.PoolGeneration.TheVariants.{Normal};
     ghost use Rattle.mongo_scram.specs.Cache.{rounds_of};
     ghost use Rattle.mongo_example.specs.Pool.{IsReady};
@@ -87,6 +89,9 @@ impl Pool {
         steps: &mut Steps<G>,
     ) -> Result<PooledConnection, EstablishError>
         ensures ready { IfOk result (IsReady pending) }
+        // What was written and read is exactly a script of the pool's user: the user has logged in.
+        ensures established { IfOk result (Established (asked_for pending (options_of_establisher self.old.establisher) (Some self.old.credential) inputs.now.nonces self.old.state.ids)
+            (L.state link.old) (L.state link.new) self.new.state.ids) }
     {
         self.establisher.establish_connection(
             alloc,
