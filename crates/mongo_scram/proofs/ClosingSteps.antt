@@ -2,7 +2,8 @@
 use Rattle.std.proofs.Common.{◌≡◌, ℕ, ℤ, ap, ◌∙◌, subst, List, drop}
 use Rattle.mongo_wire.specs.declared.error.ErrorKind.{ErrorKind}
 use Rattle.mongo_wire.specs.Outside.{State}
-use Rattle.mongo_command.specs.Conversation.{Said, HasNone, Reached, Stopped}
+use Rattle.mongo_command.specs.Conversation.{Said, HasNone, Stopped}
+use Rattle.mongo_sasl.specs.Login.{EndsByReply}
 use Rattle.mongo_scram.specs.declared.messages.ClientFirst.{ClientFirst}
 use Rattle.mongo_scram.specs.declared.messages.ClientFinal.{ClientFinal}
 use Rattle.mongo_scram.specs.Client.{bare_of, message_of, final_of, auth_message_of, conversation_of, final_source_of, final_api_of}
@@ -51,12 +52,12 @@ same_owed handed c tag final is =
     let auth = is.auth_message in
     λ i. verifier (digest_of handed.version) (salted i) (auth i)
 
-pub closing_reached : (handed : Handed) (c : Challenge) (tag : List ℕ) (final : ClientFinal) (maximum : ℤ) (old new : State) (before after : ℤ) → maximum ≡ handed.maximum → IsFinal handed c tag final
-    → Reached (last_round (final_said final maximum) (conversation_of final) (verifier (digest_of handed.version) tag (auth_message_of final)) c) c old new before after → Reached (closing handed c) c old new before after
-closing_reached handed c tag final maximum old new before after same is r =
-    subst (λ owed. Reached (last_round (close_said handed c) c.first.conversation_id owed c) c old new before after) (same_owed handed c tag final is)
-    (subst (λ id. Reached (last_round (close_said handed c) id (verifier (digest_of handed.version) tag (auth_message_of final)) c) c old new before after) is.conversation
-    (subst (λ said. Reached (last_round said (conversation_of final) (verifier (digest_of handed.version) tag (auth_message_of final)) c) c old new before after) (same_said handed c tag final maximum same is) r))
+pub closing_ends : (handed : Handed) (c : Challenge) (tag : List ℕ) (final : ClientFinal) (maximum : ℤ) (document : List ℕ) (old new : State) (before after : ℤ) → maximum ≡ handed.maximum → IsFinal handed c tag final
+    → EndsByReply (last_round (final_said final maximum) (conversation_of final) (verifier (digest_of handed.version) tag (auth_message_of final)) c) c document old new before after → EndsByReply (closing handed c) c document old new before after
+closing_ends handed c tag final maximum document old new before after same is r =
+    subst (λ owed. EndsByReply (last_round (close_said handed c) c.first.conversation_id owed c) c document old new before after) (same_owed handed c tag final is)
+    (subst (λ id. EndsByReply (last_round (close_said handed c) id (verifier (digest_of handed.version) tag (auth_message_of final)) c) c document old new before after) is.conversation
+    (subst (λ said. EndsByReply (last_round said (conversation_of final) (verifier (digest_of handed.version) tag (auth_message_of final)) c) c document old new before after) (same_said handed c tag final maximum same is) r))
 
 pub closing_stopped : (handed : Handed) (c : Challenge) (tag : List ℕ) (final : ClientFinal) (maximum : ℤ) (kind : ErrorKind) (old new : State) (before after : ℤ) → maximum ≡ handed.maximum → IsFinal handed c tag final
     → Stopped (last_round (final_said final maximum) (conversation_of final) (verifier (digest_of handed.version) tag (auth_message_of final)) c) kind old new before after → Stopped (closing handed c) kind old new before after

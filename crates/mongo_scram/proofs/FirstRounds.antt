@@ -1,5 +1,5 @@
 -- The first round of a login is a step of its plan.
-use Rattle.std.proofs.Common.{◌≡◌, ◌⊎◌, ℕ, ℤ, false, refl, sym, ◌∙◌, subst, inl, inr, arith, Option, None, Some, Result, Ok, Err, List, [], ◌++◌, IfErr, flat_map}
+use Rattle.std.proofs.Common.{◌≡◌, ◌⊎◌, ℕ, ℤ, false, refl, ap, sym, ◌∙◌, subst, inl, inr, arith, Option, None, Some, Result, Ok, Err, List, [], ◌++◌, IfErr, flat_map}
 use Rattle.mongo_bson.specs.Document.{spell}
 use Rattle.mongo_bson.proofs.Enclosed.{length-enclosed}
 use Rattle.mongo_wire.specs.declared.error.Error.{Error}
@@ -106,13 +106,14 @@ start_stopped (Err x) login found maximum user old new before after is h =
 
 -- the same over a connection that keeps a fault
 pub round_answers : {T : Type 0} (r : Result T Error) (kind : ErrorKind) (login : Login) (found : Option FirstRound) (round : FirstRound) (maximum : ℤ) (user : User) (new : State) (after : ℤ) → found ≡ Some round → IfErr r (λ e. FirstReplyRow round.server_first e.kind ⊎ (e.kind ≡ OutOfMemory))
-    → IfErr r (λ e. (e.kind ≡ kind) ⊎ Stopped (opened (speculated_of found) (handed_by login found maximum) user) e.kind new new after after)
+    → IfErr r (λ e. ((speculated_of found ≡ None) × (e.kind ≡ kind)) ⊎ Stopped (opened (speculated_of found) (handed_by login found maximum) user) e.kind new new after after)
 round_answers (Ok x) kind login found round maximum user new after is h = tt
 round_answers (Err x) kind login found round maximum user new after is h =
     inr (subst (λ f. Stopped (opened (speculated_of f) (handed_by login f maximum) user) x.kind new new after after) (sym is) (reply_stopped (handed_by login (Some round) maximum) user round.server_first x.kind new after h))
 
 pub start_answers : {T : Type 0} (r : Result T Error) (kind : ErrorKind) (login : Login) (found : Option FirstRound) (maximum : ℤ) (user : User) (old : State) (before : ℤ) → found ≡ None → IfErr r (λ e. (e.kind ≡ kind) ⊎ Stopped (opened None (handed_by login None maximum) user) e.kind old old before before)
-    → IfErr r (λ e. (e.kind ≡ kind) ⊎ Stopped (opened (speculated_of found) (handed_by login found maximum) user) e.kind old old before before)
+    → IfErr r (λ e. ((speculated_of found ≡ None) × (e.kind ≡ kind)) ⊎ Stopped (opened (speculated_of found) (handed_by login found maximum) user) e.kind old old before before)
 start_answers (Ok x) kind login found maximum user old before is h = tt
-start_answers (Err x) kind login found maximum user old before is h =
-    subst (λ f. (x.kind ≡ kind) ⊎ Stopped (opened (speculated_of f) (handed_by login f maximum) user) x.kind old old before before) (sym is) h
+start_answers (Err x) kind login found maximum user old before is (inl same) = inl (ap speculated_of is, same)
+start_answers (Err x) kind login found maximum user old before is (inr stopped) =
+    inr (subst (λ f. Stopped (opened (speculated_of f) (handed_by login f maximum) user) x.kind old old before before) (sym is) stopped)

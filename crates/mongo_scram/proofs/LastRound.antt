@@ -9,9 +9,11 @@ use Rattle.mongo_wire.specs.declared.error.ErrorKind.TheVariants.{OutOfMemory}
 use Rattle.mongo_wire.specs.Outside.{State}
 use Rattle.mongo_command.specs.declared.command.Command.{Command}
 use Rattle.mongo_command.specs.Exchange.{command_message, CountsStay, Exchanges, ExchangeRefused}
-use Rattle.mongo_command.specs.Conversation.{Said, plain_message, Reached, Stopped, ending}
-use Rattle.mongo_command.proofs.Steps.{reached_ending, reached_unless, reached_reading, reached_saying, stopped_memory, stopped_row, stopped_unless, stopped_reading, stopped_saying, stopped_later}
+use Rattle.mongo_command.specs.Conversation.{Said, plain_message, Stopped, ending}
+use Rattle.mongo_command.proofs.Steps.{stopped_memory, stopped_row, stopped_unless, stopped_reading, stopped_saying, stopped_later}
 use Rattle.mongo_sasl.specs.Commands.{continue_elements, continue_body, IsNotBuilt}
+use Rattle.mongo_sasl.specs.Login.{EndsByReply}
+use Rattle.mongo_sasl.proofs.LastReply.{ends_by_reply}
 use Rattle.mongo_scram.specs.declared.messages.ClientFinal.{ClientFinal}
 use Rattle.mongo_scram.specs.Client.{final_of, conversation_of, final_source_of, final_api_of}
 use Rattle.mongo_scram.specs.Commands.{final_command}
@@ -41,13 +43,14 @@ final_exchanged final command maximum old new before after held reply is same e 
 
 -- ---- the reply
 
-pub taken_reached : {T : Type 0} (r : Result T Error) (said : Said) (conversation : OwnedValue) (owed : List ℕ) (c : Challenge) (reply : List ℕ) (old new : State) (before after : ℤ) → Exchanges said.maximum (plain_message said.document) old new before after reply → CountsStay old new → OnOk r (IsTaken conversation owed reply) → OnOk r (Reached (last_round said conversation owed c) c old new before after)
-taken_reached (Ok x) said conversation owed c reply old new before after e counts is =
-    reached_saying said (last_heard conversation owed c) reply c old new new before after after e counts
-    (reached_unless _ _ c new new after after (no_final_row reply is.last is.carries)
-    (reached_reading _ _ is.last c new new after after is.carries
-    (reached_unless (RoundRow conversation owed is.last) _ c new new after after is.taken (reached_ending c new after))))
-taken_reached (Err x) said conversation owed c reply old new before after e counts is = tt
+-- the reply is taken, and it is that of the round's one exchange
+pub taken_ends : {T : Type 0} (r : Result T Error) (said : Said) (conversation : OwnedValue) (owed : List ℕ) (c : Challenge) (reply held : List ℕ) (old new : State) (before after : ℤ) → reply ≡ held → Exchanges said.maximum (plain_message said.document) old new before after reply → CountsStay old new → OnOk r (IsTaken conversation owed reply)
+    → OnOk r (EndsByReply (last_round said conversation owed c) c held old new before after)
+taken_ends (Ok x) said conversation owed c reply held old new before after same e counts is =
+    subst (λ document. EndsByReply (last_round said conversation owed c) c document old new before after) same
+    (ends_by_reply (last_round said conversation owed c) c said reply old new before after refl
+    (inr (no_final_row reply is.last is.carries, (is.last, is.carries, inr (is.taken, refl)))) e counts)
+taken_ends (Err x) said conversation owed c reply held old new before after same e counts is = tt
 
 heard_stopped : (conversation : OwnedValue) (owed : List ℕ) (c : Challenge) (reply : List ℕ) (kind : ErrorKind) (new : State) (after : ℤ) → LastRefusal conversation owed reply kind ⊎ (kind ≡ OutOfMemory) → Stopped (last_heard conversation owed c reply) kind new new after after
 heard_stopped conversation owed c reply kind new after (inl (inl row)) = stopped_row (FinalReplyRow reply) _ kind new after row

@@ -8,6 +8,7 @@ pub mod ReplyRead
 pub mod NoRows
 pub mod Octets
 pub mod ScramPlan
+pub mod OwnRows
 pub mod OpeningEnds
 pub mod ClosingEnds
 pub mod ScramEnds

@@ -6,13 +6,15 @@ use Rattle.mongo_wire.specs.declared.error.ErrorKind.{ErrorKind}
 use Rattle.mongo_wire.specs.declared.error.ErrorKind.TheVariants.{OutOfMemory}
 use Rattle.mongo_wire.specs.Outside.{State, risen}
 use Rattle.mongo_command.specs.Conversation.{Plan, Reached, Stopped}
+use Rattle.mongo_sasl.specs.Login.{EndsByReply}
+use Rattle.mongo_sasl.proofs.LastReply.{ends_reached}
 use Rattle.mongo_scram.specs.declared.cache.SaltedCache.{SaltedCache}
 use Rattle.mongo_scram.specs.declared.cache.SaltedKey.{SaltedKey}
 use Rattle.mongo_scram.specs.declared.conversation.FirstRound.{FirstRound}
 use Rattle.mongo_scram.specs.declared.rounds.Opened.{Opened}
 use Rattle.mongo_scram.specs.Cache.{entries_of, rounds_of, Adds}
 use Rattle.mongo_scram.specs.Client.{nonce_of, frames_after}
-use Rattle.mongo_scram.specs.Costs.{Ledgers, ledgers, key_by, HasEntry, Derives, SameEntries, CostsNothing, EndsLogin, Accepted, StoppedLogin}
+use Rattle.mongo_scram.specs.Costs.{Ledgers, ledgers, key_by, HasEntry, Derives, SameEntries, CostsNothing, EndsLogin, Accepted, StoppedLogin, FaultCosts}
 use Rattle.mongo_scram.specs.Entry.{salted_of, IsUsable}
 use Rattle.mongo_scram.specs.Plan.{Handed, salted_by, opening, closing}
 use Rattle.mongo_scram.specs.Rounds.{frames_opened, Opens, key_for, IsAnswered}
@@ -79,17 +81,17 @@ reached_stopped : {A : Type 0} (plan : Plan A) (answer : A) (kind : ErrorKind) (
 reached_stopped plan answer kind old new before after memory r =
     record { events = r.events; middle = new; between = after; talked = r.talked; given_is = r.given_is; stop = inl (record { cause = inr memory; link = refl; ids = refl }) }
 
-pub stopped_last : {T : Type 0} (r : Result T Error) (handed : Handed) (user : User) (o : Opened) (key : SaltedKey) (tag : List ℕ) (old middle new : State) (before between after : ℤ) (first : Ledgers) (steps : ℕ) (derived kept : SaltedCache) → IsBetween handed user o key tag old middle before between first (ledgers steps derived)
-    → Reached (closing handed (challenge_of user o.server_first)) (challenge_of user o.server_first) middle new between after → rounds_of kept ≡ rounds_of derived → OnErr r (entries_of kept ≡ entries_of derived) → IfErr r (λ e. e.kind ≡ OutOfMemory) → IfErr r (λ e. StoppedLogin handed e.kind old new before after first (ledgers steps kept))
-stopped_last (Ok x) handed user o key tag old middle new before between after first steps derived kept is closed rounds entries memory = tt
-stopped_last (Err e) handed user o key tag old middle new before between after first steps derived kept is closed rounds entries memory =
+pub stopped_last : {T : Type 0} (r : Result T Error) (handed : Handed) (user : User) (o : Opened) (key : SaltedKey) (tag document : List ℕ) (old middle new : State) (before between after : ℤ) (first : Ledgers) (steps : ℕ) (derived kept : SaltedCache) → IsBetween handed user o key tag old middle before between first (ledgers steps derived)
+    → EndsByReply (closing handed (challenge_of user o.server_first)) (challenge_of user o.server_first) document middle new between after → rounds_of kept ≡ rounds_of derived → OnErr r (entries_of kept ≡ entries_of derived) → IfErr r (λ e. e.kind ≡ OutOfMemory) → IfErr r (λ e. StoppedLogin handed e.kind old new before after first (ledgers steps kept))
+stopped_last (Ok x) handed user o key tag document old middle new before between after first steps derived kept is closed rounds entries memory = tt
+stopped_last (Err e) handed user o key tag document old middle new before between after first steps derived kept is closed rounds entries memory =
     let c = challenge_of user o.server_first in
     inr (record {
       challenge = c;
       middle = middle;
       between = between;
       opened = between_reached handed user o key tag old middle before between first (ledgers steps derived) is;
-      stopped = reached_stopped (closing handed c) c e.kind middle new between after memory closed;
+      stopped = reached_stopped (closing handed c) c e.kind middle new between after memory (ends_reached (closing handed c) c document middle new between after closed);
       derived = inl (kept_derives (key_by handed c) first steps derived kept rounds (between_derived handed user o key tag old middle before between first (ledgers steps derived) is));
       entries = entries ∙ is.answered.entries;
     })
@@ -102,7 +104,7 @@ kept_entries key first steps derived kept same (inl had) = inl ((had.0.0, subst 
 kept_entries key first steps derived kept same (inr adds) = inr (subst (λ es. Adds es (entries_of kept) (key, salted_of key)) same adds)
 
 pub accepted_by : {T : Type 0} (r : Result T Error) (handed : Handed) (user : User) (o : Opened) (key : SaltedKey) (tag document : List ℕ) (old middle new : State) (before between after : ℤ) (first : Ledgers) (steps : ℕ) (derived kept : SaltedCache) → IsBetween handed user o key tag old middle before between first (ledgers steps derived)
-    → Reached (closing handed (challenge_of user o.server_first)) (challenge_of user o.server_first) middle new between after → EndsLogin handed (challenge_of user o.server_first) document → rounds_of kept ≡ rounds_of derived → OnOk r (Kept key derived kept) → OnOk r (Accepted handed document old new before after first (ledgers steps kept))
+    → EndsByReply (closing handed (challenge_of user o.server_first)) (challenge_of user o.server_first) document middle new between after → EndsLogin handed (challenge_of user o.server_first) document → rounds_of kept ≡ rounds_of derived → OnOk r (Kept key derived kept) → OnOk r (Accepted handed document old new before after first (ledgers steps kept))
 accepted_by (Ok x) handed user o key tag document old middle new before between after first steps derived kept is closed ends rounds entries =
     let c = challenge_of user o.server_first in
     record {
@@ -130,12 +132,24 @@ not_accepted (Err x) e is = tt
 
 -- a stop before an exchange: the link and the ids are as they were
 pub kept_stopped : {T : Type 0} (r : Result T Error) (handed : Handed) (kind : ErrorKind) (old new : State) (before after : ℤ) (first last : Ledgers) → new ≡ old → after ≡ before → IfErr r (λ e. StoppedLogin handed e.kind old new before after first last)
-    → IfErr r (λ e. (e.kind ≡ kind) ⊎ StoppedLogin handed e.kind old old before before first last)
+    → IfErr r (λ e. ((e.kind ≡ kind) × FaultCosts handed old before first last) ⊎ StoppedLogin handed e.kind old old before before first last)
 kept_stopped (Ok x) handed kind old new before after first last link ids s = tt
 kept_stopped (Err x) handed kind old new before after first last link ids s =
     inr (subst (λ state. StoppedLogin handed x.kind old state before before first last) link (subst (λ id. StoppedLogin handed x.kind old new before id first last) ids s))
 
+-- what was derived by a first round that went with the hello, before the fault is answered
+pub fault_costs : (handed : Handed) (user : User) (o : Opened) (key : SaltedKey) (tag : List ℕ) (old middle : State) (before between : ℤ) (first last : Ledgers) → middle ≡ old → between ≡ before → IsBetween handed user o key tag old middle before between first last → FaultCosts handed old before first last
+fault_costs handed user o key tag old middle before between first last link ids is =
+    let c = challenge_of user o.server_first in
+    inr (record {
+      challenge = c;
+      opened = subst (λ state. Reached (opening handed) c old state before before) link (subst (λ id. Reached (opening handed) c old middle before id) ids (between_reached handed user o key tag old middle before between first last is));
+      derived = between_derived handed user o key tag old middle before between first last is;
+      entries = is.answered.entries;
+    })
+
 -- the fault is answered
-pub fault_answered : {T : Type 0} (r : Result T Error) (e : Error) (handed : Handed) (kind : ErrorKind) (old : State) (before : ℤ) (first last : Ledgers) → IsErrAnd r (λ x. x ≡ e) → e.kind ≡ kind → IfErr r (λ x. (x.kind ≡ kind) ⊎ StoppedLogin handed x.kind old old before before first last)
-fault_answered (Ok x) e handed kind old before first last is same = tt
-fault_answered (Err x) e handed kind old before first last is same = inl (ap (λ (y : Error). y.kind) is ∙ same)
+pub fault_answered : {T : Type 0} (r : Result T Error) (e : Error) (handed : Handed) (kind : ErrorKind) (old : State) (before : ℤ) (first last : Ledgers) → IsErrAnd r (λ x. x ≡ e) → e.kind ≡ kind → FaultCosts handed old before first last
+    → IfErr r (λ x. ((x.kind ≡ kind) × FaultCosts handed old before first last) ⊎ StoppedLogin handed x.kind old old before before first last)
+fault_answered (Ok x) e handed kind old before first last is same costs = tt
+fault_answered (Err x) e handed kind old before first last is same costs = inl (ap (λ (y : Error). y.kind) is ∙ same, costs)

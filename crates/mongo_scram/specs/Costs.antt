@@ -1,10 +1,11 @@
 -- What a login takes of the counter and of the cache: it derives where its key has no entry, and its key is put in once
 -- it was accepted.
-use Rattle.std.specs.Prelude.{◌≡◌, ℕ, ℤ, ◌+◌, ◌-◌, ◌^◌, ◌⊎◌, min, List, Contains}
+use Rattle.std.specs.Prelude.{◌≡◌, ℕ, ℤ, ◌+◌, ◌-◌, ◌^◌, ◌⊎◌, min, None, List, Contains}
 use Rattle.mongo_wire.specs.declared.error.ErrorKind.{ErrorKind}
 use Rattle.mongo_wire.specs.declared.error.ErrorKind.TheVariants.{OutOfMemory}
 use Rattle.mongo_wire.specs.Outside.{State}
 use Rattle.mongo_command.specs.Conversation.{HasNone, Reached, Stopped}
+use Rattle.mongo_sasl.specs.Login.{EndsByReply}
 use Rattle.mongo_scram.specs.declared.cache.SaltedCache.{SaltedCache}
 use Rattle.mongo_scram.specs.declared.cache.SaltedKey.{SaltedKey}
 use Rattle.mongo_scram.specs.Cache.{entries_of, rounds_of, Adds}
@@ -52,14 +53,14 @@ pub record EndsLogin (handed : Handed) (c : Challenge) (document : List ℕ) : T
   pub carries : CarriesFinal document last
   pub taken : HasNone (LastRow handed c last)
 
--- The opening was followed to its end and then the closing, of which this document is the last reply; the key was derived
--- where it had no entry, and has one now.
+-- The opening was followed to its end and then the closing, by one exchange, whose reply this document is; the key was
+-- derived where it had no entry, and has one now.
 pub record Accepted (handed : Handed) (document : List ℕ) (old new : State) (before after : ℤ) (first last : Ledgers) : Type 0 where
   pub challenge : Challenge
   pub middle : State
   pub between : ℤ
   pub opened : Reached (opening handed) challenge old middle before between
-  pub closed : Reached (closing handed challenge) challenge middle new between after
+  pub closed : EndsByReply (closing handed challenge) challenge document middle new between after
   pub ends : EndsLogin handed challenge document
   pub derived : Derives (key_by handed challenge) first last
   pub kept : (HasEntry first.cache (key_by handed challenge) × SameEntries first last) ⊎ Adds (entries_of first.cache) (entries_of last.cache) (key_by handed challenge, salted_of (key_by handed challenge))
@@ -79,3 +80,17 @@ pub record StoppedClosing (handed : Handed) (kind : ErrorKind) (old new : State)
 abbrev pub StoppedLogin : Handed → ErrorKind → State → State → ℤ → ℤ → Ledgers → Ledgers → Type 0
 StoppedLogin handed kind old new before after first last =
     (Stopped (opening handed) kind old new before after × CostsNothing first last) ⊎ StoppedClosing handed kind old new before after first last
+
+-- ---- over a connection that keeps a fault
+
+-- the opening was followed to its end without an exchange, and the key was derived where it had no entry
+pub record OpensUnsaid (handed : Handed) (state : State) (id : ℤ) (first last : Ledgers) : Type 0 where
+  pub challenge : Challenge
+  pub opened : Reached (opening handed) challenge state state id id
+  pub derived : Derives (key_by handed challenge) first last
+  pub entries : SameEntries first last
+
+-- What a login takes before it answers the fault in place of an exchange: nothing, where that is its first message's; with
+-- a first round that went with the hello, what it takes up to its last message.
+abbrev pub FaultCosts : Handed → State → ℤ → Ledgers → Ledgers → Type 0
+FaultCosts handed state id first last = ((handed.speculated ≡ None) × CostsNothing first last) ⊎ OpensUnsaid handed state id first last

@@ -29,10 +29,11 @@ impl ScramVersion {
     ghost use Rattle.mongo_command.specs.Connection.{kept_fault, KeepsRest};
     ghost use Rattle.mongo_command.specs.Conversation.{Said, Turn, ends, Leads};
     ghost use Rattle.mongo_command.specs.Exchange.{frame_maximum, HoldsReply, CountsStay};
+    ghost use Rattle.mongo_sasl.specs.Kept.{KeepsAfter};
     ghost use Rattle.mongo_scram.specs.Base64.{base64_of};
     ghost use Rattle.mongo_scram.specs.Cache.{entries_of};
     ghost use Rattle.mongo_scram.specs.Client.{handed_to, frames_after};
-    ghost use Rattle.mongo_scram.specs.Costs.{ledgers, Accepted, StoppedLogin};
+    ghost use Rattle.mongo_scram.specs.Costs.{ledgers, Accepted, StoppedLogin, FaultCosts};
     ghost use Rattle.mongo_scram.specs.Led.{AnswersLed};
     ghost use Rattle.mongo_scram.specs.Plan.{Challenge, scram_plan};
 
@@ -69,7 +70,7 @@ impl ScramVersion {
         steps: &mut Steps<G>,
     ) -> Result<(), Error>
         // Exactly a SCRAM login's commands were written and its replies taken, the verifier was equal as a whole, the buffer
-        // holds the last reply, and the key has an entry.
+        // holds the reply of the last exchange, and the key has an entry.
         ensures accepted { OnOk result (Accepted (handed_to self.now credential.now (option_copied server_api.entry) first_round (base64_of nonce.now) most (frame_maximum connection.old.stream_description)) (held_document buffer.new)
             (L.state link.old) (L.state link.new) ids.old ids.new (ledgers steps.old salted.old) (ledgers steps.new salted.new)) }
 
@@ -98,9 +99,15 @@ impl ScramVersion {
         // Nothing else of the connection changes; one that keeps a fault is refused, and nothing is done.
         ensures connection { KeepsRest connection.old connection.new }
         ensures faultless { OnOk result (kept_fault connection.new ≡ None) }
+        // After a refusal the connection keeps the fault where it is one that ends a connection, and else none. Want of
+        // memory may be kept, where a command's id was drawn.
+        ensures keeps { kept_fault connection.old ≡ None → IfErr result (λ e. KeepsAfter e.kind (kept_fault connection.new)) }
         ensures kept { (kind : ErrorKind) → kept_fault connection.old ≡ Some kind → OnOk result ⊥ × (link.new ≡ link.old) × (ids.new ≡ ids.old) × (kept_fault connection.new ≡ Some kind) }
-        // It answers the fault, unless it is stopped before an exchange.
-        ensures answers { (kind : ErrorKind) → kept_fault connection.old ≡ Some kind → IfErr result (λ e. (e.kind ≡ kind) ⊎ StoppedLogin (handed_to self.now credential.now (option_copied server_api.entry) first_round (base64_of nonce.now) most (frame_maximum connection.old.stream_description)) e.kind
+        // It answers the fault in place of its first exchange, unless it is stopped before that. Where that is its first
+        // message's, nothing was derived, counted or put in.
+        ensures answers { (kind : ErrorKind) → kept_fault connection.old ≡ Some kind → IfErr result (λ e. ((e.kind ≡ kind) × FaultCosts (handed_to self.now credential.now (option_copied server_api.entry) first_round (base64_of nonce.now) most (frame_maximum connection.old.stream_description))
+            (L.state link.old) ids.old (ledgers steps.old salted.old) (ledgers steps.new salted.new))
+            ⊎ StoppedLogin (handed_to self.now credential.now (option_copied server_api.entry) first_round (base64_of nonce.now) most (frame_maximum connection.old.stream_description)) e.kind
             (L.state link.old) (L.state link.old) ids.old ids.old (ledgers steps.old salted.old) (ledgers steps.new salted.new)) }
         ensures counts { CountsStay (L.state link.old) (L.state link.new) }
     {

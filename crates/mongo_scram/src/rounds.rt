@@ -6,8 +6,10 @@ ghost use Rattle.mongo_wire.specs.declared.error.ErrorKind.TheVariants.{OutOfMem
 ghost use Rattle.mongo_wire.specs.Outside.{risen};
 ghost use Rattle.mongo_wire.specs.Buffer.{frames_taken, held_document};
 ghost use Rattle.mongo_command.specs.Connection.{kept_fault, KeepsRest};
-ghost use Rattle.mongo_command.specs.Conversation.{Reached, Stopped};
+ghost use Rattle.mongo_command.specs.Conversation.{Stopped};
 ghost use Rattle.mongo_command.specs.Exchange.{frame_maximum, HoldsReply, CountsStay};
+ghost use Rattle.mongo_sasl.specs.Kept.{KeepsAfter};
+ghost use Rattle.mongo_sasl.specs.Login.{EndsByReply};
 ghost use Rattle.mongo_scram.specs.Client.{auth_message_of, conversation_of};
 ghost use Rattle.mongo_scram.specs.Messages.{verifier};
 ghost use Rattle.mongo_scram.specs.Plan.{Challenge};
@@ -60,6 +62,7 @@ impl<'a> Login<'a> {
     ghost use Rattle.mongo_command.specs.Connection.{kept_fault, KeepsRest};
     ghost use Rattle.mongo_command.specs.Conversation.{Stopped};
     ghost use Rattle.mongo_command.specs.Exchange.{frame_maximum, CountsStay};
+    ghost use Rattle.mongo_sasl.specs.Kept.{KeepsAfter};
     ghost use Rattle.mongo_scram.specs.Client.{speculated_of, user_of};
     ghost use Rattle.mongo_scram.specs.Plan.{opened};
     ghost use Rattle.mongo_scram.specs.Rounds.{handed_by, Opens, frames_opened};
@@ -82,8 +85,11 @@ impl<'a> Login<'a> {
         ensures frames { OnOk result (frames_taken buffer.new ≡ frames_opened first_round (frames_taken buffer.old)) }
         ensures connection { KeepsRest connection.old connection.new }
         ensures faultless { kept_fault connection.old ≡ None → OnOk result (kept_fault connection.new ≡ None) }
+        // After a refusal the connection keeps the fault where it is one that ends a connection.
+        ensures keeps { kept_fault connection.old ≡ None → IfErr result (λ e. KeepsAfter e.kind (kept_fault connection.new)) }
         ensures kept { (kind : ErrorKind) → kept_fault connection.old ≡ Some kind → (link.new ≡ link.old) × (ids.new ≡ ids.old) × (kept_fault connection.new ≡ Some kind) }
-        ensures answers { (kind : ErrorKind) → kept_fault connection.old ≡ Some kind → IfErr result (λ e. (e.kind ≡ kind) ⊎ Stopped (opened (speculated_of first_round) (handed_by self.entry first_round (frame_maximum connection.old.stream_description)) (user_of user.now)) e.kind
+        // A round that went with the hello is no exchange, and never answers the fault.
+        ensures answers { (kind : ErrorKind) → kept_fault connection.old ≡ Some kind → IfErr result (λ e. ((speculated_of first_round ≡ None) × (e.kind ≡ kind)) ⊎ Stopped (opened (speculated_of first_round) (handed_by self.entry first_round (frame_maximum connection.old.stream_description)) (user_of user.now)) e.kind
             (L.state link.old) (L.state link.old) ids.old ids.old) }
         ensures counts { CountsStay (L.state link.old) (L.state link.new) }
     {
@@ -110,6 +116,7 @@ impl<'a> Login<'a> {
         ensures frames { OnOk result (frames_taken buffer.new ≡ risen (frames_taken buffer.old)) }
         ensures connection { KeepsRest connection.old connection.new }
         ensures faultless { OnOk result (kept_fault connection.new ≡ None) }
+        ensures keeps { kept_fault connection.old ≡ None → IfErr result (λ e. KeepsAfter e.kind (kept_fault connection.new)) }
         ensures kept { (kind : ErrorKind) → kept_fault connection.old ≡ Some kind → OnOk result ⊥ × (link.new ≡ link.old) × (ids.new ≡ ids.old) × (kept_fault connection.new ≡ Some kind) }
         ensures answers { (kind : ErrorKind) → kept_fault connection.old ≡ Some kind → IfErr result (λ e. (e.kind ≡ kind) ⊎ Stopped (opened None (handed_by self.entry None (frame_maximum connection.old.stream_description)) (user_of user.now)) e.kind
             (L.state link.old) (L.state link.old) ids.old ids.old) }
@@ -161,7 +168,8 @@ pub fn close<L: Link>(
     salted: &SaltedPassword,
     client_final: &ClientFinal,
 ) -> Result<(), Error>
-    ensures closed { (c : Challenge) → OnOk result (Reached (last_round (final_said client_final.now (frame_maximum connection.old.stream_description)) (conversation_of client_final.now) (verifier (digest_of version) salted.now (auth_message_of client_final.now)) c) c
+    // By one exchange, whose reply the buffer holds.
+    ensures closed { (c : Challenge) → OnOk result (EndsByReply (last_round (final_said client_final.now (frame_maximum connection.old.stream_description)) (conversation_of client_final.now) (verifier (digest_of version) salted.now (auth_message_of client_final.now)) c) c (held_document buffer.new)
         (L.state link.old) (L.state link.new) ids.old ids.new) }
     ensures refused { (c : Challenge) → kept_fault connection.old ≡ None → IfErr result (λ e. Stopped (last_round (final_said client_final.now (frame_maximum connection.old.stream_description)) (conversation_of client_final.now) (verifier (digest_of version) salted.now (auth_message_of client_final.now)) c) e.kind
         (L.state link.old) (L.state link.new) ids.old ids.new) }
@@ -170,6 +178,7 @@ pub fn close<L: Link>(
     ensures holds { OnOk result (HoldsReply buffer.new) }
     ensures connection { KeepsRest connection.old connection.new }
     ensures faultless { OnOk result (kept_fault connection.new ≡ None) }
+    ensures keeps { kept_fault connection.old ≡ None → IfErr result (λ e. KeepsAfter e.kind (kept_fault connection.new)) }
     ensures kept { (kind : ErrorKind) → kept_fault connection.old ≡ Some kind → OnOk result ⊥ × (link.new ≡ link.old) × (ids.new ≡ ids.old) × (kept_fault connection.new ≡ Some kind) }
     ensures answers { (c : Challenge) (kind : ErrorKind) → kept_fault connection.old ≡ Some kind → IfErr result (λ e. (e.kind ≡ kind) ⊎ Stopped (last_round (final_said client_final.now (frame_maximum connection.old.stream_description)) (conversation_of client_final.now) (verifier (digest_of version) salted.now (auth_message_of client_final.now)) c) e.kind
         (L.state link.old) (L.state link.old) ids.old ids.old) }

@@ -1,6 +1,14 @@
-use Rattle.std.proofs.Common.{inl, inr}
+use Rattle.std.proofs.Common.{◌≡◌, ◌⊎◌, inl, inr}
+use Rattle.mongo_wire.specs.declared.error.ErrorKind.TheVariants.{OutOfMemory}
+use Rattle.mongo_sasl.specs.Commands.{continue_body}
+use Rattle.mongo_scram.specs.Client.{final_of, auth_message_of, conversation_of}
+use Rattle.mongo_scram.specs.Messages.{verifier}
+use Rattle.mongo_scram.specs.Rounds.{LastRefusal}
+use Rattle.mongo_scram.specs.Version.{digest_of}
+use Rattle.mongo_sasl.proofs.KeptAfter.{kept_after, own_keeps, unbuilt_own, handed_keeps, row_keeps}
 use Rattle.mongo_sasl.proofs.Unsent.{handed_stopped, answered_fault, not_replied, handed_kept}
-use Rattle.mongo_scram.proofs.LastRound.{final_unbuilt, final_unanswered, final_exchanged, taken_reached, refused_stopped}
+use Rattle.mongo_scram.proofs.LastRound.{final_unbuilt, final_unanswered, final_exchanged, taken_ends, refused_stopped}
+use Rattle.mongo_scram.proofs.OwnRows.{last_own}
 use Rattle.mongo_scram.proofs.rounds.close.Goals as goal
 
 pub returns-in_err-command-clause-refused : goal.returns-in_err-command-clause-refused
@@ -14,7 +22,7 @@ returns-in_err-exchange_into-clause-refused g c challenge faultless =
 
 pub returns-clause-closed : goal.returns-clause-closed
 returns-clause-closed g c challenge =
-    taken_reached c.take_last.result _ _ _ challenge _ _ _ _ _
+    taken_ends c.take_last.result _ _ _ challenge _ _ _ _ _ _ c.held_reply.ensures
     (final_exchanged c.args.client_final.now c.in_ok-command.command _ _ _ _ _ _ _ c.in_ok-command.ensures.command c.held_reply.ensures c.in_ok-exchange_into.ensures.exchanged)
     c.in_ok-exchange_into.ensures.counts c.take_last.ensures.taken
 
@@ -34,3 +42,23 @@ returns-in_err-exchange_into-clause-answers g c challenge kind kept =
 
 pub returns-clause-answers : goal.returns-clause-answers
 returns-clause-answers g c challenge kind kept = not_replied _ kind _ (c.in_ok-exchange_into.ensures.kept kind kept).0
+
+-- ---- what the connection keeps
+
+pub returns-in_err-command-clause-keeps : goal.returns-in_err-command-clause-keeps
+returns-in_err-command-clause-keeps g c faultless =
+    let e = c.in_err-command.field-0.0 in
+    let final = c.args.client_final.now in
+    handed_keeps c.from_residual.result e _ c.from_residual.ensures.1 (own_keeps e.kind _ (unbuilt_own (continue_body (conversation_of final) (final_of final)) e.kind c.in_err-command.ensures.refused) faultless)
+
+pub returns-in_err-exchange_into-clause-keeps : goal.returns-in_err-exchange_into-clause-keeps
+returns-in_err-exchange_into-clause-keeps g c faultless =
+    let e = c.in_err-exchange_into.field-0.0 in
+    handed_keeps c.from_residual-in_err-exchange_into.result e _ c.from_residual-in_err-exchange_into.ensures.1 (kept_after e.kind _ _ _ _ _ _ _ (c.in_err-exchange_into.ensures.refused faultless))
+
+pub returns-clause-keeps : goal.returns-clause-keeps
+returns-clause-keeps g c faultless =
+    let conversation = conversation_of c.args.client_final.now in
+    let owed = verifier (digest_of c.args.version) c.args.salted.now (auth_message_of c.args.client_final.now) in
+    let reply = c.held_reply.result.bytes.now in
+    row_keeps c.take_last.result (λ kind. LastRefusal conversation owed reply kind ⊎ (kind ≡ OutOfMemory)) _ (last_own conversation owed reply) c.take_last.ensures.refused c.in_ok-exchange_into.ensures.faultless

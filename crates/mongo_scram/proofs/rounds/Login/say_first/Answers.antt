@@ -1,10 +1,13 @@
 use Rattle.std.proofs.Common.{None, refl, ◌∙◌, inl, inr}
 use Rattle.mongo_command.specs.Exchange.{frame_maximum}
 use Rattle.mongo_command.proofs.Steps.{stopped_memory}
-use Rattle.mongo_scram.specs.Client.{user_of}
+use Rattle.mongo_scram.specs.Client.{message_of, source_of, includes_db, user_of}
+use Rattle.mongo_scram.specs.Commands.{first_body}
 use Rattle.mongo_scram.specs.Rounds.{handed_by}
 use Rattle.mongo_scram.proofs.FirstRounds.{IsStart, start_unbuilt, start_unanswered, start_exchanged, start_refused, start_opens}
 use Rattle.mongo_sasl.proofs.Unsent.{handed_stopped, answered_fault, not_replied, handed_kept}
+use Rattle.mongo_sasl.proofs.KeptAfter.{kept_after, own_keeps, unbuilt_own, handed_keeps}
+use Rattle.mongo_scram.proofs.OwnRows.{first_reply_own}
 use Rattle.mongo_scram.proofs.rounds.Login.say_first.Goals as goal
 
 pub returns-in_err-client_first-clause-refused : goal.returns-in_err-client_first-clause-refused
@@ -66,3 +69,28 @@ returns-in_err-exchange_into-clause-answers g c kind kept =
 
 pub returns-in_err-server_first-clause-answers : goal.returns-in_err-server_first-clause-answers
 returns-in_err-server_first-clause-answers g c kind kept = not_replied _ kind _ (c.in_ok-exchange_into.ensures.kept kind kept).0
+
+-- ---- what the connection keeps
+
+pub returns-in_err-client_first-clause-keeps : goal.returns-in_err-client_first-clause-keeps
+returns-in_err-client_first-clause-keeps g c faultless =
+    let e = c.in_err-client_first.field-0.0 in
+    handed_keeps c.from_residual.result e _ c.from_residual.ensures.1 (own_keeps e.kind _ (inr c.in_err-client_first.ensures.refused) faultless)
+
+pub returns-in_err-command-clause-keeps : goal.returns-in_err-command-clause-keeps
+returns-in_err-command-clause-keeps g c faultless =
+    let e = c.in_err-command.field-0.0 in
+    let first = c.in_ok-client_first.client_first in
+    handed_keeps c.from_residual-in_err-command.result e _ c.from_residual-in_err-command.ensures.1
+    (own_keeps e.kind _ (unbuilt_own (first_body c.args.self.version (includes_db first) (source_of first) (message_of first)) e.kind c.in_err-command.ensures.refused) faultless)
+
+pub returns-in_err-exchange_into-clause-keeps : goal.returns-in_err-exchange_into-clause-keeps
+returns-in_err-exchange_into-clause-keeps g c faultless =
+    let e = c.in_err-exchange_into.field-0.0 in
+    handed_keeps c.from_residual-in_err-exchange_into.result e _ c.from_residual-in_err-exchange_into.ensures.1 (kept_after e.kind _ _ _ _ _ _ _ (c.in_err-exchange_into.ensures.refused faultless))
+
+pub returns-in_err-server_first-clause-keeps : goal.returns-in_err-server_first-clause-keeps
+returns-in_err-server_first-clause-keeps g c faultless =
+    let e = c.in_err-server_first.field-0.0 in
+    handed_keeps c.from_residual-in_err-server_first.result e _ c.from_residual-in_err-server_first.ensures.1
+    (own_keeps e.kind _ (first_reply_own c.held_reply.result.bytes.now e.kind c.in_err-server_first.ensures.refused) c.in_ok-exchange_into.ensures.faultless)

@@ -1,4 +1,5 @@
-use Rattle.std.proofs.Common.{option_copied, refl, ap, ◌∙◌, inl, inr}
+use Rattle.std.proofs.Common.{◌≡◌, option_copied, refl, ap, ◌∙◌, inl, inr}
+use Rattle.mongo_wire.specs.declared.error.ErrorKind.TheVariants.{OutOfMemory}
 use Rattle.mongo_command.specs.Conversation.{ends}
 use Rattle.mongo_command.specs.Exchange.{frame_maximum}
 use Rattle.mongo_command.proofs.Steps.{stopped_memory}
@@ -6,11 +7,13 @@ use Rattle.mongo_scram.specs.Base64.{base64_of}
 use Rattle.mongo_scram.specs.Client.{handed_to, user_of}
 use Rattle.mongo_scram.specs.Costs.{ledgers}
 use Rattle.mongo_scram.specs.Plan.{closing}
+use Rattle.mongo_sasl.proofs.KeptAfter.{own_keeps, handed_keeps, row_keeps}
+use Rattle.mongo_scram.proofs.OwnRows.{credential_own, answer_own}
 use Rattle.mongo_scram.proofs.ScramPlan.{challenge_of}
 use Rattle.mongo_scram.proofs.Derived.{costs_nothing}
 use Rattle.mongo_scram.proofs.OpeningSteps.{credential_stopped, user_stopped, answer_stopped}
-use Rattle.mongo_scram.proofs.ClosingSteps.{final_by, closing_reached, closing_stopped, ends_login}
-use Rattle.mongo_scram.proofs.LoginSteps.{stopped_early, between_by, between_tag, stopped_late, stopped_last, accepted_by, frames_both, not_accepted, kept_stopped, fault_answered}
+use Rattle.mongo_scram.proofs.ClosingSteps.{final_by, closing_ends, closing_stopped, ends_login}
+use Rattle.mongo_scram.proofs.LoginSteps.{stopped_early, between_by, between_tag, stopped_late, stopped_last, accepted_by, frames_both, not_accepted, kept_stopped, fault_costs, fault_answered}
 use Rattle.mongo_scram.proofs.ScramLed.{answer_led, refusal_led, end_led}
 use Rattle.mongo_scram.proofs.scram_version.ScramVersion.authenticate_stream.Goals as goal
 
@@ -75,7 +78,7 @@ returns-clause-accepted g c =
     let final = c.in_ok-client_final.client_final in
     let is = final_by handed challenge derived.salted o.client_first final (between_tag handed user o derived.key derived.salted _ _ _ _ _ _ between) c.in_ok-opened.ensures.opened.message made.auth_message made.message made.conversation made.source (made.api ∙ c.copied.ensures) in
     let same = ap frame_maximum c.in_ok-opened.ensures.connection.description in
-    let closed = closing_reached handed challenge derived.salted final _ _ _ _ _ same is (c.in_ok-close.ensures.closed challenge) in
+    let closed = closing_ends handed challenge derived.salted final _ _ _ _ _ _ same is (c.in_ok-close.ensures.closed challenge) in
     accepted_by c.keep.result handed user o derived.key derived.salted _ _ _ _ _ _ _ _ c.answer.new.steps c.answer.new.cache c.keep.new.cache between closed
     (ends_login handed challenge derived.salted final _ is c.in_ok-close.ensures.taken) c.keep.ensures.rounds c.keep.ensures.kept
 
@@ -91,8 +94,8 @@ returns-clause-refused g c faultless =
     let final = c.in_ok-client_final.client_final in
     let is = final_by handed challenge derived.salted o.client_first final (between_tag handed user o derived.key derived.salted _ _ _ _ _ _ between) c.in_ok-opened.ensures.opened.message made.auth_message made.message made.conversation made.source (made.api ∙ c.copied.ensures) in
     let same = ap frame_maximum c.in_ok-opened.ensures.connection.description in
-    let closed = closing_reached handed challenge derived.salted final _ _ _ _ _ same is (c.in_ok-close.ensures.closed challenge) in
-    stopped_last c.keep.result handed user o derived.key derived.salted _ _ _ _ _ _ _ c.answer.new.steps c.answer.new.cache c.keep.new.cache between closed c.keep.ensures.rounds c.keep.ensures.unchanged c.keep.ensures.refused
+    let closed = closing_ends handed challenge derived.salted final _ _ _ _ _ _ same is (c.in_ok-close.ensures.closed challenge) in
+    stopped_last c.keep.result handed user o derived.key derived.salted _ _ _ _ _ _ _ _ c.answer.new.steps c.answer.new.cache c.keep.new.cache between closed c.keep.ensures.rounds c.keep.ensures.unchanged c.keep.ensures.refused
 
 pub returns-clause-frames : goal.returns-clause-frames
 returns-clause-frames g c =
@@ -116,7 +119,7 @@ returns-in_err-opened-clause-answers g c kind kept =
     let e = c.in_err-opened.field-0.0 in
     let handed_on = c.from_residual-in_err-opened.ensures.1 in
     elim (c.in_err-opened.ensures.answers kind kept) [
-      | inl same ↦ fault_answered r e handed kind _ _ _ _ handed_on same
+      | inl same ↦ fault_answered r e handed kind _ _ _ _ handed_on same.1 (inl (same.0, costs_nothing c.args.steps.now c.args.salted.now))
       | inr stopped ↦ kept_stopped r handed kind _ _ _ _ _ _ refl refl (stopped_early handed e r _ _ _ _ _ _ handed_on (user_stopped handed user _ _ _ _ _ c.in_ok-user.ensures.user stopped) (costs_nothing c.args.steps.now c.args.salted.now))
     ]
 
@@ -158,7 +161,7 @@ returns-in_err-close-clause-answers g c kind kept =
     let e = c.in_err-close.field-0.0 in
     let handed_on = c.from_residual-in_err-close.ensures.1 in
     elim (c.in_err-close.ensures.answers challenge kind still.2) [
-      | inl fault ↦ fault_answered r e handed kind _ _ _ _ handed_on fault
+      | inl fault ↦ fault_answered r e handed kind _ _ _ _ handed_on fault (fault_costs handed user o derived.key derived.salted _ _ _ _ _ _ (ap g.L.Outside.state still.0) still.1 between)
       | inr stopped ↦ kept_stopped r handed kind _ _ _ _ _ _ (ap g.L.Outside.state still.0) still.1
           (stopped_late handed user o derived.key derived.salted e r _ _ _ _ _ _ _ _ handed_on between (closing_stopped handed challenge derived.salted final _ _ _ _ _ _ same is stopped))
     ]
@@ -216,3 +219,33 @@ returns-clause-exact g c bytes taken unread outcome commands faultless is leads 
 pub returns-clause-complete : goal.returns-clause-complete
 returns-clause-complete g c bytes taken unread challenge commands faultless is leads unfailed unwritten =
     end_led c.keep.result challenge commands unread _ _ _ _ (returns-clause-exact g c bytes taken unread (ends challenge) commands faultless is leads unfailed unwritten)
+
+-- ---- what the connection keeps
+
+pub returns-in_err-user-clause-keeps : goal.returns-in_err-user-clause-keeps
+returns-in_err-user-clause-keeps g c faultless =
+    let e = c.in_err-user.field-0.0 in
+    handed_keeps c.from_residual.result e _ c.from_residual.ensures.1 (own_keeps e.kind _ (credential_own c.args.credential.now e.kind c.in_err-user.ensures.refused) faultless)
+
+pub returns-in_err-opened-clause-keeps : goal.returns-in_err-opened-clause-keeps
+returns-in_err-opened-clause-keeps g c faultless =
+    handed_keeps c.from_residual-in_err-opened.result c.in_err-opened.field-0.0 _ c.from_residual-in_err-opened.ensures.1 (c.in_err-opened.ensures.keeps faultless)
+
+pub returns-in_err-derived-clause-keeps : goal.returns-in_err-derived-clause-keeps
+returns-in_err-derived-clause-keeps g c faultless =
+    let e = c.in_err-derived.field-0.0 in
+    handed_keeps c.from_residual-in_err-derived.result e _ c.from_residual-in_err-derived.ensures.1
+    (own_keeps e.kind _ (answer_own c.in_ok-opened.opened.server_first c.nonce.result.now c.args.most c.args.self.now (user_of c.in_ok-user.user).password e.kind c.in_err-derived.ensures.refused) (c.in_ok-opened.ensures.faultless faultless))
+
+pub returns-in_err-client_final-clause-keeps : goal.returns-in_err-client_final-clause-keeps
+returns-in_err-client_final-clause-keeps g c faultless =
+    let e = c.in_err-client_final.field-0.0 in
+    handed_keeps c.from_residual-in_err-client_final.result e _ c.from_residual-in_err-client_final.ensures.1 (own_keeps e.kind _ (inr c.in_err-client_final.ensures.refused) (c.in_ok-opened.ensures.faultless faultless))
+
+pub returns-in_err-close-clause-keeps : goal.returns-in_err-close-clause-keeps
+returns-in_err-close-clause-keeps g c faultless =
+    handed_keeps c.from_residual-in_err-close.result c.in_err-close.field-0.0 _ c.from_residual-in_err-close.ensures.1 (c.in_err-close.ensures.keeps (c.in_ok-opened.ensures.faultless faultless))
+
+pub returns-clause-keeps : goal.returns-clause-keeps
+returns-clause-keeps g c faultless =
+    row_keeps c.keep.result (λ kind. kind ≡ OutOfMemory) _ (λ kind memory. inr memory) c.keep.ensures.refused c.in_ok-close.ensures.faultless

@@ -1,0 +1,68 @@
+-- A refusal of a SCRAM login's own, beside its exchanges, is for no fault that ends a connection.
+use Rattle.std.proofs.Common.{◌≡◌, ◌⊎◌, ℕ, refl, ap, inl, inr, List}
+use Rattle.mongo_bson.specs.declared.owned_value.OwnedValue.{OwnedValue}
+use Rattle.mongo_wire.specs.declared.error.ErrorKind.{ErrorKind}
+use Rattle.mongo_wire.specs.declared.error.ErrorKind.TheVariants.{Authentication, PasswordNotAscii, OutOfMemory}
+use Rattle.mongo_command.specs.Fault.{is_kept}
+use Rattle.mongo_sasl.specs.declared.credential.Credential.{Credential}
+use Rattle.mongo_sasl.proofs.KeptAfter.{IsOwn, sasl_own}
+use Rattle.mongo_scram.specs.declared.scram_version.ScramVersion.{ScramVersion}
+use Rattle.mongo_scram.specs.declared.scram_version.ScramVersion.TheVariants.{Sha1, Sha256}
+use Rattle.mongo_scram.specs.declared.server_first.ServerFirst.{ServerFirst}
+use Rattle.mongo_scram.specs.declared.server_final.ServerFinal.{ServerFinal}
+use Rattle.mongo_scram.specs.Key.{PasswordRow}
+use Rattle.mongo_scram.specs.Replies.{FirstPayloadRow, FirstReplyRow, FinalReplyRow}
+use Rattle.mongo_scram.specs.Rounds.{AnswerRow, RoundRow, LastRefusal}
+use Rattle.mongo_scram.specs.User.{CredentialRow}
+use Rattle.mongo_scram.specs.Validity.{FirstRow, FinalRow}
+
+pub credential_own : (credential : Credential) (kind : ErrorKind) → CredentialRow credential kind → IsOwn kind
+credential_own credential (Authentication fault) row = inl refl
+credential_own credential kind row = absurd row
+
+-- ---- the server's first message
+
+first_payload_own : (reply : List ℕ) (kind : ErrorKind) → FirstPayloadRow reply kind → IsOwn kind
+first_payload_own reply (Authentication fault) row = inl refl
+first_payload_own reply kind row = absurd row
+
+pub first_reply_own : (reply : List ℕ) (kind : ErrorKind) → FirstReplyRow reply kind ⊎ (kind ≡ OutOfMemory) → IsOwn kind
+first_reply_own reply kind (inl (inl row)) = sasl_own reply kind row
+first_reply_own reply kind (inl (inr row)) = first_payload_own reply kind row.1
+first_reply_own reply kind (inr memory) = inr memory
+
+-- ---- the derivation
+
+first_own : (first : ServerFirst) (nonce : List ℕ) (most : ℕ) (kind : ErrorKind) → FirstRow first nonce most kind → IsOwn kind
+first_own first nonce most (Authentication fault) row = inl refl
+first_own first nonce most kind row = absurd row
+
+password_own : (version : ScramVersion) (password : List ℕ) (kind : ErrorKind) → PasswordRow version password kind → IsOwn kind
+password_own Sha256 password PasswordNotAscii row = inl refl
+password_own Sha256 password (Authentication fault) row = inl refl
+password_own Sha256 password kind row = absurd row
+password_own Sha1 password kind row = absurd row
+
+pub answer_own : (first : ServerFirst) (nonce : List ℕ) (most : ℕ) (version : ScramVersion) (password : List ℕ) (kind : ErrorKind) → AnswerRow first nonce most version password kind ⊎ (kind ≡ OutOfMemory) → IsOwn kind
+answer_own first nonce most version password kind (inl (inl row)) = first_own first nonce most kind row
+answer_own first nonce most version password kind (inl (inr row)) = password_own version password kind row.1
+answer_own first nonce most version password kind (inr memory) = inr memory
+
+-- ---- the server's last message
+
+final_reply_own : (document : List ℕ) (kind : ErrorKind) → FinalReplyRow document kind → IsOwn kind
+final_reply_own document kind (inl row) = sasl_own document kind row
+final_reply_own document kind (inr row) = inl (ap is_kept row.1.0)
+
+final_own : (last : ServerFinal) (conversation : OwnedValue) (owed : List ℕ) (kind : ErrorKind) → FinalRow last conversation owed kind → IsOwn kind
+final_own last conversation owed (Authentication fault) row = inl refl
+final_own last conversation owed kind row = absurd row
+
+round_own : (conversation : OwnedValue) (owed : List ℕ) (last : ServerFinal) (kind : ErrorKind) → RoundRow conversation owed last kind → IsOwn kind
+round_own conversation owed last kind (inl row) = final_own last conversation owed kind row
+round_own conversation owed last kind (inr row) = inl (ap is_kept row.1.0)
+
+pub last_own : (conversation : OwnedValue) (owed document : List ℕ) (kind : ErrorKind) → LastRefusal conversation owed document kind ⊎ (kind ≡ OutOfMemory) → IsOwn kind
+last_own conversation owed document kind (inl (inl row)) = final_reply_own document kind row
+last_own conversation owed document kind (inl (inr is)) = round_own conversation owed is.0 kind is.2
+last_own conversation owed document kind (inr memory) = inr memory
