@@ -23,7 +23,11 @@ fn reply(
 
 // The name of the fault that a login was refused for.
 fn name_of(error: &Error) -> &'static str {
-    match &error.kind {
+    kind_name(&error.kind)
+}
+
+fn kind_name(kind: &ErrorKind) -> &'static str {
+    match kind {
         ErrorKind::Authentication(fault) => fault_name(fault),
         ErrorKind::PasswordNotAscii => "PasswordNotAscii",
         ErrorKind::ReadFault => "ReadFault",

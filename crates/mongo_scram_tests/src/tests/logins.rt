@@ -1,6 +1,6 @@
 ghost use Rattle.std.specs.Prelude.{◌≡◌, ◌<◌};
 
-use super::{name_of, reply};
+use super::{kind_name, name_of, reply};
 use mongo_bson::{BsonFault, Bytes, Text};
 use mongo_command::{Connection, ServerAddress};
 use mongo_mac::Steps;
@@ -233,19 +233,38 @@ fn fault_with<L: Link, G: Ledger>(
     }
 }
 
+// The fault that the connection keeps.
+fn kept_by(connection: &Connection) -> &'static str {
+    match connection.fault() {
+        Some(kind) => kind_name(kind),
+        None => "none",
+    }
+}
+
+// What a login was refused for, and the fault that its connection keeps after it.
+#[derive(Clone, Copy)]
+struct Refusal {
+    fault: &'static str,
+    kept: &'static str,
+}
+
 fn fault_over<L: Link, G: Ledger>(
     blank: Blank,
     alloc: Global,
     login: &Login,
     link: &mut L,
     cache: &mut SaltedCache,
-) -> Result<&'static str, Error>
+) -> Result<Refusal, Error>
     requires name { blank.name ≡ G.name }
     requires parts { blank.parts ≡ G.parts }
     requires has_a_part { 0 < G.parts }
 {
     let mut session = new_session(alloc, login)?;
-    Ok(fault_with::<L, G>(blank, alloc, login.version, &mut session, link, cache))
+    let fault = fault_with::<L, G>(blank, alloc, login.version, &mut session, link, cache);
+    Ok(Refusal {
+        fault,
+        kept: kept_by(&session.connection),
+    })
 }
 
 fn fault_in_memory(
@@ -253,7 +272,7 @@ fn fault_in_memory(
     login: &Login,
     link: &mut MemoryLink,
     cache: &mut SaltedCache,
-) -> Result<&'static str, Error> {
+) -> Result<Refusal, Error> {
     fault_over::<MemoryLink, Brand>(Blank::new(1), alloc, login, link, cache)
 }
 
@@ -262,7 +281,7 @@ fn fault_over_failing(
     login: &Login,
     link: &mut FailingLink,
     cache: &mut SaltedCache,
-) -> Result<&'static str, Error> {
+) -> Result<Refusal, Error> {
     fault_over::<FailingLink, Brand>(Blank::new(1), alloc, login, link, cache)
 }
 
@@ -279,7 +298,7 @@ fn is_joined(said: &[u8], commands: &[&[u8]; 2]) -> bool {
     }
 }
 
-// Whether a login ends so.
+// Whether a login over a link that doesn't fail ends so; its connection keeps no fault.
 fn ends_so(
     alloc: Global,
     login: &Login,
@@ -287,9 +306,10 @@ fn ends_so(
     cache: &mut SaltedCache,
 ) -> Result<bool, Error> {
     let mut link = MemoryLink::new(alloc, heard_by(alloc, login)?);
-    let fault = fault_in_memory(alloc, login, &mut link, cache)?;
+    let refusal = fault_in_memory(alloc, login, &mut link, cache)?;
     Ok(
-        fault == end.fault
+        refusal.fault == end.fault
+            && refusal.kept == "none"
             && is_joined(link.written(), &end.commands)
             && cache.len() == end.entries
             && cache.rounds() == end.rounds,
@@ -305,13 +325,16 @@ fn failing_at(alloc: Global, call: usize) -> Result<FailingLink, Error> {
     Ok(FailingLink::new(alloc, heard, Bytes::from_vec(schedule), 1))
 }
 
-// The fault of a login by SCRAM-SHA-1 of whose calls just this one fails, and the rounds and entries of a new cache after
-// it.
-fn end_where_one_fails(alloc: Global, call: usize) -> Result<(&'static str, u64, usize), Error> {
+// The fault of a login by SCRAM-SHA-1 of whose calls just this one fails, the fault that its connection keeps, and the rounds
+// and entries of a new cache after it.
+fn end_where_one_fails(
+    alloc: Global,
+    call: usize,
+) -> Result<(&'static str, &'static str, u64, usize), Error> {
     let mut link = failing_at(alloc, call)?;
     let mut cache = SaltedCache::new(alloc);
-    let fault = fault_over_failing(alloc, &BY_SHA_1, &mut link, &mut cache)?;
-    Ok((fault, cache.rounds(), cache.len()))
+    let refusal = fault_over_failing(alloc, &BY_SHA_1, &mut link, &mut cache)?;
+    Ok((refusal.fault, refusal.kept, cache.rounds(), cache.len()))
 }
 
 #[test]
@@ -325,8 +348,8 @@ fn logins_with_one_cache(rt: HostRuntime) {
 }
 
 // Of the calls to a link that moves one byte a call, the first and the last of their kind: 187 writes and a flush, 162
-// reads, 180 writes and a flush, 109 reads. What the login is refused for where just this one fails, and the rounds and
-// entries of the cache after it.
+// reads, 180 writes and a flush, 109 reads. What the login is refused for where just this one fails, which is what its
+// connection keeps, and the rounds and entries of the cache after it.
 #[test]
 fn a_link_that_fails(rt: HostRuntime) -> Result<(), Fail> {
     for (call, fault, rounds, entries) in [
@@ -341,7 +364,7 @@ fn a_link_that_fails(rt: HostRuntime) -> Result<(), Fail> {
         (640, "none", 4096, 1),
     ] {
         let end = end_where_one_fails(rt.alloc(), call)?;
-        assert_eq!(rt; end, (fault, rounds, entries), "at {call}");
+        assert_eq!(rt; end, (fault, fault, rounds, entries), "at {call}");
     }
     Ok(())
 }
