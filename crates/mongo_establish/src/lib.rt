@@ -30,8 +30,14 @@ pub use generation::{ConnectionGeneration, Generations, PoolGeneration};
 pub use handshaker::Handshaker;
 pub use login_state::{LoginInputs, LoginState, Nonces};
 pub use mongo_bson::{BsonFault, Bytes, ObjectId, Text, Texts};
-pub use mongo_command::{Connection, HelloReply, ServerAddress, ServerType, StreamDescription};
-pub use mongo_meta::{ClientMetadata, ClientOptions};
+pub use mongo_command::{
+    Connection, HelloReply, ServerAddress, ServerApi, ServerApiVersion, ServerType,
+    StreamDescription,
+};
+pub use mongo_mac::Steps;
+pub use mongo_meta::{
+    ClientMetadata, ClientOptions, DriverInfo, Environment, OsMetadata, Variable, Variables,
+};
 pub use mongo_sasl::{AuthMechanism, AuthOptions, Credential, Moment};
 pub use mongo_scram::{SaltedCache, ScramVersion};
 pub use mongo_wire::{
