@@ -3,8 +3,9 @@ use Rattle.std.proofs.Common.{◌≡◌, ℕ, ℤ, ◌⊎◌, ◌∙◌, refl, s
 use Rattle.mongo_wire.specs.declared.error.ErrorKind.{ErrorKind}
 use Rattle.mongo_wire.specs.declared.error.ErrorKind.TheVariants.{OutOfMemory}
 use Rattle.mongo_wire.specs.Outside.{State, Rose}
-use Rattle.mongo_command.specs.Conversation.{Said, Turn, refuses, ends, HasOneTurn, Plan, IsSaid, Stopped, Leads, LeftBy}
-use Rattle.mongo_command.proofs.FollowedBy.{stopped_first}
+use Rattle.mongo_command.specs.Conversation.{Said, Turn, refuses, ends, HasOneTurn, Plan, IsSaid, Reached, Stopped, Leads, LeftBy}
+use Rattle.mongo_command.proofs.FollowedBy.{reached_both, stopped_first, stopped_second}
+use Rattle.mongo_command.proofs.Steps.{stopped_row}
 use Rattle.mongo_command.proofs.OneSaid.{one_said}
 use Rattle.mongo_command.proofs.Leads.{one_way, no_refusal, only_refusal, reached_led, stopped_led}
 use Rattle.mongo_establish.specs.declared.establisher.HandshakePhase.{HandshakePhase}
@@ -15,19 +16,29 @@ use Rattle.mongo_establish.specs.Generation.{generation_of}
 use Rattle.mongo_establish.specs.Greeting.{Greeting}
 use Rattle.mongo_establish.specs.Plan.{hello_said, hello_plan, login_plan, handshake_plan, service_plan, establishment_plan}
 use Rattle.mongo_establish.specs.Script.{HasScript}
-use Rattle.mongo_establish.specs.Stopped.{StoppedIn, StoppedAfterHello, Refusal, LeadsIn, IsRefusal, LeadsPastHello}
+use Rattle.mongo_establish.specs.Stopped.{UnnamedAfterLogin, StoppedIn, StoppedAfterHello, Refusal, LeadsIn, IsRefusal, LeadsPastHello}
 use Rattle.mongo_establish.proofs.HelloPlan.{one_hello}
 use Rattle.mongo_establish.proofs.EstablishmentPlan.{one_establishment}
 use Rattle.mongo_establish.proofs.EstablishedScript.{script_leads}
 
 -- ---- what was stopped
 
+-- whatever followed the hello was stopped, the establishment was
+stopped_late : (asked : Asked) (greeting : Greeting) (kind : ErrorKind) (old middle new : State) (between after : ℤ) → Reached (hello_plan asked) greeting old middle asked.first_id between
+    → Stopped (login_plan asked greeting) kind middle new between after ⊎ UnnamedAfterLogin asked greeting kind middle new between after → Stopped (establishment_plan asked) kind old new asked.first_id after
+unfolding handshake_plan establishment_plan
+stopped_late asked greeting kind old middle new between after hello (inl s) =
+    stopped_first (handshake_plan asked) (service_plan asked) kind old new asked.first_id after (stopped_second (hello_plan asked) (login_plan asked) greeting kind old middle new asked.first_id between after hello s)
+stopped_late asked greeting kind old middle new between after hello (inr u) =
+    stopped_second (handshake_plan asked) (service_plan asked) greeting kind old new new asked.first_id after after
+    (reached_both (hello_plan asked) (login_plan asked) greeting greeting old middle new asked.first_id between after hello u.login) (stopped_row _ _ kind new after u.unnamed)
+
 -- whatever part was stopped, the establishment was
 pub stopped_whole : (phase : HandshakePhase) (asked : Asked) (kind : ErrorKind) (old new : State) (after : ℤ) → StoppedIn phase asked kind old new after → Stopped (establishment_plan asked) kind old new asked.first_id after
 unfolding handshake_plan establishment_plan
 stopped_whole (PreHello generation) asked kind old new after r =
     stopped_first (handshake_plan asked) (service_plan asked) kind old new asked.first_id after (stopped_first (hello_plan asked) (login_plan asked) kind old new asked.first_id after r.1)
-stopped_whole (PostHello generation) asked kind old new after r = r.stopped
+stopped_whole (PostHello generation) asked kind old new after r = stopped_late asked r.greeting kind old r.middle new r.between after r.hello r.stopped
 
 -- where the bytes left begin with a script's replies and the link didn't fail, only memory is wanted
 pub only_memory : (phase : HandshakePhase) (asked : Asked) (kind : ErrorKind) (old new : State) (after : ℤ) (bytes : List ℕ) → StoppedIn phase asked kind old new after → old.left ≡ Some bytes → HasScript asked bytes → (Rose old.read_faults new.read_faults → ⊥) → (Rose old.write_faults new.write_faults → ⊥) → kind ≡ OutOfMemory
@@ -71,7 +82,7 @@ stopped_refusal (PreHello generation) asked kind old new after bytes r is unfail
       })
     ]
 stopped_refusal (PostHello generation) asked kind old new after bytes r is unfailed unwritten =
-    elim (stopped_led (establishment_plan asked) kind old new asked.first_id after bytes r.stopped is unfailed unwritten) [
+    elim (stopped_led (establishment_plan asked) kind old new asked.first_id after bytes (stopped_whole (PostHello generation) asked kind old new after r) is unfailed unwritten) [
       | inl memory ↦ inl memory
       | inr l ↦ inr (record {
         refusal = record { phase = PostHello generation; kind = kind; commands = l.commands; taken = l.taken; unread = l.unread };

@@ -7,8 +7,8 @@ use Rattle.mongo_command.specs.declared.stream_description.StreamDescription.{St
 use Rattle.mongo_command.specs.declared.hello.HelloReply.{HelloReply}
 use Rattle.mongo_command.specs.declared.server_address.ServerAddress.{ServerAddress}
 use Rattle.mongo_command.specs.Conversation.{Plan, unless, saying, Reached, Stopped}
-use Rattle.mongo_command.proofs.Steps.{reached_ending, reached_unless, stopped_row}
-use Rattle.mongo_command.proofs.FollowedBy.{reached_both, stopped_first, stopped_second}
+use Rattle.mongo_command.proofs.Steps.{reached_ending, reached_unless}
+use Rattle.mongo_command.proofs.FollowedBy.{reached_both}
 use Rattle.mongo_sasl.specs.declared.credential.Credential.{Credential}
 use Rattle.mongo_establish.specs.declared.establisher.EstablishError.{EstablishError}
 use Rattle.mongo_establish.specs.declared.establisher.HandshakePhase.{HandshakePhase}
@@ -105,17 +105,14 @@ module _ (pending : PendingConnection) (options : HandshakerOptions) (credential
       subst (λ p. StoppedIn p wanted kind old new after) (sym early) (refl, hello_stopped kind old new after s.hello)
 
   stopped_login : (phase : HandshakePhase) (connection : Connection) (kind : ErrorKind) (old new : State) (after : ℤ) → phase ≡ phase_at connection.stream_description pending.generation → StoppedLogin over opened connection kind old new after → StoppedIn phase wanted kind old new after
-  unfolding handshake_plan establishment_plan
   stopped_login phase connection kind old new after is s =
-      let hello = hello_reached s.greeting old s.middle s.between s.hello in
-      let login = stopped_second (hello_plan wanted) (login_plan wanted) s.greeting kind old s.middle new id s.between after hello (login_stopped s.greeting kind s.middle new s.between after s.login) in
       late_phase phase s.greeting.description kind old new after (is ∙ ap (λ d. phase_at d pending.generation) s.held.description_is) (record {
         greeting = s.greeting;
         middle = s.middle;
         between = s.between;
-        hello = hello;
+        hello = hello_reached s.greeting old s.middle s.between s.hello;
         generation_is = refl;
-        stopped = stopped_first (handshake_plan wanted) (service_plan wanted) kind old new id after login;
+        stopped = inl (login_stopped s.greeting kind s.middle new s.between after s.login);
       })
 
   -- the phase is what the connection's description says
@@ -124,7 +121,6 @@ module _ (pending : PendingConnection) (options : HandshakerOptions) (credential
       elim s [ inl h ↦ stopped_hello phase connection kind old new after is h | inr l ↦ stopped_login phase connection kind old new after is l ]
 
   pub unnamed_stopped : (connection : Connection) (old new : State) (after : ℤ) (reply : HelloReply) (e : EstablishError) → ShookHands over opened connection old new after reply → UnnamedService connection pending.generation e → StoppedIn e.handshake_phase wanted e.cause.kind old new after
-  unfolding establishment_plan
   unnamed_stopped connection old new after reply e s u =
       let description : u.description ≡ s.greeting.description = same_description u.description s.greeting.description (sym u.described ∙ s.described.holds.description_is) in
       let unnamed : NoService pending.generation s.greeting.description e.cause.kind = (u.kind_is, subst (λ d. NamesService pending.generation d → ⊥) description u.unnamed) in
@@ -134,5 +130,5 @@ module _ (pending : PendingConnection) (options : HandshakerOptions) (credential
         between = s.between;
         hello = hello_reached s.greeting old s.middle s.between s.hello;
         generation_is = refl;
-        stopped = stopped_second (handshake_plan wanted) (service_plan wanted) s.greeting e.cause.kind old new new id after after (handshake_reached connection old new after reply s) (stopped_row _ _ e.cause.kind new after unnamed);
+        stopped = inr (record { login = login_reached s.greeting s.middle new s.between after s.login; unnamed = unnamed });
       })

@@ -1,5 +1,5 @@
 -- Where an establishment was stopped, by how far it had come, and what reply bytes call for.
-use Rattle.std.specs.Prelude.{◌≡◌, ℕ, ℤ, List}
+use Rattle.std.specs.Prelude.{◌≡◌, ℕ, ℤ, ◌⊎◌, List}
 use Rattle.mongo_wire.specs.declared.error.ErrorKind.{ErrorKind}
 use Rattle.mongo_wire.specs.Outside.{State}
 use Rattle.mongo_command.specs.Conversation.{Said, refuses, ends, Reached, Stopped, Leads}
@@ -9,18 +9,24 @@ use Rattle.mongo_establish.specs.declared.establisher.HandshakePhase.TheVariants
 use Rattle.mongo_establish.specs.Generation.{generation_of}
 use Rattle.mongo_establish.specs.Asked.{Asked}
 use Rattle.mongo_establish.specs.Greeting.{Greeting}
-use Rattle.mongo_establish.specs.Plan.{hello_plan, establishment_plan}
+use Rattle.mongo_establish.specs.Plan.{hello_plan, login_plan, establishment_plan}
+use Rattle.mongo_establish.specs.Refusal.{NoService}
 
 -- ---- what a call did
 
--- the hello had described the server, and what follows it was stopped
+-- the login was followed to its end, and then the server had named no service
+pub record UnnamedAfterLogin (asked : Asked) (greeting : Greeting) (kind : ErrorKind) (old new : State) (before after : ℤ) : Type 0 where
+  pub login : Reached (login_plan asked greeting) greeting old new before after
+  pub unnamed : NoService asked.pending.generation greeting.description kind
+
+-- the hello had described the server, and what follows it was stopped, from where the hello had ended
 pub record StoppedAfterHello (asked : Asked) (generation : ConnectionGeneration) (kind : ErrorKind) (old new : State) (after : ℤ) : Type 0 where
   pub greeting : Greeting
   pub middle : State
   pub between : ℤ
   pub hello : Reached (hello_plan asked) greeting old middle asked.first_id between
   pub generation_is : generation ≡ generation_of asked.pending.generation greeting.description
-  pub stopped : Stopped (establishment_plan asked) kind old new asked.first_id after
+  pub stopped : Stopped (login_plan asked greeting) kind middle new between after ⊎ UnnamedAfterLogin asked greeting kind middle new between after
 
 -- The phase says which part was stopped: the hello, with the pool's generation, or what follows it, with the
 -- connection's.
