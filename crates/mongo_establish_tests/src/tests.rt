@@ -1,24 +1,24 @@
 ghost use Rattle.std.specs.Prelude.{◌≡◌, ◌<◌, Some, IfOk};
 ghost use Rattle.mongo_establish.specs.Speculation.{SpeaksFor};
 
+mod cut_replies;
 mod failing;
 mod frames;
 mod generations;
+mod handed_on;
+mod kept_faults;
 mod long_replies;
 mod monitoring;
 mod replies;
 
-use mongo_bson::Bytes;
 use mongo_establish::{
-    AuthFault, AuthMechanism, ClientMetadata, ClientOptions, ConnectionEstablisher,
-    ConnectionGeneration, Credential, ErrorKind, EstablishError, EstablisherOptions, FailingLink,
-    Generations, HandshakePhase, Link, LoginInputs, LoginState, MemoryLink, Moment, Nonces,
-    ObjectId, PendingConnection, PoolGeneration, PooledConnection, RequestIds, ResponseFault,
-    SaltedCache, ServerAddress, Text, TopologySpec,
+    ArgumentFault, AuthFault, AuthMechanism, Bytes, ClientMetadata, ClientOptions, CommandError,
+    ConnectionEstablisher, ConnectionGeneration, Credential, Environment, Error, ErrorKind,
+    EstablishError, EstablisherOptions, FailingLink, Generations, HandshakePhase, Link,
+    LoginInputs, LoginState, MemoryLink, Moment, Nonces, ObjectId, OsMetadata, PendingConnection,
+    PoolGeneration, PooledConnection, RequestIds, ResponseFault, SaltedCache, ServerAddress, Steps,
+    Text, TopologySpec, Variables,
 };
-use mongo_mac::Steps;
-use mongo_meta::{Environment, OsMetadata, Variables};
-use mongo_wire::{ArgumentFault, CommandError, Error};
 use std::alloc::Global;
 use std::marker::Brand;
 use std::sync::ledger::{Blank, Ledger};
@@ -56,13 +56,17 @@ fn generation(alloc: Global, pool: Pool) -> Result<PoolGeneration, Error> {
     Ok(PoolGeneration::LoadBalanced(generations))
 }
 
+fn address(alloc: Global) -> Result<ServerAddress, Error> {
+    let host = Text::from_slice(alloc, "localhost")?;
+    Ok(ServerAddress::Tcp { host, port: None })
+}
+
 // The fifth connection of a pool.
 fn pending(alloc: Global, pool: Pool) -> Result<PendingConnection, Error> {
-    let host = Text::from_slice(alloc, "localhost")?;
     Ok(PendingConnection {
         id: 5,
         generation: generation(alloc, pool)?,
-        address: ServerAddress::Tcp { host, port: None },
+        address: address(alloc)?,
     })
 }
 

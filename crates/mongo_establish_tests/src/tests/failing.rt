@@ -8,7 +8,7 @@ use std::test::Fail;
 
 // What a client says that logs in as `user` with the password `pencil`, by nonces of 32 bytes of 0 and of 1: its hello,
 // the end of the login by SCRAM-SHA-256 that went with it, and the two commands of a login by SCRAM-SHA-1.
-const HELLO_OF_USER: &[u8; 463] =
+pub(super) const HELLO_OF_USER: &[u8; 463] =
     b"\xcf\x01\0\0\0\0\0\0\0\0\0\0\xdd\x07\0\0\0\0\0\0\0\xba\x01\0\0\x10isMaster\0\x01\0\0\0\x08helloOk\0\x01\x02backpressure\0\x02\0\0\0\x32\0\x02saslSupportedMechs\0\x0b\0\0\0admin.user\0\x03speculativeAuthenticate\0\xa7\0\0\0\x10saslStart\0\x01\0\0\0\x02mechanism\0\x0e\0\0\0SCRAM-SHA-256\0\x05payload\0\x38\0\0\0\0n,,n=user,r=AAAAAAAAAAAAAAAAAAAAAAAAAAAAAAAAAAAAAAAAAAA=\x03options\0\x19\0\0\0\x08skipEmptyExchange\0\x01\0\x02db\0\x06\0\0\0admin\0\0\x03client\0\x8f\0\0\0\x03driver\0\x34\0\0\0\x02name\0\x12\0\0\0mongo-rust-driver\0\x02version\0\x06\0\0\0\x33.9.1\0\0\x03os\0.\0\0\0\x02type\0\x06\0\0\0linux\0\x02architecture\0\x07\0\0\0x86_64\0\0\x02platform\0\x0e\0\0\0rattle / sync\0\0\x02$db\0\x06\0\0\0admin\0\0";
 
 const CLOSE: &[u8; 196] =
@@ -38,7 +38,7 @@ pub(super) const ACCEPTED: &[u8; 109] =
 
 // The commands and replies of establishments: two logins, one that goes on from the answer to its hello and one that
 // starts after it; and a hello without a login.
-fn exchanges_of(login: u8) -> &'static [(&'static [u8], &'static [u8])] {
+pub(super) fn exchanges_of(login: u8) -> &'static [(&'static [u8], &'static [u8])] {
     match login {
         0 => &[(HELLO_OF_USER, CHALLENGED), (CLOSE, CLOSED)],
         1 => &[
@@ -50,7 +50,7 @@ fn exchanges_of(login: u8) -> &'static [(&'static [u8], &'static [u8])] {
     }
 }
 
-fn who_of(login: u8) -> Who {
+pub(super) fn who_of(login: u8) -> Who {
     match login {
         0 | 1 => Who::Negotiated,
         _ => Who::Nobody,
@@ -59,12 +59,12 @@ fn who_of(login: u8) -> Who {
 
 /// All that a login says, and all that it hears.
 #[derive(Drop)]
-struct Talk {
-    said: Vec<u8>,
-    heard: Vec<u8>,
+pub(super) struct Talk {
+    pub said: Vec<u8>,
+    pub heard: Vec<u8>,
 }
 
-fn talk_of(alloc: Global, login: u8) -> Result<Talk, Error> {
+pub(super) fn talk_of(alloc: Global, login: u8) -> Result<Talk, Error> {
     let mut said = Vec::new(alloc);
     let mut heard = Vec::new(alloc);
     for (command, reply) in exchanges_of(login) {
@@ -76,7 +76,7 @@ fn talk_of(alloc: Global, login: u8) -> Result<Talk, Error> {
 
 // The end of a login over a link that moves one byte a call, of which just this one fails: commands and replies pass in
 // turn, and each command is flushed. The cache has these rounds and entries then.
-fn end_at(login: u8, call: usize, rounds: u64, entries: usize) -> End {
+pub(super) fn end_at(login: u8, call: usize, rounds: u64, entries: usize) -> End {
     let mut end = End {
         told: ("none", 0, None),
         next_id: 0,
@@ -108,7 +108,7 @@ fn end_at(login: u8, call: usize, rounds: u64, entries: usize) -> End {
 }
 
 // A link that gives these bytes and moves one byte a call, of which just this one fails.
-fn failing_at(alloc: Global, heard: &[u8], call: usize) -> Result<FailingLink, Error> {
+pub(super) fn failing_at(alloc: Global, heard: &[u8], call: usize) -> Result<FailingLink, Error> {
     let mut schedule = Vec::new(alloc);
     schedule.resize(call, 0)?;
     schedule.push(1)?;

@@ -33,9 +33,18 @@ fn copy_is_numbered(alloc: Global, pool: &PoolGeneration) -> bool {
     }
 }
 
+fn alone_is_numbered(alloc: Global, generations: &Generations) -> bool {
+    match generations.try_clone(alloc) {
+        Ok(copy) => has_numbers(&copy),
+        Err(_) => false,
+    }
+}
+
 #[test]
 fn a_service_has_the_number_that_was_set_last(rt: HostRuntime) -> Result<(), Fail> {
-    let pool = PoolGeneration::LoadBalanced(numbered(rt.alloc())?);
+    let generations = numbered(rt.alloc())?;
+    assert!(rt; alone_is_numbered(rt.alloc(), &generations));
+    let pool = PoolGeneration::LoadBalanced(generations);
     assert!(rt; is_numbered(&pool) && copy_is_numbered(rt.alloc(), &pool));
     Ok(())
 }

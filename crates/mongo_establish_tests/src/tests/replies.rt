@@ -58,13 +58,11 @@ fn frame_at(place: u8) -> Frame {
         // 50331648, and one byte more than there is
         11 => ([0, 0, 0, 3], MESSAGE, 0, 86, ("EndOfInput", 0, None), 86),
         12 => ([87, 0, 0, 0], MESSAGE, 0, 86, ("EndOfInput", 0, None), 86),
-        13 => ([85, 0, 0, 0], MESSAGE, 0, 86, ("Sections", 0, None), 85),
-        14 => ([16, 0, 0, 0], MESSAGE, 0, 86, ("Sections", 0, None), 16),
-        15 => (WHOLE, MESSAGE, 2, 86, ("Sections", 0, None), 86),
+        13 => (WHOLE, MESSAGE, 2, 86, ("Sections", 0, None), 86),
         // replies that end early
-        16 => (WHOLE, MESSAGE, 0, 0, ("EndOfInput", 0, None), 0),
-        17 => (WHOLE, MESSAGE, 0, 15, ("EndOfInput", 0, None), 15),
-        18 => (WHOLE, MESSAGE, 0, 16, ("EndOfInput", 0, None), 16),
+        14 => (WHOLE, MESSAGE, 0, 0, ("EndOfInput", 0, None), 0),
+        15 => (WHOLE, MESSAGE, 0, 15, ("EndOfInput", 0, None), 15),
+        16 => (WHOLE, MESSAGE, 0, 16, ("EndOfInput", 0, None), 16),
         _ => (WHOLE, MESSAGE, 0, 85, ("EndOfInput", 0, None), 85),
     }
 }
@@ -99,8 +97,29 @@ fn is_refused_so(alloc: Global, frame: &Frame) -> Result<bool, Error> {
 
 #[test]
 fn a_frame_is_refused_by_its_first_fault(rt: HostRuntime) -> Result<(), Fail> {
-    for place in 0..20 {
+    for place in 0..18 {
         assert!(rt; is_refused_so(rt.alloc(), &frame_at(place))?, "{place}");
+    }
+    Ok(())
+}
+
+// The same with a length that is at least a header's and less than its own: so much is taken, and cuts the document.
+fn shortened(length: u8) -> Frame {
+    let taken = usize::from(length);
+    (
+        [length, 0, 0, 0],
+        MESSAGE,
+        0,
+        86,
+        ("Sections", 0, None),
+        taken,
+    )
+}
+
+#[test]
+fn a_length_that_cuts_the_document_is_refused(rt: HostRuntime) -> Result<(), Fail> {
+    for length in 16..86 {
+        assert!(rt; is_refused_so(rt.alloc(), &shortened(length))?, "{length}");
     }
     Ok(())
 }

@@ -1,0 +1,118 @@
+-- What a refused handshake leaves its connection to keep.
+use Rattle.std.proofs.Common.{◌≡◌, ℕ, ℤ, ◌∙◌, refl, ap, inl, inr, Bool, true, false, Option, None, Some, is_some, is_none, Result, Ok, Err, List, codes, if◌then◌else◌}
+use Rattle.mongo_bson.specs.declared.fault.BsonFault.TheVariants.{TooLong}
+use Rattle.mongo_wire.specs.declared.error.ErrorKind.{ErrorKind}
+use Rattle.mongo_wire.specs.declared.error.ErrorKind.TheVariants.{InvalidArgument, InvalidResponse, Authentication, Command as CommandFailed, OutOfMemory}
+use Rattle.mongo_wire.specs.declared.fault.ArgumentFault.{ArgumentFault}
+use Rattle.mongo_wire.specs.declared.fault.ArgumentFault.TheVariants.{Bson, ScramUsername, X509Password, X509Source, PlainUsername, PlainUsernameEmpty, PlainPassword}
+use Rattle.mongo_wire.specs.declared.fault.ResponseFault.TheVariants.{Hello as HelloFault, SessionTimeout}
+use Rattle.mongo_wire.specs.declared.message.Message.{Message}
+use Rattle.mongo_wire.specs.Outside.{State}
+use Rattle.mongo_command.specs.declared.hello.HelloCommandResponse.{HelloCommandResponse}
+use Rattle.mongo_command.specs.Conversation.{or_else}
+use Rattle.mongo_command.specs.Fault.{is_kept}
+use Rattle.mongo_command.specs.Hello.{HelloRefused, DescriptionRefused}
+use Rattle.mongo_command.specs.HelloExchange.{RunHelloRefused}
+use Rattle.mongo_sasl.specs.declared.credential.Credential.{Credential}
+use Rattle.mongo_sasl.specs.declared.mechanism.AuthMechanism.{AuthMechanism}
+use Rattle.mongo_sasl.specs.declared.mechanism.AuthMechanism.TheVariants.{MongoDbCr, ScramSha1, ScramSha256, MongoDbX509, Plain}
+use Rattle.mongo_sasl.specs.Kept.{KeepsAfter}
+use Rattle.mongo_sasl.specs.Rules.{first_broken, is_other_than, is_text}
+use Rattle.mongo_sasl.specs.Validation.{IsValidated, scram_rules, x509_rules, plain_rules}
+use Rattle.mongo_sasl.proofs.KeptAfter.{IsOwn, own_keeps, unbuilt_own, kept_after}
+use Rattle.mongo_scram.specs.User.{CredentialRow}
+use Rattle.mongo_establish.specs.First.{IsUnmade}
+use Rattle.mongo_establish.specs.HelloBody.{BodyRefused}
+use Rattle.mongo_establish.specs.Login.{HasConversation, InvalidRow}
+use Rattle.mongo_establish.specs.Speculation.{mechanism_before, MechanismRow, HelloRow}
+
+-- ---- before the hello was said
+
+credential_own : (credential : Credential) (kind : ErrorKind) → CredentialRow credential kind → IsOwn kind
+credential_own credential (Authentication fault) row = inl refl
+credential_own credential kind row = absurd row
+
+mechanism_own : (mechanism : AuthMechanism) (credential : Credential) (kind : ErrorKind) → MechanismRow mechanism credential kind → IsOwn kind
+mechanism_own ScramSha1 credential kind row = credential_own credential kind row
+mechanism_own ScramSha256 credential kind row = credential_own credential kind row
+mechanism_own MongoDbCr credential kind row = inl (ap is_kept row)
+mechanism_own mechanism credential kind row = absurd row
+
+hello_row_own : (credential : Option Credential) (kind : ErrorKind) → HelloRow credential kind → IsOwn kind
+hello_row_own None kind row = absurd row
+hello_row_own (Some credential) kind row = mechanism_own (mechanism_before credential.mechanism) credential kind row
+
+unmade_own : (document : Option (List ℕ)) (kind : ErrorKind) → IsUnmade document kind → IsOwn kind
+unmade_own None kind row = inr row
+unmade_own (Some document) kind row = unbuilt_own document kind row
+
+-- a first message that wasn't made
+pub first_own : (credential : Option Credential) (document : Option (List ℕ)) (kind : ErrorKind) → or_else (HelloRow credential) (IsUnmade document) kind → IsOwn kind
+first_own credential document kind (inl row) = hello_row_own credential kind row
+first_own credential document kind (inr none) = unmade_own document kind none.1
+
+-- a hello that wasn't
+pub body_own : (body : List ℕ) (kind : ErrorKind) → BodyRefused body kind → IsOwn kind
+body_own body (InvalidArgument (Bson TooLong)) row = inl refl
+body_own body OutOfMemory row = inr refl
+body_own body kind row = absurd row
+
+-- ---- the hello
+
+hello_refused_own : (kind : ErrorKind) (document : List ℕ) → HelloRefused kind document → IsOwn kind
+hello_refused_own (CommandFailed error) document row = inl refl
+hello_refused_own (InvalidResponse HelloFault) document row = inl refl
+hello_refused_own OutOfMemory document row = inr refl
+hello_refused_own kind document row = absurd row
+
+-- one that was refused
+pub run_keeps : (kind : ErrorKind) (maximum : ℤ) (message : Message) (old new : State) (before after : ℤ) (kept : Option ErrorKind) → RunHelloRefused kind maximum message old new before after kept → KeepsAfter kind kept
+run_keeps kind maximum message old new before after kept (inl refused) = kept_after kind maximum message old new before after kept refused
+run_keeps kind maximum message old new before after kept (inr none) = own_keeps kind kept (hello_refused_own kind none.document none.refused) none.kept_is
+
+-- a reply that doesn't describe the server
+pub description_own : (response : HelloCommandResponse) (kind : ErrorKind) → DescriptionRefused kind response → IsOwn kind
+description_own response (InvalidResponse SessionTimeout) row = inl refl
+description_own response OutOfMemory row = inr refl
+description_own response kind row = absurd row
+
+-- ---- a mechanism that doesn't take the credential
+
+same_fault : (a b : ArgumentFault) → ◌≡◌ {A = Result (Unit {0}) ArgumentFault} (Err a) (Err b) → a ≡ b
+same_fault a b e = cc
+
+abbrev EndsNone : ArgumentFault → Type 0
+EndsNone fault = is_kept (InvalidArgument fault) ≡ false
+
+unbroken : (fault : ArgumentFault) → ◌≡◌ {A = Result (Unit {0}) ArgumentFault} (Err fault) (Ok tt) → EndsNone fault
+unbroken fault is = let no : ⊥ = cc in absurd no
+
+-- by a rule and those after it
+by_rule : (broken : Bool) (own fault : ArgumentFault) (later : Result (Unit {0}) ArgumentFault) → EndsNone own → (Err fault ≡ later → EndsNone fault) → Err fault ≡ (if broken then Err own else later) → EndsNone fault
+by_rule true own fault later row rest is = ap (λ f. is_kept (InvalidArgument f)) (same_fault fault own is) ∙ row
+by_rule false own fault later row rest is = rest is
+
+scram_fault : (credential : Credential) (fault : ArgumentFault) → Err fault ≡ first_broken (scram_rules credential) → EndsNone fault
+scram_fault credential fault is = by_rule (is_none credential.username) ScramUsername fault (Ok tt) refl (unbroken fault) is
+
+x509_fault : (credential : Credential) (fault : ArgumentFault) → Err fault ≡ first_broken (x509_rules credential) → EndsNone fault
+x509_fault credential fault is =
+    by_rule (is_some credential.password) X509Password fault _ refl (λ later.
+    by_rule (is_other_than (codes "$external") credential.source) X509Source fault (Ok tt) refl (unbroken fault) later) is
+
+plain_fault : (credential : Credential) (fault : ArgumentFault) → Err fault ≡ first_broken (plain_rules credential) → EndsNone fault
+plain_fault credential fault is =
+    by_rule (is_none credential.username) PlainUsername fault _ refl (λ named.
+    by_rule (is_text (codes "") credential.username) PlainUsernameEmpty fault _ refl (λ later.
+    by_rule (is_none credential.password) PlainPassword fault (Ok tt) refl (unbroken fault) later) named) is
+
+validated_own : (mechanism : AuthMechanism) (credential : Credential) (fault : ArgumentFault) → HasConversation mechanism → IsValidated mechanism credential false (Err fault) → EndsNone fault
+validated_own ScramSha1 credential fault spoken row = scram_fault credential fault row
+validated_own ScramSha256 credential fault spoken row = scram_fault credential fault row
+validated_own MongoDbX509 credential fault spoken row = x509_fault credential fault row
+validated_own Plain credential fault spoken row = plain_fault credential fault row
+validated_own mechanism credential fault spoken row = absurd spoken
+
+pub invalid_own : (mechanism : AuthMechanism) (credential : Credential) (kind : ErrorKind) → HasConversation mechanism → InvalidRow None mechanism credential kind → IsOwn kind
+invalid_own mechanism credential (InvalidArgument fault) spoken row = inl (validated_own mechanism credential fault spoken row)
+invalid_own mechanism credential kind spoken row = absurd row
