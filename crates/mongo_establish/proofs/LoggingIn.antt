@@ -1,12 +1,15 @@
 -- What a login over a connection that holds a description answers.
 use Rattle.std.proofs.Common.{◌≡◌, ℕ, ℤ, ◌∙◌, refl, subst, sym, true, false, Option, None, Some, Result, Ok, Err, List, [], is_some, IfErr, OnOk}
 use Rattle.mongo_wire.specs.declared.error.Error.{Error}
+use Rattle.mongo_wire.specs.declared.error.ErrorKind.{ErrorKind}
 use Rattle.mongo_wire.specs.Outside.{State}
 use Rattle.mongo_command.specs.declared.connection.Connection.{Connection}
 use Rattle.mongo_command.specs.declared.stream_description.StreamDescription.{StreamDescription}
 use Rattle.mongo_command.specs.Conversation.{HasNone}
 use Rattle.mongo_sasl.specs.declared.credential.Credential.{Credential}
 use Rattle.mongo_sasl.specs.declared.mechanism.AuthMechanism.{AuthMechanism}
+use Rattle.mongo_sasl.specs.Kept.{KeepsAfter}
+use Rattle.mongo_sasl.proofs.KeptAfter.{own_keeps}
 use Rattle.mongo_scram.specs.Costs.{Ledgers, CostsNothing}
 use Rattle.mongo_establish.specs.declared.first_round.FirstRound.{FirstRound}
 use Rattle.mongo_establish.specs.declared.login_state.Nonces.{Nonces}
@@ -17,6 +20,7 @@ use Rattle.mongo_establish.specs.Greeting.{Greeting}
 use Rattle.mongo_establish.specs.Login.{holds_users, IsMechanism, HasConversation, InvalidRow}
 use Rattle.mongo_establish.specs.LoggingIn.{IsTaken, Converses, LogsIn, LoginStops}
 use Rattle.mongo_establish.specs.Speculation.{mechanism_before, SpeaksFor, HelloRow}
+use Rattle.mongo_establish.proofs.Keeping.{invalid_own}
 use Rattle.mongo_establish.proofs.LoggedIn.{nobody, nobody_costs, no_credential, no_users, converses, went_by, invalid_stopped, invalid_costs, conversed_reached, conversed_costs, stopped_stopped, stopped_costs}
 
 same_description : (a b : StreamDescription) → Some a ≡ Some b → a ≡ b
@@ -77,6 +81,11 @@ module _ (opened : Connection) (options : HandshakerOptions) (given : Option Cre
     stopped = λ greeting described r. invalid_stopped asked greeting credential round mechanism who (users greeting described) (went greeting r) (mechanisms greeting described) has_conversation e.kind old before h.0 h.1;
     costs = λ greeting described r. invalid_costs asked greeting credential round mechanism who (users greeting described) (went greeting r) (mechanisms greeting described) has_conversation e.kind old before ledgers h.0 h.1 nothing;
   }
+
+  -- and leaves a connection without a fault
+  pub invalid_keeps : {T : Type 0} (r : Result T Error) (kept : Option ErrorKind) → IfErr r (λ e. (is_some round ≡ false) × InvalidRow None mechanism credential e.kind) → kept ≡ None → IfErr r (λ e. KeepsAfter e.kind kept)
+  invalid_keeps (Ok x) kept h none = tt
+  invalid_keeps (Err e) kept h none = own_keeps e.kind kept (invalid_own mechanism credential e.kind has_conversation h.1) none
 
   module _ (taken : IsTaken (is_some round) mechanism credential) where
     -- its round is the conversation's

@@ -36,6 +36,7 @@ impl Handshaker {
     ghost use Rattle.mongo_wire.specs.declared.error.ErrorKind.TheVariants.{OutOfMemory};
     ghost use Rattle.mongo_command.specs.Connection.{kept_fault};
     ghost use Rattle.mongo_command.specs.Exchange.{CountsStay};
+    ghost use Rattle.mongo_sasl.specs.Kept.{KeepsAfter};
     ghost use Rattle.mongo_scram.specs.Cache.{entries_of};
     ghost use Rattle.mongo_scram.specs.Costs.{ledgers};
     ghost use Rattle.mongo_establish.specs.Asked.{asked_over};
@@ -62,7 +63,8 @@ impl Handshaker {
     /// Refusals, in this order. Nothing is written at those of [`build_speculative_client_first`], at `Bson(TooLong)` where the
     /// hello is longer than 2147483647 bytes and at `TooLong` where its frame is longer than 50331648. `WriteFault` where the
     /// link failed to take it; those of [`mongo_wire::Message::read_from`]; `Command`, `Hello`, `SessionTimeout`. Up to here
-    /// the connection has no description; then it has that of the reply, and the refusals of the mechanism follow.
+    /// the connection has no description; then it has that of the reply, and the refusals of the mechanism follow. A
+    /// connection on which a fault of the link was met, bytes that are no frame among them, keeps it, and answers it from then on.
     pub fn handshake<L: Link, G: Ledger>(
         &self,
         alloc: Global,
@@ -84,6 +86,9 @@ impl Handshaker {
         ensures costs { CostsOf result (asked_over connection.old (options_in self.now) (option_copied credential.entry) inputs.now.nonces state.old.ids)
             (L.state link.old) (L.state link.new) state.new.ids (ledgers steps.old state.old.salted) (ledgers steps.new state.new.salted) }
         ensures entries { OnErr result (entries_of state.new.salted ≡ entries_of state.old.salted) }
+        // After a refusal the connection keeps the fault where it is one that ends a connection, and else none. Want of memory
+        // may be kept, where a command's id was drawn.
+        ensures keeps { IfErr result (λ e. KeepsAfter e.kind (kept_fault connection.new)) }
         ensures counts { CountsStay (L.state link.old) (L.state link.new) }
     {
         let first = speculative_first(alloc, credential, &connection.address, &inputs.nonces)?;
@@ -119,6 +124,7 @@ impl Handshaker {
             (L.state link.old) (L.state link.new) ids.old ids.new) }
         ensures refused { IfErr result (λ e. UngreetedBy (options_in self.now) (option_copied credential.entry) (option_map first_document first.now) connection.old connection.new e.kind
             (L.state link.old) (L.state link.new) ids.old ids.new) }
+        ensures keeps { IfErr result (λ e. KeepsAfter e.kind (kept_fault connection.new)) }
         ensures counts { CountsStay (L.state link.old) (L.state link.new) }
     {
         let hello = self.login_hello(alloc, credential, first)?;

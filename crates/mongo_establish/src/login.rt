@@ -4,6 +4,7 @@ ghost use Rattle.std.specs.Prelude.{◌≡◌, true, false, Option, None, Some, 
 ghost use Rattle.mongo_wire.specs.declared.error.ErrorKind.{ErrorKind};
 ghost use Rattle.mongo_command.specs.Connection.{kept_fault, KeepsRest};
 ghost use Rattle.mongo_command.specs.Exchange.{CountsStay};
+ghost use Rattle.mongo_sasl.specs.Kept.{KeepsAfter};
 ghost use Rattle.mongo_scram.specs.Cache.{entries_of};
 ghost use Rattle.mongo_scram.specs.Commands.{mechanism_of};
 ghost use Rattle.mongo_scram.specs.Costs.{ledgers};
@@ -45,6 +46,7 @@ pub(crate) fn log_in<L: Link, G: Ledger>(
     ensures entries { OnErr result (entries_of state.new.salted ≡ entries_of state.old.salted) }
     ensures connection { KeepsRest connection.old connection.new }
     ensures faultless { OnOk result (kept_fault connection.new ≡ None) }
+    ensures keeps { IfErr result (λ e. KeepsAfter e.kind (kept_fault connection.new)) }
     ensures counts { CountsStay (L.state link.old) (L.state link.new) }
 {
     let Some(credential) = credential else {
@@ -82,6 +84,7 @@ fn converse<L: Link, G: Ledger>(
     ensures entries { OnErr result (entries_of state.new.salted ≡ entries_of state.old.salted) }
     ensures connection { KeepsRest connection.old connection.new }
     ensures faultless { OnOk result (kept_fault connection.new ≡ None) }
+    ensures keeps { IfErr result (λ e. KeepsAfter e.kind (kept_fault connection.new)) }
     ensures counts { CountsStay (L.state link.old) (L.state link.new) }
 {
     let api = options.auth_options.server_api.as_ref();
@@ -153,6 +156,7 @@ fn by_scram<L: Link, G: Ledger>(
     ensures entries { OnErr result (entries_of state.new.salted ≡ entries_of state.old.salted) }
     ensures connection { KeepsRest connection.old connection.new }
     ensures faultless { OnOk result (kept_fault connection.new ≡ None) }
+    ensures keeps { IfErr result (λ e. KeepsAfter e.kind (kept_fault connection.new)) }
     ensures counts { CountsStay (L.state link.old) (L.state link.new) }
 {
     let mut buffer = FrameBuffer::new(alloc);

@@ -1,7 +1,7 @@
 use Rattle.std.proofs.Common.{rules, ap, ◌∙◌, sym, option_copied}
 use Rattle.mongo_scram.proofs.Derived.{costs_nothing}
 use Rattle.mongo_establish.specs.Asked.{asked_over}
-use Rattle.mongo_establish.proofs.LoggingIn.{no_login, empty_server, has_conversation, log_in_invalid, log_in_accepted, log_in_stopped}
+use Rattle.mongo_establish.proofs.LoggingIn.{no_login, empty_server, has_conversation, log_in_invalid, invalid_keeps, log_in_accepted, log_in_stopped}
 use Rattle.mongo_establish.proofs.login.log_in.Goals as goal
 
 pub returns-in_default-clause-logged_in : goal.returns-in_default-clause-logged_in
@@ -15,6 +15,11 @@ pub returns-in_err-validate-clause-refused : goal.returns-in_err-validate-clause
 returns-in_err-validate-clause-refused g c =
     log_in_invalid c.args.connection.now c.args.options.now (option_copied c.args.credential) c.args.inputs.now.nonces c.args.state.now.ids c.in-Some.credential.now (ap option_copied c.in-Some.is) c.args.round c.in-Some-mechanism_at.mechanism c.in-Some-stream_description.description c.in-Some-stream_description.is
     (c.in-Some-mechanism_at.ensures.0, λ reply like. c.in-Some-mechanism_at.ensures.1 reply (like ∙ sym c.is_some.ensures)) c.requires.spoken c.requires.made _ _ _ _ (costs_nothing _ _) (search rules)
+
+pub returns-in_err-validate-clause-keeps : goal.returns-in_err-validate-clause-keeps
+returns-in_err-validate-clause-keeps g c =
+    invalid_keeps c.args.connection.now c.args.options.now (option_copied c.args.credential) c.args.inputs.now.nonces c.args.state.now.ids c.in-Some.credential.now (ap option_copied c.in-Some.is) c.args.round c.in-Some-mechanism_at.mechanism c.in-Some-stream_description.description c.in-Some-stream_description.is
+    (c.in-Some-mechanism_at.ensures.0, λ reply like. c.in-Some-mechanism_at.ensures.1 reply (like ∙ sym c.is_some.ensures)) c.requires.spoken c.requires.made _ _ (search rules) c.requires.faultless
 
 pub converse-requires-clause-conversation : goal.converse-requires-clause-conversation
 converse-requires-clause-conversation g c =

@@ -1,7 +1,12 @@
 use Rattle.std.proofs.Common.{rules, ap, ◌∙◌, option_copied, Err}
 use Rattle.std.proofs.lemmas.Result.{err_from_is_err_and}
+use Rattle.mongo_command.specs.Conversation.{or_else}
+use Rattle.mongo_sasl.proofs.KeptAfter.{row_keeps}
 use Rattle.mongo_scram.proofs.Derived.{costs_nothing, on_refused}
+use Rattle.mongo_establish.specs.First.{IsUnmade}
 use Rattle.mongo_establish.specs.Handshaker.{options_in}
+use Rattle.mongo_establish.specs.Speculation.{HelloRow, speculation}
+use Rattle.mongo_establish.proofs.Keeping.{first_own}
 use Rattle.mongo_establish.proofs.Shaking.{unmade_stopped, unmade_costs, ungreeted_stopped, ungreeted_costs, login_stopped, login_stopped_costs, shook, shook_costs, err_of, ok_of, if_err_of}
 use Rattle.mongo_establish.proofs.handshaker.Handshaker.handshake.Goals as goal
 
@@ -62,3 +67,20 @@ returns-clause-costs g c = record {
       _ _ _ _ (ok_of c.log_in.result c.in_ok-log_in.field-0 c.in_ok-log_in.was c.log_in.ensures.logged_in);
   refused = tt;
 }
+
+-- ---- what the connection keeps
+
+pub returns-in_err-first-clause-keeps : goal.returns-in_err-first-clause-keeps
+returns-in_err-first-clause-keeps g c =
+    row_keeps c.from_residual.result (or_else (HelloRow (option_copied c.args.credential)) (IsUnmade (speculation (option_copied c.args.credential) c.args.inputs.now.nonces.first))) _
+    (first_own (option_copied c.args.credential) (speculation (option_copied c.args.credential) c.args.inputs.now.nonces.first)) (search rules) c.requires.faultless
+
+pub returns-in_err-reply-clause-keeps : goal.returns-in_err-reply-clause-keeps
+returns-in_err-reply-clause-keeps g c =
+    let e = err_from_is_err_and c.from_residual-in_err-reply.result c.from_residual-in_err-reply.ensures.1 in
+    err_of _ c.in_err-reply.field-0.0 _ (e.1 ∙ ap Err e.2) (if_err_of c.say_hello.result c.in_err-reply.field-0.0 _ c.in_err-reply.was c.say_hello.ensures.keeps)
+
+pub returns-in_err-log_in-clause-keeps : goal.returns-in_err-log_in-clause-keeps
+returns-in_err-log_in-clause-keeps g c =
+    let e = err_from_is_err_and c.from_residual-in_err-log_in.result c.from_residual-in_err-log_in.ensures.1 in
+    err_of _ c.in_err-log_in.field-0.0 _ (e.1 ∙ ap Err e.2) (if_err_of c.log_in.result c.in_err-log_in.field-0.0 _ c.in_err-log_in.was c.log_in.ensures.keeps)
