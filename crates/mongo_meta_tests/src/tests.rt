@@ -3,9 +3,30 @@ mod environments;
 mod forms;
 
 use mongo_bson::{BsonFault, RawDocumentBuf, Text};
-use mongo_meta::{ClientMetadata, ClientOptions, Environment, OsMetadata, Variable, Variables};
+use mongo_meta::{
+    ClientMetadata, ClientOptions, DriverInfo, Environment, OsMetadata, Variable, Variables,
+};
 use mongo_wire::Error;
 use std::alloc::Global;
+
+/// What a client gives of its own: the name of its application, the version of the library `mapper` that stands on the
+/// driver, the name and the version of its operating system, and the variables of its environment as a row.
+#[derive(Clone, Copy)]
+struct Given<'a> {
+    app_name: Option<&'a str>,
+    library: Option<&'a str>,
+    os_name: Option<&'a str>,
+    os_version: Option<&'a str>,
+    row: &'a str,
+}
+
+const NOTHING: Given<'static> = Given {
+    app_name: None,
+    library: None,
+    os_name: None,
+    os_version: None,
+    row: "",
+};
 
 fn variable(alloc: Global, name: &str, value: &str) -> Result<Variable, BsonFault> {
     Ok(Variable {
@@ -33,35 +54,64 @@ fn environment(alloc: Global, row: &str) -> Result<Environment, BsonFault> {
     })
 }
 
-fn os(alloc: Global) -> Result<OsMetadata, BsonFault> {
+fn text(alloc: Global, given: Option<&str>) -> Result<Option<Text>, BsonFault> {
+    match given {
+        Some(given) => Ok(Some(Text::from_slice(alloc, given)?)),
+        None => Ok(None),
+    }
+}
+
+fn os(alloc: Global, given: &Given<'_>) -> Result<OsMetadata, BsonFault> {
     Ok(OsMetadata {
         os_type: Text::from_slice(alloc, "linux")?,
-        name: None,
         architecture: Some(Text::from_slice(alloc, "x86_64")?),
-        version: None,
+        name: text(alloc, given.os_name)?,
+        version: text(alloc, given.os_version)?,
     })
 }
 
-// The options of a client in the environment of a row, which gives nothing of its own.
-fn options(alloc: Global, row: &str) -> Result<ClientOptions, BsonFault> {
+// The library of this version.
+fn library(alloc: Global, version: &str) -> Result<DriverInfo, BsonFault> {
+    Ok(DriverInfo {
+        name: Text::from_slice(alloc, "mapper")?,
+        version: Some(Text::from_slice(alloc, version)?),
+        platform: None,
+    })
+}
+
+fn driver_info(alloc: Global, given: &Given<'_>) -> Result<Option<DriverInfo>, BsonFault> {
+    match given.library {
+        Some(version) => Ok(Some(library(alloc, version)?)),
+        None => Ok(None),
+    }
+}
+
+fn options(alloc: Global, given: &Given<'_>) -> Result<ClientOptions, BsonFault> {
     Ok(ClientOptions {
-        app_name: None,
-        driver_info: None,
         server_api: None,
         load_balanced: false,
         platform: Text::from_slice(alloc, "rattle / sync")?,
         platform_short: Text::from_slice(alloc, "rattle")?,
-        os: os(alloc)?,
-        environment: environment(alloc, row)?,
+        os: os(alloc, given)?,
+        environment: environment(alloc, given.row)?,
+        app_name: text(alloc, given.app_name)?,
+        driver_info: driver_info(alloc, given)?,
     })
 }
 
-// What a client says of itself.
-fn metadata(alloc: Global, given: &ClientOptions) -> Result<ClientMetadata, Error> {
-    ClientMetadata::from_options(alloc, given)
+// A copy of them.
+fn copied_options(alloc: Global, given: &Given<'_>) -> Result<ClientOptions, BsonFault> {
+    options(alloc, given)?.try_clone(alloc)
+}
+
+// What a client says of itself, by a copy of its options.
+fn metadata(alloc: Global, given: &Given<'_>) -> Result<ClientMetadata, Error> {
+    let options = copied_options(alloc, given)?;
+    ClientMetadata::from_options(alloc, &options)
 }
 
 // The document of a client in a hello of which so many bytes stand before it.
-fn sent(alloc: Global, metadata: &ClientMetadata, before: usize) -> Result<RawDocumentBuf, Error> {
+fn sent(alloc: Global, given: &Given<'_>, before: usize) -> Result<RawDocumentBuf, Error> {
+    let metadata = metadata(alloc, given)?;
     metadata.client_document(alloc, before)
 }

@@ -1,45 +1,41 @@
-use super::{metadata, options};
-use mongo_bson::{BsonFault, Text};
-use mongo_meta::{ClientMetadata, DriverInfo};
+use super::{Given, NOTHING, library, metadata};
+use mongo_meta::ClientMetadata;
 use mongo_wire::Error;
 use std::alloc::Global;
-use std::test::Fail;
 
-fn info(alloc: Global, version: &str) -> Result<DriverInfo, BsonFault> {
-    Ok(DriverInfo {
-        name: Text::from_slice(alloc, "mapper")?,
-        version: Some(Text::from_slice(alloc, version)?),
-        platform: None,
-    })
+// A client of the library `mapper` 2, for an application in a container.
+const MAPPED: Given<'static> = Given {
+    app_name: Some("shop"),
+    library: Some("2"),
+    row: "AWS_EXECUTION_ENV=AWS_Lambda_java8;AWS_REGION=us-east-2;docker",
+    ..NOTHING
+};
+
+// Adds the library of this version, and says whether the metadata is another than its copy then.
+fn changes(alloc: Global, metadata: &mut ClientMetadata, version: &str) -> Result<bool, Error> {
+    let made = metadata.try_clone(alloc)?;
+    metadata.append(library(alloc, version)?)?;
+    Ok(*metadata != made)
 }
 
-// The metadata of a client of the library `mapper` 2.
-fn mapped(alloc: Global) -> Result<ClientMetadata, Error> {
-    let mut given = options(alloc, "")?;
-    given.driver_info = Some(info(alloc, "2")?);
-    metadata(alloc, &given)
-}
-
-// Adds the library of this version.
-fn append(alloc: Global, metadata: &mut ClientMetadata, version: &str) -> Result<(), Fail> {
-    Ok(metadata.append(info(alloc, version)?)?)
-}
-
-// Whether the driver has this name and version.
+// Whether the driver has this name and version, and the platform is as it was.
 fn is_driver(metadata: &ClientMetadata, name: &str, version: &str) -> bool {
-    metadata.driver.name.as_str() == name && metadata.driver.version.as_str() == version
+    metadata.driver.name.as_str() == name
+        && metadata.driver.version.as_str() == version
+        && metadata.platform.as_str() == "rattle / sync"
 }
 
 #[test]
-fn a_library_adds_itself_once(rt: HostRuntime) -> Result<(), Fail> {
-    let mut metadata = mapped(rt.alloc())?;
-    let made = metadata.try_clone(rt.alloc())?;
-    append(rt.alloc(), &mut metadata, "2")?;
-    assert!(rt; metadata == made);
-    assert!(rt; is_driver(&metadata, "mongo-rust-driver|mapper", "3.9.1|2"));
-    append(rt.alloc(), &mut metadata, "3")?;
-    assert!(rt; metadata != made);
-    assert!(rt; is_driver(&metadata, "mongo-rust-driver|mapper|mapper", "3.9.1|2|3"));
-    assert_eq!(rt; metadata.platform.as_str(), "rattle / sync");
-    Ok(())
+fn a_library_adds_itself_once(rt: HostRuntime) {
+    match metadata(rt.alloc(), &MAPPED) {
+        Ok(mut metadata) => {
+            let changed = changes(rt.alloc(), &mut metadata, "2");
+            assert!(rt; matches!(changed, Ok(false)));
+            assert!(rt; is_driver(&metadata, "mongo-rust-driver|mapper", "3.9.1|2"));
+            let changed = changes(rt.alloc(), &mut metadata, "3");
+            assert!(rt; matches!(changed, Ok(true)));
+            assert!(rt; is_driver(&metadata, "mongo-rust-driver|mapper|mapper", "3.9.1|2|3"));
+        }
+        Err(_) => assert!(rt; false),
+    }
 }

@@ -1,14 +1,9 @@
-use super::{environment, metadata, options, sent};
+use super::{Given, NOTHING, environment, sent};
 use mongo_bson::{BsonFault, RawDocument};
 use mongo_meta::{FaasEnvironmentName, RuntimeEnvironment};
 use mongo_wire::Error;
 use std::alloc::Global;
 use std::test::Fail;
-
-// What is taken from a row's environment.
-fn taken(alloc: Global, row: &str) -> Result<Option<RuntimeEnvironment>, Error> {
-    RuntimeEnvironment::from_environment(alloc, &environment(alloc, row)?)
-}
 
 // Whether a client's document has this environment; an empty one stands for none.
 fn has_environment(sent: RawDocument<'_>, wanted: &[u8]) -> Result<bool, BsonFault> {
@@ -20,8 +15,7 @@ fn has_environment(sent: RawDocument<'_>, wanted: &[u8]) -> Result<bool, BsonFau
 
 // Whether a client in a row's environment shows this document.
 fn shows(alloc: Global, row: &str, wanted: &[u8]) -> Result<bool, Error> {
-    let metadata = metadata(alloc, &options(alloc, row)?)?;
-    let sent = sent(alloc, &metadata, 0)?;
+    let sent = sent(alloc, &Given { row, ..NOTHING }, 0)?;
     Ok(has_environment(sent.borrow(), wanted)?)
 }
 
@@ -74,18 +68,25 @@ fn row_at(place: u32) -> (&'static str, &'static [u8]) {
 }
 
 #[test]
-fn a_provider_s_variables_are_taken(rt: HostRuntime) -> Result<(), Fail> {
+fn a_provider_s_variables_are_taken(rt: HostRuntime) {
     for place in 0..9 {
         let (row, document) = row_at(place);
-        assert!(rt; shows(rt.alloc(), row, document)?, "{row}");
+        assert!(rt;
+            matches!(shows(rt.alloc(), row, document), Ok(true)),
+            "{row}"
+        );
     }
-    Ok(())
+}
+
+fn provider_of(alloc: Global, row: &str) -> Result<Option<FaasEnvironmentName>, BsonFault> {
+    let environment = environment(alloc, row)?;
+    Ok(FaasEnvironmentName::from_environment(&environment))
 }
 
 // Whether an environment has the provider of a row.
 fn has_provider(alloc: Global, row: &str) -> Result<bool, Fail> {
     let (variables, wanted) = row.split_once(" => ").unwrap_or((row, "no arrow"));
-    let name = FaasEnvironmentName::from_environment(&environment(alloc, variables)?);
+    let name = provider_of(alloc, variables)?;
     Ok(format!(in alloc; "{name:?}")?.as_str() == wanted)
 }
 
@@ -116,13 +117,34 @@ UNUSED=1;UNUSED=1 => None
 VERCEL=;VERCEL=1 => None
 VERCEL=1;VERCEL= => Some(Vercel)";
 
+/// What is taken from an environment.
+#[derive(Drop)]
+struct Taken {
+    of: Option<RuntimeEnvironment>,
+}
+
+fn take_from(alloc: Global, row: &str) -> Result<Taken, Error> {
+    let environment = environment(alloc, row)?;
+    let of = RuntimeEnvironment::from_environment(alloc, &environment)?;
+    Ok(Taken { of })
+}
+
+fn memory_mb(taken: &Taken) -> Option<i32> {
+    match &taken.of {
+        Some(taken) => taken.memory_mb,
+        None => None,
+    }
+}
+
+fn memory_in(alloc: Global, row: &str) -> Result<Option<i32>, Error> {
+    let taken = take_from(alloc, row)?;
+    Ok(memory_mb(&taken))
+}
+
 // The memory of an environment, of which this is the text.
 fn memory_of(alloc: Global, text: &str) -> Result<Option<i32>, Fail> {
     let row = format!(in alloc; "K_SERVICE=servicename;FUNCTION_MEMORY_MB={text}")?;
-    match taken(alloc, row.as_str())? {
-        Some(taken) => Ok(taken.memory_mb),
-        None => Err(Fail::new("no environment")),
-    }
+    Ok(memory_in(alloc, row.as_str())?)
 }
 
 // A number is an int32 in decimal.

@@ -1,9 +1,7 @@
-use super::{metadata, options, sent};
+use super::{Given, NOTHING, metadata, sent};
 use mongo_bson::{RawDocumentBuf, Text};
-use mongo_meta::ClientOptions;
 use mongo_wire::Error;
 use std::alloc::Global;
-use std::test::Fail;
 
 // The hello document before `client`, by the handshake specification, has 49 bytes.
 const HELLO: usize = 49;
@@ -24,6 +22,10 @@ const NO_ENVIRONMENT: &[u8; 151] =
 const SHORT_PLATFORM: &[u8; 144] =
     b"\x90\0\0\0\x03application\0\x14\0\0\0\x02name\0\x05\0\0\0shop\0\0\x03driver\04\0\0\0\x02name\0\x12\0\0\0mongo-rust-driver\0\x02version\0\x06\0\0\03.9.1\0\0\x03os\0\x15\0\0\0\x02type\0\x06\0\0\0linux\0\0\x02platform\0\x07\0\0\0rattle\0\0";
 
+// The document of a client that gives nothing, by the handshake specification and BSON 1.1.
+const BARE: &[u8] =
+    b"\x8f\0\0\0\x03driver\04\0\0\0\x02name\0\x12\0\0\0mongo-rust-driver\0\x02version\0\x06\0\0\03.9.1\0\0\x03os\0.\0\0\0\x02type\0\x06\0\0\0linux\0\x02architecture\0\x07\0\0\0x86_64\0\0\x02platform\0\x0e\0\0\0rattle / sync\0\0";
+
 // The form of this number.
 fn form(number: u32) -> &'static [u8] {
     match number {
@@ -35,45 +37,66 @@ fn form(number: u32) -> &'static [u8] {
     }
 }
 
-// The options of that client.
-fn shop(alloc: Global) -> Result<ClientOptions, Error> {
-    let mut given = options(
-        alloc,
-        "AWS_EXECUTION_ENV=AWS_Lambda_java8;AWS_REGION=us-east-2;AWS_LAMBDA_FUNCTION_MEMORY_SIZE=1024;docker",
-    )?;
-    given.app_name = Some(Text::from_slice(alloc, "shop")?);
-    given.os.name = Some(Text::from_slice(alloc, "Debian")?);
-    given.os.version = Some(Text::from_slice(alloc, "12")?);
-    Ok(given)
+// That client.
+const SHOP: Given<'static> = Given {
+    app_name: Some("shop"),
+    os_name: Some("Debian"),
+    os_version: Some("12"),
+    row: "AWS_EXECUTION_ENV=AWS_Lambda_java8;AWS_REGION=us-east-2;AWS_LAMBDA_FUNCTION_MEMORY_SIZE=1024;docker",
+    ..NOTHING
+};
+
+// Whether this is what is sent of a client in a hello of which so many bytes stand before it.
+fn is_sent(alloc: Global, given: &Given<'_>, before: usize, document: &[u8]) -> bool {
+    match sent(alloc, given, before) {
+        Ok(sent) => sent.as_bytes() == document,
+        Err(_) => false,
+    }
+}
+
+fn document_of(alloc: Global, given: &Given<'_>) -> Result<RawDocumentBuf, Error> {
+    metadata(alloc, given)?.to_document(alloc)
+}
+
+// Whether this is the client's whole document.
+fn is_whole(alloc: Global, given: &Given<'_>, document: &[u8]) -> bool {
+    match document_of(alloc, given) {
+        Ok(whole) => whole.as_bytes() == document,
+        Err(_) => false,
+    }
+}
+
+// How many bytes stand before the client's document, and the number of its form then.
+fn form_at(place: u8) -> (usize, u32) {
+    match place {
+        0 => (0, 1),
+        1 => (161, 1),
+        2 => (162, 2),
+        3 => (264, 2),
+        4 => (265, 3),
+        5 => (322, 3),
+        6 => (323, 4),
+        7 => (353, 4),
+        8 => (354, 5),
+        9 => (360, 5),
+        10 => (361, 5),
+        11 => (512, 5),
+        12 => (513, 5),
+        _ => (usize::MAX, 5),
+    }
 }
 
 #[test]
-fn the_longest_form_that_fits_is_sent(rt: HostRuntime) -> Result<(), Fail> {
-    let metadata = metadata(rt.alloc(), &shop(rt.alloc())?)?;
-    for (before, number) in [
-        (0, 1),
-        (161, 1),
-        (162, 2),
-        (264, 2),
-        (265, 3),
-        (322, 3),
-        (323, 4),
-        (353, 4),
-        (354, 5),
-        (360, 5),
-        (361, 5),
-        (512, 5),
-        (513, 5),
-        (usize::MAX, 5),
-    ] {
-        let document = sent(rt.alloc(), &metadata, before)?;
-        assert_eq!(rt; document.as_bytes(), form(number), "{before}");
+fn the_longest_form_that_fits_is_sent(rt: HostRuntime) {
+    for place in 0..14 {
+        let (before, number) = form_at(place);
+        assert!(rt;
+            is_sent(rt.alloc(), &SHOP, before, form(number)),
+            "{before}"
+        );
     }
-    assert_eq!(rt;
-        metadata.to_document(rt.alloc())?.as_bytes(),
-        WHOLE.as_slice()
-    );
-    Ok(())
+    assert!(rt; is_whole(rt.alloc(), &SHOP, WHOLE));
+    assert!(rt; is_sent(rt.alloc(), &NOTHING, HELLO, BARE));
 }
 
 // A text of so many letters.
@@ -85,37 +108,32 @@ fn repeated(alloc: Global, letter: &str, count: u32) -> Result<Text, Error> {
     Ok(name)
 }
 
-// What is sent of a client in a container whose application has a name of so many letters.
-fn sent_with_name(alloc: Global, letter: &str, count: u32) -> Result<RawDocumentBuf, Error> {
-    let mut given = options(alloc, "KUBERNETES_SERVICE_HOST=x;docker")?;
-    given.app_name = Some(repeated(alloc, letter, count)?);
-    sent(alloc, &metadata(alloc, &given)?, HELLO)
+// Of a client in a container whose application has a name of so many letters: how many bytes its document has, and whether
+// it ends with the empty environment.
+fn end_with_name(alloc: Global, letter: &str, count: u32) -> Result<(usize, bool), Error> {
+    let name = repeated(alloc, letter, count)?;
+    let given = Given {
+        app_name: Some(name.as_str()),
+        row: "KUBERNETES_SERVICE_HOST=x;docker",
+        ..NOTHING
+    };
+    let document = sent(alloc, &given, HELLO)?;
+    let bytes = document.as_bytes();
+    Ok((bytes.len(), bytes.ends_with(b"\x03env\0\x05\0\0\0\0\0")))
 }
 
-#[test]
-fn an_environment_without_a_name_stays_and_is_empty(rt: HostRuntime) -> Result<(), Fail> {
-    // How many bytes the document has, and whether it ends with the empty environment. A letter with an accent has two bytes.
-    for (letter, count, wanted, empty) in [
-        ("a", 208, 455, false),
-        ("a", 209, 391, true),
-        ("é", 104, 455, false),
-        ("é", 105, 392, true),
-    ] {
-        let document = sent_with_name(rt.alloc(), letter, count)?;
-        assert_eq!(rt; document.as_bytes().len(), wanted, "{count}");
-        let ends_empty = document.as_bytes().ends_with(b"\x03env\0\x05\0\0\0\0\0");
-        assert_eq!(rt; ends_empty, empty, "{count}");
+fn ends_so(alloc: Global, letter: &str, count: u32, wanted: (usize, bool)) -> bool {
+    match end_with_name(alloc, letter, count) {
+        Ok(end) => end == wanted,
+        Err(_) => false,
     }
-    Ok(())
 }
 
-// The document of a client that gives nothing, by the handshake specification and BSON 1.1.
-const BARE: &[u8] =
-    b"\x8f\0\0\0\x03driver\04\0\0\0\x02name\0\x12\0\0\0mongo-rust-driver\0\x02version\0\x06\0\0\03.9.1\0\0\x03os\0.\0\0\0\x02type\0\x06\0\0\0linux\0\x02architecture\0\x07\0\0\0x86_64\0\0\x02platform\0\x0e\0\0\0rattle / sync\0\0";
-
+// A letter with an accent has two bytes.
 #[test]
-fn a_client_that_gives_nothing_names_its_driver(rt: HostRuntime) -> Result<(), Fail> {
-    let metadata = metadata(rt.alloc(), &options(rt.alloc(), "")?)?;
-    assert_eq!(rt; sent(rt.alloc(), &metadata, HELLO)?.as_bytes(), BARE);
-    Ok(())
+fn an_environment_without_a_name_stays_and_is_empty(rt: HostRuntime) {
+    assert!(rt; ends_so(rt.alloc(), "a", 208, (455, false)));
+    assert!(rt; ends_so(rt.alloc(), "a", 209, (391, true)));
+    assert!(rt; ends_so(rt.alloc(), "é", 104, (455, false)));
+    assert!(rt; ends_so(rt.alloc(), "é", 105, (392, true)));
 }
