@@ -223,12 +223,29 @@ fn ends_so(alloc: Global, row: &Row, session: &mut Session, user: &Credential) -
     }
 }
 
+// Whether the buffer holds what was heard after its header, as one frame; of nothing, nothing.
+fn holds(buffer: &FrameBuffer, heard: &[u8]) -> bool {
+    let held = buffer.as_bytes();
+    if heard.is_empty() {
+        buffer.frames() == 0 && held.is_empty()
+    } else {
+        buffer.frames() == 1 && heard.len() == held.len() + 16 && heard.ends_with(held)
+    }
+}
+
+// Whether a session has said just that, and has heard all, which its buffer holds.
+fn is_left_so(session: &Session, row: &Row) -> bool {
+    session.link.written() == row.said
+        && session.link.left().is_empty()
+        && holds(&session.buffer, row.heard)
+}
+
 // Whether a login ends so, says just that and hears all.
 fn is_so(alloc: Global, row: &Row) -> Result<bool, BsonFault> {
     let user = credential(alloc, row.user)?;
     let mut session = new_session(alloc, row.heard)?;
     let ends = ends_so(alloc, row, &mut session, &user);
-    Ok(ends && session.link.written() == row.said && session.link.left().is_empty())
+    Ok(ends && is_left_so(&session, row))
 }
 
 #[test]

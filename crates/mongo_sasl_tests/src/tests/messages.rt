@@ -1,8 +1,10 @@
 use super::{bytes, fault_of};
-use mongo_bson::{BsonFault, OwnedValue, RawDocument, Text};
+use mongo_bson::{BsonFault, OwnedValue, RawDocument, RawValue, Text};
 use mongo_command::{Command, ServerApi, ServerApiVersion};
 use mongo_sasl::x509::build_client_first;
-use mongo_sasl::{AuthMechanism, Credential, SaslContinue, SaslResponse, SaslStart, SaslView};
+use mongo_sasl::{
+    AuthMechanism, Credential, SaslContinue, SaslResponse, SaslStart, SaslView, document_of,
+};
 use mongo_wire::Error;
 use std::alloc::Global;
 
@@ -138,18 +140,6 @@ const MESSAGE: &[u8] = b"\x01\x02";
 // whether the message is the one above.
 type Said = (u8, bool, bool, bool);
 
-fn view_said(alloc: Global, reply: RawDocument<'_>) -> Option<Said> {
-    match SaslView::parse(alloc, reply) {
-        Ok(view) => Some((
-            view.conversation_kind,
-            view.conversation_bytes == ID,
-            view.done,
-            view.payload == MESSAGE,
-        )),
-        Err(_) => None,
-    }
-}
-
 fn said_of(response: &SaslResponse) -> Said {
     (
         response.conversation_id.kind,
@@ -166,11 +156,47 @@ fn copy_said(alloc: Global, response: &SaslResponse) -> Option<Said> {
     }
 }
 
-// The same of what owns it, and of its copy.
+fn owned_said(alloc: Global, view: &SaslView<'_>) -> Option<Said> {
+    match view.to_response(alloc) {
+        Ok(response) => Some(said_of(&response)),
+        Err(_) => None,
+    }
+}
+
+// What a reply says, and what its copy says.
+fn view_said(alloc: Global, reply: RawDocument<'_>) -> (Option<Said>, Option<Said>) {
+    match SaslView::parse(alloc, reply) {
+        Ok(view) => {
+            let said = (
+                view.conversation_kind,
+                view.conversation_bytes == ID,
+                view.done,
+                view.payload == MESSAGE,
+            );
+            (Some(said), owned_said(alloc, &view))
+        }
+        Err(_) => (None, None),
+    }
+}
+
+// The same of what owns it.
 fn response_said(alloc: Global, reply: RawDocument<'_>) -> (Option<Said>, Option<Said>) {
     match SaslResponse::parse(alloc, reply) {
         Ok(response) => (Some(said_of(&response)), copy_said(alloc, &response)),
         Err(_) => (None, None),
+    }
+}
+
+// Whether the fields of the reply make its document.
+fn is_built(alloc: Global) -> bool {
+    let fields = [
+        ("conversationId", RawValue::Int64(258)),
+        ("done", RawValue::Bool(false)),
+        ("payload", RawValue::Binary(0, MESSAGE)),
+    ];
+    match document_of(alloc, &fields) {
+        Ok(document) => document.as_bytes() == REPLY,
+        Err(_) => false,
     }
 }
 
@@ -179,11 +205,12 @@ fn a_reply_says_its_conversation_and_message(rt: HostRuntime) {
     let wanted = Some((0x12, true, false, true));
     match RawDocument::from_bytes(REPLY) {
         Ok(reply) => {
-            assert_eq!(rt; view_said(rt.alloc(), reply), wanted);
+            assert_eq!(rt; view_said(rt.alloc(), reply), (wanted, wanted));
             assert_eq!(rt; response_said(rt.alloc(), reply), (wanted, wanted));
         }
         Err(_) => assert!(rt; false),
     }
+    assert!(rt; is_built(rt.alloc()));
 }
 
 const API: ServerApi = ServerApi {
