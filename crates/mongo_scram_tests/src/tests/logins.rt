@@ -158,10 +158,16 @@ fn first_round(alloc: Global, login: &Login) -> Result<FirstRound, Error> {
     })
 }
 
+// A copy of it.
+fn copied_round(alloc: Global, login: &Login) -> Result<FirstRound, Error> {
+    let round = first_round(alloc, login)?;
+    round.try_clone(alloc)
+}
+
 fn round_of(alloc: Global, login: &Login) -> Result<Option<FirstRound>, Error> {
     match login.version {
         ScramVersion::Sha1 => Ok(None),
-        ScramVersion::Sha256 => Ok(Some(first_round(alloc, login)?)),
+        ScramVersion::Sha256 => Ok(Some(copied_round(alloc, login)?)),
     }
 }
 
@@ -248,6 +254,25 @@ struct Refusal {
     kept: &'static str,
 }
 
+// Whether the buffer holds the login's last reply after its header, and has taken each of its replies.
+fn holds_replies(login: &Login, buffer: &FrameBuffer) -> bool {
+    let (last, count) = match login.version {
+        ScramVersion::Sha1 => (login.replies[1], 2),
+        ScramVersion::Sha256 => (login.replies[0], 1),
+    };
+    let held = buffer.as_bytes();
+    buffer.frames() == count && last.len() == held.len() + 16 && last.ends_with(held)
+}
+
+// The fault; of a login that is accepted another one where the buffer isn't as it has to be.
+fn fault_beside(fault: &'static str, login: &Login, buffer: &FrameBuffer) -> &'static str {
+    if fault != "none" || holds_replies(login, buffer) {
+        fault
+    } else {
+        "another buffer"
+    }
+}
+
 fn fault_over<L: Link, G: Ledger>(
     blank: Blank,
     alloc: Global,
@@ -261,6 +286,7 @@ fn fault_over<L: Link, G: Ledger>(
 {
     let mut session = new_session(alloc, login)?;
     let fault = fault_with::<L, G>(blank, alloc, login.version, &mut session, link, cache);
+    let fault = fault_beside(fault, login, &session.buffer);
     Ok(Refusal {
         fault,
         kept: kept_by(&session.connection),
@@ -376,7 +402,14 @@ fn is_shown_as(alloc: Global, key: &SaltedKey, text: &str) -> bool {
     }
 }
 
-// No text of a key is shown, and a new cache has no entry.
+fn is_copied(alloc: Global, key: &SaltedKey) -> bool {
+    match key.try_clone(alloc) {
+        Ok(copy) => copy == *key,
+        Err(_) => false,
+    }
+}
+
+// No text of a key is shown, its copy is the same key, and a new cache has no entry.
 #[test]
 fn a_key_is_not_shown(rt: HostRuntime) -> Result<(), Fail> {
     let alloc = rt.alloc();
@@ -388,6 +421,7 @@ fn a_key_is_not_shown(rt: HostRuntime) -> Result<(), Fail> {
         count: 4096,
     };
     assert!(rt; is_shown_as(alloc, &key, "SaltedKey { .. }"));
+    assert!(rt; is_copied(alloc, &key));
     assert!(rt; SaltedCache::new(alloc).get(&key).is_none());
     Ok(())
 }

@@ -4,9 +4,12 @@ use super::{name_of, reply};
 use base64::engine::general_purpose::STANDARD;
 use mongo_command::{Command, ServerApi, ServerApiVersion};
 use mongo_mac::{Sha1Fn, Steps, Tag, hi};
-use mongo_scram::{ClientFinal, ClientFirst, Keys, ScramVersion, ServerFinal, ServerFirst};
+use mongo_scram::{
+    ClientFinal, ClientFirst, Keys, ScramVersion, ServerFinal, ServerFirst, nonce_text,
+    push_user_name,
+};
 use mongo_wire::Error;
-use std::alloc::Global;
+use std::alloc::{AllocError, Global};
 use std::marker::Brand;
 use std::sync::ledger::{Blank, Ledger};
 use std::test::Fail;
@@ -106,6 +109,11 @@ fn server_first(alloc: Global, ok: i32, done: bool, message: &[u8]) -> Result<Se
 fn server_final(alloc: Global, number: i32, message: &[u8]) -> Result<ServerFinal, Error> {
     let document = reply(alloc, number, 1, true, message)?;
     ServerFinal::parse(alloc, document.borrow())
+}
+
+fn copied_final(alloc: Global, number: i32, message: &[u8]) -> Result<ServerFinal, Error> {
+    let last = server_final(alloc, number, message)?;
+    Ok(last.try_clone(alloc)?)
 }
 
 // A server's first message, `ok` and `done` of the reply that carries it, and what a client with the nonce `nonce` and the
@@ -286,7 +294,7 @@ fn signs_so(alloc: Global, row: &Exchange, keys: &Keys, transcript: &[u8]) -> bo
         )
 }
 
-// Whether the client of a row's conversation answers the last message so.
+// Whether the client of a row's conversation answers a copy of the last message so.
 fn final_is_answered(
     alloc: Global,
     version: &ScramVersion,
@@ -296,7 +304,7 @@ fn final_is_answered(
     fault: &str,
 ) -> bool {
     let (salted, conversation) = held;
-    let answer = match server_final(alloc, number, message) {
+    let answer = match copied_final(alloc, number, message) {
         Ok(last) => last.validate(salted, &conversation.close, version),
         Err(error) => Err(error),
     };
@@ -316,12 +324,20 @@ fn conversations_of_the_standards(rt: HostRuntime) -> Result<(), Fail> {
     Ok(())
 }
 
-// Whether the messages are the row's, and the server's last is taken.
+fn copy_closes(alloc: Global, close: &ClientFinal, message: &str) -> bool {
+    match close.try_clone(alloc) {
+        Ok(copy) => copy.message() == message,
+        Err(_) => false,
+    }
+}
+
+// Whether the messages are the row's, the client's last in its copy too, and the server's last is taken.
 fn is_as_it_stands(alloc: Global, row: &Exchange, held: &Held) -> bool {
     let (salted, conversation) = held;
     let transcript = conversation.close.auth_message().as_bytes();
     conversation.open.message() == row.open
         && conversation.close.message() == row.close
+        && copy_closes(alloc, &conversation.close, row.close)
         && signs_so(alloc, row, &Keys::new(row.version, salted), transcript)
         && final_is_answered(
             alloc,
@@ -372,6 +388,7 @@ fn server_final_messages(rt: HostRuntime) -> Result<(), Fail> {
         );
     }
     assert!(rt; is_shown_as(rt.alloc(), &held.1.close, "ClientFinal { .. }"));
+    assert!(rt; is_continued(rt.alloc(), &held.1.close, CLOSING));
     Ok(())
 }
 
@@ -393,6 +410,17 @@ const DECLARED: &[u8] = b"\x02$db\0\x07\0\0\0orders\0\x02apiVersion\0\x02\0\0\x0
 fn ends_with(alloc: Global, command: &Command, end: &[u8]) -> bool {
     match command.to_document(alloc) {
         Ok(document) => document.as_bytes().ends_with(end) || command.body.as_bytes() == end,
+        Err(_) => false,
+    }
+}
+
+// The command of the first conversation's last message, BSON 1.1.
+const CLOSING: &[u8] =
+    b"\x9a\0\0\0\x10saslContinue\0\x01\0\0\0\x10conversationId\0\x01\0\0\0\x05payload\0R\0\0\0\0c=biws,r=fyko+d2lbbFgONRv9qkxdawL3rfcNHYJY1ZVvWVs7j,p=v0X8v3Bz2T0CJGbJQyF0X+HI4Ts=\x02$db\0\x06\0\0\0admin\0\0";
+
+fn is_continued(alloc: Global, close: &ClientFinal, document: &[u8]) -> bool {
+    match close.to_command(alloc) {
+        Ok(command) => ends_with(alloc, &command, document),
         Err(_) => false,
     }
 }
@@ -434,8 +462,29 @@ fn is_message(alloc: Global, username: &str, message: &str) -> bool {
     }
 }
 
+fn is_pushed(alloc: Global, username: &str, escaped: &str) -> Result<bool, AllocError> {
+    let mut text = String::new(alloc);
+    push_user_name(&mut text, username)?;
+    Ok(text.as_str() == escaped)
+}
+
+fn is_nonce(alloc: Global, nonce: &[u8; 32], text: &str) -> bool {
+    match nonce_text(alloc, nonce) {
+        Ok(made) => made.as_str() == text,
+        Err(_) => false,
+    }
+}
+
 #[test]
 fn user_names_are_escaped(rt: HostRuntime) {
+    assert!(rt; matches!(is_pushed(rt.alloc(), "a=b,c", "a=3Db=2Cc"), Ok(true)));
+    assert!(rt;
+        is_nonce(
+            rt.alloc(),
+            &[1; 32],
+            "AQEBAQEBAQEBAQEBAQEBAQEBAQEBAQEBAQEBAQEBAQE="
+        )
+    );
     assert!(rt; is_message(rt.alloc(), "a=b", "n,,n=a=3Db,r=x"));
     assert!(rt; is_message(rt.alloc(), "=,=", "n,,n==3D=2C=3D,r=x"));
     assert!(rt; is_message(rt.alloc(), "\u{fc},", "n,,n=\u{fc}=2C,r=x"));
