@@ -2,7 +2,10 @@ ghost use Rattle.std.specs.Prelude.{◌≡◌, ◌<◌};
 ghost use Rattle.mongo_settings.specs.Task.{asks_of, AreSpoken};
 
 use mongo_mac::Steps;
-use mongo_settings::{Logins, Rehearsal, RehearsalStatus, Task};
+use mongo_settings::{
+    Logins, Rehearsal, RehearsalStatus, Task, begin_line, end_line, push_hex, push_number,
+    push_word,
+};
 use std::alloc::{AllocError, Global};
 use std::marker::Brand;
 use std::sync::ledger::{Blank, Ledger};
@@ -113,4 +116,23 @@ fn reports(
 fn a_batch_is_reported(rt: HostRuntime) {
     let status = Some((RehearsalStatus::Refused, true));
     assert_eq!(rt; reports(rt.alloc(), Task::Batch, BATCH, REPORT), status);
+}
+
+// A line of a word, a number and bytes.
+fn line(alloc: Global) -> Result<Vec<u8>, AllocError> {
+    let mut out = Vec::new(alloc);
+    begin_line(&mut out, "read")?;
+    push_word(&mut out, "-")?;
+    push_number(&mut out, 274_u32)?;
+    push_hex(&mut out, &[0, 171])?;
+    end_line(&mut out)?;
+    Ok(out)
+}
+
+#[test]
+fn a_line_is_written(rt: HostRuntime) {
+    match line(rt.alloc()) {
+        Ok(line) => assert!(rt; line.as_slice() == b"read - 274 00ab\n".as_slice()),
+        Err(_) => assert!(rt; false),
+    }
 }
