@@ -3,8 +3,10 @@ ghost use Rattle.std.specs.Prelude.{◌<◌};
 mod copies;
 mod links;
 mod reading;
+mod room;
 mod small;
 mod standard;
+mod ways;
 mod writing;
 
 use bitflags::Flags;
@@ -101,7 +103,8 @@ pub(crate) enum Told {
     Other,
 }
 
-fn told_by(kind: &ErrorKind) -> Told {
+// The cause that is told.
+pub(crate) fn told_by(kind: &ErrorKind) -> Told {
     match kind {
         ErrorKind::ReadFault => Told::ReadFault,
         ErrorKind::WriteFault => Told::WriteFault,

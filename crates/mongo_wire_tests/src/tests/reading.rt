@@ -1,13 +1,9 @@
 // The bytes are laid out by the OP_MSG specification and BSON 1.1.
-use super::{
-    EMPTY_MESSAGE, MESSAGE_WITH_SEQUENCE, Told, failing_link, giving, or_told, read, read_end,
-};
+use super::ways::{Answer, Way, read_by};
+use super::{EMPTY_MESSAGE, MESSAGE_WITH_SEQUENCE, Told, failing_link, giving, read, read_end};
 use bitflags::Flags;
 use mongo_bson::Bytes;
-use mongo_wire::{
-    ArgumentFault, Error, FrameBuffer, MemoryLink, Message, MessageRef, ResponseFault, Source,
-    next_frame, read_frame,
-};
+use mongo_wire::{ArgumentFault, Error, FrameBuffer, MemoryLink, Message, ResponseFault, Source};
 use std::alloc::Global;
 use std::test::Fail;
 
@@ -21,7 +17,7 @@ const REPLY: [u8; 86] = [
     0x73, 0, 0, 0x6c, 0xdc, 0x02, 0,
 ];
 
-fn header(length: i32, op_code: i32) -> [u8; 16] {
+pub(crate) fn header(length: i32, op_code: i32) -> [u8; 16] {
     let [a, b, c, d] = length.to_le_bytes();
     let [e, f, g, h] = op_code.to_le_bytes();
     [a, b, c, d, 0, 0, 0, 0, 0, 0, 0, 0, e, f, g, h]
@@ -75,51 +71,32 @@ fn two_frames(alloc: Global) -> Result<MemoryLink, Error> {
     Ok(MemoryLink::new(alloc, input))
 }
 
-// A frame's length and request id, and how long its sections and its body are.
-type Numbers = (i32, i32, usize, usize);
-
-// The numbers of a frame, or why it isn't read.
-fn numbers_of(frame: Result<MessageRef<'_>, Told>) -> Result<Numbers, Told> {
-    let message = frame?;
-    Ok((
-        message.header.length,
-        message.header.request_id,
-        message.sections.len(),
-        message.document_payload.as_bytes().len(),
-    ))
-}
-
-// The numbers of the next frame, or why it isn't read.
-fn read_numbers<S: Source>(
-    alloc: Global,
-    source: &mut S,
-    buffer: &mut FrameBuffer,
-) -> Result<Numbers, Told> {
-    numbers_of(or_told(read_frame(alloc, source, None, buffer)))
-}
-
-// Whether there is no frame, and no fault.
-fn is_none(frame: Result<Option<MessageRef<'_>>, Told>) -> bool {
-    match frame {
-        Ok(frame) => frame.is_none(),
-        Err(_) => false,
-    }
-}
-
-// Whether no frame is left.
-fn has_ended(alloc: Global, link: &mut MemoryLink, buffer: &mut FrameBuffer) -> bool {
-    is_none(or_told(next_frame(alloc, link, None, buffer)))
-}
+// How a read ends by each call where no frame is left.
+const ENDS: [(Way, Answer); 5] = [
+    (Way::TakeFrame, Err(Told::EndOfInput)),
+    (Way::ReadFrame, Err(Told::EndOfInput)),
+    (Way::NextFrame, Ok(None)),
+    (Way::Read, Err(Told::EndOfInput)),
+    (Way::Next, Ok(None)),
+];
 
 #[test]
 fn frames_come_one_after_another_through_one_buffer(rt: HostRuntime) -> Result<(), Fail> {
-    let mut link = two_frames(rt.alloc())?;
-    let mut buffer = FrameBuffer::new(rt.alloc());
-    assert!(rt; read_numbers(rt.alloc(), &mut link, &mut buffer) == Ok((86, 1, 66, 65)));
-    assert!(rt; read_numbers(rt.alloc(), &mut link, &mut buffer) == Ok((26, 0, 6, 5)));
-    assert!(rt; buffer.frames() == 2 && buffer.as_bytes() == &EMPTY_MESSAGE[16..]);
-    assert!(rt; has_ended(rt.alloc(), &mut link, &mut buffer));
-    assert!(rt; buffer.frames() == 2 && buffer.as_bytes().is_empty());
+    for (way, end) in ENDS {
+        let mut link = two_frames(rt.alloc())?;
+        let mut buffer = FrameBuffer::new(rt.alloc());
+        let first = read_by(way, rt.alloc(), &mut link, &mut buffer);
+        assert_eq!(rt; first, Ok(Some((86, 1, 66, 65))), "{way:?}");
+        let second = read_by(way, rt.alloc(), &mut link, &mut buffer);
+        assert_eq!(rt; second, Ok(Some((26, 0, 6, 5))), "{way:?}");
+        assert!(rt; buffer.frames() == 2 && buffer.as_bytes() == &EMPTY_MESSAGE[16..]);
+        assert_eq!(rt;
+            read_by(way, rt.alloc(), &mut link, &mut buffer),
+            end,
+            "{way:?}"
+        );
+        assert!(rt; buffer.frames() == 2 && buffer.as_bytes().is_empty());
+    }
     Ok(())
 }
 
@@ -128,7 +105,7 @@ fn a_frame_is_read_byte_by_byte_unless_a_call_fails(rt: HostRuntime) -> Result<(
     for call in 0..48 {
         let mut link = failing_link(rt.alloc(), &MESSAGE_WITH_SEQUENCE, call, 1)?;
         let mut buffer = FrameBuffer::new(rt.alloc());
-        let numbers = read_numbers(rt.alloc(), &mut link, &mut buffer);
+        let numbers = read_by(Way::ReadFrame, rt.alloc(), &mut link, &mut buffer);
         assert_eq!(rt; numbers.is_ok(), call >= 46);
         assert_eq!(rt; link.read_faults() == 1, call < 46);
     }
@@ -143,14 +120,18 @@ fn frame_and_header(alloc: Global, length: i32, op_code: i32) -> Result<MemoryLi
     Ok(MemoryLink::new(alloc, input))
 }
 
-// Whether the link's next frame is taken.
-fn takes(link: &mut MemoryLink, buffer: &mut FrameBuffer) -> bool {
-    buffer.take_frame(link, None).is_ok()
-}
-
 // Whether the buffer shows nothing after one frame.
 fn is_cleared(buffer: &FrameBuffer) -> bool {
     buffer.as_bytes().is_empty() && buffer.message().is_none() && buffer.frames() == 1
+}
+
+// What the buffer shows before and after a read that is refused by this call.
+fn is_refused(way: Way, alloc: Global, link: &mut MemoryLink) -> bool {
+    let mut buffer = FrameBuffer::new(alloc);
+    let first = read_by(way, alloc, link, &mut buffer).is_ok();
+    let was_shown = buffer.as_bytes() == &EMPTY_MESSAGE[16..];
+    let refused = read_by(way, alloc, link, &mut buffer).is_err();
+    first && was_shown && refused && is_cleared(&buffer)
 }
 
 #[test]
@@ -165,12 +146,13 @@ fn a_refused_read_shows_nothing(rt: HostRuntime) -> Result<(), Fail> {
         (26, 2013),
         (20, 2013),
     ] {
-        let mut link = frame_and_header(rt.alloc(), length, op_code)?;
-        let mut buffer = FrameBuffer::new(rt.alloc());
-        assert!(rt; takes(&mut link, &mut buffer));
-        assert!(rt; buffer.as_bytes() == &EMPTY_MESSAGE[16..]);
-        assert!(rt; read_numbers(rt.alloc(), &mut link, &mut buffer).is_err());
-        assert!(rt; is_cleared(&buffer));
+        for (way, _) in ENDS {
+            let mut link = frame_and_header(rt.alloc(), length, op_code)?;
+            assert!(rt;
+                is_refused(way, rt.alloc(), &mut link),
+                "{way:?} {length} {op_code}"
+            );
+        }
     }
     Ok(())
 }
@@ -188,7 +170,8 @@ fn a_length_that_lies_is_refused_in_time(rt: HostRuntime) -> Result<(), Fail> {
     for _ in 0..20_000 {
         let mut link = a_hundred_bytes(rt.alloc())?;
         let mut buffer = FrameBuffer::new(rt.alloc());
-        assert!(rt; !takes(&mut link, &mut buffer));
+        let taken = read_by(Way::TakeFrame, rt.alloc(), &mut link, &mut buffer);
+        assert!(rt; taken.is_err());
         assert_eq!(rt; buffer.frames(), 0);
     }
     Ok(())
@@ -211,8 +194,8 @@ fn greatest_frame(alloc: Global) -> Result<Bytes, Error> {
 fn the_greatest_frame_is_read(rt: HostRuntime) -> Result<(), Fail> {
     let mut link = MemoryLink::new(rt.alloc(), greatest_frame(rt.alloc())?);
     let mut buffer = FrameBuffer::new(rt.alloc());
-    let numbers = read_numbers(rt.alloc(), &mut link, &mut buffer);
-    assert!(rt; numbers == Ok((50_331_648, 0, 50_331_628, 5)));
+    let numbers = read_by(Way::ReadFrame, rt.alloc(), &mut link, &mut buffer);
+    assert_eq!(rt; numbers, Ok(Some((50_331_648, 0, 50_331_628, 5))));
     assert_eq!(rt; buffer.as_bytes().len(), 50_331_632);
     Ok(())
 }

@@ -68,8 +68,8 @@ fn numbers_have_their_low_byte_first(rt: HostRuntime) -> Result<(), Fail> {
 }
 
 // How the read of the next document ends.
-fn document_end(alloc: Global, link: &mut MemoryLink) -> Told {
-    end(read_document_bytes(alloc, link))
+pub(crate) fn document_end<S: Source>(alloc: Global, source: &mut S) -> Told {
+    end(read_document_bytes(alloc, source))
 }
 
 #[test]
