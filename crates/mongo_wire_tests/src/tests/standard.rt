@@ -1,6 +1,7 @@
 // Readers and writers of std that fail, end, take little or take nothing. No clause says what they give or take.
 use super::{EMPTY_MESSAGE, Told, empty_message, read_end, write_end};
-use mongo_wire::{RequestIds, Sink, Source, StdLink, StdSink, StdSource};
+use mongo_wire::{Message, RequestIds, Sink, Source, StdLink, StdSink, StdSource};
+use std::alloc::Global;
 use std::io;
 use std::io::{Read, Write};
 use std::test::Fail;
@@ -69,23 +70,93 @@ fn reader(failing: usize) -> FailingReader<'static> {
     }
 }
 
+// How the first read ends of a source whose reader fails there.
+fn first_end(failing: usize) -> Told {
+    if failing < 26 {
+        Told::ReadFault
+    } else {
+        Told::Done
+    }
+}
+
 #[test]
 fn a_reader_that_fails_is_told_from_one_that_ends(rt: HostRuntime) {
     let alloc = rt.alloc();
     for failing in 0..28 {
         let mut source = StdSource::new(reader(failing));
-        assert_eq!(rt;
-            read_end(alloc, &mut source) == Told::ReadFault,
-            failing < 26
-        );
+        assert_eq!(rt; read_end(alloc, &mut source), first_end(failing));
         assert!(rt; (source.read_faults() == 1) == (failing < 26) && source.ends() == 0);
         // fewer than the 16 bytes of a header are left where 11 or more were given, and none after the whole frame
-        assert_eq!(rt;
-            read_end(alloc, &mut source) == Told::ReadFault,
-            failing == 26
-        );
+        let second = read_end(alloc, &mut source);
+        assert_eq!(rt; second == Told::ReadFault, failing == 26);
+        assert_eq!(rt; second == Told::Done, failing == 0);
         assert_eq!(rt; source.ends() == 1, failing > 10 && failing != 26);
         assert_eq!(rt; source.read_faults() == 1, failing < 27);
+    }
+}
+
+// What is seen of a write: how it ended, the sink's count of faults, the bytes that the writer holds and its flushes.
+#[derive(Clone, Copy, Debug, PartialEq)]
+struct Written {
+    told: Told,
+    faults: u64,
+    held: usize,
+    flushes: u32,
+}
+
+// How the write of a message ends, and the sink's count of faults.
+fn write_through<K: Sink>(alloc: Global, message: &Message, sink: &mut K) -> (Told, u64) {
+    let mut ids = RequestIds::new(0);
+    let told = write_end(alloc, message, sink, None, &mut ids);
+    (told, sink.write_faults())
+}
+
+// What is seen where the writer holds a front of the message, and nothing else.
+fn seen(told: Told, faults: u64, writer: &FailingWriter) -> Option<Written> {
+    if EMPTY_MESSAGE.starts_with(writer.held.as_slice()) {
+        Some(Written {
+            told,
+            faults,
+            held: writer.held.len(),
+            flushes: writer.flushes,
+        })
+    } else {
+        None
+    }
+}
+
+// What is seen of a write through a sink over the writer.
+fn through_sink(alloc: Global, message: &Message, writer: &mut FailingWriter) -> Option<Written> {
+    let (told, faults) = write_through(alloc, message, &mut StdSink::new(&mut *writer));
+    seen(told, faults, writer)
+}
+
+// How a read ends, and a source's counts of faults and of ends.
+fn read_through<S: Source>(alloc: Global, source: &mut S) -> (Told, u64, u64) {
+    let told = read_end(alloc, source);
+    (told, source.read_faults(), source.ends())
+}
+
+// The same of a write and of a read through a link over the writer and a reader that fails at once.
+fn through_link(
+    alloc: Global,
+    message: &Message,
+    writer: &mut FailingWriter,
+) -> (Option<Written>, (Told, u64, u64)) {
+    let mut link = StdLink::new(reader(0), &mut *writer);
+    let (told, faults) = write_through(alloc, message, &mut link);
+    let read = read_through(alloc, &mut link);
+    (seen(told, faults, writer), read)
+}
+
+// A writer that takes so many bytes a call and fails so, and holds nothing yet.
+fn writer(alloc: Global, most: usize, failing: Option<usize>, flush_fails: bool) -> FailingWriter {
+    FailingWriter {
+        held: Vec::new(alloc),
+        most,
+        failing,
+        flush_fails,
+        flushes: 0,
     }
 }
 
@@ -93,7 +164,7 @@ fn a_reader_that_fails_is_told_from_one_that_ends(rt: HostRuntime) {
 fn a_writer_that_fails_or_takes_nothing_is_told(rt: HostRuntime) -> Result<(), Fail> {
     let message = empty_message(rt.alloc())?;
     // most bytes a call, where it fails, whether its flush fails; then bytes written, flushes, faults
-    for (most, failing, flush_fails, written, flushes, faults) in [
+    for (most, failing, flush_fails, held, flushes, faults) in [
         (1, None, false, 26, 1, 0),
         (100, None, false, 26, 1, 0),
         (0, None, false, 0, 0, 1),
@@ -102,20 +173,23 @@ fn a_writer_that_fails_or_takes_nothing_is_told(rt: HostRuntime) -> Result<(), F
         (100, Some(21), false, 21, 0, 1),
         (1, None, true, 26, 1, 1),
     ] {
-        let mut writer = FailingWriter {
-            held: Vec::new(rt.alloc()),
-            most,
-            failing,
-            flush_fails,
-            flushes: 0,
-        };
-        let mut ids = RequestIds::new(0);
-        let mut sink = StdSink::new(&mut writer);
-        let told = write_end(rt.alloc(), &message, &mut sink, None, &mut ids);
-        assert_eq!(rt; told == Told::WriteFault, faults == 1);
-        assert_eq!(rt; sink.write_faults(), faults);
-        assert!(rt; writer.held.len() == written && writer.flushes == flushes);
-        assert!(rt; EMPTY_MESSAGE.starts_with(writer.held.as_slice()));
+        let wanted = Some(Written {
+            told: if faults == 0 {
+                Told::Done
+            } else {
+                Told::WriteFault
+            },
+            faults,
+            held,
+            flushes,
+        });
+        let mut first = writer(rt.alloc(), most, failing, flush_fails);
+        let seen = through_sink(rt.alloc(), &message, &mut first);
+        assert_eq!(rt; seen, wanted);
+        let mut second = writer(rt.alloc(), most, failing, flush_fails);
+        let (wrote, read) = through_link(rt.alloc(), &message, &mut second);
+        assert_eq!(rt; wrote, wanted);
+        assert_eq!(rt; read, (Told::ReadFault, 1, 0));
     }
     Ok(())
 }
