@@ -1,9 +1,13 @@
 use super::notation::document;
-use super::{Answered, hello_reply};
+use super::{Answered, hello_reply, response};
 use mongo_bson::{RawDocumentBuf, Text};
-use mongo_command::{HelloReply, ServerAddress, StreamDescription};
+use mongo_command::{
+    HelloCommandResponse, HelloReply, RawCommandResponse, ServerAddress, StreamDescription, Tag,
+    Tags,
+};
 use mongo_wire::Error;
 use std::alloc::Global;
+use std::fmt::Debug;
 use std::test::Fail;
 
 // The description that a hello gives.
@@ -124,16 +128,69 @@ fn an_absent_port_is_the_default_one(rt: HostRuntime) -> Result<(), Fail> {
     Ok(())
 }
 
-// A copy of a hello, as it is printed.
-fn copied(alloc: Global, hello: &HelloReply) -> Result<String, Fail> {
-    let copy = hello.try_clone(alloc)?;
-    Ok(format!(in alloc; "{copy:?}")?)
+// Whether two values are printed alike.
+fn is_alike<T: Debug>(alloc: Global, one: &T, other: &T) -> Result<bool, Fail> {
+    let text = format!(in alloc; "{one:?}")?;
+    Ok(format!(in alloc; "{other:?}")?.as_str() == text.as_str())
 }
 
-// Whether a hello and its copy are printed alike.
+fn is_hello_copied(alloc: Global, hello: &HelloReply) -> Result<bool, Fail> {
+    let copy = hello.try_clone(alloc)?;
+    is_alike(alloc, hello, &copy)
+}
+
+fn are_fields_copied(alloc: Global, fields: &HelloCommandResponse) -> Result<bool, Fail> {
+    let copy = fields.try_clone(alloc)?;
+    is_alike(alloc, fields, &copy)
+}
+
+fn is_address_copied(alloc: Global, address: &ServerAddress) -> Result<bool, Fail> {
+    let copy = address.try_clone(alloc)?;
+    is_alike(alloc, address, &copy)
+}
+
+fn is_tag_copied(alloc: Global, tag: &Tag) -> Result<bool, Fail> {
+    let copy = tag.try_clone(alloc)?;
+    is_alike(alloc, tag, &copy)
+}
+
+// Whether there is a first tag, which is copied.
+fn is_first_copied(alloc: Global, tags: &Option<Tags>) -> Result<bool, Fail> {
+    match tags {
+        Some(tags) => match tags.get(0) {
+            Some(tag) => is_tag_copied(alloc, tag),
+            None => Ok(false),
+        },
+        None => Ok(false),
+    }
+}
+
+fn is_description_copied(alloc: Global, description: &StreamDescription) -> Result<bool, Fail> {
+    let copy = description.try_clone(alloc)?;
+    is_alike(alloc, description, &copy)
+}
+
+// Whether a hello gives a description, which is copied.
+fn is_described_alike(alloc: Global, hello: &HelloReply) -> Result<bool, Fail> {
+    let described = Answered {
+        answer: described(alloc, hello),
+    };
+    match &described.answer {
+        Ok(description) => is_description_copied(alloc, description),
+        Err(_) => Ok(false),
+    }
+}
+
+// Whether a hello is copied, and each of its parts, and what it says of the server.
 fn is_copied(alloc: Global, hello: &HelloReply) -> Result<bool, Fail> {
-    let text = format!(in alloc; "{hello:?}")?;
-    Ok(copied(alloc, hello)?.as_str() == text.as_str())
+    let fields = &hello.command_response;
+    Ok(
+        is_hello_copied(alloc, hello)?
+            && are_fields_copied(alloc, fields)?
+            && is_address_copied(alloc, &hello.server_address)?
+            && is_first_copied(alloc, &fields.tags)?
+            && is_described_alike(alloc, hello)?,
+    )
 }
 
 // Whether there is a hello, which is copied.
@@ -146,11 +203,26 @@ fn is_copied_whole(alloc: Global, hello: &Answered<HelloReply>) -> Result<bool, 
 
 #[test]
 fn a_hello_is_copied(rt: HostRuntime) -> Result<(), Fail> {
-    let fields = "hosts=[ 0=text:a:1 ] msg=text:m tags={ dc=text:east } $clusterTime={ }";
+    let fields =
+        "hosts=[ 0=text:a:1 ] msg=text:m tags={ dc=text:east } saslSupportedMechs=[ 0=text:PLAIN ] serviceId=id:2 $clusterTime={ }";
     let document = hello_document(rt.alloc(), fields)?;
     let hello = Answered {
         answer: hello_reply(rt.alloc(), document),
     };
     assert!(rt; is_copied_whole(rt.alloc(), &hello)?);
+    Ok(())
+}
+
+// Whether a copy of a reply has its document and its address.
+fn is_reply_copied(alloc: Global, reply: &RawCommandResponse) -> Result<bool, Fail> {
+    let copy = reply.try_clone(alloc)?;
+    Ok(copy.as_bytes() == reply.as_bytes() && copy.source_address() == reply.source_address())
+}
+
+/// A copy of a reply has the bytes of its document and its address.
+#[test]
+fn a_reply_is_copied(rt: HostRuntime) -> Result<(), Fail> {
+    let reply = response(rt.alloc(), document(rt.alloc(), "ok=int:1")?)?;
+    assert!(rt; is_reply_copied(rt.alloc(), &reply)?);
     Ok(())
 }
