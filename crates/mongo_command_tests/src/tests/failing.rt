@@ -3,9 +3,12 @@ ghost use Rattle.std.specs.Prelude.{◌<◌};
 use super::Answered;
 use mongo_bson::{Bytes, RawDocument, Text};
 use mongo_command::{
-    Command, Connection, HelloReply, RawCommandResponse, ServerAddress, hello_command, run_hello,
+    Command, Connection, HelloReply, RawCommandResponse, ServerAddress, ServerType,
+    StreamDescription, hello_command, run_hello,
 };
-use mongo_wire::{Error, ErrorKind, FailingLink, FrameBuffer, Link, RequestIds, Sink, Source};
+use mongo_wire::{
+    ArgumentFault, Error, ErrorKind, FailingLink, FrameBuffer, Link, RequestIds, Sink, Source,
+};
 use std::alloc::Global;
 use std::test::Fail;
 
@@ -31,17 +34,25 @@ const DOCUMENT_START: usize = 21;
 enum Asked {
     SendMessage,
     Exchange,
+    ExchangeInto,
     RunHello,
 }
 
-const EACH: [Asked; 3] = [Asked::SendMessage, Asked::Exchange, Asked::RunHello];
+const EACH: [Asked; 4] = [
+    Asked::SendMessage,
+    Asked::Exchange,
+    Asked::ExchangeInto,
+    Asked::RunHello,
+];
 
 // How a call ended: with the reply, or with this fault. A connection's fault, too, where Done is none.
 #[derive(Clone, Copy, Debug, PartialEq)]
-enum Told {
+pub(crate) enum Told {
     Done,
     ReadFault,
     WriteFault,
+    EndOfInput,
+    TooLong,
     Other,
 }
 
@@ -92,18 +103,21 @@ fn seen_of_four(first: Seen) -> [Seen; 4] {
     [first, second, third, seen_next(third)]
 }
 
-// A connection beside its link and its ids.
+// A connection beside its link, its ids and the buffer that replies are taken into.
 #[derive(Drop)]
 struct Talk {
     connection: Connection,
     link: FailingLink,
     ids: RequestIds,
+    buffer: FrameBuffer,
 }
 
 fn told_by(kind: &ErrorKind) -> Told {
     match kind {
         ErrorKind::ReadFault => Told::ReadFault,
         ErrorKind::WriteFault => Told::WriteFault,
+        ErrorKind::EndOfInput => Told::EndOfInput,
+        ErrorKind::InvalidArgument(ArgumentFault::TooLong) => Told::TooLong,
         _ => Told::Other,
     }
 }
@@ -132,6 +146,16 @@ fn told_document(call: &Answered<RawDocument<'_>>) -> Told {
     }
 }
 
+fn told_into(call: &Answered<()>, buffer: &FrameBuffer) -> Told {
+    match &call.answer {
+        Ok(()) => match buffer.message() {
+            Some(message) => told_of(message.document_payload.as_bytes()),
+            None => Told::Other,
+        },
+        Err(error) => told_by(&error.kind),
+    }
+}
+
 fn told_hello(call: &Answered<HelloReply>) -> Told {
     match &call.answer {
         Ok(reply) => told_of(reply.raw_command_response.as_bytes()),
@@ -139,7 +163,7 @@ fn told_hello(call: &Answered<HelloReply>) -> Told {
     }
 }
 
-fn send_message<L: Link>(
+pub(crate) fn send_message<L: Link>(
     alloc: Global,
     connection: &mut Connection,
     link: &mut L,
@@ -156,10 +180,22 @@ fn exchange<L: Link>(
     link: &mut L,
     ids: &mut RequestIds,
     command: Command,
+    buffer: &mut FrameBuffer,
 ) -> Told {
-    let mut buffer = FrameBuffer::new(alloc);
-    let answer = connection.exchange(alloc, link, ids, command, &mut buffer);
+    let answer = connection.exchange(alloc, link, ids, command, buffer);
     told_document(&Answered { answer })
+}
+
+fn exchange_into<L: Link>(
+    alloc: Global,
+    connection: &mut Connection,
+    link: &mut L,
+    ids: &mut RequestIds,
+    command: Command,
+    buffer: &mut FrameBuffer,
+) -> Told {
+    let answer = connection.exchange_into(alloc, link, ids, command, buffer);
+    told_into(&Answered { answer }, buffer)
 }
 
 fn hello<L: Link>(
@@ -173,39 +209,76 @@ fn hello<L: Link>(
     told_hello(&Answered { answer })
 }
 
+// A connection that hasn't been used.
+pub(crate) fn new_connection(alloc: Global) -> Result<Connection, Error> {
+    let path = Text::from_slice(alloc, "/server.sock")?;
+    Ok(Connection::new(ServerAddress::Unix { path }, 5))
+}
+
+// The reply four times.
+fn four_replies(alloc: Global) -> Result<Bytes, Error> {
+    let mut replies = Bytes::new(alloc);
+    for _ in 0..4 {
+        replies.extend_from_slice(REPLY)?;
+    }
+    Ok(replies)
+}
+
+// A schedule under which just this call fails.
+fn failing_call(alloc: Global, call: usize) -> Result<Bytes, Error> {
+    let mut schedule = Vec::new(alloc);
+    for _ in 0..call {
+        schedule.push(0)?;
+    }
+    schedule.push(1)?;
+    Ok(Bytes::from_vec(schedule))
+}
+
+// A new connection over a link. Its ids begin with 0.
+fn talk_over(alloc: Global, link: FailingLink) -> Result<Talk, Error> {
+    Ok(Talk {
+        connection: new_connection(alloc)?,
+        link,
+        ids: RequestIds::new(0),
+        buffer: FrameBuffer::new(alloc),
+    })
+}
+
 impl Talk {
-    // A new connection over a link that has four replies, moves so many bytes a call, and fails at just this call. Its ids
-    // begin with 0.
+    // A new connection over a link that has four replies, moves so many bytes a call, and fails at just this call.
     fn failing_at(alloc: Global, call: usize, most: usize) -> Result<Talk, Error>
         requires { 0 < most }
     {
-        let path = Text::from_slice(alloc, "/server.sock")?;
-        let mut replies = Bytes::new(alloc);
-        for _ in 0..4 {
-            replies.extend_from_slice(REPLY)?;
-        }
-        let mut schedule = Vec::new(alloc);
-        for _ in 0..call {
-            schedule.push(0)?;
-        }
-        schedule.push(1)?;
-        Ok(Talk {
-            connection: Connection::new(ServerAddress::Unix { path }, 5),
-            link: FailingLink::new(alloc, replies, Bytes::from_vec(schedule), most),
-            ids: RequestIds::new(0),
+        let replies = four_replies(alloc)?;
+        let schedule = failing_call(alloc, call)?;
+        talk_over(alloc, FailingLink::new(alloc, replies, schedule, most))
+    }
+
+    // Makes a call, and gives how it ended.
+    fn tell(&mut self, alloc: Global, asked: Asked) -> Result<Told, Error> {
+        let command = hello_command(alloc, None, Some(false), None, None)?;
+        let (connection, link, ids) = (&mut self.connection, &mut self.link, &mut self.ids);
+        let buffer = &mut self.buffer;
+        Ok(match asked {
+            Asked::SendMessage => send_message(alloc, connection, link, ids, command),
+            Asked::Exchange => exchange(alloc, connection, link, ids, command, buffer),
+            Asked::ExchangeInto => exchange_into(alloc, connection, link, ids, command, buffer),
+            Asked::RunHello => hello(alloc, connection, link, ids, command),
         })
     }
 
     // Makes a call, and gives what is seen after it.
     fn ask(&mut self, alloc: Global, asked: Asked) -> Result<Seen, Error> {
-        let command = hello_command(alloc, None, Some(false), None, None)?;
-        let (connection, link, ids) = (&mut self.connection, &mut self.link, &mut self.ids);
-        let told = match asked {
-            Asked::SendMessage => send_message(alloc, connection, link, ids, command),
-            Asked::Exchange => exchange(alloc, connection, link, ids, command),
-            Asked::RunHello => hello(alloc, connection, link, ids, command),
-        };
+        let told = self.tell(alloc, asked)?;
         Ok(self.seen(told))
+    }
+
+    // Whether the buffer took so many frames, and shows the last one's bytes behind its header, or nothing.
+    fn shows(&self, frames: u64, bytes: Option<&[u8]>) -> bool {
+        let held = self.buffer.as_bytes();
+        self.buffer.frames() == frames
+            && self.buffer.message().is_some() == bytes.is_some()
+            && held == bytes.unwrap_or(&[])
     }
 
     // What is seen after a call that ended so.
@@ -309,6 +382,73 @@ fn a_connection_without_a_fault_goes_on_byte_by_byte(rt: HostRuntime) -> Result<
         let seen = four_calls(rt.alloc(), first, 688, 1)?;
         let wanted = seen_of_four(seen_first(Told::Done, HELLO_LEN, REPLY_LEN));
         assert_eq!(rt; seen, wanted, "{first:?}");
+    }
+    Ok(())
+}
+
+// The reply with a sequence without documents under the identifier `a` behind its body, by the OP_MSG specification: 7 bytes
+// more, the kind byte, the size 6 and a text.
+const LONGER: &[u8] =
+    b"\x5d\0\0\0\x01\0\0\0\0\0\0\0\xdd\x07\0\0\0\0\0\0\0\x41\0\0\0\x01ok\0\0\0\0\0\0\0\xf0\x3f\x10maxBsonObjectSize\0\0\0\0\x01\x10maxMessageSizeBytes\0\0\x6c\xdc\x02\0\x01\x06\0\0\0a\0";
+
+// A new connection over a link that has the longer reply and then the other.
+fn talk_of_two(alloc: Global) -> Result<Talk, Error> {
+    let mut replies = Bytes::from_slice(alloc, LONGER)?;
+    replies.extend_from_slice(REPLY)?;
+    let link = FailingLink::new(alloc, replies, Bytes::new(alloc), 4096);
+    talk_over(alloc, link)
+}
+
+// The description of a server that takes frames of one byte less than a hello's.
+fn narrow(alloc: Global) -> Result<StreamDescription, Error> {
+    Ok(StreamDescription {
+        server_address: ServerAddress::Unix {
+            path: Text::from_slice(alloc, "/server.sock")?,
+        },
+        initial_server_type: ServerType::Standalone,
+        max_wire_version: None,
+        min_wire_version: None,
+        sasl_supported_mechs: None,
+        logical_session_timeout: None,
+        max_bson_object_size: 16_777_216,
+        max_write_batch_size: 100_000,
+        hello_ok: false,
+        max_message_size_bytes: 84,
+        service_id: None,
+    })
+}
+
+// Has the connection know its server so, or not at all.
+fn describe(connection: &mut Connection, description: StreamDescription) {
+    connection.stream_description = Some(description);
+}
+
+fn forget(connection: &mut Connection) {
+    connection.stream_description = None;
+}
+
+// Whether the buffer holds each reply in its turn.
+fn holds_each(alloc: Global, asked: Asked, talk: &mut Talk) -> Result<bool, Error> {
+    let first = talk.tell(alloc, asked)? == Told::Done && talk.shows(1, LONGER.get(16..));
+    let second = talk.tell(alloc, asked)? == Told::Done && talk.shows(2, REPLY.get(16..));
+    Ok(first && second)
+}
+
+// Whether a command that is too long leaves the buffer as it was, and a reply that doesn't come leaves it empty.
+fn holds_what_came(alloc: Global, asked: Asked, talk: &mut Talk) -> Result<bool, Error> {
+    describe(&mut talk.connection, narrow(alloc)?);
+    let too_long = talk.tell(alloc, asked)? == Told::TooLong && talk.shows(2, REPLY.get(16..));
+    forget(&mut talk.connection);
+    Ok(too_long && talk.tell(alloc, asked)? == Told::EndOfInput && talk.shows(2, None))
+}
+
+/// A buffer shows the last reply until another command was sent, and nothing where that one had no reply.
+#[test]
+fn a_buffer_holds_the_last_reply(rt: HostRuntime) -> Result<(), Fail> {
+    for asked in [Asked::Exchange, Asked::ExchangeInto] {
+        let mut talk = talk_of_two(rt.alloc())?;
+        assert!(rt; holds_each(rt.alloc(), asked, &mut talk)?, "{asked:?}");
+        assert!(rt; holds_what_came(rt.alloc(), asked, &mut talk)?, "{asked:?}");
     }
     Ok(())
 }
