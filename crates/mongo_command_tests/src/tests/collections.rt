@@ -1,5 +1,5 @@
 use super::notation::document;
-use mongo_bson::{Bytes, Documents, RawArrayBuf, RawDocumentBuf};
+use mongo_bson::{Bytes, Documents, RawArrayBuf, RawDocumentBuf, Text};
 use mongo_command::{Command, RawDocumentCollection};
 use mongo_wire::{Error, MemoryLink, Message, RequestIds};
 use std::alloc::Global;
@@ -112,6 +112,21 @@ fn documents_add_what_they_were_to_add(rt: HostRuntime) -> Result<(), Fail> {
     Ok(())
 }
 
+// Adds a sequence of one empty document to a command.
+fn add_one(alloc: Global, command: &mut Command) -> Result<(), Error> {
+    let mut documents = Documents::new(alloc);
+    documents.push(RawDocumentBuf::new(alloc)?)?;
+    command.add_document_sequence(Text::from_slice(alloc, "documents")?, documents)
+}
+
+// The frame of an insert to which a sequence was added by its name.
+fn with_sequence(alloc: Global) -> Result<Bytes, Fail> {
+    let mut command = insert(alloc, document(alloc, "insert=text:c")?)?;
+    add_one(alloc, &mut command)?;
+    let message = command.into_message(alloc)?;
+    Ok(frame(alloc, &message)?)
+}
+
 // Both frames with one document, laid out by the OP_MSG specification and BSON 1.1.
 const BESIDE: &[u8] =
     b"\x47\0\0\0\0\0\0\0\0\0\0\0\xdd\x07\0\0\0\0\0\0\0\x1e\0\0\0\x02insert\0\x02\0\0\0c\0\x02$db\0\x02\0\0\0d\0\0\x01\x13\0\0\0documents\0\x05\0\0\0\0";
@@ -123,6 +138,7 @@ const INSIDE: &[u8] =
 fn a_sequence_stands_behind_the_document_and_an_array_in_it(rt: HostRuntime) -> Result<(), Fail> {
     let (sequence, _) = in_sequence(rt.alloc(), 1)?;
     assert_eq!(rt; sequence.as_bytes(), BESIDE);
+    assert_eq!(rt; with_sequence(rt.alloc())?.as_bytes(), BESIDE);
     let (array, _) = in_array(rt.alloc(), 1)?;
     assert_eq!(rt; array.as_bytes(), INSIDE);
     Ok(())

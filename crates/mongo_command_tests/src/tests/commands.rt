@@ -1,9 +1,11 @@
+use super::failing::{Told, new_connection, send_message};
 use super::notation::document;
-use mongo_bson::{ObjectId, RawDocumentBuf, Text};
+use mongo_bson::{Bytes, ObjectId, RawDocumentBuf, RawValue, Text};
 use mongo_command::{
-    AwaitableHelloOptions, Command, ServerApi, ServerApiVersion, TopologyVersion, hello_command,
+    AwaitableHelloOptions, Command, ServerApi, ServerApiVersion, TopologyVersion, append_fields,
+    hello_command,
 };
-use mongo_wire::Error;
+use mongo_wire::{Error, MemoryLink, RequestIds};
 use std::alloc::Global;
 use std::test::Fail;
 
@@ -74,11 +76,17 @@ fn copy_has_fields(alloc: Global, command: &Command, fields: &str) -> Result<boo
     has_fields(alloc, &command.try_clone(alloc)?, fields)
 }
 
+// The same of a copy with memory for more.
+fn roomy_copy_has_fields(alloc: Global, command: &Command, fields: &str) -> Result<bool, Fail> {
+    has_fields(alloc, &command.try_clone_with_room(alloc, 100)?, fields)
+}
+
 #[test]
 fn fields_stand_in_their_order_whatever_that_of_the_calls(rt: HostRuntime) -> Result<(), Fail> {
     let mut command = ping(rt.alloc())?;
     set_all(rt.alloc(), &mut command)?;
     assert!(rt; copy_has_fields(rt.alloc(), &command, ALL)?);
+    assert!(rt; roomy_copy_has_fields(rt.alloc(), &command, ALL)?);
     command.clear_concerns();
     assert!(rt; has_fields(rt.alloc(), &command, WITHOUT_CONCERNS)?);
     Ok(())
@@ -150,6 +158,26 @@ false - - => isMaster=int:1 helloOk=true backpressure=text:2 $db=text:admin
 - false api => hello=int:1 backpressure=text:2 $db=text:admin apiVersion=text:1 apiStrict=true apiDeprecationErrors=false
 - true await => hello=int:1 backpressure=text:2 topologyVersion={ processId=id:7 counter=long:9 } maxAwaitTimeMS=long:10000 $db=text:admin";
 
+// Whether a hello is written with these flags. Nothing answers it.
+fn has_flags(alloc: Global, hello: Command, flags: &[u8]) -> Result<bool, Error> {
+    let mut connection = new_connection(alloc)?;
+    let mut link = MemoryLink::new(alloc, Bytes::new(alloc));
+    let mut ids = RequestIds::new(0);
+    let told = send_message(alloc, &mut connection, &mut link, &mut ids, hello);
+    Ok(told == Told::EndOfInput && link.written().get(16..20) == Some(flags))
+}
+
+// Whether the row's hello is written with the flag that more than one answer may come, bit 16, exactly where it waits.
+fn is_flagged(alloc: Global, row: &str) -> Result<bool, Error> {
+    let (words, _) = row.split_once(" => ").unwrap_or((row, "no arrow"));
+    let flags = if words.ends_with("await") {
+        [0, 0, 1, 0]
+    } else {
+        [0; 4]
+    };
+    has_flags(alloc, hello(alloc, words)?, &flags)
+}
+
 // Whether the message of a hello has this document.
 fn is_sent_as(alloc: Global, hello: Command, document: &[u8]) -> Result<bool, Error> {
     let message = hello.into_message(alloc)?;
@@ -160,9 +188,29 @@ fn is_sent_as(alloc: Global, hello: Command, document: &[u8]) -> Result<bool, Er
 fn a_hello_has_the_name_that_the_server_knows(rt: HostRuntime) -> Result<(), Fail> {
     for row in HELLOS.lines() {
         assert!(rt; is_hello(rt.alloc(), row)?, "{row}");
+        assert!(rt; is_flagged(rt.alloc(), row)?, "{row}");
     }
     assert!(rt; is_sent_as(rt.alloc(), hello(rt.alloc(), "")?, HELLO)?);
     let ping = document(rt.alloc(), "ping=int:1 $db=text:admin")?;
     assert_eq!(rt; ping.as_bytes(), PING);
+    Ok(())
+}
+
+// The document of a field, none and another, which are put in together.
+fn appended(alloc: Global) -> Result<RawDocumentBuf, Error> {
+    let mut document = RawDocumentBuf::new(alloc)?;
+    let fields = [
+        Some(("ping", RawValue::Int32(1))),
+        None,
+        Some(("$db", RawValue::Str("admin"))),
+    ];
+    append_fields(&mut document, &fields)?;
+    Ok(document)
+}
+
+/// Fields are put at the end in their order, and one that is none adds nothing.
+#[test]
+fn fields_that_are_there_are_appended(rt: HostRuntime) -> Result<(), Fail> {
+    assert_eq!(rt; appended(rt.alloc())?.as_bytes(), PING);
     Ok(())
 }
