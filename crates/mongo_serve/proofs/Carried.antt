@@ -1,32 +1,28 @@
--- The login that a hello carries.
 use Rattle.std.proofs.Common.{◌≡◌, ℕ, codes, Option, None, Some, IfSome, List, inl, inr}
 use Rattle.mongo_serve.specs.declared.request.SaslStart.{SaslStart}
 use Rattle.std.specs.Borrow.{Bor}
 use Rattle.mongo_serve.specs.declared.request.SaslContinue.{SaslContinue}
-use Rattle.mongo_serve.specs.Requests.{HasInside, HasPayload, IsNamed, IsGreeting, SaysStart, SaysContinue, CarriesStart, Opens, Continues}
+use Rattle.mongo_serve.specs.Requests.{HasPayload, IsNamed, IsGreeting, SaysStart, SaysContinue, CarriesStart, Opens, Continues}
+use Rattle.mongo_serve.specs.Values.{HasInside, Holds}
 
-pub carried : (document inner : List ℕ) (start : Option SaslStart) → HasInside document (codes "speculativeAuthenticate") inner → IfSome start (SaysStart inner) → IfSome start (CarriesStart document)
-carried document inner None inside says = tt
-carried document inner (Some start) inside says = record { inner = inner; inside = inside; says = says }
-
--- ---- what a request begins, or goes on with
+-- What a request begins, or goes on with.
 
 greets_with : (document inner : List ℕ) (payload : Option (Bor (List ℕ))) → IsGreeting document → HasInside document (codes "speculativeAuthenticate") inner → IsNamed inner (codes "saslStart")
-    → IfSome payload (λ p. HasPayload inner p.now) → IfSome payload (λ p. Opens document p.now)
+    → Holds (HasPayload inner) payload → IfSome payload (λ p. Opens document p.now)
 greets_with document inner None greeting inside named message = tt
 greets_with document inner (Some p) greeting inside named message = inr (record { greeting = greeting; inner = inner; inside = inside; start = record { named = named; message = message } })
 
 pub greeting_opens : (document : List ℕ) (start : SaslStart) → IsGreeting document → CarriesStart document start → IfSome start.payload (λ p. Opens document p.now)
 greeting_opens document start greeting carries = greets_with document carries.inner start.payload greeting carries.inside carries.says.named carries.says.message
 
-starts_with : (document : List ℕ) (payload : Option (Bor (List ℕ))) → IsNamed document (codes "saslStart") → IfSome payload (λ p. HasPayload document p.now) → IfSome payload (λ p. Opens document p.now)
+starts_with : (document : List ℕ) (payload : Option (Bor (List ℕ))) → IsNamed document (codes "saslStart") → Holds (HasPayload document) payload → IfSome payload (λ p. Opens document p.now)
 starts_with document None named message = tt
 starts_with document (Some p) named message = inl (record { named = named; message = message })
 
 pub start_opens : (document : List ℕ) (start : SaslStart) → SaysStart document start → IfSome start.payload (λ p. Opens document p.now)
 start_opens document start says = starts_with document start.payload says.named says.message
 
-goes_on_with : (document : List ℕ) (payload : Option (Bor (List ℕ))) → IsNamed document (codes "saslContinue") → IfSome payload (λ p. HasPayload document p.now) → IfSome payload (λ p. Continues document p.now)
+goes_on_with : (document : List ℕ) (payload : Option (Bor (List ℕ))) → IsNamed document (codes "saslContinue") → Holds (HasPayload document) payload → IfSome payload (λ p. Continues document p.now)
 goes_on_with document None named message = tt
 goes_on_with document (Some p) named message = record { named = named; message = message }
 

@@ -1,4 +1,5 @@
 pub mod Accounts
+pub mod Asked
 pub mod Sent
 pub mod Turns
 pub mod Begun

@@ -14,3 +14,4 @@ pub mod Sent
 pub mod Served
 pub mod Settings
 pub mod Taken
+pub mod Values

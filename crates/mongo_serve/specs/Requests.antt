@@ -1,8 +1,12 @@
 -- What a client asks for: a command, by the first key of its document.
-use Rattle.std.specs.Prelude.{◌≡◌, ℕ, ◌⊎◌, ◌||◌, Bool, true, false, List, [], ◌∷◌, drop, codes, bytes_eq, IfSome}
+use Rattle.std.specs.Prelude.{◌≡◌, ℕ, ◌==◌, ◌⊎◌, ◌↔◌, ◌||◌, Bool, true, false, Option, None, Some, List, [], length, drop, codes, bytes_eq, if◌then◌else◌, IsTrue}
+use Rattle.std.specs.List.{position_or_len, after_first}
 use Rattle.mongo_bson.specs.Framed.{body_of}
 use Rattle.mongo_bson.specs.Document.{Element}
 use Rattle.mongo_bson.specs.Find.{IsFirstOf, BeginsWithKey}
+use Rattle.mongo_scram.specs.declared.scram_version.ScramVersion.{ScramVersion}
+use Rattle.mongo_serve.specs.Settings.{version_named}
+use Rattle.mongo_serve.specs.Values.{HasInside, HasText, HasTrue, HasOne, Holds}
 use Rattle.mongo_serve.specs.declared.request.Request.{Request}
 use Rattle.mongo_serve.specs.declared.request.Request.TheVariants.{Hello as Greeting, SaslStart as Starting, SaslContinue as Continuing, Ping, BuildInfo, EndSessions, Other}
 use Rattle.mongo_serve.specs.declared.request.Hello.{Hello}
@@ -21,13 +25,6 @@ pub record HasPayload (document payload : List ℕ) : Type 0 where
   pub first : IsFirstOf (body_of document) (codes "payload") element
   pub binary : element.kind ≡ 0x05
   pub payload_is : payload ≡ drop 5 element.value
-
--- a document that is the value of a key
-pub record HasInside (document key inner : List ℕ) : Type 0 where
-  pub element : Element
-  pub first : IsFirstOf (body_of document) key element
-  pub is_document : element.kind ≡ 0x03
-  pub inner_is : inner ≡ element.value
 
 -- a `saslStart` with this message
 pub record IsStart (document payload : List ℕ) : Type 0 where
@@ -56,9 +53,21 @@ pub record Continues (document payload : List ℕ) : Type 0 where
 
 -- ---- what a request is to its document
 
+-- the version of SCRAM that `mechanism` names; none where it names none that is spoken here
+abbrev pub SaysVersion : List ℕ → Option ScramVersion → Type 0
+SaysVersion document None = (name : List ℕ) → HasText document (codes "mechanism") name → version_named name ≡ None
+SaysVersion document (Some version) = (name : List ℕ) × HasText document (codes "mechanism") name × (version_named name ≡ Some version)
+
+-- `options` asks for no empty exchange at the end
+abbrev pub SkipsEmptyExchange : List ℕ → Type 0
+SkipsEmptyExchange document = (options : List ℕ) × HasInside document (codes "options") options × HasTrue options (codes "skipEmptyExchange")
+
+-- a `saslStart`
 pub record SaysStart (document : List ℕ) (start : SaslStart) : Type 0 where
   pub named : IsNamed document (codes "saslStart")
-  pub message : IfSome start.payload (λ payload. HasPayload document payload.now)
+  pub version : SaysVersion document start.version
+  pub message : Holds (HasPayload document) start.payload
+  pub skips : IsTrue start.skips_empty_exchange ↔ SkipsEmptyExchange document
 
 -- a login that a hello carries
 pub record CarriesStart (document : List ℕ) (start : SaslStart) : Type 0 where
@@ -66,13 +75,35 @@ pub record CarriesStart (document : List ℕ) (start : SaslStart) : Type 0 where
   pub inside : HasInside document (codes "speculativeAuthenticate") inner
   pub says : SaysStart inner start
 
+-- the login that a hello carries; none where what it carries is no `saslStart`
+abbrev pub CarriesLogin : List ℕ → Option SaslStart → Type 0
+CarriesLogin document None = (inner : List ℕ) → HasInside document (codes "speculativeAuthenticate") inner → IsNamed inner (codes "saslStart") → ⊥
+CarriesLogin document (Some start) = CarriesStart document start
+
+-- hello by its name, or by a legacy one
+abbrev pub IsGreetingBy : List ℕ → Bool → Type 0
+IsGreetingBy document false = IsNamed document (codes "hello")
+IsGreetingBy document true = IsNamed document (codes "isMaster") ⊎ IsNamed document (codes "ismaster")
+
+-- a user's name without its database: what stands behind the first dot, or all of it where there is none
+abbrev pub name_without_database : List ℕ → List ℕ
+name_without_database user = if position_or_len (λ b. b == 46) user == length user then user else after_first (λ b. b == 46) user
+
+-- the mechanisms of this user are asked for
+abbrev pub AsksMechanismsOf : List ℕ → List ℕ → Type 0
+AsksMechanismsOf document user = (text : List ℕ) × HasText document (codes "saslSupportedMechs") text × (user ≡ name_without_database text)
+
 pub record SaysHello (document : List ℕ) (hello : Hello) : Type 0 where
   pub greeting : IsGreeting document
-  pub speculation : IfSome hello.speculation (CarriesStart document)
+  pub name : IsGreetingBy document hello.is_legacy
+  pub mechanisms : Holds (AsksMechanismsOf document) hello.mechanisms_of
+  pub speculation : CarriesLogin document hello.speculation
 
+-- a `saslContinue`
 pub record SaysContinue (document : List ℕ) (next : SaslContinue) : Type 0 where
   pub named : IsNamed document (codes "saslContinue")
-  pub message : IfSome next.payload (λ payload. HasPayload document payload.now)
+  pub conversation : IsTrue next.is_of_conversation ↔ HasOne document (codes "conversationId")
+  pub message : Holds (HasPayload document) next.payload
 
 -- the names that are known
 abbrev pub is_known : List ℕ → Bool
@@ -81,9 +112,17 @@ is_known name =
     || bytes_eq name (codes "saslStart") || bytes_eq name (codes "saslContinue") || bytes_eq name (codes "ping")
     || bytes_eq name (codes "buildInfo") || bytes_eq name (codes "buildinfo") || bytes_eq name (codes "endSessions")
 
+-- the document has no first key
+abbrev pub IsUnnamed : List ℕ → Type 0
+IsUnnamed document = (name : List ℕ) → IsNamed document name → ⊥
+
+-- the document's first key, or the empty text where it has none
+abbrev pub IsCommandName : List ℕ → List ℕ → Type 0
+IsCommandName document name = IsNamed document name ⊎ (IsUnnamed document × (name ≡ []))
+
 -- another command, or no first key
 pub record SaysOther (document name : List ℕ) : Type 0 where
-  pub named : IsNamed document name ⊎ (name ≡ [])
+  pub named : IsCommandName document name
   pub unknown : is_known name ≡ false
 
 -- the document asks for this

@@ -1,7 +1,7 @@
 -- How a run ends.
 use Rattle.std.specs.Prelude.{◌≡◌, ℕ, ◌⊎◌, Option, None, Some, List, [], ◌∷◌, ◌++◌}
 use Rattle.std.specs.Io.KnownBytes.{Consumes}
-use Rattle.mongo_wire.specs.Outside.{State, Rose, AppendsFront}
+use Rattle.mongo_wire.specs.Outside.{State, ReadsOn, Rose, AppendsFront}
 use Rattle.mongo_wire.specs.declared.error.ErrorKind.{ErrorKind}
 use Rattle.mongo_wire.specs.declared.error.ErrorKind.TheVariants as kind
 use Rattle.mongo_serve.specs.declared.fault.ServeFault.{ServeFault}
@@ -30,8 +30,9 @@ line_error_of kind.EndOfInput = line.BadSettings
 line_error_of kind.OutOfMemory = line.OutOfMemory
 line_error_of other = line.Fault
 
--- a line and its line feed were taken, and the line says these settings
+-- a line and its line feed were taken, nothing was written, and the line says these settings
 pub record IsAfterLine (old new : State) (settings : Settings) : Type 0 where
+  pub on : ReadsOn old new
   pub line : List ℕ
   pub taken : Consumes old.left new.left (line ++ 10 ∷ [])
   pub are_settings : AreSettings line settings

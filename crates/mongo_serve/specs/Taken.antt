@@ -4,11 +4,12 @@ use Rattle.mongo_bson.specs.Document.{IsCstring}
 use Rattle.mongo_bson.specs.Framed.{IsFramed}
 use Rattle.mongo_wire.specs.Frame.{Frame, IsFrame}
 use Rattle.mongo_wire.specs.Header.{signed_at}
-use Rattle.mongo_serve.specs.Requests.{HasInside, IsNamed}
+use Rattle.mongo_serve.specs.Requests.{IsNamed}
+use Rattle.mongo_serve.specs.Values.{HasInside}
 
--- the command of a query's document: the document itself, or what it wraps as `$query`
+-- the command of a query's document: what it wraps as `$query`, or the document itself where that isn't its first key
 abbrev pub IsCommandOf : List ℕ → List ℕ → Type 0
-IsCommandOf document command = (command ≡ document) ⊎ (IsNamed document (codes "$query") × HasInside document (codes "$query") command)
+IsCommandOf document command = ((IsNamed document (codes "$query") → ⊥) × (command ≡ document)) ⊎ (IsNamed document (codes "$query") × HasInside document (codes "$query") command)
 
 -- what follows the header of an OP_QUERY on `admin.$cmd`: int32 flags, the collection's name, two int32, a document, and what may
 -- follow it

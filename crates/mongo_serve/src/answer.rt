@@ -1,10 +1,10 @@
 //! One step of a session: a request, and the reply to it.
 
-ghost use Rattle.std.specs.Prelude.{◌≡◌, ◌↔◌, ℕ, List, [], ◌∷◌, ◌++◌, IsTrue, IfSome, IfOk, IfErr, OnOk, OnErr};
+ghost use Rattle.std.specs.Prelude.{◌≡◌, ◌↔◌, ℕ, List, [], ◌∷◌, ◌++◌, IsTrue, IfOk, IfErr, OnOk, OnErr};
 ghost use Rattle.mongo_serve.specs.Accounts.{AreMechanismsOf, Lists, HasAccount, IsOf};
 ghost use Rattle.mongo_serve.specs.Answers.{guarded_by, AnswersCarried, Greets, IsAnswer, login_reply};
 ghost use Rattle.mongo_serve.specs.Login.{Remembers};
-ghost use Rattle.mongo_serve.specs.Requests.{CarriesStart, IsGreeting, Says, SaysHello};
+ghost use Rattle.mongo_serve.specs.Requests.{CarriesLogin, IsGreeting, Says, SaysHello};
 ghost use Rattle.mongo_serve.specs.declared.fault.ServeFault.TheVariants.{OutOfMemory};
 
 use crate::fault::ServeFault;
@@ -76,7 +76,7 @@ fn begin<G: Ledger>(
     speculation: Option<SaslStart<'_>>,
     steps: &mut Steps<G>,
 ) -> Result<Option<SaslReply>, ServeFault>
-    ensures remembers { (requests : List (List ℕ)) (document : List ℕ) → Remembers settings.now requests session.old → IsGreeting document → IfSome speculation.entry (CarriesStart document) →
+    ensures remembers { (requests : List (List ℕ)) (document : List ℕ) → Remembers settings.now requests session.old → IsGreeting document → CarriesLogin document speculation.entry →
         Remembers settings.now (requests ++ document ∷ []) session.new }
     ensures answered { IfOk result (AnswersCarried settings.now session.old speculation.entry session.new) }
     ensures user { session.new.user ≡ session.old.user }

@@ -1,8 +1,9 @@
 //! What a client asks for: a command, by the first key of its document.
 
-ghost use Rattle.std.specs.Prelude.{◌≡◌, ◌⊎◌, [], IfSome};
+ghost use Rattle.std.specs.Prelude.{◌≡◌, ◌↔◌, ℕ, List, codes, MatchOption, IsTrue};
 ghost use Rattle.mongo_serve.specs.Settings.{version_named};
-ghost use Rattle.mongo_serve.specs.Requests.{IsNamed, HasPayload, HasInside, Says, SaysStart, CarriesStart};
+ghost use Rattle.mongo_serve.specs.Requests.{AsksMechanismsOf, CarriesLogin, HasPayload, IsCommandName, IsNamed, name_without_database, Says, SaysStart, SaysVersion, SkipsEmptyExchange};
+ghost use Rattle.mongo_serve.specs.Values.{binary_of, HasInside, HasOne, HasText, HasTrue, Holds, inner_of, IsOne, IsTruth, StandsAt, string_of};
 
 use mongo_bson::{RawDocument, RawValue, first_key};
 use mongo_scram::ScramVersion;
@@ -77,7 +78,7 @@ pub fn request_of<'a>(document: RawDocument<'a>) -> Request<'a>
 
 /// The key of the document's first element; empty where there is none.
 pub fn command_name<'a>(document: RawDocument<'a>) -> &'a str
-    ensures { IsNamed document.entry.bytes.now result.now ⊎ (result.now ≡ []) }
+    ensures { IsCommandName document.entry.bytes.now result.now }
 {
     match first_key(document) {
         Ok(Some(name)) => name,
@@ -86,22 +87,30 @@ pub fn command_name<'a>(document: RawDocument<'a>) -> &'a str
 }
 
 fn hello_of<'a>(document: RawDocument<'a>, is_legacy: bool) -> Hello<'a>
-    ensures speculation { IfSome result.speculation (CarriesStart document.entry.bytes.now) }
     ensures legacy { result.is_legacy ≡ is_legacy }
+    ensures mechanisms { Holds (AsksMechanismsOf document.entry.bytes.now) result.mechanisms_of }
+    ensures speculation { CarriesLogin document.entry.bytes.now result.speculation }
 {
     Hello {
         is_legacy,
-        mechanisms_of: match text_in(document, "saslSupportedMechs") {
-            Some(user) => Some(name_without_database(user)),
-            None => None,
-        },
+        mechanisms_of: user_asked_of(document),
         speculation: carried_start(document),
+    }
+}
+
+// The user whose mechanisms are asked for.
+fn user_asked_of<'a>(document: RawDocument<'a>) -> Option<&'a str>
+    ensures { Holds (AsksMechanismsOf document.entry.bytes.now) result }
+{
+    match text_in(document, "saslSupportedMechs") {
+        Some(user) => Some(name_without_database(user)),
+        None => None,
     }
 }
 
 // The login that a hello carries.
 fn carried_start<'a>(document: RawDocument<'a>) -> Option<SaslStart<'a>>
-    ensures { IfSome result (CarriesStart document.entry.bytes.now) }
+    ensures { CarriesLogin document.entry.bytes.now result }
 {
     match document_in(document, "speculativeAuthenticate") {
         Some(inner) => speculation_of(inner),
@@ -111,17 +120,18 @@ fn carried_start<'a>(document: RawDocument<'a>) -> Option<SaslStart<'a>>
 
 // The login that a document begins, where it is a `saslStart`.
 fn speculation_of<'a>(document: RawDocument<'a>) -> Option<SaslStart<'a>>
-    ensures { IfSome result (SaysStart document.entry.bytes.now) }
+    ensures { MatchOption result (IsNamed document.entry.bytes.now (codes "saslStart") → ⊥) (SaysStart document.entry.bytes.now) }
 {
-    if command_name(document) == "saslStart" {
-        Some(start_of(document))
-    } else {
-        None
+    match command_name(document) {
+        "saslStart" => Some(start_of(document)),
+        _ => None,
     }
 }
 
 // What stands behind the first dot, or the whole name where there is none.
-fn name_without_database(user: &str) -> &str {
+fn name_without_database(user: &str) -> &str
+    ensures { result.now ≡ name_without_database user.now }
+{
     match user.split_once('.') {
         Some((_database, name)) => name,
         None => user,
@@ -129,23 +139,40 @@ fn name_without_database(user: &str) -> &str {
 }
 
 fn start_of<'a>(document: RawDocument<'a>) -> SaslStart<'a>
-    ensures { IfSome result.payload (λ payload. HasPayload document.entry.bytes.now payload.now) }
+    ensures version { SaysVersion document.entry.bytes.now result.version }
+    ensures message { Holds (HasPayload document.entry.bytes.now) result.payload }
+    ensures skips { IsTrue result.skips_empty_exchange ↔ SkipsEmptyExchange document.entry.bytes.now }
 {
     SaslStart {
-        version: match text_in(document, "mechanism") {
-            Some(name) => version_named(name),
-            None => None,
-        },
+        version: version_in(document),
         payload: payload_of(document),
-        skips_empty_exchange: match document_in(document, "options") {
-            Some(options) => is_true_in(options, "skipEmptyExchange"),
-            None => false,
-        },
+        skips_empty_exchange: skips_empty_exchange(document),
+    }
+}
+
+// The version of SCRAM that the mechanism names.
+fn version_in(document: RawDocument<'_>) -> Option<ScramVersion>
+    ensures { SaysVersion document.entry.bytes.now result }
+{
+    match text_in(document, "mechanism") {
+        Some(name) => version_named(name),
+        None => None,
+    }
+}
+
+// Whether the options ask for no empty exchange at the end.
+fn skips_empty_exchange(document: RawDocument<'_>) -> bool
+    ensures { IsTrue result ↔ SkipsEmptyExchange document.entry.bytes.now }
+{
+    match document_in(document, "options") {
+        Some(options) => is_true_in(options, "skipEmptyExchange"),
+        None => false,
     }
 }
 
 fn continue_of<'a>(document: RawDocument<'a>) -> SaslContinue<'a>
-    ensures { IfSome result.payload (λ payload. HasPayload document.entry.bytes.now payload.now) }
+    ensures conversation { IsTrue result.is_of_conversation ↔ HasOne document.entry.bytes.now (codes "conversationId") }
+    ensures message { Holds (HasPayload document.entry.bytes.now) result.payload }
 {
     SaslContinue {
         is_of_conversation: is_one_in(document, "conversationId"),
@@ -166,42 +193,103 @@ pub fn version_named(name: &str) -> Option<ScramVersion>
 
 // The bytes of the binary that is the document's `payload`.
 fn payload_of<'a>(document: RawDocument<'a>) -> Option<&'a [u8]>
-    ensures { IfSome result (λ payload. HasPayload document.entry.bytes.now payload.now) }
+    ensures { Holds (HasPayload document.entry.bytes.now) result }
 {
-    match document.get("payload") {
-        Ok(Some(RawValue::Binary(_subtype, bytes))) => Some(bytes),
-        _ => None,
+    match value_in(document, "payload") {
+        Some(value) => binary_of(value),
+        None => None,
     }
 }
 
 /// The document of a key.
 pub fn document_in<'a>(document: RawDocument<'a>, key: &str) -> Option<RawDocument<'a>>
-    ensures { IfSome result (λ inner. HasInside document.entry.bytes.now key.now inner.bytes.now) }
+    ensures { MatchOption result ((inner : List ℕ) → HasInside document.entry.bytes.now key.now inner → ⊥) (λ inner. HasInside document.entry.bytes.now key.now inner.bytes.now) }
 {
-    match document.get(key) {
-        Ok(Some(RawValue::Document(inner))) => Some(inner),
-        _ => None,
+    match value_in(document, key) {
+        Some(value) => inner_of(value),
+        None => None,
     }
 }
 
-fn text_in<'a>(document: RawDocument<'a>, key: &str) -> Option<&'a str> {
-    match document.get(key) {
-        Ok(Some(RawValue::Str(text))) => Some(text),
-        _ => None,
+fn text_in<'a>(document: RawDocument<'a>, key: &str) -> Option<&'a str>
+    ensures { Holds (HasText document.entry.bytes.now key.now) result }
+{
+    match value_in(document, key) {
+        Some(value) => string_of(value),
+        None => None,
     }
 }
 
-fn is_true_in(document: RawDocument<'_>, key: &str) -> bool {
-    match document.get(key) {
-        Ok(Some(RawValue::Bool(truth))) => truth,
-        _ => false,
+fn is_true_in(document: RawDocument<'_>, key: &str) -> bool
+    ensures { IsTrue result ↔ HasTrue document.entry.bytes.now key.now }
+{
+    match value_in(document, key) {
+        Some(value) => is_truth(value),
+        None => false,
     }
 }
 
 // Whether the value of a key is the int32 1.
-fn is_one_in(document: RawDocument<'_>, key: &str) -> bool {
+fn is_one_in(document: RawDocument<'_>, key: &str) -> bool
+    ensures { IsTrue result ↔ HasOne document.entry.bytes.now key.now }
+{
+    match value_in(document, key) {
+        Some(value) => is_one(value),
+        None => false,
+    }
+}
+
+// The value of a key; none where the document has none, or breaks off before it.
+fn value_in<'a>(document: RawDocument<'a>, key: &str) -> Option<RawValue<'a>>
+    ensures { StandsAt document.entry.bytes.now key.now result }
+{
     match document.get(key) {
-        Ok(Some(RawValue::Int32(number))) => number == 1,
+        Ok(found) => found,
+        Err(_) => None,
+    }
+}
+
+fn string_of<'a>(value: RawValue<'a>) -> Option<&'a str>
+    ensures { result ≡ string_of value.entry }
+{
+    match value {
+        RawValue::Str(text) => Some(text),
+        _ => None,
+    }
+}
+
+fn binary_of<'a>(value: RawValue<'a>) -> Option<&'a [u8]>
+    ensures { result ≡ binary_of value.entry }
+{
+    match value {
+        RawValue::Binary(_subtype, bytes) => Some(bytes),
+        _ => None,
+    }
+}
+
+fn inner_of<'a>(value: RawValue<'a>) -> Option<RawDocument<'a>>
+    ensures { result ≡ inner_of value.entry }
+{
+    match value {
+        RawValue::Document(inner) => Some(inner),
+        _ => None,
+    }
+}
+
+fn is_truth(value: RawValue<'_>) -> bool
+    ensures { IsTrue result ↔ IsTruth value.entry }
+{
+    match value {
+        RawValue::Bool(truth) => truth,
+        _ => false,
+    }
+}
+
+fn is_one(value: RawValue<'_>) -> bool
+    ensures { IsTrue result ↔ IsOne value.entry }
+{
+    match value {
+        RawValue::Int32(number) => number == 1,
         _ => false,
     }
 }

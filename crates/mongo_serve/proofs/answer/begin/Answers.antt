@@ -1,12 +1,12 @@
-use Rattle.std.proofs.Common.{IfSome, Some}
+use Rattle.std.proofs.Common.{Some}
 use Rattle.mongo_serve.proofs.Carried.{greeting_opens}
 use Rattle.mongo_serve.proofs.Sent.{remembers_later}
-use Rattle.mongo_serve.specs.Requests.{CarriesStart}
+use Rattle.mongo_serve.specs.Requests.{CarriesLogin}
 use Rattle.mongo_serve.proofs.answer.begin.Goals as goal
 
 pub returns-in-Some-clause-remembers : goal.returns-in-Some-clause-remembers
 returns-in-Some-clause-remembers g c = λ requests document h greeting carries.
-    let start : IfSome (Some c.in-Some.start) (CarriesStart document) = rw c.in-Some.is at carries in
+    let start : CarriesLogin document (Some c.in-Some.start) = rw c.in-Some.is at carries in
     c.start.ensures.remembers requests document h (greeting_opens document c.in-Some.start greeting start)
 
 pub returns-in-None-clause-remembers : goal.returns-in-None-clause-remembers
