@@ -1,6 +1,7 @@
 ghost use Rattle.std.specs.Prelude.{◌<◌};
 
 mod login;
+mod second;
 
 use super::run_counted;
 use crate::put_back::PutBack;
@@ -8,6 +9,7 @@ use crate::status::Status;
 use login::{EMPTY, FIRST, LAST, PING_AFTER, REPLIES, USERS, Wanted, fault_at, whole};
 use mongo_bson::{BsonFault, Bytes};
 use mongo_wire::{FailingLink, MemoryLink};
+use second::{ANSWERED, ASKED, TWO};
 use std::alloc::Global;
 use std::marker::Brand;
 use std::sync::ledger::Blank;
@@ -319,6 +321,53 @@ fn a_login_a_few_bytes_at_a_time(rt: HostRuntime) -> Result<(), Fail> {
     for most in [1, 2, 17] {
         let ended = serve_client(rt.alloc(), &CLIENT, most, NEVER, whole())?;
         assert_eq!(rt; ended, as_wanted(whole()), "at {most}");
+    }
+    Ok(())
+}
+
+// Serves a client that sends these pieces after the settings of two users: whether just the replies of as many were written, and the
+// report says these lines.
+fn answers_two(
+    alloc: Global,
+    pieces: usize,
+    report: &[&str],
+) -> Result<(Status, bool, bool), BsonFault> {
+    let mut input = Bytes::from_slice(alloc, TWO)?;
+    for piece in ASKED.iter().take(pieces) {
+        input.extend_from_slice(piece)?;
+    }
+    let mut replies = Bytes::new(alloc);
+    for reply in ANSWERED.iter().take(pieces) {
+        replies.extend_from_slice(reply)?;
+    }
+    let mut told = Bytes::new(alloc);
+    for line in report {
+        told.extend_from_slice(line.as_bytes())?;
+    }
+    let mut link = PutBack::new(alloc, MemoryLink::new(alloc, input));
+    let mut said = MemoryLink::new(alloc, Bytes::new(alloc));
+    let status = run_counted::<_, _, Brand>(alloc, &mut link, &mut said, Blank::new(1));
+    let is_answered = link.link().written() == replies.as_bytes();
+    Ok((status, is_answered, said.written() == told.as_bytes()))
+}
+
+#[test]
+fn each_user_has_its_own_mechanisms_and_login(rt: HostRuntime) -> Result<(), Fail> {
+    let second = ["logged in: \"second\"\n", "the client ended its stream\n"];
+    for (pieces, report) in [
+        // the mechanisms of the second user, the first one's, and none where there is no such user
+        (1, NOBODY_ENDED),
+        (2, NOBODY_ENDED),
+        (3, NOBODY_ENDED),
+        // the login begins, is proved, and a ping is answered
+        (4, NOBODY_ENDED),
+        (5, second),
+        (6, second),
+    ] {
+        let (status, is_answered, is_told) = answers_two(rt.alloc(), pieces, &report)?;
+        assert_eq!(rt; status, Status::Ended, "at {pieces}");
+        assert!(rt; is_answered, "at {pieces}");
+        assert!(rt; is_told, "at {pieces}");
     }
     Ok(())
 }
