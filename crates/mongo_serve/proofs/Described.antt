@@ -1,10 +1,11 @@
 -- The documents of replies, as their elements are put.
-use Rattle.std.proofs.Common.{◌≡◌, ℕ, ℤ, true, Option, Some, Result, Ok, Err, OnOk, List, [], ◌∷◌, ◌++◌, codes, refl, sym, ap, ◌∙◌, subst, append_assoc}
+use Rattle.std.proofs.Common.{◌≡◌, ℕ, ℤ, true, Option, Some, Result, Ok, Err, OnOk, OnErr, List, [], ◌∷◌, ◌++◌, codes, sym, ap, ◌∙◌, subst, append_assoc}
 use Rattle.std.specs.Prelude.{⊤}
 use Rattle.std.specs.Io.KnownBytes.{Appends}
 use Rattle.mongo_bson.specs.Document.{Element}
 use Rattle.mongo_command.specs.Literal.{truth_element, document_element, document_of}
-use Rattle.mongo_wire.specs.Outside.{State, IsFlushed}
+use Rattle.mongo_wire.specs.Bytes.{next_id}
+use Rattle.mongo_wire.specs.Outside.{State, AppendsFront, IsFlushed}
 use Rattle.mongo_serve.specs.declared.fault.ServeFault.{ServeFault}
 use Rattle.mongo_serve.specs.declared.reply.HelloReply.{HelloReply}
 use Rattle.mongo_serve.specs.declared.reply.Reply.{Reply}
@@ -27,7 +28,13 @@ hello_described hello key named =
     let s = speculation_elements hello.speculation in
     ap document_of (regroup description (truth_element key true) m s ok_element ∙ ap (λ k. description ++ (truth_element k true ∷ (m ++ (s ++ ok_element ∷ [])))) named)
 
-pub query_sent : (old new : State) (to id : ℤ) (reply : Reply) (document frame bytes : List ℕ) (r : Result ⊤ ServeFault) → document ≡ reply_document reply → frame ≡ query_reply id to document → bytes ≡ frame
-    → OnOk r (Appends old.written new.written bytes) → OnOk r (IsFlushed new.written new.flushed) → OnOk r (IsSentToQuery old new to reply)
-query_sent old new to id reply document frame bytes (Err fault) p q s a f = tt
-query_sent old new to id reply document frame bytes (Ok done) p q s a f = record { id = id; appended = subst (Appends old.written new.written) (s ∙ q ∙ ap (query_reply id to) p) a; flushed = f }
+pub query_sent : (old new : State) (to id later : ℤ) (reply : Reply) (document frame bytes : List ℕ) (r : Result ⊤ ServeFault) → document ≡ reply_document reply → frame ≡ query_reply id to document → bytes ≡ frame → later ≡ next_id id
+    → OnOk r (Appends old.written new.written bytes) → OnOk r (IsFlushed new.written new.flushed) → OnOk r (IsSentToQuery old new to reply id later)
+query_sent old new to id later reply document frame bytes (Err fault) p q s drawn a f = tt
+query_sent old new to id later reply document frame bytes (Ok done) p q s drawn a f =
+    record { appended = subst (Appends old.written new.written) (s ∙ q ∙ ap (query_reply id to) p) a; flushed = f; drawn = drawn }
+
+pub query_front : (old new : State) (to id : ℤ) (reply : Reply) (document frame bytes : List ℕ) (r : Result ⊤ ServeFault) → document ≡ reply_document reply → frame ≡ query_reply id to document → bytes ≡ frame
+    → OnErr r (AppendsFront old.written new.written bytes) → OnErr r (AppendsFront old.written new.written (query_reply id to (reply_document reply)))
+query_front old new to id reply document frame bytes (Ok done) p q s a = tt
+query_front old new to id reply document frame bytes (Err fault) p q s a = subst (AppendsFront old.written new.written) (s ∙ q ∙ ap (query_reply id to) p) a

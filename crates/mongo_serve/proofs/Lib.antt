@@ -1,6 +1,8 @@
 pub mod Accounts
 pub mod Asked
 pub mod Sent
+pub mod Lasts
+pub mod Causes
 pub mod Turns
 pub mod Begun
 pub mod Carried
@@ -13,3 +15,4 @@ pub mod Stream
 pub mod Ran
 pub mod Said
 pub mod Continued
+pub mod Greeted

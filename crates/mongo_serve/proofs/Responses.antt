@@ -1,22 +1,105 @@
--- Replies that are sent.
-use Rattle.std.proofs.Common.{◌≡◌, ℕ, ℤ, None, Result, Ok, Err, OnOk, List, [], bit_and, subst, inr}
+-- Replies that are sent, or cut.
+use Rattle.std.proofs.Common.{◌≡◌, ℕ, ℤ, ◌+◌, Option, None, Result, Ok, Err, OnOk, OnErr, List, [], ◌∷◌, ◌++◌, length, bit_and, sym, ap, ◌∙◌, subst, inr, append-nil, arith}
+use Rattle.std.proofs.Math.Seq.{take-length}
+use Rattle.std.proofs.KnownBytes.{Appends-kept, Appends-nil}
 use Rattle.std.specs.Prelude.{⊤}
-use Rattle.mongo_wire.specs.Frame.{IsFrameWith, known_flags}
-use Rattle.mongo_wire.specs.Message.{IsFrameOf}
-use Rattle.mongo_wire.specs.Outside.{State}
+use Rattle.std.specs.Io.KnownBytes.{Appends, Keeps}
+use Rattle.mongo_wire.specs.Frame.{IsFrameWith, int32, known_flags, message_code, uint32}
+use Rattle.mongo_wire.specs.Message.{IsFrameOf, WriteRefused, id_of, written_frame}
+use Rattle.mongo_wire.specs.Outside.{State, AppendsFront}
 use Rattle.mongo_wire.specs.declared.document_sequence.DocumentSequence.{DocumentSequence}
+use Rattle.mongo_wire.specs.declared.error.ErrorKind.{ErrorKind}
+use Rattle.mongo_wire.specs.declared.error.ErrorKind.TheVariants.{InvalidArgument, InvalidResponse, Command, Authentication, IncompatibleServer, Write, InsertMany, ReadFault, WriteFault, EndOfInput, Callback, PasswordNotAscii, OutOfMemory}
+use Rattle.mongo_wire.specs.declared.message.Message.{Message}
 use Rattle.mongo_wire.specs.declared.message_flags.MessageFlags.{MessageFlags}
 use Rattle.mongo_serve.specs.declared.fault.ServeFault.{ServeFault}
 use Rattle.mongo_serve.specs.declared.reply.Reply.{Reply}
+use Rattle.mongo_serve.specs.Faults.{fault_of_kind}
 use Rattle.mongo_serve.specs.Replies.{reply_document}
-use Rattle.mongo_serve.specs.Sent.{IsReplyFrame, SendsReply, IsSent}
+use Rattle.mongo_serve.specs.Sent.{message_reply, IsReplyFrame, IsSent, IsSentInPart, SendsReply, WantsNone, WriteCause}
+use Rattle.mongo_serve.proofs.Lasts.{sent_flushed}
 
 pub message_framed : (document : List ℕ) (sequences : List DocumentSequence) (id to : ℤ) (flags : MessageFlags) (frame : List ℕ) → sequences ≡ [] → flags.0 ≡ 0
-    → IsFrameOf id (record { document_payload = document; document_sequences = sequences; response_to = to; flags = flags; checksum = None; request_id = None }) frame → IsReplyFrame frame id to document
+    → IsFrameOf id (record { document_payload = document; document_sequences = sequences; response_to = to; flags = flags; checksum = None; request_id = None }) frame
+    → IsFrameWith frame (record { request_id = id; response_to = to; flags = 0; body = document; sequences = []; checksum = None }) 0
 message_framed document sequences id to flags frame none clear h =
     let a = subst (λ s. IsFrameWith frame (record { request_id = id; response_to = to; flags = bit_and flags.0 known_flags; body = document; sequences = s; checksum = None }) (bit_and flags.0 known_flags)) none h in
     subst (λ f. IsFrameWith frame (record { request_id = id; response_to = to; flags = bit_and f known_flags; body = document; sequences = []; checksum = None }) (bit_and f known_flags)) clear a
 
-pub reply_sent : (old new : State) (to : ℤ) (flags : ℕ) (reply : Reply) (document : List ℕ) (r : Result ⊤ ServeFault) → document ≡ reply_document reply → OnOk r (SendsReply old new to document) → OnOk r (IsSent old new to flags reply)
-reply_sent old new to flags reply document (Err fault) is h = tt
-reply_sent old new to flags reply document (Ok done) is h = record { sent = h.sent; is_answer = inr (h.id, subst (IsReplyFrame h.sent h.id to) is h.is_reply); appended = h.appended }
+-- ---- the bytes of a message that has its document alone
+
+-- a frame of these flags and this content
+abbrev framed : ℤ → ℤ → ℕ → List ℕ → List ℕ
+framed id to flags content = uint32 (20 + length content) ++ (int32 id ++ (int32 to ++ (uint32 message_code ++ (uint32 (bit_and flags known_flags) ++ content))))
+
+spelled_alone : (document : List ℕ) (id to : ℤ) (flags : ℕ) → flags ≡ 0 → framed id to flags (((0 ∷ document) ++ []) ++ []) ≡ message_reply id to document
+spelled_alone document id to flags clear =
+    let content : ((0 ∷ document) ++ []) ++ [] ≡ 0 ∷ document = append-nil ((0 ∷ document) ++ []) ∙ append-nil (0 ∷ document) in
+    let counted : 20 + length (0 ∷ document) ≡ 21 + length document = omega arith in
+    ap (framed id to flags) content ∙ ap (λ f. framed id to f (0 ∷ document)) clear ∙ ap (λ n. uint32 n ++ (int32 id ++ (int32 to ++ (uint32 message_code ++ (uint32 0 ++ (0 ∷ document)))))) counted
+
+pub message_spelled : (document : List ℕ) (sequences : List DocumentSequence) (id to : ℤ) (flags : MessageFlags) → sequences ≡ [] → flags.0 ≡ 0
+    → written_frame id (record { document_payload = document; document_sequences = sequences; response_to = to; flags = flags; checksum = None; request_id = None }) ≡ message_reply id to document
+message_spelled document sequences id to flags none clear =
+    subst (λ s. written_frame id (record { document_payload = document; document_sequences = s; response_to = to; flags = flags; checksum = None; request_id = None }) ≡ message_reply id to document) (sym none)
+    (spelled_alone document id to flags.0 clear)
+
+-- ---- a write that was refused
+
+nothing_kept : (old new : Option (List ℕ)) (bytes : List ℕ) → Keeps old new → AppendsFront old new bytes
+nothing_kept old new bytes kept = (0, Appends-kept old old new [] (Appends-nil old) kept)
+
+-- all of the bytes are a front of them
+pub all_written : (old mid new : Option (List ℕ)) (bytes : List ℕ) → Appends old mid bytes → Keeps mid new → AppendsFront old new bytes
+all_written old mid new bytes appended kept = (length bytes, subst (Appends old new) (sym (take-length bytes)) (Appends-kept old mid new bytes appended kept))
+
+pub nothing_written : (old : Option (List ℕ)) (bytes : List ℕ) → AppendsFront old old bytes
+nothing_written old bytes = (0, Appends-nil old)
+
+-- a front of the frame was written
+pub refused_front : (kind : ErrorKind) (most : ℤ) (m : Message) (old new : Option (List ℕ)) (fo fn : ℕ) (before after : ℤ) → WriteRefused kind most m old new fo fn before after → AppendsFront old new (written_frame (id_of m before) m)
+refused_front (InvalidArgument fault) most m old new fo fn before after h = nothing_kept old new (written_frame (id_of m before) m) h.1
+refused_front WriteFault most m old new fo fn before after h = h.1.front
+refused_front OutOfMemory most m old new fo fn before after h = h.front
+refused_front ReadFault most m old new fo fn before after h = absurd h
+refused_front EndOfInput most m old new fo fn before after h = absurd h
+refused_front (InvalidResponse _) most m old new fo fn before after h = absurd h
+refused_front (Command _) most m old new fo fn before after h = absurd h
+refused_front (Authentication _) most m old new fo fn before after h = absurd h
+refused_front IncompatibleServer most m old new fo fn before after h = absurd h
+refused_front (Write _) most m old new fo fn before after h = absurd h
+refused_front (InsertMany _) most m old new fo fn before after h = absurd h
+refused_front (Callback _) most m old new fo fn before after h = absurd h
+refused_front PasswordNotAscii most m old new fo fn before after h = absurd h
+
+pub refused_cause : (kind : ErrorKind) (most : ℤ) (m : Message) (old new : State) (before after : ℤ) → WriteRefused kind most m old.written new.written old.write_faults new.write_faults before after → WriteCause (fault_of_kind kind) old new
+refused_cause (InvalidArgument fault) most m old new before after h = tt
+refused_cause WriteFault most m old new before after h = h.0
+refused_cause OutOfMemory most m old new before after h = tt
+refused_cause ReadFault most m old new before after h = absurd h
+refused_cause EndOfInput most m old new before after h = absurd h
+refused_cause (InvalidResponse _) most m old new before after h = absurd h
+refused_cause (Command _) most m old new before after h = absurd h
+refused_cause (Authentication _) most m old new before after h = absurd h
+refused_cause IncompatibleServer most m old new before after h = absurd h
+refused_cause (Write _) most m old new before after h = absurd h
+refused_cause (InsertMany _) most m old new before after h = absurd h
+refused_cause (Callback _) most m old new before after h = absurd h
+refused_cause PasswordNotAscii most m old new before after h = absurd h
+
+-- ---- an OP_MSG was answered
+
+pub reply_sent : (old new : State) (to : ℤ) (flags : ℕ) (reply : Reply) (id later : ℤ) (document : List ℕ) (r : Result ⊤ ServeFault) → document ≡ reply_document reply → (WantsNone flags → ⊥) → OnOk r (SendsReply old new id later to document)
+    → OnOk r (IsSent old new to flags reply id later)
+reply_sent old new to flags reply id later document (Err fault) is wanted h = tt
+reply_sent old new to flags reply id later document (Ok done) is wanted h = record {
+  sent = h.sent;
+  is_answer = inr (wanted, subst (λ d. IsReplyFrame h.sent id to d) is h.is_reply, h.drawn);
+  appended = h.appended;
+  flushed = sent_flushed old new h.sent h.appended h.flushed;
+}
+
+pub reply_cut : (old new : State) (to : ℤ) (flags : ℕ) (reply : Reply) (id : ℤ) (document : List ℕ) (r : Result ⊤ ServeFault) → document ≡ reply_document reply → (WantsNone flags → ⊥)
+    → OnErr r (AppendsFront old.written new.written (message_reply id to document)) → OnErr r (IsSentInPart old new to flags reply id)
+reply_cut old new to flags reply id document (Ok done) is wanted h = tt
+reply_cut old new to flags reply id document (Err fault) is wanted h = record { wanted = wanted; front = subst (λ d. AppendsFront old.written new.written (message_reply id to d)) is h }

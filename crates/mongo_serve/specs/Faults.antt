@@ -37,10 +37,3 @@ abbrev pub IsOfDocument : ServeFault → Type 0
 IsOfDocument ReplyTooLong = ⊤
 IsOfDocument OutOfMemory = ⊤
 IsOfDocument fault = ⊥
-
--- the sink failed, a reply is too long, or memory ran out
-abbrev pub IsOfWriting : ServeFault → Type 0
-IsOfWriting WriteFault = ⊤
-IsOfWriting ReplyTooLong = ⊤
-IsOfWriting OutOfMemory = ⊤
-IsOfWriting fault = ⊥

@@ -1,5 +1,6 @@
 pub mod Accounts
 pub mod Answers
+pub mod Cut
 pub mod Faults
 pub mod Last
 pub mod Login
@@ -14,4 +15,5 @@ pub mod Sent
 pub mod Served
 pub mod Settings
 pub mod Taken
+pub mod Turns
 pub mod Values

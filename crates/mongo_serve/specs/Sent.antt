@@ -1,10 +1,13 @@
 -- The frames that replies go out in.
-use Rattle.std.specs.Prelude.{◌≡◌, ℕ, ℤ, pos, ◌+◌, ◌⊎◌, None, List, [], ◌++◌, length, take, bit_and}
+use Rattle.std.specs.Prelude.{◌≡◌, ℕ, ℤ, pos, ◌+◌, ◌≤◌, ◌⊎◌, None, List, [], ◌∷◌, ◌++◌, length, take, bit_and, IfSome, ⊤}
 use Rattle.std.specs.Int.{to_le_bytes, w64}
 use Rattle.std.specs.Io.KnownBytes.{Appends}
-use Rattle.mongo_wire.specs.Frame.{Frame, IsFrame, IsFrameWith, int32, uint32}
+use Rattle.mongo_wire.specs.Bytes.{next_id}
+use Rattle.mongo_wire.specs.Frame.{Frame, IsFrame, IsFrameWith, int32, message_code, uint32}
 use Rattle.mongo_wire.specs.Header.{signed_at}
-use Rattle.mongo_wire.specs.Outside.{State, IsFlushed}
+use Rattle.mongo_wire.specs.Outside.{State, AppendsFront, IsFlushed, Rose}
+use Rattle.mongo_serve.specs.declared.fault.ServeFault.{ServeFault}
+use Rattle.mongo_serve.specs.declared.fault.ServeFault.TheVariants.{WriteFault, ReplyTooLong, OutOfMemory}
 use Rattle.mongo_serve.specs.declared.reply.Reply.{Reply}
 use Rattle.mongo_serve.specs.Replies.{reply_document}
 
@@ -12,52 +15,91 @@ use Rattle.mongo_serve.specs.Replies.{reply_document}
 abbrev pub WantsNone : ℕ → Type 0
 WantsNone flags = bit_and flags 2 ≡ 2
 
--- a reply in an OP_MSG, to the request of this id: no flags, no sequences and no checksum
-abbrev pub IsReplyFrame : List ℕ → ℤ → ℤ → List ℕ → Type 0
-IsReplyFrame sent id to document = IsFrameWith sent (record { request_id = id; response_to = to; flags = 0; body = document; sequences = []; checksum = None }) 0
+-- the bytes of a reply in an OP_MSG, to the request of this id: no flags, and its document alone
+abbrev pub message_reply : ℤ → ℤ → List ℕ → List ℕ
+message_reply id to document = uint32 (21 + length document) ++ (int32 id ++ (int32 to ++ (uint32 message_code ++ (uint32 0 ++ (0 ∷ document)))))
+
+-- these bytes, which are a frame of the grammar: no flags, no sequences and no checksum
+pub record IsReplyFrame (sent : List ℕ) (id to : ℤ) (document : List ℕ) : Type 0 where
+  pub framed : IsFrameWith sent (record { request_id = id; response_to = to; flags = 0; body = document; sequences = []; checksum = None }) 0
+  pub spelled : sent ≡ message_reply id to document
 
 -- a reply in an OP_REPLY, op code 1: the header, responseFlags 8, which is AwaitCapable, cursorID 0, startingFrom 0, numberReturned 1,
 -- the document
 abbrev pub query_reply : ℤ → ℤ → List ℕ → List ℕ
 query_reply id to document = uint32 (length document + 36) ++ (int32 id ++ (int32 to ++ ((int32 (pos 1) ++ (int32 (pos 8) ++ (to_le_bytes w64 0 ++ (int32 (pos 0) ++ int32 (pos 1))))) ++ document)))
 
--- what is sent to an OP_MSG of this id and these flags: a reply, or nothing where the client says that it sends more
-abbrev pub IsAnswerTo : ℤ → ℕ → Reply → List ℕ → Type 0
-IsAnswerTo to flags reply sent = (WantsNone flags × (sent ≡ [])) ⊎ ((id : ℤ) × IsReplyFrame sent id to (reply_document reply))
+-- ---- what answers a frame, where the next reply has this id, and the one after it that
+
+-- what is sent to an OP_MSG of this id and these flags: a reply, or nothing exactly where the client says that it sends more
+abbrev pub IsAnswerTo : ℤ → ℕ → Reply → ℤ → ℤ → List ℕ → Type 0
+IsAnswerTo to flags reply id later sent =
+    (WantsNone flags × (sent ≡ []) × (later ≡ id)) ⊎ ((WantsNone flags → ⊥) × IsReplyFrame sent id to (reply_document reply) × (later ≡ next_id id))
 
 -- what answers an OP_MSG of this document
-pub record AnswersMessage (frame : List ℕ) (document : List ℕ) (reply : Reply) (sent : List ℕ) : Type 0 where
+pub record AnswersMessage (frame : List ℕ) (document : List ℕ) (reply : Reply) (id later : ℤ) (sent : List ℕ) : Type 0 where
   pub parts : Frame
   pub is_frame : IsFrame frame parts
   pub body_is : parts.body ≡ document
-  pub answer : IsAnswerTo parts.request_id parts.flags reply sent
+  pub answer : IsAnswerTo parts.request_id parts.flags reply id later sent
 
 -- what answers an OP_QUERY: its header has the id
-abbrev pub AnswersQuery : List ℕ → Reply → List ℕ → Type 0
-AnswersQuery frame reply sent = (id : ℤ) × (sent ≡ query_reply id (signed_at 4 (take 16 frame)) (reply_document reply))
+abbrev pub AnswersQuery : List ℕ → Reply → ℤ → ℤ → List ℕ → Type 0
+AnswersQuery frame reply id later sent = (sent ≡ query_reply id (signed_at 4 (take 16 frame)) (reply_document reply)) × (later ≡ next_id id)
+
+-- some front of the bytes
+abbrev pub IsFrontOf : List ℕ → List ℕ → Type 0
+IsFrontOf front bytes = (n : ℕ) × (front ≡ take n bytes)
+
+-- a front of what answers an OP_MSG
+pub record CutsMessage (frame : List ℕ) (document : List ℕ) (reply : Reply) (id : ℤ) (sent : List ℕ) : Type 0 where
+  pub parts : Frame
+  pub is_frame : IsFrame frame parts
+  pub body_is : parts.body ≡ document
+  pub wanted : WantsNone parts.flags → ⊥
+  pub front : IsFrontOf sent (message_reply id parts.request_id (reply_document reply))
+
+-- a front of what answers an OP_QUERY
+abbrev pub CutsQuery : List ℕ → Reply → ℤ → List ℕ → Type 0
+CutsQuery frame reply id sent = IsFrontOf sent (query_reply id (signed_at 4 (take 16 frame)) (reply_document reply))
 
 -- ---- a write
 
--- some bytes were appended
-abbrev pub AppendsSome : State → State → Type 0
-AppendsSome old new = (bytes : List ℕ) × Appends old.written new.written bytes
+-- what was sent is flushed, where anything was
+abbrev pub HasFlushed : State → State → List ℕ → Type 0
+HasFlushed old new sent = (sent ≡ []) ⊎ IfSome old.written (λ before. length before + length sent ≤ new.flushed)
 
--- a document was sent as a reply, and flushed
-pub record SendsReply (old new : State) (to : ℤ) (document : List ℕ) : Type 0 where
-  pub id : ℤ
+-- a document was sent as a reply of this id, and flushed
+pub record SendsReply (old new : State) (id later to : ℤ) (document : List ℕ) : Type 0 where
   pub sent : List ℕ
   pub is_reply : IsReplyFrame sent id to document
   pub appended : Appends old.written new.written sent
   pub flushed : IsFlushed new.written new.flushed
+  pub drawn : later ≡ next_id id
 
--- an OP_MSG was answered
-pub record IsSent (old new : State) (to : ℤ) (flags : ℕ) (reply : Reply) : Type 0 where
+-- an OP_MSG was answered, and the reply flushed
+pub record IsSent (old new : State) (to : ℤ) (flags : ℕ) (reply : Reply) (id later : ℤ) : Type 0 where
   pub sent : List ℕ
-  pub is_answer : IsAnswerTo to flags reply sent
+  pub is_answer : IsAnswerTo to flags reply id later sent
   pub appended : Appends old.written new.written sent
+  pub flushed : HasFlushed old new sent
+
+-- an answer to an OP_MSG was cut: a front of it is written, if any
+pub record IsSentInPart (old new : State) (to : ℤ) (flags : ℕ) (reply : Reply) (id : ℤ) : Type 0 where
+  pub wanted : WantsNone flags → ⊥
+  pub front : AppendsFront old.written new.written (message_reply id to (reply_document reply))
 
 -- an OP_QUERY was answered, and the reply flushed
-pub record IsSentToQuery (old new : State) (to : ℤ) (reply : Reply) : Type 0 where
-  pub id : ℤ
+pub record IsSentToQuery (old new : State) (to : ℤ) (reply : Reply) (id later : ℤ) : Type 0 where
   pub appended : Appends old.written new.written (query_reply id to (reply_document reply))
   pub flushed : IsFlushed new.written new.flushed
+  pub drawn : later ≡ next_id id
+
+-- ---- why a write was refused
+
+-- the sink failed exactly where its count rose
+abbrev pub WriteCause : ServeFault → State → State → Type 0
+WriteCause WriteFault old new = Rose old.write_faults new.write_faults
+WriteCause ReplyTooLong old new = ⊤
+WriteCause OutOfMemory old new = ⊤
+WriteCause fault old new = ⊥

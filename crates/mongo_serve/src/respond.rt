@@ -1,10 +1,10 @@
 //! Writing replies.
 
-ghost use Rattle.std.specs.Prelude.{◌≡◌, ◌+◌, ◌^◌, ◌<◌, length, IfOk, IfErr, OnOk};
+ghost use Rattle.std.specs.Prelude.{◌≡◌, ◌+◌, ◌^◌, ◌<◌, length, IfOk, IfErr, OnOk, OnErr};
 ghost use Rattle.std.specs.Io.KnownBytes.{Appends};
-ghost use Rattle.mongo_wire.specs.Outside.{IsFlushed, WritesOn};
-ghost use Rattle.mongo_serve.specs.Faults.{IsOfWriting};
-ghost use Rattle.mongo_serve.specs.Sent.{query_reply, AppendsSome, IsSent, IsSentToQuery, SendsReply};
+ghost use Rattle.mongo_wire.specs.Outside.{AppendsFront, IsFlushed, WritesOn};
+ghost use Rattle.mongo_serve.specs.Replies.{reply_document};
+ghost use Rattle.mongo_serve.specs.Sent.{message_reply, query_reply, IsSent, IsSentInPart, IsSentToQuery, SendsReply, WriteCause};
 ghost use Rattle.mongo_serve.specs.declared.fault.ServeFault.TheVariants.{OutOfMemory};
 
 use crate::fault::ServeFault;
@@ -25,10 +25,10 @@ pub fn respond<K: Sink>(
     reply: &Reply,
     ids: &mut RequestIds,
 ) -> Result<(), ServeFault>
-    ensures sent { OnOk result (IsSent (K.state sink.old) (K.state sink.new) request_id flags.0 reply.now) }
-    ensures front { AppendsSome (K.state sink.old) (K.state sink.new) }
+    ensures sent { OnOk result (IsSent (K.state sink.old) (K.state sink.new) request_id flags.0 reply.now ids.old ids.new) }
+    ensures cut { OnErr result (IsSentInPart (K.state sink.old) (K.state sink.new) request_id flags.0 reply.now ids.old) }
     ensures on { WritesOn (K.state sink.old) (K.state sink.new) }
-    ensures refused { IfErr result IsOfWriting }
+    ensures refused { IfErr result (λ fault. WriteCause fault (K.state sink.old) (K.state sink.new)) }
 {
     if flags.contains(MessageFlags::MORE_TO_COME) {
         return Ok(());
@@ -47,10 +47,10 @@ fn send_message<K: Sink>(
     document: RawDocumentBuf,
     ids: &mut RequestIds,
 ) -> Result<(), ServeFault>
-    ensures sent { OnOk result (SendsReply (K.state sink.old) (K.state sink.new) request_id document) }
-    ensures front { AppendsSome (K.state sink.old) (K.state sink.new) }
+    ensures sent { OnOk result (SendsReply (K.state sink.old) (K.state sink.new) ids.old ids.new request_id document) }
+    ensures front { OnErr result (AppendsFront (K.state sink.old).written (K.state sink.new).written (message_reply ids.old request_id document)) }
     ensures on { WritesOn (K.state sink.old) (K.state sink.new) }
-    ensures refused { IfErr result IsOfWriting }
+    ensures refused { IfErr result (λ fault. WriteCause fault (K.state sink.old) (K.state sink.new)) }
 {
     let message = Message {
         document_payload: document,
@@ -83,10 +83,10 @@ pub fn respond_to_query<K: Sink>(
     reply: &Reply,
     ids: &mut RequestIds,
 ) -> Result<(), ServeFault>
-    ensures sent { OnOk result (IsSentToQuery (K.state sink.old) (K.state sink.new) request_id reply.now) }
-    ensures front { AppendsSome (K.state sink.old) (K.state sink.new) }
+    ensures sent { OnOk result (IsSentToQuery (K.state sink.old) (K.state sink.new) request_id reply.now ids.old ids.new) }
+    ensures front { OnErr result (AppendsFront (K.state sink.old).written (K.state sink.new).written (query_reply ids.old request_id (reply_document reply.now))) }
     ensures on { WritesOn (K.state sink.old) (K.state sink.new) }
-    ensures refused { IfErr result IsOfWriting }
+    ensures refused { IfErr result (λ fault. WriteCause fault (K.state sink.old) (K.state sink.new)) }
 {
     let document = match document_of_reply(alloc, reply) {
         Ok(document) => document,
@@ -121,9 +121,9 @@ fn frame_of_reply(alloc: Global, id: i32, to: i32, document: &[u8]) -> Result<Ve
 fn send<K: Sink>(sink: &mut K, bytes: &[u8]) -> Result<(), ServeFault>
     ensures written { OnOk result (Appends (K.state sink.old).written (K.state sink.new).written bytes.now) }
     ensures flushed { OnOk result (IsFlushed (K.state sink.new).written (K.state sink.new).flushed) }
-    ensures front { AppendsSome (K.state sink.old) (K.state sink.new) }
+    ensures front { OnErr result (AppendsFront (K.state sink.old).written (K.state sink.new).written bytes.now) }
     ensures on { WritesOn (K.state sink.old) (K.state sink.new) }
-    ensures refused { IfErr result IsOfWriting }
+    ensures refused { IfErr result (λ fault. WriteCause fault (K.state sink.old) (K.state sink.new)) }
 {
     match write_all(sink, bytes) {
         Ok(()) => match sink.flush() {

@@ -1,12 +1,14 @@
 //! The server: requests are read one after another, and each is answered before the next is read.
 
-ghost use Rattle.std.specs.Prelude.{◌≡◌, ℕ, pos, ◌+◌, List, [], ◌∷◌, ◌++◌, IfSome, IfOk, OnOk, OnErr};
+ghost use Rattle.std.specs.Prelude.{◌≡◌, ℕ, pos, ◌+◌, ◌≤ℤ◌, ◌⊎◌, List, [], ◌∷◌, ◌++◌, IfSome, IfOk, IfErr, OnOk, OnErr};
 ghost use Rattle.mongo_wire.specs.Header.{header_with, signed_at};
 ghost use Rattle.mongo_wire.specs.Outside.{State};
 ghost use Rattle.mongo_serve.specs.Login.{Remembers};
 ghost use Rattle.mongo_serve.specs.PutBack.{state_of};
 ghost use Rattle.mongo_serve.specs.Requests.{IsGreeting};
-ghost use Rattle.mongo_serve.specs.Served.{Follows, IsAnswered, IsBackAt, TurnEnds, PartEnds, IsServed};
+ghost use Rattle.mongo_serve.specs.Served.{Follows, IsBackAt, TurnEnds, PartEnds, IsServed};
+ghost use Rattle.mongo_serve.specs.Turns.{IsAnswered};
+ghost use Rattle.mongo_serve.specs.declared.fault.ServeFault.TheVariants.{NoHello, OutOfMemory};
 ghost use Rattle.mongo_wire.specs.declared.op_code.OpCode.TheVariants.{Query};
 
 use crate::answer::{answer, greet};
@@ -91,7 +93,7 @@ fn take_turn<L: Link, G: Ledger>(
     steps: &mut Steps<G>,
 ) -> Result<bool, ServeFault>
     ensures { (requests : List (List ℕ)) → Remembers settings.now requests serving.old.session →
-        TurnEnds settings.now requests (state_of L.state link.old) (state_of L.state link.new) serving.old.session serving.new.session result }
+        TurnEnds settings.now requests (state_of L.state link.old) (state_of L.state link.new) serving.old.session serving.old.ids serving.new.session serving.new.ids result }
 {
     let mut head = [0u8; 16];
     match fill_or_end(link, &mut head) {
@@ -114,7 +116,7 @@ fn take_after<L: Link, G: Ledger>(
     steps: &mut Steps<G>,
 ) -> Result<(), ServeFault>
     ensures { (requests : List (List ℕ)) (before : State) → Remembers settings.now requests serving.old.session → Follows before (state_of L.state link.old) head.now →
-        PartEnds settings.now requests before (state_of L.state link.new) serving.old.session serving.new.session result }
+        PartEnds settings.now requests before (state_of L.state link.new) serving.old.session serving.old.ids serving.new.session serving.new.ids result }
 {
     match Header::decode(head) {
         Ok(header) => match header.op_code {
@@ -138,7 +140,7 @@ fn take_message<L: Link, G: Ledger>(
     steps: &mut Steps<G>,
 ) -> Result<(), ServeFault>
     ensures { (requests : List (List ℕ)) (before : State) → Remembers settings.now requests serving.old.session → IsBackAt before (state_of L.state link.old) →
-        PartEnds settings.now requests before (state_of L.state link.new) serving.old.session serving.new.session result }
+        PartEnds settings.now requests before (state_of L.state link.new) serving.old.session serving.old.ids serving.new.session serving.new.ids result }
 {
     match serving.buffer.take_frame(link, Some(MAXIMUM)) {
         Ok(()) => {}
@@ -168,6 +170,7 @@ fn answer_document<G: Ledger>(
     ensures remembers { (requests : List (List ℕ)) → Remembers settings.now requests session.old → OnOk result (Remembers settings.now (requests ++ document.entry.bytes.now ∷ []) session.new) }
     ensures answered { IfOk result (IsAnswered settings.now session.old document.entry.bytes.now session.new) }
     ensures kept { OnErr result (session.new.user ≡ session.old.user) }
+    ensures refused { IfErr result (λ fault. fault ≡ OutOfMemory) }
 {
     answer(alloc, settings, session, request_of(document), steps)
 }
@@ -185,7 +188,7 @@ fn take_query<L: Link, G: Ledger>(
     requires header { header ≡ header_with head.now Query }
     requires code { signed_at 12 head.now ≡ pos 2004 }
     ensures { (requests : List (List ℕ)) (before : State) → Remembers settings.now requests serving.old.session → Follows before (state_of L.state link.old) head.now →
-        PartEnds settings.now requests before (state_of L.state link.new) serving.old.session serving.new.session result }
+        PartEnds settings.now requests before (state_of L.state link.new) serving.old.session serving.old.ids serving.new.session serving.new.ids result }
 {
     let Some(rest) = length_after(header.length) else {
         return Err(ServeFault::NoFrame);
@@ -205,7 +208,8 @@ fn take_query<L: Link, G: Ledger>(
 
 // How many bytes follow the header of a frame of this length, which is 16 to the maximum.
 fn length_after(length: i32) -> Option<usize>
-    ensures { IfSome result (λ rest. pos (16 + rest) ≡ length) }
+    ensures counted { IfSome result (λ rest. pos (16 + rest) ≡ length) }
+    ensures within { IfSome result (λ rest. pos (16 + rest) ≤ℤ pos 48000000) }
 {
     if length < 16 || length > MAXIMUM {
         None
@@ -226,6 +230,7 @@ fn greet_query<G: Ledger>(
     ensures answered { IfOk result (IsAnswered settings.now session.old document.entry.bytes.now session.new) }
     ensures greeting { OnOk result (IsGreeting document.entry.bytes.now) }
     ensures kept { OnErr result (session.new.user ≡ session.old.user) }
+    ensures refused { IfErr result (λ fault. (fault ≡ OutOfMemory) ⊎ ((fault ≡ NoHello) × (IsGreeting document.entry.bytes.now → ⊥))) }
 {
     match request_of(document) {
         Request::Hello(hello) => match greet(alloc, settings, session, hello, steps) {

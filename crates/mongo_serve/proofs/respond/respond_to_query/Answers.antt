@@ -3,17 +3,34 @@ use Rattle.std.specs.Int.{w32}
 use Rattle.std.proofs.lemmas.Int.{to_z-of_z}
 use mir.Val.{to_z, of_z}
 use Rattle.mongo_serve.specs.Sent.{query_reply}
-use Rattle.mongo_serve.proofs.Described.{query_sent}
+use Rattle.mongo_serve.proofs.Described.{query_front, query_sent}
 use Rattle.mongo_serve.proofs.respond.respond_to_query.Goals as goal
 
 pub returns-clause-sent : goal.returns-clause-sent
 returns-clause-sent g c =
-    let id = c.draw.result in
+    let old = g.K.Outside.state c.args.sink.now in
+    let new = g.K.Outside.state c.send.new.sink in
+    let id = c.args.ids.now in
+    let drawn = c.draw.result in
     let to = c.args.request_id in
     let document = c.as_bytes-2.result.now in
-    let id_fits : FitsSigned w32 id = search rules in
+    let drawn_fits : FitsSigned w32 drawn = search rules in
     let to_fits : FitsSigned w32 to = search rules in
     let frame : c.in-Ok-frame_of_reply.frame.items ≡ query_reply id to document =
-    c.in-Ok-frame_of_reply.ensures.frame ∙ ap (λ i. query_reply i (to_z w32 (of_z w32 to)) document) (to_z-of_z w32 id id_fits) ∙ ap (λ t. query_reply id t document) (to_z-of_z w32 to to_fits) in
-    query_sent _ _ to id c.args.reply.now document c.in-Ok-frame_of_reply.frame.items c.as_slice.result.now c.send.result (c.as_bytes-2.ensures.bytes ∙ c.in-Ok.ensures.document) frame c.as_slice.ensures.value c.send.ensures.written
-    c.send.ensures.flushed
+    c.in-Ok-frame_of_reply.ensures.frame ∙ ap (λ i. query_reply i (to_z w32 (of_z w32 to)) document) (to_z-of_z w32 drawn drawn_fits ∙ c.draw.ensures.drawn) ∙ ap (λ t. query_reply id t document) (to_z-of_z w32 to to_fits) in
+    query_sent old new to id c.draw.new.self c.args.reply.now document c.in-Ok-frame_of_reply.frame.items c.as_slice.result.now c.send.result (c.as_bytes-2.ensures.bytes ∙ c.in-Ok.ensures.document) frame c.as_slice.ensures.value
+    c.draw.ensures.next c.send.ensures.written c.send.ensures.flushed
+
+pub returns-clause-front : goal.returns-clause-front
+returns-clause-front g c =
+    let old = g.K.Outside.state c.args.sink.now in
+    let new = g.K.Outside.state c.send.new.sink in
+    let id = c.args.ids.now in
+    let drawn = c.draw.result in
+    let to = c.args.request_id in
+    let document = c.as_bytes-2.result.now in
+    let drawn_fits : FitsSigned w32 drawn = search rules in
+    let to_fits : FitsSigned w32 to = search rules in
+    let frame : c.in-Ok-frame_of_reply.frame.items ≡ query_reply id to document =
+    c.in-Ok-frame_of_reply.ensures.frame ∙ ap (λ i. query_reply i (to_z w32 (of_z w32 to)) document) (to_z-of_z w32 drawn drawn_fits ∙ c.draw.ensures.drawn) ∙ ap (λ t. query_reply id t document) (to_z-of_z w32 to to_fits) in
+    query_front old new to id c.args.reply.now document c.in-Ok-frame_of_reply.frame.items c.as_slice.result.now c.send.result (c.as_bytes-2.ensures.bytes ∙ c.in-Ok.ensures.document) frame c.as_slice.ensures.value c.send.ensures.front

@@ -1,8 +1,8 @@
-use Rattle.std.proofs.Common.{◌≡◌, true, false, Ok, ap, ◌∙◌, subst}
+use Rattle.std.proofs.Common.{◌≡◌, true, false, Ok, ap, ◌∙◌, subst, ◌-◌, ◌^◌, arith}
 use Rattle.mongo_serve.specs.PutBack.{state_of}
-use Rattle.mongo_serve.specs.Served.{documents, TurnEnds}
-use Rattle.mongo_serve.specs.declared.fault.ServeFault.TheVariants.{TooManyRequests}
-use Rattle.mongo_serve.proofs.Stream.{one_more, has_ended, was_cut, went_on}
+use Rattle.mongo_serve.specs.Served.{TurnEnds}
+use Rattle.mongo_serve.specs.Turns.{documents}
+use Rattle.mongo_serve.proofs.Stream.{begun, one_more, has_ended, was_cut, went_on}
 use Rattle.mongo_serve.proofs.serve.serve.Goals as goal
 
 pub returns-in-Ok-false : goal.returns-in-Ok-false
@@ -12,9 +12,12 @@ returns-in-Ok-false g c =
     let new = state_of g.L.Outside.state c.take_turn.new.link in
     let before = c.serving.serving.session in
     let after = c.take_turn.new.serving.session in
+    let id = c.serving.serving.ids in
+    let later = c.take_turn.new.serving.ids in
+    let count = c.serving._turn in
     let h = c.serving.invariant in
     let result : c.take_turn.result ≡ Ok false = c.in-Ok-false.is ∙ ap Ok c.in-Ok-false.field-0-test in
-    has_ended c.args.settings.now old mid new before after h (subst (TurnEnds c.args.settings.now (documents h.turns) mid new before after) result (c.take_turn.ensures (documents h.turns) h.remembers))
+    has_ended c.args.settings.now old mid new before id after count h (subst (TurnEnds c.args.settings.now (documents h.turns) mid new before id after later) result (c.take_turn.ensures (documents h.turns) h.remembers))
 
 pub returns-in-Err : goal.returns-in-Err
 returns-in-Err g c =
@@ -23,8 +26,11 @@ returns-in-Err g c =
     let new = state_of g.L.Outside.state c.take_turn.new.link in
     let before = c.serving.serving.session in
     let after = c.take_turn.new.serving.session in
+    let id = c.serving.serving.ids in
+    let later = c.take_turn.new.serving.ids in
+    let count = c.serving._turn in
     let h = c.serving.invariant in
-    was_cut c.args.settings.now old mid new before after.user c.in-Err.fault h (subst (TurnEnds c.args.settings.now (documents h.turns) mid new before after) c.in-Err.is (c.take_turn.ensures (documents h.turns) h.remembers))
+    was_cut c.args.settings.now old mid new before id after.user c.in-Err.fault count h (subst (TurnEnds c.args.settings.now (documents h.turns) mid new before id after later) c.in-Err.is (c.take_turn.ensures (documents h.turns) h.remembers))
 
 pub serving-preserved : goal.serving-preserved
 serving-preserved g c =
@@ -33,9 +39,17 @@ serving-preserved g c =
     let new = state_of g.L.Outside.state c.take_turn.new.link in
     let before = c.serving.serving.session in
     let after = c.take_turn.new.serving.session in
+    let id = c.serving.serving.ids in
+    let later = c.take_turn.new.serving.ids in
+    let count = c.serving._turn in
     let h = c.serving.invariant in
     let result : c.take_turn.result ≡ Ok true = c.in-Ok-true.is ∙ ap Ok c.in-Ok-true.field-0-test in
-    one_more c.args.settings.now old mid new before after h (subst (TurnEnds c.args.settings.now (documents h.turns) mid new before after) result (c.take_turn.ensures (documents h.turns) h.remembers))
+    one_more c.args.settings.now old mid new before id after later count h (subst (TurnEnds c.args.settings.now (documents h.turns) mid new before id after later) result (c.take_turn.ensures (documents h.turns) h.remembers))
 
 pub returns : goal.returns
-returns g c = went_on c.args.settings.now (state_of g.L.Outside.state c.args.link.now) (state_of g.L.Outside.state c.serving.link) c.serving.serving.session TooManyRequests c.serving.invariant
+returns g c =
+    let all : c.serving._turn ≡ 2 ^ 64 - 1 = omega arith in
+    went_on c.args.settings.now (state_of g.L.Outside.state c.args.link.now) (state_of g.L.Outside.state c.serving.link) c.serving.serving.session c.serving.serving.ids c.serving._turn all c.serving.invariant
+
+pub serving-init : goal.serving-init
+serving-init g c = begun c.args.settings.now (state_of g.L.Outside.state c.args.link.now) c.new.result c.new-3.result c.new.ensures.nobody c.new.ensures.none c.new-3.ensures

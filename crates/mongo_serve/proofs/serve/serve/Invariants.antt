@@ -4,4 +4,4 @@ use Rattle.mongo_serve.proofs.serve.serve.Given as goal
 
 -- the turns so far were answered
 abbrev pub invariant-serving : goal.invariant-serving
-invariant-serving g l = HasServed l.settings (state_of g.L.Outside.state l.fn.link) (state_of g.L.Outside.state l.link) l.serving.session
+invariant-serving g l = HasServed l.settings (state_of g.L.Outside.state l.fn.link) (state_of g.L.Outside.state l.link) l.serving.session l.serving.ids l._turn

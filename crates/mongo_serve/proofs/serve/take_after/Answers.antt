@@ -1,8 +1,12 @@
-use Rattle.std.proofs.Common.{◌∙◌, ap, sym, subst}
+use Rattle.std.proofs.Common.{[], ◌≡◌, length, ◌∙◌, ap, refl, sym, subst, rules, arith}
 use Rattle.std.specs.Io.KnownBytes.{Consumes}
+use Rattle.mongo_serve.specs.Cut.{HasCause}
 use Rattle.mongo_serve.specs.PutBack.{state_of}
+use Rattle.mongo_serve.specs.Served.{Lasts}
+use Rattle.mongo_serve.proofs.Causes.{header_part}
 use Rattle.mongo_serve.proofs.Turns.{none_taken}
 use Rattle.mongo_serve.proofs.Parts.{back_at}
+use Rattle.mongo_serve.specs.declared.fault.ServeFault.TheVariants.{NoFrame}
 use Rattle.mongo_serve.proofs.serve.take_after.Goals as goal
 
 pub returns-in-Ok-put_back : goal.returns-in-Ok-put_back
@@ -12,13 +16,26 @@ returns-in-Ok-put_back g c = λ requests before h f.
 pub returns-in-Err-put_back : goal.returns-in-Err-put_back
 returns-in-Err-put_back g c = λ requests before h f.
     let same = c.in-Err-put_back.ensures.unchanged in
-    none_taken c.args.settings.now requests before (state_of g.L.Outside.state c.put_back.new.self) c.args.serving.now.session.user c.args.head.now
-    (subst (λ link. Consumes before.left (state_of g.L.Outside.state link).left c.args.head.now) (sym same) f.taken) (ap (λ link. (state_of g.L.Outside.state link).written) same ∙ f.unwritten) h.user
+    let head = c.args.head.now in
+    let session = c.args.serving.now.session in
+    let new = state_of g.L.Outside.state c.put_back.new.self in
+    let sixteen : length head ≡ 16 = search rules in
+    none_taken c.args.settings.now requests before new session c.args.serving.now.ids session.user c.in-Err-put_back.fault head refl (header_part head (omega (arith, sixteen)))
+    (subst (λ link. Consumes before.left (state_of g.L.Outside.state link).left head) (sym same) f.taken) (ap (λ link. (state_of g.L.Outside.state link).written) same ∙ f.unwritten) h.user
+    (subst (λ fault. HasCause fault before new [] head) (sym c.in-Err-put_back.ensures.refused) tt) (subst (λ link. Lasts before (state_of g.L.Outside.state link)) (sym same) f.lasts)
 
 pub returns-in_default : goal.returns-in_default
 returns-in_default g c = λ requests before h f.
-    none_taken c.args.settings.now requests before (state_of g.L.Outside.state c.args.link.now) c.args.serving.now.session.user c.args.head.now f.taken f.unwritten h.user
+    let head = c.args.head.now in
+    let session = c.args.serving.now.session in
+    let sixteen : length head ≡ 16 = search rules in
+    none_taken c.args.settings.now requests before (state_of g.L.Outside.state c.args.link.now) session c.args.serving.now.ids session.user NoFrame head refl (header_part head (omega (arith, sixteen))) f.taken f.unwritten h.user
+    (refl, omega (arith, sixteen)) f.lasts
 
 pub returns-in-Err : goal.returns-in-Err
 returns-in-Err g c = λ requests before h f.
-    none_taken c.args.settings.now requests before (state_of g.L.Outside.state c.args.link.now) c.args.serving.now.session.user c.args.head.now f.taken f.unwritten h.user
+    let head = c.args.head.now in
+    let session = c.args.serving.now.session in
+    let sixteen : length head ≡ 16 = search rules in
+    none_taken c.args.settings.now requests before (state_of g.L.Outside.state c.args.link.now) session c.args.serving.now.ids session.user NoFrame head refl (header_part head (omega (arith, sixteen))) f.taken f.unwritten h.user
+    (refl, omega (arith, sixteen)) f.lasts

@@ -1,0 +1,81 @@
+-- A turn that was cut, and why.
+use Rattle.std.specs.Prelude.{◌≡◌, ℕ, ℤ, pos, ◌≤◌, ◌≤ℤ◌, ◌⊎◌, Option, List, [], ◌++◌, length, IfSome, ⊤}
+use Rattle.std.specs.List.{AllByRecursion}
+use Rattle.std.specs.Io.KnownBytes.{Consumes, Appends}
+use Rattle.mongo_wire.specs.Header.{signed_at}
+use Rattle.mongo_wire.specs.Outside.{State, Rose}
+use Rattle.mongo_wire.specs.Rows.{IsStarted, IsEmptied}
+use Rattle.mongo_serve.specs.declared.fault.ServeFault.{ServeFault}
+use Rattle.mongo_serve.specs.declared.fault.ServeFault.TheVariants.{ReadFault, WriteFault, CutFrame, NoFrame, NoHello, ReplyTooLong, TooManyRequests, OutOfMemory}
+use Rattle.mongo_serve.specs.declared.reply.Reply.{Reply}
+use Rattle.mongo_serve.specs.declared.session.Session.{Session}
+use Rattle.mongo_serve.specs.declared.settings.Settings.{Settings}
+use Rattle.mongo_serve.specs.Login.{HasLoggedIn}
+use Rattle.mongo_serve.specs.Requests.{IsGreeting}
+use Rattle.mongo_serve.specs.Sent.{CutsMessage, CutsQuery}
+use Rattle.mongo_serve.specs.Taken.{Carries, IsQuery}
+use Rattle.mongo_serve.specs.Turns.{Turn, IsTaken, IsAnswered, joined, documents, sent_for}
+
+-- ---- a frame whose answer was cut
+
+-- what was sent is a front of what answers the frame with a reply
+abbrev pub CutsIn : Turn → Reply → ℤ → Type 0
+CutsIn turn reply id =
+    CutsMessage turn.frame turn.document reply id turn.sent ⊎ (IsQuery turn.frame turn.document × IsGreeting turn.document × CutsQuery turn.frame reply id turn.sent)
+
+-- the request was answered by the session, which has this user then, and the reply sent in part
+pub record IsCutTurn (settings : Settings) (before : Session) (id : ℤ) (user : Option (List ℕ)) (turn : Turn) : Type 0 where
+  pub is_taken : IsTaken turn
+  pub after : Session
+  pub reply : Reply
+  pub answered : IsAnswered settings before turn.document after reply
+  pub user_is : user ≡ after.user
+  pub sent : CutsIn turn reply id
+
+-- ---- bytes that were taken and not answered
+
+-- a front of an OP_QUERY of at most 48000000 bytes
+pub record IsQueryFront (bytes : List ℕ) : Type 0 where
+  pub head : List ℕ
+  pub rest : List ℕ
+  pub spelled : bytes ≡ head ++ rest
+  pub sixteen : length head ≡ 16
+  pub code : signed_at 12 head ≡ pos 2004
+  pub front : pos (length bytes) ≤ℤ signed_at 0 head
+  pub within : signed_at 0 head ≤ℤ pos 48000000
+
+-- a front of a header or of a frame that is read, or one frame
+abbrev pub IsPart : List ℕ → Type 0
+IsPart bytes = IsStarted (pos 48000000) bytes ⊎ (IsQueryFront bytes ⊎ ((document : List ℕ) × Carries bytes document))
+
+-- ---- why
+
+-- an OP_QUERY that asks for another command than hello
+abbrev pub AsksOtherwise : List ℕ → Type 0
+AsksOtherwise bytes = (document : List ℕ) × IsQuery bytes document × (IsGreeting document → ⊥)
+
+-- What a fault says of the bytes that weren't answered, and of the link before and after.
+abbrev pub HasCause : ServeFault → State → State → List Turn → List ℕ → Type 0
+HasCause ReadFault old new cut more = Rose old.read_faults new.read_faults × (cut ≡ [])
+HasCause WriteFault old new cut more = Rose old.write_faults new.write_faults × (more ≡ [])
+HasCause CutFrame old new cut more = Rose old.ends new.ends × IsEmptied new.left × (cut ≡ [])
+HasCause NoFrame old new cut more = (cut ≡ []) × (16 ≤ length more)
+HasCause NoHello old new cut more = (cut ≡ []) × AsksOtherwise more
+HasCause ReplyTooLong old new cut more = more ≡ []
+HasCause TooManyRequests old new cut more = ⊥
+HasCause OutOfMemory old new cut more = ⊤
+
+-- A turn was cut: a frame was taken and its answer cut, or some bytes were taken and nothing answered. Who is logged in has sent what a
+-- login takes.
+pub record IsCut (settings : Settings) (requests : List (List ℕ)) (old new : State) (before : Session) (id : ℤ) (user : Option (List ℕ)) (fault : ServeFault) : Type 0 where
+  pub turns : List Turn
+  pub one : length turns ≤ 1
+  pub each : AllByRecursion (IsCutTurn settings before id user) turns
+  pub none : turns ≡ [] → user ≡ before.user
+  pub more : List ℕ
+  pub part : IsPart more
+  pub consumed : Consumes old.left new.left (joined turns ++ more)
+  pub appended : Appends old.written new.written (sent_for turns)
+  pub logged_in : IfSome user (λ name. HasLoggedIn settings name (requests ++ documents turns))
+  pub stays : old.flushed ≤ new.flushed
+  pub cause : HasCause fault old new turns more
