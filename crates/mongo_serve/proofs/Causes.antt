@@ -1,5 +1,5 @@
 -- Why a stream was left, by what its parts say.
-use Rattle.std.proofs.Common.{◌≡◌, ◌⊎◌, ℕ, ℤ, pos, ◌+◌, ◌≤◌, ◌≤ℤ◌, Option, None, Some, List, [], ◌++◌, length, is_some, inl, inr, refl, sym, subst, arith, length-append, append-nil}
+use Rattle.std.proofs.Common.{◌≡◌, ◌⊎◌, ℕ, ℤ, pos, ◌+◌, ◌<◌, ◌≤◌, ◌≤ℤ◌, Option, None, Some, IfSome, List, [], ◌++◌, length, is_some, inl, inr, refl, sym, ap, subst, arith, length-append, append-nil}
 use Rattle.std.proofs.lemmas.Bool.{false≢true}
 use Rattle.std.proofs.lemmas.Int.{ints}
 use Rattle.std.specs.Io.KnownBytes.{Consumes}
@@ -15,7 +15,7 @@ use Rattle.mongo_wire.specs.declared.fault.FrameFault.{FrameFault}
 use Rattle.mongo_wire.specs.declared.fault.FrameFault.TheVariants as frame
 use Rattle.mongo_serve.specs.declared.fault.ServeFault.{ServeFault}
 use Rattle.mongo_serve.specs.declared.fault.ServeFault.TheVariants.{ReadFault, WriteFault, CutFrame, NoFrame, NoHello, ReplyTooLong, TooManyRequests, OutOfMemory}
-use Rattle.mongo_serve.specs.Cut.{HasCause, IsPart}
+use Rattle.mongo_serve.specs.Cut.{HasCause, IsPart, TookSome}
 use Rattle.mongo_serve.specs.Faults.{fault_of_frame, IsOfDocument}
 use Rattle.mongo_serve.specs.Sent.{WriteCause}
 use Rattle.mongo_serve.specs.Requests.{IsGreeting}
@@ -26,11 +26,11 @@ use Rattle.mongo_serve.specs.Turns.{Turn}
 -- ---- reading was refused
 
 -- the bytes that were taken
-pub record Stopped (fault : ServeFault) (old mid new : State) (wanted : ℕ) : Type 0 where
+pub record Stopped (fault : ServeFault) (old mid new : State) (front : List ℕ) (wanted : ℕ) : Type 0 where
   pub taken : List ℕ
   pub within : length taken ≤ wanted
   pub consumed : Consumes mid.left new.left taken
-  pub cause : (more : List ℕ) → HasCause fault old new [] more
+  pub cause : HasCause fault old new [] (front ++ taken)
 
 ran_empty : (old new : Option (List ℕ)) (wanted : ℕ) → is_some new ≡ is_some old → RanOut old new wanted → IsEmptied new
 ran_empty None None wanted tells r = tt
@@ -38,20 +38,45 @@ ran_empty None (Some xs) wanted tells r = absurd (false≢true (sym tells))
 ran_empty (Some xs) None wanted tells r = tt
 ran_empty (Some xs) (Some ys) wanted tells r = let same : Some ys ≡ Some [] = r.1 in cc
 
-all_taken : (old new : Option (List ℕ)) (wanted : ℕ) → RanOut old new wanted → (taken : List ℕ) × (length taken ≤ wanted) × Consumes old new taken
-all_taken None new wanted r = ([], omega arith, tt)
-all_taken (Some xs) new wanted r = (xs, omega (arith, r.0), rw r.1 (sym (append-nil xs)))
+-- all that was left was taken, which is some
+pub record TakesAll (old mid new : State) (front : List ℕ) (wanted : ℕ) : Type 0 where
+  pub taken : List ℕ
+  pub within : length taken ≤ wanted
+  pub consumed : Consumes mid.left new.left taken
+  pub some : TookSome old (front ++ taken)
 
-pub stopped : (fault : FrameFault) (old mid new : State) (wanted : ℕ) → Lasts old mid → is_some new.left ≡ is_some mid.left
-    → ReadStops (kind_of_frame_fault fault) mid.left new.left mid.read_faults new.read_faults mid.ends new.ends wanted → Stopped (fault_of_frame fault) old mid new wanted
-stopped frame.ReadFault old mid new wanted lasts tells s =
-    record { taken = s.1.0; within = omega (arith, s.1.1); consumed = s.1.2; cause = λ more. (rose_after old.read_faults mid.read_faults new.read_faults lasts.reads s.0, refl) }
-stopped frame.EndOfInput old mid new wanted lasts tells s =
-    let all = all_taken mid.left new.left wanted s.1 in
-    record { taken = all.0; within = all.1; consumed = all.2; cause = λ more. (rose_after old.ends mid.ends new.ends lasts.ends s.0, ran_empty mid.left new.left wanted tells s.1, refl) }
-stopped frame.OutOfMemory old mid new wanted lasts tells s = record { taken = s.0; within = s.1; consumed = s.2; cause = λ more. tt }
-stopped (frame.InvalidArgument _) old mid new wanted lasts tells s = absurd s
-stopped (frame.InvalidResponse _) old mid new wanted lasts tells s = absurd s
+told_some : (before now : Option (List ℕ)) (front more : List ℕ) → Consumes before now front → IfSome now (λ _. 0 < length more) → IfSome before (λ _. 0 < length more)
+told_some None now front more p some = tt
+told_some (Some xs) None front more p some = absurd p
+told_some (Some xs) (Some ys) front more p some = some
+
+some_after : (left : Option (List ℕ)) (front xs : List ℕ) → left ≡ Some xs → IfSome left (λ bytes. 0 < length (front ++ bytes)) → IfSome left (λ _. 0 < length (front ++ xs))
+some_after None front xs is some = tt
+some_after (Some ys) front xs is some = let same : ys ≡ xs = cc in subst (λ zs. 0 < length (front ++ zs)) same some
+
+all_taken : (old mid new : State) (front : List ℕ) (wanted : ℕ) (left : Option (List ℕ)) → mid.left ≡ left → Consumes old.left mid.left front → IfSome mid.left (λ bytes. 0 < length (front ++ bytes)) → RanOut left new.left wanted
+    → TakesAll old mid new front wanted
+all_taken old mid new front wanted None is before some r =
+    record { taken = []; within = omega arith; consumed = subst (λ l. Consumes l new.left []) (sym is) tt; some = told_some old.left mid.left front (front ++ []) before (subst (λ l. IfSome l (λ _. 0 < length (front ++ []))) (sym is) tt) }
+all_taken old mid new front wanted (Some xs) is before some r =
+    let all : Consumes (Some xs) new.left xs = rw r.1 (sym (append-nil xs)) in
+    record { taken = xs; within = omega (arith, r.0); consumed = subst (λ l. Consumes l new.left xs) (sym is) all; some = told_some old.left mid.left front (front ++ xs) before (some_after mid.left front xs is some) }
+
+pub stopped : (fault : FrameFault) (old mid new : State) (front : List ℕ) (wanted : ℕ) → Lasts old mid → Consumes old.left mid.left front → (kind_of_frame_fault fault ≡ EndOfInput → IfSome mid.left (λ bytes. 0 < length (front ++ bytes)))
+    → is_some new.left ≡ is_some mid.left → ReadStops (kind_of_frame_fault fault) mid.left new.left mid.read_faults new.read_faults mid.ends new.ends wanted → Stopped (fault_of_frame fault) old mid new front wanted
+stopped frame.ReadFault old mid new front wanted lasts before some tells s =
+    record { taken = s.1.0; within = omega (arith, s.1.1); consumed = s.1.2; cause = (rose_after old.read_faults mid.read_faults new.read_faults lasts.reads s.0, refl) }
+stopped frame.EndOfInput old mid new front wanted lasts before some tells s =
+    let all = all_taken old mid new front wanted mid.left refl before (some refl) s.1 in
+    record { taken = all.taken; within = all.within; consumed = all.consumed; cause = (rose_after old.ends mid.ends new.ends lasts.ends s.0, ran_empty mid.left new.left wanted tells s.1, refl, all.some) }
+stopped frame.OutOfMemory old mid new front wanted lasts before some tells s = record { taken = s.0; within = s.1; consumed = s.2; cause = tt }
+stopped (frame.InvalidArgument _) old mid new front wanted lasts before some tells s = absurd s
+stopped (frame.InvalidResponse _) old mid new front wanted lasts before some tells s = absurd s
+
+-- after some bytes
+pub some_before : (left : Option (List ℕ)) (front : List ℕ) → 0 < length front → IfSome left (λ bytes. 0 < length (front ++ bytes))
+some_before None front some = tt
+some_before (Some bytes) front some = omega (arith, some, length-append front bytes)
 
 -- ---- an OP_MSG was refused
 
@@ -77,16 +102,24 @@ row_whole most taken kind whole (inr (inl row)) = omega (arith, row.header)
 row_whole most taken kind whole (inr (inr (inl short))) = short.passes.whole
 row_whole most taken kind whole (inr (inr (inr none))) = none.passes.whole
 
-pub refused : (fault : FrameFault) (old mid new : State) → Lasts old mid → ReadRefused (kind_of_frame_fault fault) (pos 48000000) mid.left new.left mid.read_faults new.read_faults mid.ends new.ends
+-- what was emptied was taken
+emptied_some : (old mid new : Option (List ℕ)) (taken : List ℕ) → mid ≡ old → IfSome old (λ bytes. 0 < length bytes) → Consumes mid new taken → IsEmptied new → IfSome old (λ _. 0 < length taken)
+emptied_some None mid new taken same some p empty = tt
+emptied_some (Some xs) mid None taken same some p empty = let q : Consumes (Some xs) None taken = subst (λ m. Consumes m None taken) same p in absurd q
+emptied_some (Some xs) mid (Some ys) taken same some p empty =
+    let q : xs ≡ taken ++ ys = subst (λ m. Consumes m (Some ys) taken) same p in
+    omega (arith, some, ap length q, length-append taken ys, ap length empty)
+
+pub refused : (fault : FrameFault) (old mid new : State) → Lasts old mid → mid.left ≡ old.left → IfSome old.left (λ bytes. 0 < length bytes) → ReadRefused (kind_of_frame_fault fault) (pos 48000000) mid.left new.left mid.read_faults new.read_faults mid.ends new.ends
     → Refused (fault_of_frame fault) old mid new
-refused frame.ReadFault old mid new lasts h =
+refused frame.ReadFault old mid new lasts same some h =
     record { taken = h.1.0; part = inl (started (pos 48000000) h.1.0 h.1.2); consumed = h.1.1; cause = (rose_after old.read_faults mid.read_faults new.read_faults lasts.reads h.0, refl) }
-refused frame.EndOfInput old mid new lasts h =
-    record { taken = h.1.0; part = inl (row_started (pos 48000000) h.1.0 EndOfInput h.1.2); consumed = h.1.1; cause = (rose_after old.ends mid.ends new.ends lasts.ends h.0, h.2, refl) }
-refused frame.OutOfMemory old mid new lasts h = record { taken = h.0; part = inl h.2; consumed = h.1; cause = tt }
-refused (frame.InvalidArgument f) old mid new lasts h =
+refused frame.EndOfInput old mid new lasts same some h =
+    record { taken = h.1.0; part = inl (row_started (pos 48000000) h.1.0 EndOfInput h.1.2); consumed = h.1.1; cause = (rose_after old.ends mid.ends new.ends lasts.ends h.0, h.2, refl, emptied_some old.left mid.left new.left h.1.0 same some h.1.1 h.2) }
+refused frame.OutOfMemory old mid new lasts same some h = record { taken = h.0; part = inl h.2; consumed = h.1; cause = tt }
+refused (frame.InvalidArgument f) old mid new lasts same some h =
     record { taken = h.0; part = inl (row_started (pos 48000000) h.0 (InvalidArgument f) h.2); consumed = h.1; cause = (refl, row_whole (pos 48000000) h.0 (InvalidArgument f) (λ e. cc) h.2) }
-refused (frame.InvalidResponse f) old mid new lasts h =
+refused (frame.InvalidResponse f) old mid new lasts same some h =
     record { taken = h.0; part = inl (row_started (pos 48000000) h.0 (InvalidResponse f) h.2); consumed = h.1; cause = (refl, row_whole (pos 48000000) h.0 (InvalidResponse f) (λ e. cc) h.2) }
 
 -- ---- fronts
@@ -118,27 +151,27 @@ document_cause NoFrame old new is = absurd is
 document_cause NoHello old new is = absurd is
 document_cause TooManyRequests old new is = absurd is
 
-pub write_cause : (fault : ServeFault) (old mid new : State) (cut : List Turn) → Lasts old mid → WriteCause fault mid new → HasCause fault old new cut []
-write_cause WriteFault old mid new cut lasts w = (rose_after old.write_faults mid.write_faults new.write_faults lasts.writes w, refl)
-write_cause ReplyTooLong old mid new cut lasts w = refl
-write_cause OutOfMemory old mid new cut lasts w = tt
-write_cause ReadFault old mid new cut lasts w = absurd w
-write_cause CutFrame old mid new cut lasts w = absurd w
-write_cause NoFrame old mid new cut lasts w = absurd w
-write_cause NoHello old mid new cut lasts w = absurd w
-write_cause TooManyRequests old mid new cut lasts w = absurd w
+pub write_cause : (fault : ServeFault) (old mid new : State) (cut : List Turn) → length cut ≡ 1 → Lasts old mid → WriteCause fault mid new → HasCause fault old new cut []
+write_cause WriteFault old mid new cut one lasts w = (rose_after old.write_faults mid.write_faults new.write_faults lasts.writes w, (one, refl))
+write_cause ReplyTooLong old mid new cut one lasts w = (one, refl)
+write_cause OutOfMemory old mid new cut one lasts w = tt
+write_cause ReadFault old mid new cut one lasts w = absurd w
+write_cause CutFrame old mid new cut one lasts w = absurd w
+write_cause NoFrame old mid new cut one lasts w = absurd w
+write_cause NoHello old mid new cut one lasts w = absurd w
+write_cause TooManyRequests old mid new cut one lasts w = absurd w
 
 -- ---- after the turns before
 
-pub cause_after : (fault : ServeFault) (count : ℕ) (old mid new : State) (cut : List Turn) (more : List ℕ) → Lasts old mid → HasCause fault mid new cut more → HasCauseAfter fault count old new cut more
-cause_after ReadFault count old mid new cut more lasts c = (rose_after old.read_faults mid.read_faults new.read_faults lasts.reads c.0, c.1)
-cause_after WriteFault count old mid new cut more lasts c = (rose_after old.write_faults mid.write_faults new.write_faults lasts.writes c.0, c.1)
-cause_after CutFrame count old mid new cut more lasts c = (rose_after old.ends mid.ends new.ends lasts.ends c.0, c.1, c.2)
-cause_after NoFrame count old mid new cut more lasts c = c
-cause_after NoHello count old mid new cut more lasts c = c
-cause_after ReplyTooLong count old mid new cut more lasts c = c
-cause_after TooManyRequests count old mid new cut more lasts c = absurd c
-cause_after OutOfMemory count old mid new cut more lasts c = tt
+pub cause_after : (fault : ServeFault) (count : ℕ) (old mid new : State) (taken : List ℕ) (cut : List Turn) (more : List ℕ) → Lasts old mid → Consumes old.left mid.left taken → HasCause fault mid new cut more → HasCauseAfter fault count old new cut more
+cause_after ReadFault count old mid new taken cut more lasts before c = (rose_after old.read_faults mid.read_faults new.read_faults lasts.reads c.0, c.1)
+cause_after WriteFault count old mid new taken cut more lasts before c = (rose_after old.write_faults mid.write_faults new.write_faults lasts.writes c.0, c.1)
+cause_after CutFrame count old mid new taken cut more lasts before c = (rose_after old.ends mid.ends new.ends lasts.ends c.0, c.1, c.2, told_some old.left mid.left taken more before c.3)
+cause_after NoFrame count old mid new taken cut more lasts before c = c
+cause_after NoHello count old mid new taken cut more lasts before c = c
+cause_after ReplyTooLong count old mid new taken cut more lasts before c = c
+cause_after TooManyRequests count old mid new taken cut more lasts before c = absurd c
+cause_after OutOfMemory count old mid new taken cut more lasts before c = tt
 
 -- ---- an OP_QUERY that isn't answered
 

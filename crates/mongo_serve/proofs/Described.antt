@@ -28,6 +28,10 @@ hello_described hello key named =
     let s = speculation_elements hello.speculation in
     ap document_of (regroup description (truth_element key true) m s ok_element ∙ ap (λ k. description ++ (truth_element k true ∷ (m ++ (s ++ ok_element ∷ [])))) named)
 
+-- the ids of a reply's frame, which are spelled in two ways
+pub query_numbered : (frame document : List ℕ) (i id t to : ℤ) → frame ≡ query_reply i t document → i ≡ id → t ≡ to → frame ≡ query_reply id to document
+query_numbered frame document i id t to is same other = is ∙ ap (λ n. query_reply n t document) same ∙ ap (λ n. query_reply id n document) other
+
 pub query_sent : (old new : State) (to id later : ℤ) (reply : Reply) (document frame bytes : List ℕ) (r : Result ⊤ ServeFault) → document ≡ reply_document reply → frame ≡ query_reply id to document → bytes ≡ frame → later ≡ next_id id
     → OnOk r (Appends old.written new.written bytes) → OnOk r (IsFlushed new.written new.flushed) → OnOk r (IsSentToQuery old new to reply id later)
 query_sent old new to id later reply document frame bytes (Err fault) p q s drawn a f = tt

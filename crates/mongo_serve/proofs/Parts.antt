@@ -1,5 +1,5 @@
 -- What a turn comes to, by what its parts answer.
-use Rattle.std.proofs.Common.{◌≡◌, ℕ, ℤ, pos, ◌+◌, Option, IfSome, Result, Ok, Err, OnOk, OnErr, IfErr, List, [], ◌∷◌, ◌++◌, length, take, refl, sym, ap, ◌∙◌, subst, inl, inr, length-append}
+use Rattle.std.proofs.Common.{◌≡◌, ℕ, ℤ, pos, ◌+◌, ◌<◌, Option, None, Some, IfSome, Result, Ok, Err, OnOk, OnErr, IfErr, List, [], ◌∷◌, ◌++◌, length, take, refl, sym, ap, ◌∙◌, subst, inl, inr, arith, length-append}
 use Rattle.std.proofs.lemmas.List.{take_at}
 use Rattle.std.proofs.KnownBytes.{Consumes-trans}
 use Rattle.std.specs.Prelude.{⊤}
@@ -92,10 +92,17 @@ query_of head body command rest sixteen code counted whole is_body = record {
   is_body = is_body;
 }
 
+-- a header is some bytes
+has_some : (before now : Option (List ℕ)) (head : List ℕ) → length head ≡ 16 → Consumes before now head → IfSome before (λ bytes. 0 < length bytes)
+has_some None now head sixteen p = tt
+has_some (Some xs) None head sixteen p = absurd p
+has_some (Some xs) (Some ys) head sixteen p = omega (arith, sixteen, ap length p, length-append head ys)
+
 -- a header was put back
-pub back_at : (before now back : State) (head : List ℕ) → Follows before now head → back ≡ record now { left = prepend_known head now.left } → IsBackAt before back
-back_at before now back head f e = record {
+pub back_at : (before now back : State) (head : List ℕ) → length head ≡ 16 → Follows before now head → back ≡ record now { left = prepend_known head now.left } → IsBackAt before back
+back_at before now back head sixteen f e = record {
   left = ap (λ s. s.left) e ∙ put_back_left before.left now.left head f.tells f.taken;
+  some = has_some before.left now.left head sixteen f.taken;
   unwritten = ap (λ s. s.written) e ∙ f.unwritten;
   lasts = subst (Lasts before) (sym e) (record { reads = f.lasts.reads; ends = f.lasts.ends; writes = f.lasts.writes; flushed = f.lasts.flushed });
 }

@@ -102,7 +102,7 @@ was_cut settings old mid new before id user fault count h c =
           subst (Consumes old.left new.left) (sym (ap (λ l. l ++ c.more) (joined_append h.turns c.turns) ∙ append_assoc (joined h.turns) (joined c.turns) c.more)) (Consumes-trans old.left mid.left new.left (joined h.turns) (joined c.turns ++ c.more) h.consumed c.consumed);
       appended = subst (Appends old.written new.written) (sym (sent_append h.turns c.turns)) (Appends-trans old.written mid.written new.written (sent_for h.turns) (sent_for c.turns) h.appended c.appended);
       logged_in = subst (λ rs. IfSome user (λ name. HasLoggedIn settings name rs)) (sym (documents_append h.turns c.turns)) c.logged_in;
-      cause = cause_after fault (length h.turns) old mid new c.turns c.more h.lasts c.cause;
+      cause = cause_after fault (length h.turns) old mid new (joined h.turns) c.turns c.more h.lasts h.consumed c.cause;
       whole = λ is. absurd (is_fault fault is);
     }
 

@@ -67,7 +67,7 @@ turn_cut settings requests old mid new before id user fault turn is_cut consumed
   appended = subst (Appends old.written new.written) (sym (one_joined (λ t. t.sent) turn)) (subst (λ written. Appends written new.written turn.sent) unwritten appended);
   logged_in = logged_in;
   stays = (lasts_on old mid new lasts (lasts_write mid new on)).flushed;
-  cause = write_cause fault old mid new (turn ∷ []) lasts cause;
+  cause = write_cause fault old mid new (turn ∷ []) (omega arith) lasts cause;
 }
   where
     filled : turn ∷ [] ≡ [] → ⊥

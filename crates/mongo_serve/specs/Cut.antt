@@ -1,5 +1,5 @@
 -- A turn that was cut, and why.
-use Rattle.std.specs.Prelude.{◌≡◌, ℕ, ℤ, pos, ◌≤◌, ◌≤ℤ◌, ◌⊎◌, Option, List, [], ◌++◌, length, IfSome, ⊤}
+use Rattle.std.specs.Prelude.{◌≡◌, ℕ, ℤ, pos, ◌<◌, ◌≤◌, ◌≤ℤ◌, ◌⊎◌, Option, List, [], ◌++◌, length, IfSome, ⊤}
 use Rattle.std.specs.List.{AllByRecursion}
 use Rattle.std.specs.Io.KnownBytes.{Consumes, Appends}
 use Rattle.mongo_wire.specs.Header.{signed_at}
@@ -54,14 +54,22 @@ IsPart bytes = IsStarted (pos 48000000) bytes ⊎ (IsQueryFront bytes ⊎ ((docu
 abbrev pub AsksOtherwise : List ℕ → Type 0
 AsksOtherwise bytes = (document : List ℕ) × IsQuery bytes document × (IsGreeting document → ⊥)
 
+-- the answer to one frame was cut, and nothing was taken after it
+abbrev pub CutsOne : List Turn → List ℕ → Type 0
+CutsOne cut more = (length cut ≡ 1) × (more ≡ [])
+
+-- some bytes were taken, where the link tells them
+abbrev pub TookSome : State → List ℕ → Type 0
+TookSome old more = IfSome old.left (λ _. 0 < length more)
+
 -- What a fault says of the bytes that weren't answered, and of the link before and after.
 abbrev pub HasCause : ServeFault → State → State → List Turn → List ℕ → Type 0
 HasCause ReadFault old new cut more = Rose old.read_faults new.read_faults × (cut ≡ [])
-HasCause WriteFault old new cut more = Rose old.write_faults new.write_faults × (more ≡ [])
-HasCause CutFrame old new cut more = Rose old.ends new.ends × IsEmptied new.left × (cut ≡ [])
+HasCause WriteFault old new cut more = Rose old.write_faults new.write_faults × CutsOne cut more
+HasCause CutFrame old new cut more = Rose old.ends new.ends × IsEmptied new.left × (cut ≡ []) × TookSome old more
 HasCause NoFrame old new cut more = (cut ≡ []) × (16 ≤ length more)
 HasCause NoHello old new cut more = (cut ≡ []) × AsksOtherwise more
-HasCause ReplyTooLong old new cut more = more ≡ []
+HasCause ReplyTooLong old new cut more = CutsOne cut more
 HasCause TooManyRequests old new cut more = ⊥
 HasCause OutOfMemory old new cut more = ⊤
 

@@ -1,5 +1,5 @@
 -- How a stream was served.
-use Rattle.std.specs.Prelude.{◌≡◌, ℕ, ℤ, pos, ◌-◌, ◌^◌, ◌≤◌, Bool, true, false, None, Result, Ok, Err, List, [], ◌∷◌, ◌++◌, length, is_some, IfSome, ⊤}
+use Rattle.std.specs.Prelude.{◌≡◌, ℕ, ℤ, pos, ◌-◌, ◌^◌, ◌≤◌, Bool, true, false, None, Result, Ok, Err, List, [], ◌∷◌, ◌++◌, length, is_some, IfSome, ⊤, ◌<◌}
 use Rattle.std.specs.List.{AllByRecursion}
 use Rattle.std.specs.Io.KnownBytes.{Consumes, Appends}
 use Rattle.mongo_wire.specs.Outside.{State, HasEnded}
@@ -62,6 +62,7 @@ pub record Follows (before now : State) (head : List ℕ) : Type 0 where
 -- it was put back
 pub record IsBackAt (before now : State) : Type 0 where
   pub left : now.left ≡ before.left
+  pub some : IfSome before.left (λ bytes. 0 < length bytes)
   pub unwritten : now.written ≡ before.written
   pub lasts : Lasts before now
 

@@ -3,7 +3,7 @@
 ghost use Rattle.std.specs.Prelude.{◌≡◌, ◌<◌, ◌≤◌, true, false, length, IfOk, IfErr, OnOk};
 ghost use Rattle.std.specs.Io.KnownBytes.{Consumes};
 ghost use Rattle.mongo_wire.specs.Error.{kind_of_frame_fault};
-ghost use Rattle.mongo_wire.specs.Outside.{ReadsOn, ReadStops, HasEnded};
+ghost use Rattle.mongo_wire.specs.Outside.{ReadsOn, ReadStops, HasEnded, HasMore};
 
 use mongo_wire::{FrameFault, Source};
 use std::alloc::Global;
@@ -39,6 +39,7 @@ pub fn fill_or_end<S: Source>(source: &mut S, buf: &mut [u8]) -> Result<bool, Fr
     ensures filled { IfOk result (λ found. found ≡ true → Consumes (S.state source.old).left (S.state source.new).left buf.new) }
     ensures ended { IfOk result (λ found. found ≡ false → HasEnded (S.state source.old).left (S.state source.new).left (S.state source.old).ends (S.state source.new).ends) }
     ensures refused { IfErr result (λ fault. ReadStops (kind_of_frame_fault fault) (S.state source.old).left (S.state source.new).left (S.state source.old).read_faults (S.state source.new).read_faults (S.state source.old).ends (S.state source.new).ends (length buf.old)) }
+    ensures more { IfErr result (λ fault. HasMore (kind_of_frame_fault fault) (S.state source.old).left) }
     ensures on { ReadsOn (S.state source.old) (S.state source.new) }
 {
     match source.read(buf) {

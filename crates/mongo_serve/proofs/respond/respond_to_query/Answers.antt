@@ -1,9 +1,9 @@
-use Rattle.std.proofs.Common.{rules, ◌≡◌, FitsSigned, ap, ◌∙◌}
+use Rattle.std.proofs.Common.{rules, ◌≡◌, FitsSigned, ◌∙◌}
 use Rattle.std.specs.Int.{w32}
 use Rattle.std.proofs.lemmas.Int.{to_z-of_z}
 use mir.Val.{to_z, of_z}
 use Rattle.mongo_serve.specs.Sent.{query_reply}
-use Rattle.mongo_serve.proofs.Described.{query_front, query_sent}
+use Rattle.mongo_serve.proofs.Described.{query_front, query_numbered, query_sent}
 use Rattle.mongo_serve.proofs.respond.respond_to_query.Goals as goal
 
 pub returns-clause-sent : goal.returns-clause-sent
@@ -17,7 +17,7 @@ returns-clause-sent g c =
     let drawn_fits : FitsSigned w32 drawn = search rules in
     let to_fits : FitsSigned w32 to = search rules in
     let frame : c.in-Ok-frame_of_reply.frame.items ≡ query_reply id to document =
-    c.in-Ok-frame_of_reply.ensures.frame ∙ ap (λ i. query_reply i (to_z w32 (of_z w32 to)) document) (to_z-of_z w32 drawn drawn_fits ∙ c.draw.ensures.drawn) ∙ ap (λ t. query_reply id t document) (to_z-of_z w32 to to_fits) in
+    query_numbered c.in-Ok-frame_of_reply.frame.items document (to_z w32 (of_z w32 drawn)) id (to_z w32 (of_z w32 to)) to c.in-Ok-frame_of_reply.ensures.frame (to_z-of_z w32 drawn drawn_fits ∙ c.draw.ensures.drawn) (to_z-of_z w32 to to_fits) in
     query_sent old new to id c.draw.new.self c.args.reply.now document c.in-Ok-frame_of_reply.frame.items c.as_slice.result.now c.send.result (c.as_bytes-2.ensures.bytes ∙ c.in-Ok.ensures.document) frame c.as_slice.ensures.value
     c.draw.ensures.next c.send.ensures.written c.send.ensures.flushed
 
@@ -32,5 +32,5 @@ returns-clause-front g c =
     let drawn_fits : FitsSigned w32 drawn = search rules in
     let to_fits : FitsSigned w32 to = search rules in
     let frame : c.in-Ok-frame_of_reply.frame.items ≡ query_reply id to document =
-    c.in-Ok-frame_of_reply.ensures.frame ∙ ap (λ i. query_reply i (to_z w32 (of_z w32 to)) document) (to_z-of_z w32 drawn drawn_fits ∙ c.draw.ensures.drawn) ∙ ap (λ t. query_reply id t document) (to_z-of_z w32 to to_fits) in
+    query_numbered c.in-Ok-frame_of_reply.frame.items document (to_z w32 (of_z w32 drawn)) id (to_z w32 (of_z w32 to)) to c.in-Ok-frame_of_reply.ensures.frame (to_z-of_z w32 drawn drawn_fits ∙ c.draw.ensures.drawn) (to_z-of_z w32 to to_fits) in
     query_front old new to id c.args.reply.now document c.in-Ok-frame_of_reply.frame.items c.as_slice.result.now c.send.result (c.as_bytes-2.ensures.bytes ∙ c.in-Ok.ensures.document) frame c.as_slice.ensures.value c.send.ensures.front

@@ -11,7 +11,8 @@ use Rattle.mongo_serve.proofs.serve.take_after.Goals as goal
 
 pub returns-in-Ok-put_back : goal.returns-in-Ok-put_back
 returns-in-Ok-put_back g c = λ requests before h f.
-    c.take_message.ensures requests before h (back_at before (state_of g.L.Outside.state c.args.link.now) (state_of g.L.Outside.state c.put_back.new.self) c.args.head.now f c.in-Ok-put_back.ensures.put)
+    let sixteen : length c.args.head.now ≡ 16 = search rules in
+    c.take_message.ensures requests before h (back_at before (state_of g.L.Outside.state c.args.link.now) (state_of g.L.Outside.state c.put_back.new.self) c.args.head.now sixteen f c.in-Ok-put_back.ensures.put)
 
 pub returns-in-Err-put_back : goal.returns-in-Err-put_back
 returns-in-Err-put_back g c = λ requests before h f.

@@ -7,7 +7,7 @@ use Rattle.mongo_serve.specs.Cut.{IsCut}
 use Rattle.mongo_serve.specs.PutBack.{state_of}
 use Rattle.mongo_serve.specs.Taken.{IsQueryBody}
 use Rattle.mongo_serve.specs.declared.fault.ServeFault.TheVariants.{NoFrame}
-use Rattle.mongo_serve.proofs.Causes.{header_part, query_front, stopped, unasked}
+use Rattle.mongo_serve.proofs.Causes.{header_part, query_front, some_before, stopped, unasked}
 use Rattle.mongo_serve.proofs.Lasts.{lasts_on, lasts_read}
 use Rattle.mongo_serve.proofs.Turns.{none_taken}
 use Rattle.mongo_serve.proofs.Parts.{query_part, query_of, none_after}
@@ -32,10 +32,10 @@ returns-in-Err g c = λ requests before h f.
     let sixteen : length head ≡ 16 = search rules in
     let length_fits : FitsSigned w32 c.args.header.length = search rules in
     let counted : pos (16 + c.in-Some.rest) ≡ signed_at 0 head = c.in-Some.ensures.counted ∙ to_z-of_z w32 c.args.header.length length_fits ∙ ap (λ x. x.length) c.requires.header in
-    let some = stopped c.in-Err.fault before s t c.in-Some.rest f.lasts on.tells c.in-Err.ensures.refused in
+    let some = stopped c.in-Err.fault before s t head c.in-Some.rest f.lasts f.taken (λ _. some_before s.left head (omega (arith, sixteen))) on.tells c.in-Err.ensures.refused in
     subst (IsCut c.args.settings.now requests before t session id session.user) (sym c.into.ensures)
     (none_after c.args.settings.now requests before s t session id session.user _ head some.taken refl (query_front head some.taken c.in-Some.rest sixteen c.requires.code counted c.in-Some.ensures.within some.within) f some.consumed
-    on.unwritten.written h.user (some.cause (head ++ some.taken)) (lasts_on before s t f.lasts (lasts_read s t on)))
+    on.unwritten.written h.user some.cause (lasts_on before s t f.lasts (lasts_read s t on)))
 
 pub returns-in_default-command_of_query : goal.returns-in_default-command_of_query
 returns-in_default-command_of_query g c = λ requests before h f.

@@ -1,4 +1,5 @@
-use Rattle.std.proofs.Common.{refl, sym, subst}
+use Rattle.std.proofs.Common.{[], refl, sym, subst}
+use Rattle.std.proofs.KnownBytes.{Consumes-nil}
 use Rattle.mongo_serve.specs.Cut.{IsCut}
 use Rattle.mongo_serve.specs.PutBack.{state_of}
 use Rattle.mongo_serve.proofs.Causes.{header_part, stopped}
@@ -13,6 +14,6 @@ returns-in-Err g c = λ requests h.
     let session = c.args.serving.now.session in
     let id = c.args.serving.now.ids in
     let on = c.in-Err.ensures.on in
-    let some = stopped c.in-Err.fault s s t 16 (lasts_all s) on.tells c.in-Err.ensures.refused in
+    let some = stopped c.in-Err.fault s s t [] 16 (lasts_all s) (Consumes-nil s.left) c.in-Err.ensures.more on.tells c.in-Err.ensures.refused in
     subst (IsCut c.args.settings.now requests s t session id session.user) (sym c.into.ensures)
-    (none_taken c.args.settings.now requests s t session id session.user _ some.taken refl (header_part some.taken some.within) some.consumed on.unwritten.written h.user (some.cause some.taken) (lasts_read s t on))
+    (none_taken c.args.settings.now requests s t session id session.user _ some.taken refl (header_part some.taken some.within) some.consumed on.unwritten.written h.user some.cause (lasts_read s t on))
