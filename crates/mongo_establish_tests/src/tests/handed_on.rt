@@ -59,7 +59,7 @@ fn goes_first(
 
 #[test]
 fn a_first_message_is_the_one_that_a_hello_carries(rt: HostRuntime) -> Result<(), Fail> {
-    let carried = Some(&HELLO_OF_USER[129..296]);
+    let carried = HELLO_OF_USER.get(129..296);
     assert!(rt; goes_first(rt.alloc(), AuthMechanism::ScramSha256, carried)?);
     assert!(rt; goes_first(rt.alloc(), AuthMechanism::MongoDbX509, Some(AUTHENTICATE))?);
     assert!(rt; goes_first(rt.alloc(), AuthMechanism::Plain, None)?);
