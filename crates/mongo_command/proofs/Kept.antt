@@ -42,13 +42,13 @@ row_kept most taken kind (inr (inl header)) = length_kept most (signed_at 0 take
 row_kept most taken kind (inr (inr (inl short))) = ap is_kept short.kind_is
 row_kept most taken kind (inr (inr (inr none))) = ap is_kept none.kind_is
 
-read_kept : (kind : ErrorKind) (most : ℤ) (old new : Option (List ℕ)) (faults_old faults_new ends_old ends_new : ℕ) → ReadRefused kind most old new faults_old faults_new ends_old ends_new → is_kept kind ≡ true
-read_kept ReadFault most old new faults_old faults_new ends_old ends_new refused = refl
-read_kept OutOfMemory most old new faults_old faults_new ends_old ends_new refused = refl
-read_kept EndOfInput most old new faults_old faults_new ends_old ends_new refused = refl
-read_kept (InvalidResponse fault) most old new faults_old faults_new ends_old ends_new refused = row_kept most refused.0 (InvalidResponse fault) refused.2
-read_kept (InvalidArgument fault) most old new faults_old faults_new ends_old ends_new refused = row_kept most refused.0 (InvalidArgument fault) refused.2
-read_kept kind most old new faults_old faults_new ends_old ends_new refused = absurd refused
+read_kept : (kind : ErrorKind) (most : ℤ) (old new : State) → ReadRefused kind most old new → is_kept kind ≡ true
+read_kept ReadFault most old new refused = refl
+read_kept OutOfMemory most old new refused = refl
+read_kept EndOfInput most old new refused = refl
+read_kept (InvalidResponse fault) most old new refused = row_kept most refused.0 (InvalidResponse fault) refused.2
+read_kept (InvalidArgument fault) most old new refused = row_kept most refused.0 (InvalidArgument fault) refused.2
+read_kept kind most old new refused = absurd refused
 
 pub received_kept : (kind : ErrorKind) (maximum : ℤ) (old new : State) → ReceiveRefused kind maximum old new → is_kept kind ≡ true
-received_kept kind maximum old new refused = read_kept kind maximum old.left new.left old.read_faults new.read_faults old.ends new.ends refused.refused
+received_kept kind maximum old new refused = read_kept kind maximum old new refused.refused

@@ -25,7 +25,7 @@ pub record Unread (old new : State) : Type 0 where
   pub reads : new.read_faults ≡ old.read_faults
   pub ends : new.ends ≡ old.ends
 
-cut_of : (kind : ErrorKind) (maximum : ℤ) (m : Message) (old new : State) (before after : ℤ) → m.request_id ≡ None → Unread old new → WriteCut maximum m old.written new.written before after → Cut kind maximum m old new before after (Some kind)
+cut_of : (kind : ErrorKind) (maximum : ℤ) (m : Message) (old new : State) (before after : ℤ) → m.request_id ≡ None → Unread old new → WriteCut maximum m old new before after → Cut kind maximum m old new before after (Some kind)
 cut_of kind maximum m old new before after none unread w = record {
   fits = w.fits;
   front = subst (λ id. AppendsFront old.written new.written (written_frame id m)) (ap (λ o. unwrap_or o before) none) w.front;
@@ -36,21 +36,21 @@ cut_of kind maximum m old new before after none unread w = record {
   kept_is = refl;
 }
 
-refused_kind : (kind : ErrorKind) (maximum : ℤ) (m : Message) (old new : State) (before after : ℤ) → m.request_id ≡ None → length m.document_payload < 2 ^ 31 → Unread old new → ((fault : ArgumentFault) → kind ≡ InvalidArgument fault → new ≡ old) → WriteRefused kind maximum m old.written new.written old.write_faults new.write_faults before after → SendRefused kind maximum m old new before after (sent_fault kind)
+refused_kind : (kind : ErrorKind) (maximum : ℤ) (m : Message) (old new : State) (before after : ℤ) → m.request_id ≡ None → length m.document_payload < 2 ^ 31 → Unread old new → ((fault : ArgumentFault) → kind ≡ InvalidArgument fault → new ≡ old) → WriteRefused kind maximum m old new before after → SendRefused kind maximum m old new before after (sent_fault kind)
 refused_kind (InvalidArgument (Bson TooLong)) maximum m old new before after none short unread same w = absurd w.0
 refused_kind (InvalidArgument fault) maximum m old new before after none short unread same w = (short, w.0, record { link = same fault refl; ids = w.2; kept_is = refl })
 refused_kind WriteFault maximum m old new before after none short unread same w = (w.0, cut_of WriteFault maximum m old new before after none unread w.1)
 refused_kind OutOfMemory maximum m old new before after none short unread same w = inr (cut_of OutOfMemory maximum m old new before after none unread w)
 refused_kind kind maximum m old new before after none short unread same w = absurd w
 
-pub send_refused : {L : Type 0} (state : L → State) (l l' : L) (r : Result ⊤ Error) (maximum : ℤ) (m : Message) (before after : ℤ) → m.request_id ≡ None → length m.document_payload < 2 ^ 31 → Unread (state l) (state l') → ((fault : ArgumentFault) → IfErr r (λ e. e.kind ≡ InvalidArgument fault → l' ≡ l)) → IfErr r (λ e. WriteRefused e.kind maximum m (state l).written (state l').written (state l).write_faults (state l').write_faults before after) → IfErr r (λ e. SendRefused e.kind maximum m (state l) (state l') before after (sent_fault e.kind))
+pub send_refused : {L : Type 0} (state : L → State) (l l' : L) (r : Result ⊤ Error) (maximum : ℤ) (m : Message) (before after : ℤ) → m.request_id ≡ None → length m.document_payload < 2 ^ 31 → Unread (state l) (state l') → ((fault : ArgumentFault) → IfErr r (λ e. e.kind ≡ InvalidArgument fault → l' ≡ l)) → IfErr r (λ e. WriteRefused e.kind maximum m (state l) (state l') before after) → IfErr r (λ e. SendRefused e.kind maximum m (state l) (state l') before after (sent_fault e.kind))
 send_refused state l l' (Ok x) maximum m before after none short unread same w = tt
 send_refused state l l' (Err e) maximum m before after none short unread same w = refused_kind e.kind maximum m (state l) (state l') before after none short unread (λ fault is. ap state (same fault is)) w
 
 tells : (m : Message) → m.checksum ≡ None → TellsChecksum m
 tells m p = subst (λ c. IfSome c (λ sum. bit_and m.flags.0 known_flags % 2 ≡ 1)) (sym p) tt
 
-pub sent : (r : Result ⊤ Error) (maximum : ℤ) (m : Message) (old new : State) (before after : ℤ) → m.request_id ≡ None → m.checksum ≡ None → Unread old new → OnOk r (Writes maximum m old.written new.written new.flushed before after) → OnOk r (TellsChecksum m → IsFrameOf (id_of m before) m (written_frame (id_of m before) m)) → OnOk r (Sends maximum m old new before after)
+pub sent : (r : Result ⊤ Error) (maximum : ℤ) (m : Message) (old new : State) (before after : ℤ) → m.request_id ≡ None → m.checksum ≡ None → Unread old new → OnOk r (Writes maximum m old new before after) → OnOk r (TellsChecksum m → IsFrameOf (id_of m before) m (written_frame (id_of m before) m)) → OnOk r (Sends maximum m old new before after)
 sent (Ok x) maximum m old new before after none unsummed unread w frame =
     let id_is : id_of m before ≡ before = ap (λ o. unwrap_or o before) none in
     record {
@@ -65,7 +65,7 @@ sent (Ok x) maximum m old new before after none unsummed unread w frame =
     }
 sent (Err e) maximum m old new before after none unsummed unread w frame = tt
 
-pub received : (r : Result Message Error) (maximum : ℤ) (old new : State) → Unwritten old new → IfOk r (IsRead maximum old.left new.left) → IfOk r (λ m. Receives maximum old new m.document_payload)
+pub received : (r : Result Message Error) (maximum : ℤ) (old new : State) → Unwritten old new → IfOk r (IsRead maximum old new) → IfOk r (λ m. Receives maximum old new m.document_payload)
 received (Ok m) maximum old new unwritten read = record { unwritten = unwritten; frame = read.frame; parts = parts_of read.id m; is_frame = read.is_frame; within = read.within; taken = read.taken; document_is = refl }
 received (Err e) maximum old new unwritten read = tt
 
@@ -76,7 +76,7 @@ document_held frame parts buffer h =
     ∙ ap (document_at (Some h.held)) h.bytes_are
     ∙ h.is_held.body_at.is
 
-pub received_into : (maximum : ℤ) (old new : State) (buffer : FrameBuffer) → Unwritten old new → IsFrameTaken maximum old.left new.left buffer → Receives maximum old new (held_document buffer)
+pub received_into : (maximum : ℤ) (old new : State) (buffer : FrameBuffer) → Unwritten old new → IsFrameTaken maximum old new buffer → Receives maximum old new (held_document buffer)
 received_into maximum old new buffer unwritten t = record {
   unwritten = unwritten;
   frame = t.frame;
@@ -87,9 +87,9 @@ received_into maximum old new buffer unwritten t = record {
   document_is = document_held t.frame t.parts buffer t.holds;
 }
 
-pub receive_refused : {T : Type 0} (r : Result T Error) (maximum : ℤ) (old new : State) → Unwritten old new → IfErr r (λ e. ReadRefused e.kind maximum old.left new.left old.read_faults new.read_faults old.ends new.ends) → IfErr r (λ e. ReceiveRefused e.kind maximum old new)
+pub receive_refused : {T : Type 0} (r : Result T Error) (maximum : ℤ) (old new : State) → Unwritten old new → IfErr r (λ e. ReadRefused e.kind maximum old new) → IfErr r (λ e. ReceiveRefused e.kind maximum old new)
 receive_refused (Ok m) maximum old new unwritten refused = tt
 receive_refused (Err e) maximum old new unwritten refused = record { refused = refused; unwritten = unwritten }
 
-pub fault_refused : (fault : FrameFault) (e : Error) (maximum : ℤ) (old new : State) → Unwritten old new → e.kind ≡ kind_of_frame_fault fault → ReadRefused (kind_of_frame_fault fault) maximum old.left new.left old.read_faults new.read_faults old.ends new.ends → ReceiveRefused e.kind maximum old new
+pub fault_refused : (fault : FrameFault) (e : Error) (maximum : ℤ) (old new : State) → Unwritten old new → e.kind ≡ kind_of_frame_fault fault → ReadRefused (kind_of_frame_fault fault) maximum old new → ReceiveRefused e.kind maximum old new
 fault_refused fault e maximum old new unwritten is refused = subst (λ kind. ReceiveRefused kind maximum old new) (sym is) (record { refused = refused; unwritten = unwritten })

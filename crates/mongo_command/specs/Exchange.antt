@@ -41,7 +41,7 @@ pub record Sends (maximum : ℤ) (message : Message) (old new : State) (before a
   pub fits : Fits maximum message
   pub written : Appends old.written new.written (written_frame before message)
   pub frame : IsFrameOf before message (written_frame before message)
-  pub flushed : IsFlushed new.written new.flushed
+  pub flushed : IsFlushed new
   pub unread : new.left ≡ old.left
   pub reads : new.read_faults ≡ old.read_faults
   pub ends : new.ends ≡ old.ends
@@ -99,7 +99,7 @@ SendRefused kind maximum message old new before after kept = ⊥
 
 -- no frame was received: why, and what of the bytes left was taken
 pub record ReceiveRefused (kind : ErrorKind) (maximum : ℤ) (old new : State) : Type 0 where
-  pub refused : ReadRefused kind maximum old.left new.left old.read_faults new.read_faults old.ends new.ends
+  pub refused : ReadRefused kind maximum old new
   pub unwritten : Unwritten old new
 
 -- the message was sent and no frame was received; the fault is kept

@@ -100,7 +100,7 @@ module _ {L K : Type 0} (link : L → State) (sink : K → State) (run : Run L K
   reported_end rehearsal.Accepted r = r
   reported_end rehearsal.Refused r = r
 
-  pub ends_reported : (x : Rehearsal) → Attempt x (link run.link) (link run.link_after) → Appends (sink run.sink).written (sink run.sink_after).written x.report.items → IsFlushed (sink run.sink_after).written (sink run.sink_after).flushed
+  pub ends_reported : (x : Rehearsal) → Attempt x (link run.link) (link run.link_after) → Appends (sink run.sink).written (sink run.sink_after).written x.report.items → IsFlushed (sink run.sink_after)
       → Ends link sink run (status_after x.status)
   ends_reported x a written flushed = reported_end x.status (record { rehearsal = x; status_is = refl; attempt = a; written = written; flushed = flushed })
 

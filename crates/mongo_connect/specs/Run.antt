@@ -45,7 +45,7 @@ pub record Connected (input : List ℕ) (rehearsal : Rehearsal) (old new : State
   pub report : IsReport (with_replies settings (after_line input)) rehearsal.report.items
   pub status_is : rehearsal.status ≡ status_of report.outcome
   pub written : Appends old.written new.written (concat report.frames)
-  pub flushed : (concat report.frames ≡ []) ⊎ IsFlushed new.written new.flushed
+  pub flushed : (concat report.frames ≡ []) ⊎ IsFlushed new
   pub taken : Consumes (Some (after_line input)) new.left (taken_by report.outcome)
 
 -- a line was read of the link: the first, where its bytes are told
@@ -91,7 +91,7 @@ module _ {L K : Type 0} (link : L → State) (sink : K → State) where
     pub status_is : rehearsal.status ≡ status
     pub attempt : Attempt rehearsal (link run.link) (link run.link_after)
     pub written : Appends (sink run.sink).written (sink run.sink_after).written rehearsal.report.items
-    pub flushed : IsFlushed (sink run.sink_after).written (sink run.sink_after).flushed
+    pub flushed : IsFlushed (sink run.sink_after)
 
   -- the line was read and judged so, and nothing was written
   pub record IsRefusedLine (error : SettingsError) (run : Run L K) : Type 0 where

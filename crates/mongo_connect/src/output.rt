@@ -10,7 +10,7 @@ use mongo_wire::{Sink, SinkError, write_all};
 /// `Failed` where the sink failed, `OutOfMemory` where it wanted memory. A refusal has written a front of the report.
 pub fn write_report<K: Sink>(sink: &mut K, text: &[u8]) -> Result<(), SinkError>
     ensures written { OnOk result (Appends (K.state sink.old).written (K.state sink.new).written text.now) }
-    ensures flushed { OnOk result (IsFlushed (K.state sink.new).written (K.state sink.new).flushed) }
+    ensures flushed { OnOk result (IsFlushed (K.state sink.new)) }
     ensures failed { IsErrOf result SinkError.Failed → Rose (K.state sink.old).write_faults (K.state sink.new).write_faults }
     ensures refused { OnErr result (AppendsFront (K.state sink.old).written (K.state sink.new).written text.now) }
     ensures on { WritesOn (K.state sink.old) (K.state sink.new) }

@@ -15,6 +15,7 @@ use Rattle.mongo_wire.specs.declared.fault.FrameFault.{FrameFault}
 use Rattle.mongo_wire.specs.declared.fault.FrameFault.TheVariants as frame_fault
 use Rattle.mongo_wire.specs.Error.{kind_of_frame_fault}
 use Rattle.mongo_wire.specs.Message.{ReadRefused, IsUnreadable}
+use Rattle.mongo_wire.specs.Outside.{State}
 use Rattle.mongo_command.specs.Field.{field_of, Required}
 use Rattle.mongo_sasl.specs.Reply.{ReadsGeneric}
 use Rattle.mongo_generate.specs.Written.{IsContent, CarriesPayload}
@@ -85,9 +86,9 @@ payload_broken document payload carries broken = broken_no_document document (co
 -- ---- reading
 
 -- a frame of a link that doesn't fail is taken again, or memory runs out
-pub only_memory : (fault : FrameFault) (most : ℤ) (old new : Option (List ℕ)) (ends_old ends_new : ℕ) → IsUnreadable (kind_of_frame_fault fault) → ReadRefused (kind_of_frame_fault fault) most old new 0 0 ends_old ends_new → fault ≡ frame_fault.OutOfMemory
-only_memory frame_fault.ReadFault most old new ends_old ends_new again refused = let rose = refused.0 in absurd (omega arith)
-only_memory frame_fault.EndOfInput most old new ends_old ends_new again refused = absurd again
-only_memory frame_fault.OutOfMemory most old new ends_old ends_new again refused = refl
-only_memory (frame_fault.InvalidArgument fault) most old new ends_old ends_new again refused = absurd again
-only_memory (frame_fault.InvalidResponse fault) most old new ends_old ends_new again refused = absurd again
+pub only_memory : (fault : FrameFault) (most : ℤ) (old new : State) → new.read_faults ≡ 0 → IsUnreadable (kind_of_frame_fault fault) → ReadRefused (kind_of_frame_fault fault) most old new → fault ≡ frame_fault.OutOfMemory
+only_memory frame_fault.ReadFault most old new none again refused = let rose = refused.0 in absurd (omega arith)
+only_memory frame_fault.EndOfInput most old new none again refused = absurd again
+only_memory frame_fault.OutOfMemory most old new none again refused = refl
+only_memory (frame_fault.InvalidArgument fault) most old new none again refused = absurd again
+only_memory (frame_fault.InvalidResponse fault) most old new none again refused = absurd again

@@ -30,7 +30,7 @@ pub record MadeLogins (count : ℕ) (steps : Steps) (sink sink_after : State) : 
   pub text : List ℕ
   pub tells : TellsLogins count steps text
   pub written : Appends sink.written sink_after.written text
-  pub flushed : IsFlushed sink_after.written sink_after.flushed
+  pub flushed : IsFlushed sink_after
 
 -- a front of it was written
 pub record WroteFront (count : ℕ) (steps : Steps) (sink sink_after : State) : Type 0 where

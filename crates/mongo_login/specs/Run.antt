@@ -43,7 +43,7 @@ pub record Printed (task : Task) (steps : Steps) (status : RehearsalStatus) (inp
   pub text : List ℕ
   pub reports : Reports asks steps status text
   pub written : Appends sink.written sink_after.written text
-  pub flushed : IsFlushed sink_after.written sink_after.flushed
+  pub flushed : IsFlushed sink_after
 
 -- a front of the report of the logins was written after what was there
 pub record PrintedFront (task : Task) (steps : Steps) (input : List ℕ) (sink sink_after : State) : Type 0 where

@@ -34,7 +34,7 @@ impl From<SinkError> for OutputError {
 /// `Fault` where the sink failed, `OutOfMemory` where it wanted memory. A refusal has written a front of the report.
 pub fn write_report<K: Sink>(sink: &mut K, text: &[u8]) -> Result<(), OutputError>
     ensures written { OnOk result (Appends (K.state sink.old).written (K.state sink.new).written text.now) }
-    ensures flushed { OnOk result (IsFlushed (K.state sink.new).written (K.state sink.new).flushed) }
+    ensures flushed { OnOk result (IsFlushed (K.state sink.new)) }
     ensures failed { IsErrOf result OutputError.Fault → Rose (K.state sink.old).write_faults (K.state sink.new).write_faults }
     ensures refused { OnErr result (AppendsFront (K.state sink.old).written (K.state sink.new).written text.now) }
     ensures on { WritesOn (K.state sink.old) (K.state sink.new) }

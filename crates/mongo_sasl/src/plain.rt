@@ -80,7 +80,7 @@ pub fn authenticate_stream<L: Link>(
     // The reply passed through the buffer, which holds just the reply of the login's one exchange.
     ensures frames { OnOk result (frames_taken buffer.new ≡ risen (frames_taken buffer.old)) }
     ensures holds { OnOk result (HoldsReply buffer.new) }
-    ensures taken { OnOk result (IsFrameTaken (frame_maximum connection.old.stream_description) (L.state link.old).left (L.state link.new).left buffer.new) }
+    ensures taken { OnOk result (IsFrameTaken (frame_maximum connection.old.stream_description) (L.state link.old) (L.state link.new) buffer.new) }
     ensures reply { OnOk result (EndsByReply (plain_plan (plain_handed credential.now (option_copied server_api.entry) (frame_maximum connection.old.stream_description))) tt (held_document buffer.new)
         (L.state link.old) (L.state link.new) ids.old ids.new) }
 

@@ -84,7 +84,7 @@ pub fn authenticate_stream<L: Link>(
     // The reply passed through the buffer, where there is one; the buffer holds just the reply of the login's one exchange.
     ensures frames { OnOk result (frames_taken buffer.new ≡ frames_after speculated (frames_taken buffer.old)) }
     ensures holds { speculated ≡ false → OnOk result (HoldsReply buffer.new) }
-    ensures taken { speculated ≡ false → OnOk result (IsFrameTaken (frame_maximum connection.old.stream_description) (L.state link.old).left (L.state link.new).left buffer.new) }
+    ensures taken { speculated ≡ false → OnOk result (IsFrameTaken (frame_maximum connection.old.stream_description) (L.state link.old) (L.state link.new) buffer.new) }
     ensures reply { speculated ≡ false → OnOk result (EndsByReply (x509_plan (x509_handed credential.now (option_copied server_api.entry) speculated (frame_maximum connection.old.stream_description))) tt (held_document buffer.new)
         (L.state link.old) (L.state link.new) ids.old ids.new) }
 

@@ -63,7 +63,7 @@ all_taken old mid new front wanted (Some xs) is before some r =
     record { taken = xs; within = omega (arith, r.0); consumed = subst (λ l. Consumes l new.left xs) (sym is) all; some = told_some old.left mid.left front (front ++ xs) before (some_after mid.left front xs is some) }
 
 pub stopped : (fault : FrameFault) (old mid new : State) (front : List ℕ) (wanted : ℕ) → Lasts old mid → Consumes old.left mid.left front → (kind_of_frame_fault fault ≡ EndOfInput → IfSome mid.left (λ bytes. 0 < length (front ++ bytes)))
-    → is_some new.left ≡ is_some mid.left → ReadStops (kind_of_frame_fault fault) mid.left new.left mid.read_faults new.read_faults mid.ends new.ends wanted → Stopped (fault_of_frame fault) old mid new front wanted
+    → is_some new.left ≡ is_some mid.left → ReadStops (kind_of_frame_fault fault) mid new wanted → Stopped (fault_of_frame fault) old mid new front wanted
 stopped frame.ReadFault old mid new front wanted lasts before some tells s =
     record { taken = s.1.0; within = omega (arith, s.1.1); consumed = s.1.2; cause = (rose_after old.read_faults mid.read_faults new.read_faults lasts.reads s.0, refl) }
 stopped frame.EndOfInput old mid new front wanted lasts before some tells s =
@@ -110,7 +110,7 @@ emptied_some (Some xs) mid (Some ys) taken same some p empty =
     let q : xs ≡ taken ++ ys = subst (λ m. Consumes m (Some ys) taken) same p in
     omega (arith, some, ap length q, length-append taken ys, ap length empty)
 
-pub refused : (fault : FrameFault) (old mid new : State) → Lasts old mid → mid.left ≡ old.left → IfSome old.left (λ bytes. 0 < length bytes) → ReadRefused (kind_of_frame_fault fault) (pos 48000000) mid.left new.left mid.read_faults new.read_faults mid.ends new.ends
+pub refused : (fault : FrameFault) (old mid new : State) → Lasts old mid → mid.left ≡ old.left → IfSome old.left (λ bytes. 0 < length bytes) → ReadRefused (kind_of_frame_fault fault) (pos 48000000) mid new
     → Refused (fault_of_frame fault) old mid new
 refused frame.ReadFault old mid new lasts same some h =
     record { taken = h.1.0; part = inl (started (pos 48000000) h.1.0 h.1.2); consumed = h.1.1; cause = (rose_after old.read_faults mid.read_faults new.read_faults lasts.reads h.0, refl) }

@@ -33,7 +33,7 @@ pub query_numbered : (frame document : List ℕ) (i id t to : ℤ) → frame ≡
 query_numbered frame document i id t to is same other = is ∙ ap (λ n. query_reply n t document) same ∙ ap (λ n. query_reply id n document) other
 
 pub query_sent : (old new : State) (to id later : ℤ) (reply : Reply) (document frame bytes : List ℕ) (r : Result ⊤ ServeFault) → document ≡ reply_document reply → frame ≡ query_reply id to document → bytes ≡ frame → later ≡ next_id id
-    → OnOk r (Appends old.written new.written bytes) → OnOk r (IsFlushed new.written new.flushed) → OnOk r (IsSentToQuery old new to reply id later)
+    → OnOk r (Appends old.written new.written bytes) → OnOk r (IsFlushed new) → OnOk r (IsSentToQuery old new to reply id later)
 query_sent old new to id later reply document frame bytes (Err fault) p q s drawn a f = tt
 query_sent old new to id later reply document frame bytes (Ok done) p q s drawn a f =
     record { appended = subst (Appends old.written new.written) (s ∙ q ∙ ap (query_reply id to) p) a; flushed = f; drawn = drawn }

@@ -20,12 +20,12 @@ lasts_write old new on = record { reads = omega (arith, on.unread.reads); ends =
 
 -- ---- what was flushed
 
-all_flushed : (before after : Option (List ℕ)) (flushed : ℕ) (sent : List ℕ) → Appends before after sent → IsFlushed after flushed → IfSome before (λ bytes. length bytes + length sent ≤ flushed)
+all_flushed : (before after : Option (List ℕ)) (flushed : ℕ) (sent : List ℕ) → Appends before after sent → IfSome after (λ bytes. flushed ≡ length bytes) → IfSome before (λ bytes. length bytes + length sent ≤ flushed)
 all_flushed None after flushed sent p f = tt
 all_flushed (Some bytes) None flushed sent p f = absurd p
 all_flushed (Some bytes) (Some others) flushed sent p f = omega (arith, f, ap length p, length-append bytes sent)
 
-pub sent_flushed : (old new : State) (sent : List ℕ) → Appends old.written new.written sent → IsFlushed new.written new.flushed → HasFlushed old new sent
+pub sent_flushed : (old new : State) (sent : List ℕ) → Appends old.written new.written sent → IsFlushed new → HasFlushed old new sent
 sent_flushed old new sent appended flushed = inr (all_flushed old.written new.written new.flushed sent appended flushed)
 
 stays : (before : Option (List ℕ)) (flushed later : ℕ) (xs ys : List ℕ) → IfSome before (λ bytes. length bytes + length xs ≤ flushed) → ys ≡ [] → flushed ≤ later → IfSome before (λ bytes. length bytes + length (xs ++ ys) ≤ later)

@@ -57,22 +57,22 @@ pub nothing_written : (old : Option (List ℕ)) (bytes : List ℕ) → AppendsFr
 nothing_written old bytes = (0, Appends-nil old)
 
 -- a front of the frame was written
-pub refused_front : (kind : ErrorKind) (most : ℤ) (m : Message) (old new : Option (List ℕ)) (fo fn : ℕ) (before after : ℤ) → WriteRefused kind most m old new fo fn before after → AppendsFront old new (written_frame (id_of m before) m)
-refused_front (InvalidArgument fault) most m old new fo fn before after h = nothing_kept old new (written_frame (id_of m before) m) h.1
-refused_front WriteFault most m old new fo fn before after h = h.1.front
-refused_front OutOfMemory most m old new fo fn before after h = h.front
-refused_front ReadFault most m old new fo fn before after h = absurd h
-refused_front EndOfInput most m old new fo fn before after h = absurd h
-refused_front (InvalidResponse _) most m old new fo fn before after h = absurd h
-refused_front (Command _) most m old new fo fn before after h = absurd h
-refused_front (Authentication _) most m old new fo fn before after h = absurd h
-refused_front IncompatibleServer most m old new fo fn before after h = absurd h
-refused_front (Write _) most m old new fo fn before after h = absurd h
-refused_front (InsertMany _) most m old new fo fn before after h = absurd h
-refused_front (Callback _) most m old new fo fn before after h = absurd h
-refused_front PasswordNotAscii most m old new fo fn before after h = absurd h
+pub refused_front : (kind : ErrorKind) (most : ℤ) (m : Message) (old new : State) (before after : ℤ) → WriteRefused kind most m old new before after → AppendsFront old.written new.written (written_frame (id_of m before) m)
+refused_front (InvalidArgument fault) most m old new before after h = nothing_kept old.written new.written (written_frame (id_of m before) m) h.1
+refused_front WriteFault most m old new before after h = h.1.front
+refused_front OutOfMemory most m old new before after h = h.front
+refused_front ReadFault most m old new before after h = absurd h
+refused_front EndOfInput most m old new before after h = absurd h
+refused_front (InvalidResponse _) most m old new before after h = absurd h
+refused_front (Command _) most m old new before after h = absurd h
+refused_front (Authentication _) most m old new before after h = absurd h
+refused_front IncompatibleServer most m old new before after h = absurd h
+refused_front (Write _) most m old new before after h = absurd h
+refused_front (InsertMany _) most m old new before after h = absurd h
+refused_front (Callback _) most m old new before after h = absurd h
+refused_front PasswordNotAscii most m old new before after h = absurd h
 
-pub refused_cause : (kind : ErrorKind) (most : ℤ) (m : Message) (old new : State) (before after : ℤ) → WriteRefused kind most m old.written new.written old.write_faults new.write_faults before after → WriteCause (fault_of_kind kind) old new
+pub refused_cause : (kind : ErrorKind) (most : ℤ) (m : Message) (old new : State) (before after : ℤ) → WriteRefused kind most m old new before after → WriteCause (fault_of_kind kind) old new
 refused_cause (InvalidArgument fault) most m old new before after h = tt
 refused_cause WriteFault most m old new before after h = h.0
 refused_cause OutOfMemory most m old new before after h = tt

@@ -74,7 +74,7 @@ pub record SendsReply (old new : State) (id later to : ℤ) (document : List ℕ
   pub sent : List ℕ
   pub is_reply : IsReplyFrame sent id to document
   pub appended : Appends old.written new.written sent
-  pub flushed : IsFlushed new.written new.flushed
+  pub flushed : IsFlushed new
   pub drawn : later ≡ next_id id
 
 -- an OP_MSG was answered, and the reply flushed
@@ -92,7 +92,7 @@ pub record IsSentInPart (old new : State) (to : ℤ) (flags : ℕ) (reply : Repl
 -- an OP_QUERY was answered, and the reply flushed
 pub record IsSentToQuery (old new : State) (to : ℤ) (reply : Reply) (id later : ℤ) : Type 0 where
   pub appended : Appends old.written new.written (query_reply id to (reply_document reply))
-  pub flushed : IsFlushed new.written new.flushed
+  pub flushed : IsFlushed new
   pub drawn : later ≡ next_id id
 
 -- ---- why a write was refused

@@ -34,7 +34,7 @@ pub record TakesTurn (settings : Settings) (requests : List (List ℕ)) (old new
 
 -- there was no turn: the client has ended its stream
 pub record NoTurn (old new : State) (before after : Session) : Type 0 where
-  pub ended : HasEnded old.left new.left old.ends new.ends
+  pub ended : HasEnded old new
   pub appended : Appends old.written new.written []
   pub flushed : new.flushed ≡ old.flushed
   pub kept : after ≡ before

@@ -16,7 +16,7 @@ const PIECE: usize = 4096;
 /// `ReadFault` where the source failed, `EndOfInput` where it ended before the buffer was full.
 pub fn fill<S: Source>(source: &mut S, buf: &mut [u8]) -> Result<(), FrameFault>
     ensures filled { OnOk result (Consumes (S.state source.old).left (S.state source.new).left buf.new) }
-    ensures refused { IfErr result (λ fault. ReadStops (kind_of_frame_fault fault) (S.state source.old).left (S.state source.new).left (S.state source.old).read_faults (S.state source.new).read_faults (S.state source.old).ends (S.state source.new).ends (length buf.old)) }
+    ensures refused { IfErr result (λ fault. ReadStops (kind_of_frame_fault fault) (S.state source.old) (S.state source.new) (length buf.old)) }
     ensures on { ReadsOn (S.state source.old) (S.state source.new) }
 {
     let mut at = 0;
@@ -37,8 +37,8 @@ pub fn fill<S: Source>(source: &mut S, buf: &mut [u8]) -> Result<(), FrameFault>
 pub fn fill_or_end<S: Source>(source: &mut S, buf: &mut [u8]) -> Result<bool, FrameFault>
     requires { 0 < length buf.old }
     ensures filled { IfOk result (λ found. found ≡ true → Consumes (S.state source.old).left (S.state source.new).left buf.new) }
-    ensures ended { IfOk result (λ found. found ≡ false → HasEnded (S.state source.old).left (S.state source.new).left (S.state source.old).ends (S.state source.new).ends) }
-    ensures refused { IfErr result (λ fault. ReadStops (kind_of_frame_fault fault) (S.state source.old).left (S.state source.new).left (S.state source.old).read_faults (S.state source.new).read_faults (S.state source.old).ends (S.state source.new).ends (length buf.old)) }
+    ensures ended { IfOk result (λ found. found ≡ false → HasEnded (S.state source.old) (S.state source.new)) }
+    ensures refused { IfErr result (λ fault. ReadStops (kind_of_frame_fault fault) (S.state source.old) (S.state source.new) (length buf.old)) }
     ensures more { IfErr result (λ fault. HasMore (kind_of_frame_fault fault) (S.state source.old).left) }
     ensures on { ReadsOn (S.state source.old) (S.state source.new) }
 {
@@ -62,7 +62,7 @@ pub fn take_bytes<S: Source>(
 ) -> Result<Vec<u8>, FrameFault>
     ensures taken { IfOk result (λ held. Consumes (S.state source.old).left (S.state source.new).left held.items) }
     ensures whole { IfOk result (λ held. length held.items ≡ wanted) }
-    ensures refused { IfErr result (λ fault. ReadStops (kind_of_frame_fault fault) (S.state source.old).left (S.state source.new).left (S.state source.old).read_faults (S.state source.new).read_faults (S.state source.old).ends (S.state source.new).ends wanted) }
+    ensures refused { IfErr result (λ fault. ReadStops (kind_of_frame_fault fault) (S.state source.old) (S.state source.new) wanted) }
     ensures on { ReadsOn (S.state source.old) (S.state source.new) }
 {
     let mut held = Vec::new(alloc);

@@ -120,7 +120,7 @@ fn frame_of_reply(alloc: Global, id: i32, to: i32, document: &[u8]) -> Result<Ve
 // Writes bytes and flushes them.
 fn send<K: Sink>(sink: &mut K, bytes: &[u8]) -> Result<(), ServeFault>
     ensures written { OnOk result (Appends (K.state sink.old).written (K.state sink.new).written bytes.now) }
-    ensures flushed { OnOk result (IsFlushed (K.state sink.new).written (K.state sink.new).flushed) }
+    ensures flushed { OnOk result (IsFlushed (K.state sink.new)) }
     ensures front { OnErr result (AppendsFront (K.state sink.old).written (K.state sink.new).written bytes.now) }
     ensures on { WritesOn (K.state sink.old) (K.state sink.new) }
     ensures refused { IfErr result (λ fault. WriteCause fault (K.state sink.old) (K.state sink.new)) }

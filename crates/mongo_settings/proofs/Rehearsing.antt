@@ -64,7 +64,7 @@ consumed : (bytes taken rest : List ℕ) (old new : Option (List ℕ)) → old �
 consumed bytes taken rest old new given is joined = rw (given, is) joined
 
 -- where anything was written, all of it is flushed
-flushed_after : (commands : List Said) (id : ℤ) (sent bytes : List ℕ) (old new : State) → IsSaid commands id sent → sent ≡ bytes → IsFlushedAfter commands old new → (bytes ≡ []) ⊎ IsFlushed new.written new.flushed
+flushed_after : (commands : List Said) (id : ℤ) (sent bytes : List ℕ) (old new : State) → IsSaid commands id sent → sent ≡ bytes → IsFlushedAfter commands old new → (bytes ≡ []) ⊎ IsFlushed new
 flushed_after [] id sent bytes old new said same flushed = inl (sym same ∙ said)
 flushed_after (command ∷ commands) id sent bytes old new said same flushed = inr flushed
 

@@ -37,5 +37,5 @@ pub record IsRehearsal (settings : Settings) (rehearsal : Rehearsal) : Type 0 wh
 -- The link is left as the report says: exactly its frames were written, and flushed; exactly what its outcome takes was read.
 pub record LeftAs (settings : Settings) (text : List ℕ) (report : IsReport settings text) (old new : State) : Type 0 where
   pub written : Appends old.written new.written (concat report.frames)
-  pub flushed : (concat report.frames ≡ []) ⊎ IsFlushed new.written new.flushed
+  pub flushed : (concat report.frames ≡ []) ⊎ IsFlushed new
   pub taken : Consumes old.left new.left (taken_by report.outcome)

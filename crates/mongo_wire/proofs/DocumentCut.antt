@@ -6,7 +6,7 @@ use Rattle.std.specs.Int.{cast_signed, w32}
 use Rattle.std.specs.Io.KnownBytes.{Consumes}
 use Rattle.mongo_bson.proofs.Sizes.{number_at_front}
 use Rattle.mongo_wire.specs.Header.{signed_at}
-use Rattle.mongo_wire.specs.Outside.{ReadStops, ConsumesAtMost, ConsumesFewer, RanOut}
+use Rattle.mongo_wire.specs.Outside.{State, ReadsOn, ReadStops, ConsumesAtMost, ConsumesFewer, RanOut}
 use Rattle.mongo_wire.specs.Rows.{IsEmptied}
 use Rattle.mongo_wire.specs.Small.{DocumentUnread, IsStartedDocument, IsShortDocument, TakesSuch}
 use Rattle.mongo_wire.specs.declared.error.ErrorKind.{ErrorKind}
@@ -24,11 +24,10 @@ ended_early (Some bytes) new tells ran =
     let all : TakesSuch IsShortDocument (Some bytes) (Some []) × IsEmptied (Some []) = ((bytes, sym (append-nil bytes), inl ran.0), refl) in
     subst (λ s. TakesSuch IsShortDocument (Some bytes) s × IsEmptied s) (sym ran.1) all
 
-pub length_cut : (kind : ErrorKind) (old new : Option (List ℕ)) (faults_old faults_new ends_old ends_new : ℕ) → is_some new ≡ is_some old
-    → ReadStops kind old new faults_old faults_new ends_old ends_new 4 → DocumentUnread kind old new faults_old faults_new ends_old ends_new
-length_cut kind old new fo fn eo en tells s =
-    stop_cases (λ k. DocumentUnread k old new fo fn eo en) kind old new fo fn eo en 4 s
-    (λ _ f. (f.0, (f.1.0, f.1.2, inl f.1.1))) (λ _ e. let (taken, empty) = ended_early old new tells e.1 in (e.0, taken, empty)) (λ _ m. (m.0, m.2, inl m.1))
+pub length_cut : (kind : ErrorKind) (old new : State) → is_some new.left ≡ is_some old.left → ReadStops kind old new 4 → DocumentUnread kind old new
+length_cut kind old new tells s =
+    stop_cases (λ k. DocumentUnread k old new) kind old new 4 s
+    (λ _ f. (f.0, (f.1.0, f.1.2, inl f.1.1))) (λ _ e. let (taken, empty) = ended_early old.left new.left tells e.1 in (e.0, taken, empty)) (λ _ m. (m.0, m.2, inl m.1))
 
 -- ---- the length came, and what it counts didn't
 
@@ -53,14 +52,14 @@ short old (Some bytes) new field n part tells p four is least ran =
     let both : TakesSuch IsShortDocument old (Some []) × IsEmptied (Some []) = (all, refl) in
     subst (λ s. TakesSuch IsShortDocument old s × IsEmptied s) (sym ran.1) both
 
-pub document_cut : (kind : ErrorKind) (old mid new : Option (List ℕ)) (faults_first faults_old faults_new ends_first ends_old ends_new : ℕ) (field : List ℕ) (n part : ℕ)
-    → is_some new ≡ is_some mid → Consumes old mid field → length field ≡ 4 → signed_at 0 field ≡ pos n → 4 + part ≡ n → faults_first ≤ faults_old → ends_first ≤ ends_old
-    → ReadStops kind mid new faults_old faults_new ends_old ends_new part → DocumentUnread kind old new faults_first faults_new ends_first ends_new
-document_cut kind old mid new ff fo fn ef eo en field n part tells p four is least fs es s =
-    stop_cases (λ k. DocumentUnread k old new ff fn ef en) kind mid new fo fn eo en part s
-    (λ _ f. (rose_after ff fo fn fs f.0, unfinished old mid new field n part p four is least f.1))
-    (λ _ e. let (taken, empty) = short old mid new field n part tells p four is least e.1 in (rose_after ef eo en es e.0, taken, empty))
-    (λ _ m. started old mid new field n part p four is least m)
+pub document_cut : (kind : ErrorKind) (old mid new : State) (field : List ℕ) (n part : ℕ)
+    → is_some new.left ≡ is_some mid.left → Consumes old.left mid.left field → length field ≡ 4 → signed_at 0 field ≡ pos n → 4 + part ≡ n → ReadsOn old mid → ReadStops kind mid new part
+    → DocumentUnread kind old new
+document_cut kind old mid new field n part tells p four is least on s =
+    stop_cases (λ k. DocumentUnread k old new) kind mid new part s
+    (λ _ f. (rose_after old.read_faults mid.read_faults new.read_faults on.faults_stay f.0, unfinished old.left mid.left new.left field n part p four is least f.1))
+    (λ _ e. let (taken, empty) = short old.left mid.left new.left field n part tells p four is least e.1 in (rose_after old.ends mid.ends new.ends on.ends_stay e.0, taken, empty))
+    (λ _ m. started old.left mid.left new.left field n part p four is least m)
 
 -- ---- memory
 

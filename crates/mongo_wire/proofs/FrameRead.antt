@@ -1,11 +1,11 @@
 -- What the exits of reading a frame say.
-use Rattle.std.proofs.Common.{◌≡◌, ℕ, ℤ, pos, ◌≤ℤ◌, ◌+◌, ◌<◌, ◌≤◌, inl, inr, Bool, true, false, is_some, Option, None, Some, Result, Ok, Err, OnOk, IfErr, List, [], ◌++◌, length, refl, sym, ap, ◌∙◌, subst, arith, length-append, append-nil}
+use Rattle.std.proofs.Common.{◌≡◌, ℕ, ℤ, pos, ◌≤ℤ◌, ◌+◌, ◌-◌, ◌*◌, ◌<◌, ◌≤◌, max, inl, inr, Bool, true, false, is_some, Option, None, Some, Result, Ok, Err, OnOk, IfErr, List, [], ◌++◌, length, refl, sym, ap, ◌∙◌, subst, arith, length-append, append-nil}
 use Rattle.std.specs.Prelude.{int_lt, if◌then◌else◌}
 use Rattle.std.proofs.lemmas.Int.{ints}
 use Rattle.std.proofs.lemmas.Bool.{false≢true}
 use Rattle.std.proofs.KnownBytes.{Consumes-trans}
 use Rattle.std.specs.Io.KnownBytes.{Consumes}
-use Rattle.mongo_wire.specs.Outside.{ReadStops, ConsumesAtMost, ConsumesFewer, RanOut}
+use Rattle.mongo_wire.specs.Outside.{State, ReadsOn, ReadStops, ConsumesAtMost, ConsumesFewer, RanOut}
 use Rattle.mongo_wire.specs.Frame.{Frame, IsFrame}
 use Rattle.mongo_wire.specs.Header.{signed_at}
 use Rattle.mongo_wire.specs.Rows.{Passes, IsRow, TakesRow, TakesStarted, TakesUnfinished, IsEmptied, header_row, length_row, code_row}
@@ -41,16 +41,15 @@ short_header most (Some bytes) new tells r =
     let none : (Consumes (Some bytes) new bytes) × IsEmptied new = subst (λ n. Consumes (Some bytes) n bytes × IsEmptied n) (sym r.1) (sym (append-nil bytes), refl) in
     ((bytes, none.0, inl (record { short = r.0; kind_is = refl })), none.1)
 
-pub header_stopped : (kind : ErrorKind) (most : ℤ) (old new : Option (List ℕ)) (faults_old faults_new ends_old ends_new : ℕ) → is_some new ≡ is_some old
-    → ReadStops kind old new faults_old faults_new ends_old ends_new 16 → ReadRefused kind most old new faults_old faults_new ends_old ends_new
-header_stopped kind most old new fo fn eo en tells s =
-    stop_cases (λ k. ReadRefused k most old new fo fn eo en) kind old new fo fn eo en 16 s
-    (λ _ f. (f.0, unfinished f.1)) (λ _ e. let (row, empty) = short_header most old new tells e.1 in (e.0, row, empty)) (λ _ m. started m)
+pub header_stopped : (kind : ErrorKind) (most : ℤ) (old new : State) → is_some new.left ≡ is_some old.left → ReadStops kind old new 16 → ReadRefused kind most old new
+header_stopped kind most old new tells s =
+    stop_cases (λ k. ReadRefused k most old new) kind old new 16 s
+    (λ _ f. (f.0, unfinished f.1)) (λ _ e. let (row, empty) = short_header most old.left new.left tells e.1 in (e.0, row, empty)) (λ _ m. started m)
   where
-    started : ConsumesAtMost old new 16 → TakesStarted most old new
+    started : ConsumesAtMost old.left new.left 16 → TakesStarted most old.left new.left
     started c = (c.0, c.2, inl c.1)
 
-    unfinished : ConsumesFewer old new 16 → TakesUnfinished most old new
+    unfinished : ConsumesFewer old.left new.left 16 → TakesUnfinished most old.left new.left
     unfinished c = (c.0, c.2, inl c.1)
 
 -- ---- the header calls for a row
@@ -78,10 +77,9 @@ row_cases P most length (Some code) number kind e response argument = by (int_lt
     by true p = subst P (same_kind _ kind p) (response OverMaximum)
     by false p = code_cases P length code kind p response argument
 
-pub header_refused : (kind : ErrorKind) (most : ℤ) (old new : Option (List ℕ)) (head : List ℕ) (faults_old faults_new ends_old ends_new : ℕ) → Consumes old new head → length head ≡ 16
-    → header_row most head ≡ Some kind → ReadRefused kind most old new faults_old faults_new ends_old ends_new
-header_refused kind most old new head fo fn eo en taken sixteen row =
-    row_cases (λ k. TakesRow k most old new → ReadRefused k most old new fo fn eo en) most (signed_at 0 head) _ (signed_at 12 head) kind row (λ fault t. t) (λ fault t. t)
+pub header_refused : (kind : ErrorKind) (most : ℤ) (old new : State) (head : List ℕ) → Consumes old.left new.left head → length head ≡ 16 → header_row most head ≡ Some kind → ReadRefused kind most old new
+header_refused kind most old new head taken sixteen row =
+    row_cases (λ k. TakesRow k most old.left new.left → ReadRefused k most old new) most (signed_at 0 head) _ (signed_at 12 head) kind row (λ fault t. t) (λ fault t. t)
     (head, taken, inr (inl (record { header = sixteen; row = row })))
 
 -- ---- what follows the header was refused
@@ -109,29 +107,30 @@ cut_frame most (Some xs) (Some bytes) new head wanted p sixteen row size some te
     let none : (Consumes (Some xs) new (head ++ bytes)) × IsEmptied new = subst (λ n. Consumes (Some xs) n (head ++ bytes) × IsEmptied n) (sym r.1) (p ∙ sym (append-nil (head ++ bytes)), refl) in
     ((head ++ bytes, none.0, short_frame most head bytes wanted sixteen row size r.0), none.1)
 
-pub rest_stopped : (kind : ErrorKind) (most : ℤ) (old mid new : Option (List ℕ)) (head : List ℕ) (faults_first faults_old faults_new ends_first ends_old ends_new wanted : ℕ)
-    → Consumes old mid head → length head ≡ 16 → header_row most head ≡ None → pos (16 + wanted) ≡ signed_at 0 head → 0 < wanted → is_some new ≡ is_some old
-    → faults_first ≤ faults_old → ends_first ≤ ends_old → ReadStops kind mid new faults_old faults_new ends_old ends_new wanted → ReadRefused kind most old new faults_first faults_new ends_first ends_new
-rest_stopped kind most old mid new head ff fo fn ef eo en wanted p sixteen row size some tells more_faults more_ends s =
-    stop_cases (λ k. ReadRefused k most old new ff fn ef en) kind mid new fo fn eo en wanted s
-    (λ _ f. (rose_after ff fo fn more_faults f.0, unfinished f.1))
-    (λ _ e. let (row_of, empty) = cut_frame most old mid new head wanted p sixteen row size some tells e.1 in (rose_after ef eo en more_ends e.0, row_of, empty))
+pub rest_stopped : (kind : ErrorKind) (most : ℤ) (old mid new : State) (head : List ℕ) (wanted : ℕ)
+    → Consumes old.left mid.left head → ReadsOn old mid → is_some new.left ≡ is_some mid.left → length head ≡ 16 → header_row most head ≡ None → pos (16 + wanted) ≡ signed_at 0 head → 0 < wanted
+    → ReadStops kind mid new wanted → ReadRefused kind most old new
+rest_stopped kind most old mid new head wanted p on tells sixteen row size some s =
+    stop_cases (λ k. ReadRefused k most old new) kind mid new wanted s
+    (λ _ f. (rose_after old.read_faults mid.read_faults new.read_faults on.faults_stay f.0, unfinished f.1))
+    (λ _ e. let (row_of, empty) = cut_frame most old.left mid.left new.left head wanted p sixteen row size some (tells ∙ on.tells) e.1 in
+      (rose_after old.ends mid.ends new.ends on.ends_stay e.0, row_of, empty))
     (λ _ m. started m)
   where
-    started : ConsumesAtMost mid new wanted → TakesStarted most old new
+    started : ConsumesAtMost mid.left new.left wanted → TakesStarted most old.left new.left
     started c =
-        (head ++ c.0, Consumes-trans old mid new head c.0 p c.2, inr (passes most head c.0 sixteen row, omega (arith, ints, length-append head c.0, size_with head c.0 sixteen, size, c.1)))
+        (head ++ c.0, Consumes-trans old.left mid.left new.left head c.0 p c.2, inr (passes most head c.0 sixteen row, omega (arith, ints, length-append head c.0, size_with head c.0 sixteen, size, c.1)))
 
-    unfinished : ConsumesFewer mid new wanted → TakesUnfinished most old new
+    unfinished : ConsumesFewer mid.left new.left wanted → TakesUnfinished most old.left new.left
     unfinished c =
-        (head ++ c.0, Consumes-trans old mid new head c.0 p c.2, inr (passes most head c.0 sixteen row, omega (arith, ints, length-append head c.0, size_with head c.0 sixteen, size, c.1)))
+        (head ++ c.0, Consumes-trans old.left mid.left new.left head c.0 p c.2, inr (passes most head c.0 sixteen row, omega (arith, ints, length-append head c.0, size_with head c.0 sixteen, size, c.1)))
 
 -- the whole frame came, and is none
-pub sections_refused : (most : ℤ) (old mid new : Option (List ℕ)) (head bytes : List ℕ) (faults_old faults_new ends_old ends_new : ℕ) → Consumes old mid head → Consumes mid new bytes → length head ≡ 16
-    → header_row most head ≡ None → pos (16 + length bytes) ≡ signed_at 0 head → NoFrame (head ++ bytes) → ReadRefused (InvalidResponse Sections) most old new faults_old faults_new ends_old ends_new
-sections_refused most old mid new head bytes fo fn eo en p q sixteen row size none = (
+pub sections_refused : (most : ℤ) (old mid new : State) (head bytes : List ℕ) → Consumes old.left mid.left head → Consumes mid.left new.left bytes → length head ≡ 16
+    → header_row most head ≡ None → pos (16 + length bytes) ≡ signed_at 0 head → NoFrame (head ++ bytes) → ReadRefused (InvalidResponse Sections) most old new
+sections_refused most old mid new head bytes p q sixteen row size none = (
   head ++ bytes,
-  Consumes-trans old mid new head bytes p q,
+  Consumes-trans old.left mid.left new.left head bytes p q,
   inr (inr (inr (record {
     passes = passes most head bytes sixteen row;
     whole = omega (arith, ints, length-append head bytes, size_with head bytes sixteen, size);
@@ -143,18 +142,18 @@ sections_refused most old mid new head bytes fo fn eo en p q sixteen row size no
 -- ---- a frame stood there
 
 -- where one stands, no row is called for
-pub no_refusal : (kind : ErrorKind) (most : ℤ) (old new : Option (List ℕ)) (faults_old faults_new ends_old ends_new : ℕ) (frame rest : List ℕ) (parts : Frame) → old ≡ Some (frame ++ rest) → IsFrame frame parts
-    → pos (length frame) ≤ℤ most → ReadRefused kind most old new faults_old faults_new ends_old ends_new → IsUnreadable kind
-no_refusal kind most old new fo fn eo en frame rest parts is frame_is within r = by kind r
+pub no_refusal : (kind : ErrorKind) (most : ℤ) (old new : State) (frame rest : List ℕ) (parts : Frame) → old.left ≡ Some (frame ++ rest) → IsFrame frame parts
+    → pos (length frame) ≤ℤ most → ReadRefused kind most old new → IsUnreadable kind
+no_refusal kind most old new frame rest parts is frame_is within r = by kind r
   where
-    stop : (kind : ErrorKind) → TakesRow kind most old new → (kind ≡ EndOfInput → IsEmptied new) → ⊥
-    stop kind (taken, consumes, row) ends = at new (rw is at consumes) ends
+    stop : (kind : ErrorKind) → TakesRow kind most old.left new.left → (kind ≡ EndOfInput → IsEmptied new.left) → ⊥
+    stop kind (taken, consumes, row) ends = at new.left (rw is at consumes) ends
       where
         at : (new : Option (List ℕ)) → Consumes (Some (frame ++ rest)) new taken → (kind ≡ EndOfInput → IsEmptied new) → ⊥
         at None c e = c
         at (Some left) c e = row_no_frame most taken left frame rest kind parts row e frame_is within (sym c)
 
-    by : (kind : ErrorKind) → ReadRefused kind most old new fo fn eo en → IsUnreadable kind
+    by : (kind : ErrorKind) → ReadRefused kind most old new → IsUnreadable kind
     by ReadFault r = tt
     by OutOfMemory r = tt
     by EndOfInput r = stop EndOfInput r.1 (λ _. r.2)
@@ -170,9 +169,9 @@ no_refusal kind most old new fo fn eo en frame rest parts is frame_is within r =
     by PasswordNotAscii r = absurd r
 
 -- where one stands, it is the one that was taken
-pub same_taken : (most : ℤ) (old new : Option (List ℕ)) (buffer : FrameBuffer) (frame rest : List ℕ) (parts : Frame) → old ≡ Some (frame ++ rest) → IsFrame frame parts → IsFrameTaken most old new buffer
-    → HoldsFrame frame parts buffer × (new ≡ Some rest)
-same_taken most old new buffer frame rest parts is frame_is taken = at new (rw is at taken.taken)
+pub same_taken : (most : ℤ) (old new : State) (buffer : FrameBuffer) (frame rest : List ℕ) (parts : Frame) → old.left ≡ Some (frame ++ rest) → IsFrame frame parts → IsFrameTaken most old new buffer
+    → HoldsFrame frame parts buffer × (new.left ≡ Some rest)
+same_taken most old new buffer frame rest parts is frame_is taken = at new.left (rw is at taken.taken)
   where
     at : (new : Option (List ℕ)) → Consumes (Some (frame ++ rest)) new taken.frame → HoldsFrame frame parts buffer × (new ≡ Some rest)
     at None c = absurd c
@@ -180,27 +179,32 @@ same_taken most old new buffer frame rest parts is frame_is taken = at new (rw i
         let (frames, both, rests) = one_frame taken.frame frame left rest taken.parts parts taken.holds.is_held.is_frame frame_is (sym c) in
         (subst (λ f. HoldsFrame f parts buffer) frames (subst (λ p. HoldsFrame taken.frame p buffer) both taken.holds), ap Some rests)
 
-pub takes_again : {T : Type 0} (result : Result T FrameFault) (most : ℤ) (old new : Option (List ℕ)) (buffer : FrameBuffer) (faults_old faults_new ends_old ends_new : ℕ)
-    → OnOk result (IsFrameTaken most old new buffer) → IfErr result (λ fault. ReadRefused (kind_of_frame_fault fault) most old new faults_old faults_new ends_old ends_new)
-    → (frame rest : List ℕ) (parts : Frame) → old ≡ Some (frame ++ rest) → IsFrame frame parts → pos (length frame) ≤ℤ most → TakesAgain frame parts rest new buffer result
-takes_again (Ok x) most old new buffer fo fn eo en p q frame rest parts is frame_is within = same_taken most old new buffer frame rest parts is frame_is p
-takes_again (Err fault) most old new buffer fo fn eo en p q frame rest parts is frame_is within = no_refusal (kind_of_frame_fault fault) most old new fo fn eo en frame rest parts is frame_is within q
+pub takes_again : {T : Type 0} (result : Result T FrameFault) (most : ℤ) (old new : State) (buffer : FrameBuffer)
+    → OnOk result (IsFrameTaken most old new buffer) → IfErr result (λ fault. ReadRefused (kind_of_frame_fault fault) most old new)
+    → (frame rest : List ℕ) (parts : Frame) → old.left ≡ Some (frame ++ rest) → IsFrame frame parts → pos (length frame) ≤ℤ most → TakesAgain frame parts rest new.left buffer result
+takes_again (Ok x) most old new buffer p q frame rest parts is frame_is within = same_taken most old new buffer frame rest parts is frame_is p
+takes_again (Err fault) most old new buffer p q frame rest parts is frame_is within = no_refusal (kind_of_frame_fault fault) most old new frame rest parts is frame_is within q
 
 -- ---- the whole frame came
 
-pub frame_taken : (most : ℤ) (before mid new : Option (List ℕ)) (head bytes : List ℕ) (rest : ℕ) (held : HeldFrame) (buffer : FrameBuffer) → Consumes before mid head → Consumes mid new bytes → length head ≡ 16
+pub frame_taken : (most : ℤ) (before mid new : State) (head bytes : List ℕ) (rest : ℕ) (held : HeldFrame) (buffer : FrameBuffer) → Consumes before.left mid.left head → Consumes mid.left new.left bytes → length head ≡ 16
     → length bytes ≡ rest → pos (16 + rest) ≤ℤ most → IsHeld (head ++ bytes) held → buffer.last ≡ Some held → held_bytes buffer ≡ bytes → IsFrameTaken most before new buffer
 frame_taken most before mid new head bytes rest held buffer p q sixteen size within (parts, is_held) last bytes_are = record {
   frame = head ++ bytes;
   parts = parts;
   holds = record { held = held; last_is = last; is_held = is_held; bytes_are = bytes_are ∙ sym (drop_at head bytes 16 sixteen) };
   within = omega (arith, ints, length-append head bytes, sixteen, size, within);
-  taken = Consumes-trans before mid new head bytes p q;
+  taken = Consumes-trans before.left mid.left new.left head bytes p q;
 }
 
 -- memory for what came behind other bytes
-pub grows_later : (old mid new : Option (List ℕ)) (taken : List ℕ) (start first last : FrameBuffer) → memory_of first ≡ memory_of start → Consumes old mid taken → GrowsFor mid new first last → GrowsFor old new start last
-grows_later old None new taken start first last same p grows had left had_is left_is = absurd (rw had_is at p)
-grows_later old (Some there) new taken start first last same p grows had left had_is left_is =
-    let spelled : had ≡ taken ++ there = rw had_is at p in
-    omega (arith, same, ap length spelled, length-append taken there, grows there left refl left_is)
+pub grows_later : (old mid new : State) (taken : List ℕ) (start first last : FrameBuffer) → memory_of first ≡ memory_of start → Consumes old.left mid.left taken → GrowsFor mid new first last → GrowsFor old new start last
+grows_later old mid new taken start first last same p grows had left had_is left_is = by mid.left p grows
+  where
+    by : (there : Option (List ℕ)) → Consumes old.left there taken
+        → ((h l : List ℕ) → there ≡ Some h → new.left ≡ Some l → memory_of last ≤ max (memory_of first) (4096 + 2 * (length h - length l)))
+        → memory_of last ≤ max (memory_of start) (4096 + 2 * (length had - length left))
+    by None q g = absurd (rw had_is at q)
+    by (Some bytes) q g =
+        let spelled : had ≡ taken ++ bytes = rw had_is at q in
+        omega (arith, same, ap length spelled, length-append taken bytes, g bytes left refl left_is)

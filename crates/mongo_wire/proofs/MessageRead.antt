@@ -6,6 +6,7 @@ use Rattle.std.specs.Int.Bits.{and_self}
 use Rattle.std.specs.Io.KnownBytes.{Consumes}
 use Rattle.mongo_wire.specs.Frame.{Frame, IsFrame, known_flags}
 use Rattle.mongo_wire.specs.Message.{parts_of, IsRead, ReadRefused, ReadsAgain}
+use Rattle.mongo_wire.specs.Outside.{State}
 use Rattle.mongo_wire.specs.Rows.{TakesStarted}
 use Rattle.mongo_wire.specs.Buffer.{IsFrameTaken}
 use Rattle.mongo_wire.specs.Ref.{IsOwned}
@@ -28,7 +29,7 @@ copied_parts frame parts m is owned =
     same_parts parts.request_id parts.request_id parts.response_to m.response_to parts.flags (bit_and m.flags.0 known_flags) parts.body m.document_payload parts.sequences m.document_sequences parts.checksum m.checksum
     refl (sym owned.response_is) flags (sym owned.body_is) (sym owned.sequences_are) (sym owned.checksum_is)
 
-pub read_whole : (most : ℤ) (old new : Option (List ℕ)) (buffer : FrameBuffer) (m : Message) (read : IsFrameTaken most old new buffer) → IsOwned read.parts m → IsRead most old new m
+pub read_whole : (most : ℤ) (old new : State) (buffer : FrameBuffer) (m : Message) (read : IsFrameTaken most old new buffer) → IsOwned read.parts m → IsRead most old new m
 read_whole most old new buffer m read owned = record {
   frame = read.frame;
   id = read.parts.request_id;
@@ -40,7 +41,7 @@ read_whole most old new buffer m read owned = record {
 }
 
 -- memory ran out after the whole frame came
-pub read_then_stopped : (most : ℤ) (old new : Option (List ℕ)) (buffer : FrameBuffer) → IsFrameTaken most old new buffer → TakesStarted most old new
+pub read_then_stopped : (most : ℤ) (old new : State) (buffer : FrameBuffer) → IsFrameTaken most old new buffer → TakesStarted most old.left new.left
 read_then_stopped most old new buffer read =
     let is = read.holds.is_held.is_frame in
     (read.frame, read.taken, inr (record { whole = omega (arith, least_frame read.frame read.parts is); good = frame_row most read.frame read.parts is read.within }, omega (arith, ints, frame_size read.frame read.parts is)))
@@ -48,11 +49,11 @@ read_then_stopped most old new buffer read =
 same_id : (p q : Frame) → p ≡ q → p.request_id ≡ q.request_id
 same_id p q e = ap (λ z. z.request_id) e
 
-pub reads_again : (result : Result Message Error) (most : ℤ) (old new : Option (List ℕ)) (faults_old faults_new ends_old ends_new : ℕ)
-    → IfOk result (IsRead most old new) → IfErr result (λ e. ReadRefused e.kind most old new faults_old faults_new ends_old ends_new)
-    → (frame rest : List ℕ) (parts : Frame) → old ≡ Some (frame ++ rest) → IsFrame frame parts → pos (length frame) ≤ℤ most → ReadsAgain parts rest new result
-reads_again (Err e) most old new fo fn eo en p q frame rest parts is frame_is within = no_refusal e.kind most old new fo fn eo en frame rest parts is frame_is within q
-reads_again (Ok m) most old new fo fn eo en p q frame rest parts is frame_is within = at new (rw is at p.taken)
+pub reads_again : (result : Result Message Error) (most : ℤ) (old new : State)
+    → IfOk result (IsRead most old new) → IfErr result (λ e. ReadRefused e.kind most old new)
+    → (frame rest : List ℕ) (parts : Frame) → old.left ≡ Some (frame ++ rest) → IsFrame frame parts → pos (length frame) ≤ℤ most → ReadsAgain parts rest new.left result
+reads_again (Err e) most old new p q frame rest parts is frame_is within = no_refusal e.kind most old new frame rest parts is frame_is within q
+reads_again (Ok m) most old new p q frame rest parts is frame_is within = at new.left (rw is at p.taken)
   where
     at : (new : Option (List ℕ)) → Consumes (Some (frame ++ rest)) new p.frame → (parts_of parts.request_id m ≡ parts) × (new ≡ Some rest)
     at None c = absurd c

@@ -6,7 +6,7 @@ use Rattle.std.proofs.lemmas.Result.{err_from_is_err_and}
 use Rattle.std.specs.Result.{IsErrAnd}
 use Rattle.std.proofs.KnownBytes.{Consumes-trans}
 use Rattle.std.specs.Io.KnownBytes.{Consumes}
-use Rattle.mongo_wire.specs.Outside.{Rose, ReadStops, ConsumesAtMost, ConsumesFewer, RanOut}
+use Rattle.mongo_wire.specs.Outside.{State, ReadsOn, Rose, ReadStops, ConsumesAtMost, ConsumesFewer, RanOut}
 use Rattle.mongo_wire.specs.declared.error.ErrorKind.{ErrorKind}
 use Rattle.mongo_wire.specs.declared.error.ErrorKind.TheVariants.{InvalidArgument, InvalidResponse, Command, Authentication, IncompatibleServer, Write, InsertMany, ReadFault, WriteFault, EndOfInput, Callback, PasswordNotAscii, OutOfMemory}
 
@@ -15,42 +15,42 @@ pub passed_on : {T E : Type 0} (r : Result T E) (x : E) → IsErrAnd r (λ y. y 
 passed_on r x p = let (e, is, same) = err_from_is_err_and r p in is ∙ ap Err same
 
 -- a refused read by its kind, of which there are three
-pub stop_cases : (P : ErrorKind → Type 0) (kind : ErrorKind) (old new : Option (List ℕ)) (faults_old faults_new ends_old ends_new wanted : ℕ)
-    → ReadStops kind old new faults_old faults_new ends_old ends_new wanted
-    → (kind ≡ ReadFault → ReadStops ReadFault old new faults_old faults_new ends_old ends_new wanted → P ReadFault)
-    → (kind ≡ EndOfInput → ReadStops EndOfInput old new faults_old faults_new ends_old ends_new wanted → P EndOfInput)
-    → (kind ≡ OutOfMemory → ReadStops OutOfMemory old new faults_old faults_new ends_old ends_new wanted → P OutOfMemory)
+pub stop_cases : (P : ErrorKind → Type 0) (kind : ErrorKind) (old new : State) (wanted : ℕ)
+    → ReadStops kind old new wanted
+    → (kind ≡ ReadFault → ReadStops ReadFault old new wanted → P ReadFault)
+    → (kind ≡ EndOfInput → ReadStops EndOfInput old new wanted → P EndOfInput)
+    → (kind ≡ OutOfMemory → ReadStops OutOfMemory old new wanted → P OutOfMemory)
     → P kind
-stop_cases P ReadFault _ _ _ _ _ _ _ s fault end memory = fault refl s
-stop_cases P EndOfInput _ _ _ _ _ _ _ s fault end memory = end refl s
-stop_cases P OutOfMemory _ _ _ _ _ _ _ s fault end memory = memory refl s
-stop_cases P (InvalidArgument _) _ _ _ _ _ _ _ s fault end memory = absurd s
-stop_cases P (InvalidResponse _) _ _ _ _ _ _ _ s fault end memory = absurd s
-stop_cases P (Command _) _ _ _ _ _ _ _ s fault end memory = absurd s
-stop_cases P (Authentication _) _ _ _ _ _ _ _ s fault end memory = absurd s
-stop_cases P IncompatibleServer _ _ _ _ _ _ _ s fault end memory = absurd s
-stop_cases P (Write _) _ _ _ _ _ _ _ s fault end memory = absurd s
-stop_cases P (InsertMany _) _ _ _ _ _ _ _ s fault end memory = absurd s
-stop_cases P WriteFault _ _ _ _ _ _ _ s fault end memory = absurd s
-stop_cases P (Callback _) _ _ _ _ _ _ _ s fault end memory = absurd s
-stop_cases P PasswordNotAscii _ _ _ _ _ _ _ s fault end memory = absurd s
+stop_cases P ReadFault _ _ _ s fault end memory = fault refl s
+stop_cases P EndOfInput _ _ _ s fault end memory = end refl s
+stop_cases P OutOfMemory _ _ _ s fault end memory = memory refl s
+stop_cases P (InvalidArgument _) _ _ _ s fault end memory = absurd s
+stop_cases P (InvalidResponse _) _ _ _ s fault end memory = absurd s
+stop_cases P (Command _) _ _ _ s fault end memory = absurd s
+stop_cases P (Authentication _) _ _ _ s fault end memory = absurd s
+stop_cases P IncompatibleServer _ _ _ s fault end memory = absurd s
+stop_cases P (Write _) _ _ _ s fault end memory = absurd s
+stop_cases P (InsertMany _) _ _ _ s fault end memory = absurd s
+stop_cases P WriteFault _ _ _ s fault end memory = absurd s
+stop_cases P (Callback _) _ _ _ s fault end memory = absurd s
+stop_cases P PasswordNotAscii _ _ _ s fault end memory = absurd s
 
 pub rose_after : (first old new : ℕ) → first ≤ old → Rose old new → Rose first new
 rose_after first old new q r = omega arith
 
 -- a later part was refused, of no more than was wanted in all
-pub stops_after : (kind : ErrorKind) (old mid new : Option (List ℕ)) (taken : List ℕ) (faults_first faults_old faults_new ends_first ends_old ends_new part wanted : ℕ)
-    → Consumes old mid taken → faults_first ≤ faults_old → ends_first ≤ ends_old → length taken + part ≤ wanted → ReadStops kind mid new faults_old faults_new ends_old ends_new part
-    → ReadStops kind old new faults_first faults_new ends_first ends_new wanted
-stops_after kind old mid new taken ff fo fn ef eo en part wanted p more_faults more_ends within s =
-    stop_cases (λ k. ReadStops k old new ff fn ef en wanted) kind mid new fo fn eo en part s
-    (λ _ f. (rose_after ff fo fn more_faults f.0, fewer f.1)) (λ _ e. (rose_after ef eo en more_ends e.0, ran_out old mid new taken part wanted p within e.1)) (λ _ m. consumes m)
+pub stops_after : (kind : ErrorKind) (old mid new : State) (taken : List ℕ) (part wanted : ℕ)
+    → Consumes old.left mid.left taken → ReadsOn old mid → length taken + part ≤ wanted → ReadStops kind mid new part → ReadStops kind old new wanted
+stops_after kind old mid new taken part wanted p on within s =
+    stop_cases (λ k. ReadStops k old new wanted) kind mid new part s
+    (λ _ f. (rose_after old.read_faults mid.read_faults new.read_faults on.faults_stay f.0, fewer f.1))
+    (λ _ e. (rose_after old.ends mid.ends new.ends on.ends_stay e.0, ran_out old.left mid.left new.left taken part wanted p within e.1)) (λ _ m. consumes m)
   where
-    consumes : ConsumesAtMost mid new part → ConsumesAtMost old new wanted
-    consumes c = (taken ++ c.0, omega (arith, c.1, length-append taken c.0, within), Consumes-trans old mid new taken c.0 p c.2)
+    consumes : ConsumesAtMost mid.left new.left part → ConsumesAtMost old.left new.left wanted
+    consumes c = (taken ++ c.0, omega (arith, c.1, length-append taken c.0, within), Consumes-trans old.left mid.left new.left taken c.0 p c.2)
 
-    fewer : ConsumesFewer mid new part → ConsumesFewer old new wanted
-    fewer c = (taken ++ c.0, omega (arith, c.1, length-append taken c.0, within), Consumes-trans old mid new taken c.0 p c.2)
+    fewer : ConsumesFewer mid.left new.left part → ConsumesFewer old.left new.left wanted
+    fewer c = (taken ++ c.0, omega (arith, c.1, length-append taken c.0, within), Consumes-trans old.left mid.left new.left taken c.0 p c.2)
 
     ran_out : (old mid new : Option (List ℕ)) (taken : List ℕ) (part wanted : ℕ) → Consumes old mid taken → length taken + part ≤ wanted → RanOut mid new part → RanOut old new wanted
     ran_out None mid new taken part wanted p within r = tt
@@ -83,19 +83,26 @@ came_before old new taken had left p had_is left_is =
     omega (arith, ap length spelled, length-append taken left)
 
 -- the same where a later part was refused
-pub came_then : (kind : ErrorKind) (old mid new : Option (List ℕ)) (taken : List ℕ) (faults_old faults_new ends_old ends_new part : ℕ) (had left : List ℕ)
-    → Consumes old mid taken → old ≡ Some had → new ≡ Some left → ReadStops kind mid new faults_old faults_new ends_old ends_new part → length taken ≤ length had - length left
-came_then kind old None new taken fo fn eo en part had left p had_is left_is s = absurd (rw had_is at p)
-came_then kind old (Some there) new taken fo fn eo en part had left p had_is left_is s =
-    let spelled : had ≡ taken ++ there = rw had_is at p in
-    let fewer : length left ≤ length there = stop_cases (λ _. length left ≤ length there) kind (Some there) new fo fn eo en part s (λ _ f. consumed f.1.0 f.1.2) (λ _ e. none e.1.1) (λ _ m. consumed m.0 m.2) in
-    omega (arith, ap length spelled, length-append taken there, fewer)
+pub came_then : (kind : ErrorKind) (old mid new : State) (taken : List ℕ) (part : ℕ) (had left : List ℕ)
+    → Consumes old.left mid.left taken → old.left ≡ Some had → new.left ≡ Some left → ReadStops kind mid new part → length taken ≤ length had - length left
+came_then kind old mid new taken part had left p had_is left_is s =
+    stop_cases (λ _. length taken ≤ length had - length left) kind mid new part s
+    (λ _ f. consumed f.1.0 f.1.2) (λ _ e. ended mid.left p e.1) (λ _ m. consumed m.0 m.2)
   where
-    consumed : (more : List ℕ) → Consumes (Some there) new more → length left ≤ length there
-    consumed more q = let after : there ≡ more ++ left = rw left_is at q in omega (arith, ap length after, length-append more left)
+    consumed : (more : List ℕ) → Consumes mid.left new.left more → length taken ≤ length had - length left
+    consumed more q =
+        let all : had ≡ (taken ++ more) ++ left = rw (had_is, left_is) at Consumes-trans old.left mid.left new.left taken more p q in
+        omega (arith, ap length all, length-append (taken ++ more) left, length-append taken more)
 
-    none : new ≡ Some [] → length left ≤ length there
-    none e = let empty : left ≡ [] = cc in omega (arith, ap length empty)
+    ended : (there : Option (List ℕ)) → Consumes old.left there taken → RanOut there new.left part → length taken ≤ length had - length left
+    ended None q r = absurd (rw had_is at q)
+    ended (Some bytes) q r =
+        let spelled : had ≡ taken ++ bytes = rw had_is at q in
+        let empty : left ≡ [] = none left (sym left_is ∙ r.1) in
+        omega (arith, ap length spelled, length-append taken bytes, ap length empty)
+      where
+        none : (rest : List ℕ) → Some rest ≡ Some [] → rest ≡ []
+        none rest e = cc
 
 -- a vector after its slice was written
 pub written_back : (n : ℕ) (xs ys : List ℕ) → length ys ≡ n → take n (ys ++ drop (length ys) xs) ≡ ys

@@ -1,9 +1,9 @@
 -- What sections that are handed in are written as.
-use Rattle.std.proofs.Common.{◌≡◌, ℕ, ℤ, ◌+◌, ◌^◌, ◌<◌, Option, None, List, [], ◌++◌, length, flat_map, to_z, of_z, refl, sym, ap, ◌∙◌, bit_and, FitsSigned, append-nil, arith}
+use Rattle.std.proofs.Common.{◌≡◌, ℕ, ℤ, ◌+◌, ◌^◌, ◌<◌, None, List, [], ◌++◌, length, flat_map, to_z, of_z, refl, sym, ap, ◌∙◌, bit_and, FitsSigned, append-nil, arith}
 use Rattle.std.proofs.lemmas.Int.{to_z-of_z}
 use Rattle.std.proofs.lemmas.Nat.{and_assoc, and_le_r}
 use Rattle.std.specs.Int.{w32}
-use Rattle.mongo_wire.specs.Outside.{WriteStops}
+use Rattle.mongo_wire.specs.Outside.{State, WriteStops}
 use Rattle.mongo_wire.specs.Frame.{Frame, section_bytes, sequences_of, int32, uint32, message_code, known_flags, IsFrame}
 use Rattle.mongo_wire.specs.Sending.{unsummed_flags, sections_frame, SectionsFit, SectionsRefused, IsFrameOfSections}
 use Rattle.mongo_wire.specs.declared.error.ErrorKind.{ErrorKind}
@@ -21,10 +21,9 @@ sections_spelled id to flags size head word sections id_fits to_fits p q counted
     ∙ ap (λ i. fields (20 + length sections) i (to_z w32 (of_z w32 to)) ++ rest) (to_z-of_z w32 id id_fits)
     ∙ ap (λ t. fields (20 + length sections) id t ++ rest) (to_z-of_z w32 to to_fits)
 
-pub sections_refused : (kind : ErrorKind) (most : ℤ) (sections frame : List ℕ) (old new : Option (List ℕ)) (faults_old faults_new : ℕ)
-    → SectionsFit most sections → WriteStops kind old new faults_old faults_new frame → SectionsRefused kind most sections frame old new faults_old faults_new
-sections_refused kind most sections frame old new fo fn fits s =
-    write_cases (λ k. SectionsRefused k most sections frame old new fo fn) kind old new fo fn frame s (λ f. (f.0, fits, f.1)) (λ f. (fits, f))
+pub sections_refused : (kind : ErrorKind) (most : ℤ) (sections frame : List ℕ) (old new : State) → SectionsFit most sections → WriteStops kind old new frame → SectionsRefused kind most sections frame old new
+sections_refused kind most sections frame old new fits s =
+    write_cases (λ k. SectionsRefused k most sections frame old new) kind old new frame s (λ f. (f.0, fits, f.1)) (λ f. (fits, f))
 
 -- the flags that are written are known ones
 known_again : (flags : ℕ) → bit_and (bit_and flags unsummed_flags) known_flags ≡ bit_and flags unsummed_flags

@@ -7,7 +7,7 @@ use Rattle.std.specs.Int.{w32}
 use Rattle.std.proofs.KnownBytes.{Appends-trans}
 use Rattle.std.specs.Io.KnownBytes.{Appends}
 use Rattle.mongo_wire.proofs.Passed.{joined_more, joined_at}
-use Rattle.mongo_wire.specs.Outside.{Rose, WriteStops, AppendsFront}
+use Rattle.mongo_wire.specs.Outside.{State, WritesOn, Rose, WriteStops, AppendsFront}
 use Rattle.mongo_wire.specs.Frame.{int32, uint32, message_code, known_flags, sequence, section_bytes, sequence_bytes}
 use Rattle.mongo_wire.specs.Measure.{documents_bytes, sequence_section, sequences_bytes}
 use Rattle.mongo_wire.specs.declared.document_sequence.DocumentSequence.{DocumentSequence}
@@ -34,47 +34,45 @@ front_after old mid new first more p (n, q) =
     (length first + n, subst (Appends old new) (sym (take-append-add first more n)) (Appends-trans old mid new first (take n more) p q))
 
 -- the kind of a refused write, of which there are two
-pub write_cases : (P : ErrorKind → Type 0) (kind : ErrorKind) (old new : Option (List ℕ)) (faults_old faults_new : ℕ) (bytes : List ℕ)
-    → WriteStops kind old new faults_old faults_new bytes
-    → (WriteStops WriteFault old new faults_old faults_new bytes → P WriteFault)
-    → (WriteStops OutOfMemory old new faults_old faults_new bytes → P OutOfMemory)
+pub write_cases : (P : ErrorKind → Type 0) (kind : ErrorKind) (old new : State) (bytes : List ℕ)
+    → WriteStops kind old new bytes
+    → (WriteStops WriteFault old new bytes → P WriteFault)
+    → (WriteStops OutOfMemory old new bytes → P OutOfMemory)
     → P kind
-write_cases P WriteFault _ _ _ _ _ s fault memory = fault s
-write_cases P OutOfMemory _ _ _ _ _ s fault memory = memory s
-write_cases P (InvalidArgument _) _ _ _ _ _ s fault memory = absurd s
-write_cases P (InvalidResponse _) _ _ _ _ _ s fault memory = absurd s
-write_cases P (Command _) _ _ _ _ _ s fault memory = absurd s
-write_cases P (Authentication _) _ _ _ _ _ s fault memory = absurd s
-write_cases P IncompatibleServer _ _ _ _ _ s fault memory = absurd s
-write_cases P (Write _) _ _ _ _ _ s fault memory = absurd s
-write_cases P (InsertMany _) _ _ _ _ _ s fault memory = absurd s
-write_cases P ReadFault _ _ _ _ _ s fault memory = absurd s
-write_cases P EndOfInput _ _ _ _ _ s fault memory = absurd s
-write_cases P (Callback _) _ _ _ _ _ s fault memory = absurd s
-write_cases P PasswordNotAscii _ _ _ _ _ s fault memory = absurd s
+write_cases P WriteFault _ _ _ s fault memory = fault s
+write_cases P OutOfMemory _ _ _ s fault memory = memory s
+write_cases P (InvalidArgument _) _ _ _ s fault memory = absurd s
+write_cases P (InvalidResponse _) _ _ _ s fault memory = absurd s
+write_cases P (Command _) _ _ _ s fault memory = absurd s
+write_cases P (Authentication _) _ _ _ s fault memory = absurd s
+write_cases P IncompatibleServer _ _ _ s fault memory = absurd s
+write_cases P (Write _) _ _ _ s fault memory = absurd s
+write_cases P (InsertMany _) _ _ _ s fault memory = absurd s
+write_cases P ReadFault _ _ _ s fault memory = absurd s
+write_cases P EndOfInput _ _ _ s fault memory = absurd s
+write_cases P (Callback _) _ _ _ s fault memory = absurd s
+write_cases P PasswordNotAscii _ _ _ s fault memory = absurd s
 
 -- the first part was refused
-pub cut_before : (kind : ErrorKind) (old new : Option (List ℕ)) (faults_old faults_new : ℕ) (first more : List ℕ)
-    → WriteStops kind old new faults_old faults_new first → WriteStops kind old new faults_old faults_new (first ++ more)
-cut_before kind old new fo fn first more s =
-    write_cases (λ k. WriteStops k old new fo fn (first ++ more)) kind old new fo fn first s
-    (λ f. (f.0, front_of_first old new first more f.1)) (λ m. front_of_first old new first more m)
+pub cut_before : (kind : ErrorKind) (old new : State) (first more : List ℕ) → WriteStops kind old new first → WriteStops kind old new (first ++ more)
+cut_before kind old new first more s =
+    write_cases (λ k. WriteStops k old new (first ++ more)) kind old new first s
+    (λ f. (f.0, front_of_first old.written new.written first more f.1)) (λ m. front_of_first old.written new.written first more m)
 
 -- a later part was refused
-pub cut_after : (kind : ErrorKind) (old mid new : Option (List ℕ)) (faults_first faults_old faults_new : ℕ) (first more : List ℕ)
-    → Appends old mid first → faults_first ≤ faults_old → WriteStops kind mid new faults_old faults_new more → WriteStops kind old new faults_first faults_new (first ++ more)
-cut_after kind old mid new ff fo fn first more p stay s =
-    write_cases (λ k. WriteStops k old new ff fn (first ++ more)) kind mid new fo fn more s
-    (λ f. (rose ff fo fn stay f.0, front_after old mid new first more p f.1)) (λ m. front_after old mid new first more p m)
+pub cut_after : (kind : ErrorKind) (old mid new : State) (first more : List ℕ)
+    → Appends old.written mid.written first → WritesOn old mid → WriteStops kind mid new more → WriteStops kind old new (first ++ more)
+cut_after kind old mid new first more p on s =
+    write_cases (λ k. WriteStops k old new (first ++ more)) kind mid new more s
+    (λ f. (rose old.write_faults mid.write_faults new.write_faults on.faults_stay f.0, front_after old.written mid.written new.written first more p f.1))
+    (λ m. front_after old.written mid.written new.written first more p m)
   where
     rose : (first old new : ℕ) → first ≤ old → Rose old new → Rose first new
     rose first old new q r = omega arith
 
 -- all was written, and the flush was refused
-pub cut_at_end : (kind : ErrorKind) (old mid new : Option (List ℕ)) (faults_first faults_old faults_new : ℕ) (all : List ℕ)
-    → Appends old mid all → faults_first ≤ faults_old → WriteStops kind mid new faults_old faults_new [] → WriteStops kind old new faults_first faults_new all
-cut_at_end kind old mid new ff fo fn all p stay s =
-    subst (WriteStops kind old new ff fn) (append-nil all) (cut_after kind old mid new ff fo fn all [] p stay s)
+pub cut_at_end : (kind : ErrorKind) (old mid new : State) (all : List ℕ) → Appends old.written mid.written all → WritesOn old mid → WriteStops kind mid new [] → WriteStops kind old new all
+cut_at_end kind old mid new all p on s = subst (WriteStops kind old new) (append-nil all) (cut_after kind old mid new all [] p on s)
 
 pub joined : (old one two three : Option (List ℕ)) (head start document : List ℕ) → Appends old one head → Appends one two start → Appends two three document
     → Appends old three (head ++ (start ++ document))
@@ -125,24 +123,23 @@ frame_spelled id size m head start document sequences id_fits to_fits p q r s co
     ∙ ap (λ i. fields (frame_length m) i to_code ++ (uint32 word ++ content_of m)) (to_z-of_z w32 id id_fits)
     ∙ ap (λ t. fields (frame_length m) id t ++ (uint32 word ++ content_of m)) (to_z-of_z w32 m.response_to to_fits)
 
-pub write_refused : (kind : ErrorKind) (most : ℤ) (m : Message) (old new : Option (List ℕ)) (faults_old faults_new : ℕ) (before after : ℤ)
-    → Fits most m → after ≡ id_after m.request_id before → WriteStops kind old new faults_old faults_new (written_frame (id_of m before) m)
-    → WriteRefused kind most m old new faults_old faults_new before after
-write_refused kind most m old new fo fn before after fits drawn s =
-    write_cases (λ k. WriteRefused k most m old new fo fn before after) kind old new fo fn (written_frame (id_of m before) m) s
+pub write_refused : (kind : ErrorKind) (most : ℤ) (m : Message) (old new : State) (before after : ℤ)
+    → Fits most m → after ≡ id_after m.request_id before → WriteStops kind old new (written_frame (id_of m before) m) → WriteRefused kind most m old new before after
+write_refused kind most m old new before after fits drawn s =
+    write_cases (λ k. WriteRefused k most m old new before after) kind old new (written_frame (id_of m before) m) s
     (λ f. (f.0, cut f.1)) (λ f. cut f)
   where
-    cut : AppendsFront old new (written_frame (id_of m before) m) → WriteCut most m old new before after
+    cut : AppendsFront old.written new.written (written_frame (id_of m before) m) → WriteCut most m old new before after
     cut front = record { fits = fits; front = front; drawn = drawn }
 
 -- items were written one after another, and then one of them was refused
 pub cut_among : {X : Type 0} (f : X → List ℕ) (xs : List X) (i : ℕ) (x : X) → i < length xs → x ≡ get_or xs i x
-    → (kind : ErrorKind) (old mid new : Option (List ℕ)) (faults_first faults_old faults_new : ℕ) → Appends old mid (flat_map f (take i xs)) → faults_first ≤ faults_old
-    → WriteStops kind mid new faults_old faults_new (f x) → WriteStops kind old new faults_first faults_new (flat_map f xs)
-cut_among f xs i x within at kind old mid new ff fo fn front stay s =
+    → (kind : ErrorKind) (old mid new : State) → Appends old.written mid.written (flat_map f (take i xs)) → WritesOn old mid
+    → WriteStops kind mid new (f x) → WriteStops kind old new (flat_map f xs)
+cut_among f xs i x within at kind old mid new front on s =
     let before = flat_map f (take i xs) in
     let after = flat_map f (drop (i + 1) xs) in
-    subst (WriteStops kind old new ff fn) (joined_at f xs i x within at) (cut_after kind old mid new ff fo fn before (f x ++ after) front stay (cut_before kind mid new fo fn (f x) after s))
+    subst (WriteStops kind old new) (joined_at f xs i x within at) (cut_after kind old mid new before (f x ++ after) front on (cut_before kind mid new (f x) after s))
 
 -- one more item was written
 pub written_more : {X : Type 0} (f : X → List ℕ) (xs : List X) (i : ℕ) (x : X) → i < length xs → x ≡ get_or xs i x
@@ -155,7 +152,7 @@ pub passed_on : {T E : Type 0} (r : Result T E) (x : E) → IsErrAnd r (λ y. y 
 passed_on r x p = let (e, is, same) = err_from_is_err_and r p in is ∙ ap Err same
 
 -- a sink's fault as a cause
-pub write_stopped : {T : Type 0} (fault : SinkError) (old new : Option (List ℕ)) (faults_old faults_new : ℕ) (bytes : List ℕ) → (IsErrOf {T = T} (Err fault) SinkFailed → Rose faults_old faults_new) → AppendsFront old new bytes
-    → WriteStops (kind_of_sink_error fault) old new faults_old faults_new bytes
-write_stopped SinkFailed old new fo fn bytes rose front = (rose refl, front)
-write_stopped SinkMemory old new fo fn bytes rose front = front
+pub write_stopped : {T : Type 0} (fault : SinkError) (old new : State) (bytes : List ℕ)
+    → (IsErrOf {T = T} (Err fault) SinkFailed → Rose old.write_faults new.write_faults) → AppendsFront old.written new.written bytes → WriteStops (kind_of_sink_error fault) old new bytes
+write_stopped SinkFailed old new bytes rose front = (rose refl, front)
+write_stopped SinkMemory old new bytes rose front = front

@@ -5,7 +5,7 @@ use Rattle.mongo_wire.specs.Frame.{Frame}
 use Rattle.mongo_wire.specs.Held.{IsHeldFrame}
 use Rattle.mongo_wire.specs.Error.{kind_of_frame_fault}
 use Rattle.mongo_wire.specs.Message.{IsUnreadable}
-use Rattle.mongo_wire.specs.Outside.{risen}
+use Rattle.mongo_wire.specs.Outside.{State, risen}
 use Rattle.mongo_wire.specs.Ref.{IsRefOf}
 use Rattle.mongo_wire.specs.declared.fault.FrameFault.{FrameFault}
 use Rattle.mongo_wire.specs.declared.message_ref.MessageRef.{MessageRef}
@@ -46,12 +46,12 @@ pub record HoldsNothing (buffer : FrameBuffer) : Type 0 where
   pub empty : held_bytes buffer ≡ []
 
 -- A frame within the maximum was taken of the bytes left, and nothing after it; the buffer holds it.
-pub record IsFrameTaken (most : ℤ) (old new : Option (List ℕ)) (buffer : FrameBuffer) : Type 0 where
+pub record IsFrameTaken (most : ℤ) (old new : State) (buffer : FrameBuffer) : Type 0 where
   pub frame : List ℕ
   pub parts : Frame
   pub holds : HoldsFrame frame parts buffer
   pub within : pos (length frame) ≤ℤ most
-  pub taken : Consumes old new frame
+  pub taken : Consumes old.left new.left frame
 
 -- A frame of these parts stood before this rest: just it was taken, unless the source failed or memory ran out.
 abbrev pub TakesAgain : {T : Type 0} → List ℕ → Frame → List ℕ → Option (List ℕ) → FrameBuffer → Result T FrameFault → Type 0
@@ -64,29 +64,29 @@ pub record IsCleared (old new : FrameBuffer) : Type 0 where
   pub frames : frames_taken new ≡ frames_taken old
 
 -- a frame was taken and counted, the buffer holds it, and the message shows it
-pub record IsReadInto (most : ℤ) (left_old left_new : Option (List ℕ)) (old : FrameBuffer) (message : MessageRef) (new : FrameBuffer) : Type 0 where
-  pub is_taken : IsFrameTaken most left_old left_new new
+pub record IsReadInto (most : ℤ) (source_old source_new : State) (old : FrameBuffer) (message : MessageRef) (new : FrameBuffer) : Type 0 where
+  pub is_taken : IsFrameTaken most source_old source_new new
   pub shown : IsRefOf is_taken.frame is_taken.parts message
   pub counted : frames_taken new ≡ risen (frames_taken old)
 
 -- what the buffer is after a read
-abbrev pub ReadsInto : ℤ → Option (List ℕ) → Option (List ℕ) → FrameBuffer → Result MessageRef FrameFault → FrameBuffer → Type 0
-ReadsInto most left_old left_new old (Ok message) new = IsReadInto most left_old left_new old message new
-ReadsInto most left_old left_new old (Err fault) new = IsCleared old new
+abbrev pub ReadsInto : ℤ → State → State → FrameBuffer → Result MessageRef FrameFault → FrameBuffer → Type 0
+ReadsInto most source_old source_new old (Ok message) new = IsReadInto most source_old source_new old message new
+ReadsInto most source_old source_new old (Err fault) new = IsCleared old new
 
 -- the same of a next frame, of which there may be none
-abbrev pub NextInto : ℤ → Option (List ℕ) → Option (List ℕ) → FrameBuffer → Result (Option MessageRef) FrameFault → FrameBuffer → Type 0
-NextInto most left_old left_new old (Ok None) new = IsCleared old new
-NextInto most left_old left_new old (Ok (Some message)) new = IsReadInto most left_old left_new old message new
-NextInto most left_old left_new old (Err fault) new = IsCleared old new
+abbrev pub NextInto : ℤ → State → State → FrameBuffer → Result (Option MessageRef) FrameFault → FrameBuffer → Type 0
+NextInto most source_old source_new old (Ok None) new = IsCleared old new
+NextInto most source_old source_new old (Ok (Some message)) new = IsReadInto most source_old source_new old message new
+NextInto most source_old source_new old (Err fault) new = IsCleared old new
 
 -- the buffer has no more memory than it had, or than the maximum
 abbrev pub StaysWithin : ℤ → FrameBuffer → FrameBuffer → Type 0
 StaysWithin most old new = (memory_of new ≤ memory_of old) ⊎ (pos (memory_of new) ≤ℤ most)
 
 -- for the bytes that were consumed the buffer gets memory for twice as many and one piece at most
-abbrev pub GrowsFor : Option (List ℕ) → Option (List ℕ) → FrameBuffer → FrameBuffer → Type 0
-GrowsFor left_old left_new old new = (had left : List ℕ) → left_old ≡ Some had → left_new ≡ Some left → memory_of new ≤ max (memory_of old) (4096 + 2 * (length had - length left))
+abbrev pub GrowsFor : State → State → FrameBuffer → FrameBuffer → Type 0
+GrowsFor source_old source_new old new = (had left : List ℕ) → source_old.left ≡ Some had → source_new.left ≡ Some left → memory_of new ≤ max (memory_of old) (4096 + 2 * (length had - length left))
 
 -- where a frame of these parts stood before this rest
 abbrev pub FindsAgain : List ℕ → Frame → List ℕ → Option (List ℕ) → FrameBuffer → Result Bool FrameFault → Type 0

@@ -2,7 +2,7 @@
 use Rattle.std.specs.Prelude.{◌≡◌, ◌≢◌, ℕ, ℤ, pos, ◌+◌, ◌%◌, ◌^◌, ◌<◌, ◌≤ℤ◌, ◌<ℤ◌, Option, None, Some, Result, Ok, Err, List, [], ◌∷◌, ◌++◌, length, map, flat_map, unwrap_or, bit_and, IfSome, ⊤}
 use Rattle.std.specs.List.{AllByRecursion}
 use Rattle.std.specs.Io.KnownBytes.{Appends, Consumes, Keeps}
-use Rattle.mongo_wire.specs.Outside.{Rose, AppendsFront, IsFlushed}
+use Rattle.mongo_wire.specs.Outside.{State, Rose, AppendsFront, IsFlushed}
 use Rattle.mongo_wire.specs.Frame.{Frame, IsFrame, IsFrameWith, Section, body, sequence, section_bytes, sequence_bytes, int32, uint32, message_code, known_flags}
 use Rattle.mongo_wire.specs.Bytes.{next_id}
 use Rattle.mongo_wire.specs.Rows.{TakesRow, TakesStarted, TakesUnfinished, IsEmptied}
@@ -21,24 +21,24 @@ parts_of id m = record { request_id = id; response_to = m.response_to; flags = b
 
 -- A frame within the maximum was taken of the bytes left, and nothing after it; the message has its parts, and no flag
 -- without a meaning.
-pub record IsRead (most : ℤ) (old new : Option (List ℕ)) (m : Message) : Type 0 where
+pub record IsRead (most : ℤ) (old new : State) (m : Message) : Type 0 where
   pub frame : List ℕ
   pub id : ℤ
   pub is_frame : IsFrame frame (parts_of id m)
   pub within : pos (length frame) ≤ℤ most
-  pub taken : Consumes old new frame
+  pub taken : Consumes old.left new.left frame
   pub flags_known : m.flags.0 ≡ bit_and m.flags.0 known_flags
   pub unnumbered : m.request_id ≡ None
 
 -- Why no frame was read, and what that took: the row of the bytes that were taken, or how far the reading had come where
 -- the source failed or memory ran out.
-abbrev pub ReadRefused : ErrorKind → ℤ → Option (List ℕ) → Option (List ℕ) → ℕ → ℕ → ℕ → ℕ → Type 0
-ReadRefused ReadFault most old new faults_old faults_new ends_old ends_new = Rose faults_old faults_new × TakesUnfinished most old new
-ReadRefused OutOfMemory most old new faults_old faults_new ends_old ends_new = TakesStarted most old new
-ReadRefused EndOfInput most old new faults_old faults_new ends_old ends_new = Rose ends_old ends_new × TakesRow EndOfInput most old new × IsEmptied new
-ReadRefused (InvalidResponse fault) most old new faults_old faults_new ends_old ends_new = TakesRow (InvalidResponse fault) most old new
-ReadRefused (InvalidArgument fault) most old new faults_old faults_new ends_old ends_new = TakesRow (InvalidArgument fault) most old new
-ReadRefused kind most old new faults_old faults_new ends_old ends_new = ⊥
+abbrev pub ReadRefused : ErrorKind → ℤ → State → State → Type 0
+ReadRefused ReadFault most old new = Rose old.read_faults new.read_faults × TakesUnfinished most old.left new.left
+ReadRefused OutOfMemory most old new = TakesStarted most old.left new.left
+ReadRefused EndOfInput most old new = Rose old.ends new.ends × TakesRow EndOfInput most old.left new.left × IsEmptied new.left
+ReadRefused (InvalidResponse fault) most old new = TakesRow (InvalidResponse fault) most old.left new.left
+ReadRefused (InvalidArgument fault) most old new = TakesRow (InvalidArgument fault) most old.left new.left
+ReadRefused kind most old new = ⊥
 
 -- a fault of reading, or want of memory
 abbrev pub IsUnreadable : ErrorKind → Type 0
@@ -113,22 +113,22 @@ ArgumentRow TooLong most m = HasNames m × HasSizes m × (pos 0 ≤ℤ most) × 
 ArgumentRow fault most m = ⊥
 
 -- what a write left that was cut after the message was judged: a front of the frame is written, and its id is drawn
-pub record WriteCut (most : ℤ) (m : Message) (old new : Option (List ℕ)) (before after : ℤ) : Type 0 where
+pub record WriteCut (most : ℤ) (m : Message) (old new : State) (before after : ℤ) : Type 0 where
   pub fits : Fits most m
-  pub front : AppendsFront old new (written_frame (id_of m before) m)
+  pub front : AppendsFront old.written new.written (written_frame (id_of m before) m)
   pub drawn : after ≡ id_after m.request_id before
 
 -- Why a write was refused, and what it left. Before the message is judged nothing is written and no id is drawn; want of
 -- memory is the sink's.
-abbrev pub WriteRefused : ErrorKind → ℤ → Message → Option (List ℕ) → Option (List ℕ) → ℕ → ℕ → ℤ → ℤ → Type 0
-WriteRefused (InvalidArgument fault) most m old new faults_old faults_new before after = ArgumentRow fault most m × Keeps old new × (after ≡ before)
-WriteRefused WriteFault most m old new faults_old faults_new before after = Rose faults_old faults_new × WriteCut most m old new before after
-WriteRefused OutOfMemory most m old new faults_old faults_new before after = WriteCut most m old new before after
-WriteRefused kind most m old new faults_old faults_new before after = ⊥
+abbrev pub WriteRefused : ErrorKind → ℤ → Message → State → State → ℤ → ℤ → Type 0
+WriteRefused (InvalidArgument fault) most m old new before after = ArgumentRow fault most m × Keeps old.written new.written × (after ≡ before)
+WriteRefused WriteFault most m old new before after = Rose old.write_faults new.write_faults × WriteCut most m old new before after
+WriteRefused OutOfMemory most m old new before after = WriteCut most m old new before after
+WriteRefused kind most m old new before after = ⊥
 
 -- A message was written: it fits, its frame stands at the end and is flushed, and its id is drawn.
-pub record Writes (most : ℤ) (m : Message) (old new : Option (List ℕ)) (flushed : ℕ) (before after : ℤ) : Type 0 where
+pub record Writes (most : ℤ) (m : Message) (old new : State) (before after : ℤ) : Type 0 where
   pub fits : Fits most m
-  pub appended : Appends old new (written_frame (id_of m before) m)
-  pub flushed_is : IsFlushed new flushed
+  pub appended : Appends old.written new.written (written_frame (id_of m before) m)
+  pub flushed_is : IsFlushed new
   pub drawn : after ≡ id_after m.request_id before

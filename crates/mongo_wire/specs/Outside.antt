@@ -55,8 +55,8 @@ ReadCounts (Ok count) room old new = (new.read_faults ≡ old.read_faults) × (0
 ReadCounts (Err failed) room old new = new.ends ≡ old.ends
 
 -- all that was written, where it is told, is flushed
-abbrev pub IsFlushed : Option (List ℕ) → ℕ → Type 0
-IsFlushed written flushed = IfSome written (λ bytes. flushed ≡ length bytes)
+abbrev pub IsFlushed : State → Type 0
+IsFlushed state = IfSome state.written (λ bytes. state.flushed ≡ length bytes)
 
 -- some front of the bytes was appended
 abbrev pub AppendsFront : Option (List ℕ) → Option (List ℕ) → List ℕ → Type 0
@@ -76,24 +76,24 @@ RanOut None new wanted = ⊤
 RanOut (Some bytes) new wanted = (length bytes < wanted) × (new ≡ Some [])
 
 -- Why reading so many bytes was refused, and what it has consumed.
-abbrev pub ReadStops : ErrorKind → Option (List ℕ) → Option (List ℕ) → ℕ → ℕ → ℕ → ℕ → ℕ → Type 0
-ReadStops ReadFault old new faults_old faults_new ends_old ends_new wanted = Rose faults_old faults_new × ConsumesFewer old new wanted
-ReadStops EndOfInput old new faults_old faults_new ends_old ends_new wanted = Rose ends_old ends_new × RanOut old new wanted
-ReadStops OutOfMemory old new faults_old faults_new ends_old ends_new wanted = ConsumesAtMost old new wanted
-ReadStops kind old new faults_old faults_new ends_old ends_new wanted = ⊥
+abbrev pub ReadStops : ErrorKind → State → State → ℕ → Type 0
+ReadStops ReadFault old new wanted = Rose old.read_faults new.read_faults × ConsumesFewer old.left new.left wanted
+ReadStops EndOfInput old new wanted = Rose old.ends new.ends × RanOut old.left new.left wanted
+ReadStops OutOfMemory old new wanted = ConsumesAtMost old.left new.left wanted
+ReadStops kind old new wanted = ⊥
 
 -- Why writing these bytes was refused, and what of them is written.
-abbrev pub WriteStops : ErrorKind → Option (List ℕ) → Option (List ℕ) → ℕ → ℕ → List ℕ → Type 0
-WriteStops WriteFault old new faults_old faults_new bytes = Rose faults_old faults_new × AppendsFront old new bytes
-WriteStops OutOfMemory old new faults_old faults_new bytes = AppendsFront old new bytes
-WriteStops kind old new faults_old faults_new bytes = ⊥
+abbrev pub WriteStops : ErrorKind → State → State → List ℕ → Type 0
+WriteStops WriteFault old new bytes = Rose old.write_faults new.write_faults × AppendsFront old.written new.written bytes
+WriteStops OutOfMemory old new bytes = AppendsFront old.written new.written bytes
+WriteStops kind old new bytes = ⊥
 
 -- the source ended before the first byte, and has given none
-pub record HasEnded (old new : Option (List ℕ)) (ends_old ends_new : ℕ) : Type 0 where
-  pub rose : Rose ends_old ends_new
-  pub none : IfSome old (λ bytes. bytes ≡ [])
-  pub still : IfSome new (λ bytes. bytes ≡ [])
-  pub keeps : Keeps old new
+pub record HasEnded (old new : State) : Type 0 where
+  pub rose : Rose old.ends new.ends
+  pub none : IfSome old.left (λ bytes. bytes ≡ [])
+  pub still : IfSome new.left (λ bytes. bytes ≡ [])
+  pub keeps : Keeps old.left new.left
 
 -- where an end was met, there was a byte before it
 abbrev pub HasMore : ErrorKind → Option (List ℕ) → Type 0

@@ -3,6 +3,7 @@ use Rattle.std.specs.Prelude.{◌≡◌, ℕ, ℤ, pos, ◌≤ℤ◌, Option, No
 use Rattle.std.specs.Io.KnownBytes.{Consumes}
 use Rattle.mongo_wire.specs.Frame.{Frame, IsFrame, section_bytes}
 use Rattle.mongo_wire.specs.Held.{header_of}
+use Rattle.mongo_wire.specs.Outside.{State}
 use Rattle.mongo_wire.specs.declared.message_ref.MessageRef.{MessageRef}
 use Rattle.mongo_wire.specs.declared.message.Message.{Message}
 
@@ -16,12 +17,12 @@ pub record IsRefOf (frame : List ℕ) (parts : Frame) (r : MessageRef) : Type 0 
   pub sections_are : r.sections.now ≡ flat_map section_bytes is_frame.sections
 
 -- A frame within the maximum was taken of the bytes left, and nothing after it; the message shows it.
-pub record IsFrameRead (most : ℤ) (old new : Option (List ℕ)) (r : MessageRef) : Type 0 where
+pub record IsFrameRead (most : ℤ) (old new : State) (r : MessageRef) : Type 0 where
   pub frame : List ℕ
   pub parts : Frame
   pub ref_of : IsRefOf frame parts r
   pub within : pos (length frame) ≤ℤ most
-  pub taken : Consumes old new frame
+  pub taken : Consumes old.left new.left frame
 
 -- the message shows the frame of these parts that stood before this rest, and just that frame was taken
 abbrev pub ShowsAgain : List ℕ → Frame → List ℕ → Option (List ℕ) → MessageRef → Type 0

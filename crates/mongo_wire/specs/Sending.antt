@@ -2,7 +2,7 @@
 use Rattle.std.specs.Prelude.{◌≡◌, ℕ, ℤ, pos, ◌+◌, ◌≤ℤ◌, ◌<ℤ◌, None, Option, List, [], ◌∷◌, ◌++◌, length, flat_map, bit_and}
 use Rattle.std.specs.Io.KnownBytes.{Keeps}
 use Rattle.std.specs.List.{AllByRecursion}
-use Rattle.mongo_wire.specs.Outside.{Rose, AppendsFront}
+use Rattle.mongo_wire.specs.Outside.{State, Rose, AppendsFront}
 use Rattle.mongo_wire.specs.Frame.{Section, IsSection, IsFrameWith, section_bytes, bodies, sequences_of, int32, uint32, message_code}
 use Rattle.mongo_wire.specs.declared.error.ErrorKind.{ErrorKind}
 use Rattle.mongo_wire.specs.declared.error.ErrorKind.TheVariants.{WriteFault, OutOfMemory, InvalidArgument}
@@ -29,11 +29,11 @@ SectionsRow TooLong most sections = (pos 0 ≤ℤ most) × (most <ℤ pos (20 + 
 SectionsRow fault most sections = ⊥
 
 -- Why the write was refused, and what it left: nothing before the sections are judged, then a front of the frame.
-abbrev pub SectionsRefused : ErrorKind → ℤ → List ℕ → List ℕ → Option (List ℕ) → Option (List ℕ) → ℕ → ℕ → Type 0
-SectionsRefused (InvalidArgument fault) most sections frame old new faults_old faults_new = SectionsRow fault most sections × Keeps old new
-SectionsRefused WriteFault most sections frame old new faults_old faults_new = Rose faults_old faults_new × SectionsFit most sections × AppendsFront old new frame
-SectionsRefused OutOfMemory most sections frame old new faults_old faults_new = SectionsFit most sections × AppendsFront old new frame
-SectionsRefused kind most sections frame old new faults_old faults_new = ⊥
+abbrev pub SectionsRefused : ErrorKind → ℤ → List ℕ → List ℕ → State → State → Type 0
+SectionsRefused (InvalidArgument fault) most sections frame old new = SectionsRow fault most sections × Keeps old.written new.written
+SectionsRefused WriteFault most sections frame old new = Rose old.write_faults new.write_faults × SectionsFit most sections × AppendsFront old.written new.written frame
+SectionsRefused OutOfMemory most sections frame old new = SectionsFit most sections × AppendsFront old.written new.written frame
+SectionsRefused kind most sections frame old new = ⊥
 
 -- where the bytes are sections with one body, the frame is one of the grammar
 abbrev pub IsFrameOfSections : ℤ → ℤ → ℕ → List ℕ → Type 0

@@ -1,7 +1,7 @@
 -- What the small reads of a source answer.
-use Rattle.std.specs.Prelude.{◌≡◌, ℕ, ℤ, pos, ◌<◌, ◌≤◌, ◌<ℤ◌, ◌≤ℤ◌, ◌⊎◌, Option, None, Some, List, ◌++◌, length, ⊤}
+use Rattle.std.specs.Prelude.{◌≡◌, ℕ, ℤ, pos, ◌<◌, ◌≤◌, ◌<ℤ◌, ◌≤ℤ◌, ◌⊎◌, Option, None, Some, List, length, ⊤}
 use Rattle.std.specs.Io.KnownBytes.{Consumes}
-use Rattle.mongo_wire.specs.Outside.{Rose, ConsumesFewer, RanOut}
+use Rattle.mongo_wire.specs.Outside.{State, Rose, ConsumesFewer, RanOut}
 use Rattle.mongo_wire.specs.Header.{number_at, signed_at, op_code_of, header_with}
 use Rattle.mongo_wire.specs.Rows.{IsEmptied}
 use Rattle.mongo_wire.specs.declared.header.Header.{Header}
@@ -17,47 +17,47 @@ IsOfSource EndOfInput = ⊤
 IsOfSource kind = ⊥
 
 -- Why filling so many bytes was refused, and what it has consumed. It takes no memory.
-abbrev pub FillStops : ErrorKind → Option (List ℕ) → Option (List ℕ) → ℕ → ℕ → ℕ → ℕ → ℕ → Type 0
-FillStops ReadFault old new faults_old faults_new ends_old ends_new wanted = Rose faults_old faults_new × ConsumesFewer old new wanted
-FillStops EndOfInput old new faults_old faults_new ends_old ends_new wanted = Rose ends_old ends_new × RanOut old new wanted
-FillStops kind old new faults_old faults_new ends_old ends_new wanted = ⊥
+abbrev pub FillStops : ErrorKind → State → State → ℕ → Type 0
+FillStops ReadFault old new wanted = Rose old.read_faults new.read_faults × ConsumesFewer old.left new.left wanted
+FillStops EndOfInput old new wanted = Rose old.ends new.ends × RanOut old.left new.left wanted
+FillStops kind old new wanted = ⊥
 
 -- ---- headers
 
 -- the next 16 bytes are the header's
-pub record TakesHeader (old new : Option (List ℕ)) (header : Header) : Type 0 where
+pub record TakesHeader (old new : State) (header : Header) : Type 0 where
   pub bytes : List ℕ
-  pub taken : Consumes old new bytes
+  pub taken : Consumes old.left new.left bytes
   pub whole : length bytes ≡ 16
   pub known : op_code_of (signed_at 12 bytes) ≡ Some header.op_code
   pub header_is : header ≡ header_with bytes header.op_code
 
 -- 16 bytes were taken, whose op code is this number and unknown
-pub record TakesUnknown (number : ℤ) (old new : Option (List ℕ)) : Type 0 where
+pub record TakesUnknown (number : ℤ) (old new : State) : Type 0 where
   pub bytes : List ℕ
-  pub taken : Consumes old new bytes
+  pub taken : Consumes old.left new.left bytes
   pub whole : length bytes ≡ 16
   pub number_is : number ≡ signed_at 12 bytes
   pub unknown : op_code_of number ≡ None
 
-abbrev pub HeaderRefused : ErrorKind → Option (List ℕ) → Option (List ℕ) → ℕ → ℕ → ℕ → ℕ → Type 0
-HeaderRefused (InvalidResponse (OpCodeFault number)) old new faults_old faults_new ends_old ends_new = TakesUnknown number old new
-HeaderRefused kind old new faults_old faults_new ends_old ends_new = FillStops kind old new faults_old faults_new ends_old ends_new 16
+abbrev pub HeaderRefused : ErrorKind → State → State → Type 0
+HeaderRefused (InvalidResponse (OpCodeFault number)) old new = TakesUnknown number old new
+HeaderRefused kind old new = FillStops kind old new 16
 
 -- ---- numbers
 
 -- the next four bytes are the number, low byte first
-abbrev pub TakesUnsigned : Option (List ℕ) → Option (List ℕ) → ℕ → Type 0
-TakesUnsigned old new number = (bytes : List ℕ) × Consumes old new bytes × (length bytes ≡ 4) × (number ≡ number_at 0 bytes)
+abbrev pub TakesUnsigned : State → State → ℕ → Type 0
+TakesUnsigned old new number = (bytes : List ℕ) × Consumes old.left new.left bytes × (length bytes ≡ 4) × (number ≡ number_at 0 bytes)
 
-abbrev pub TakesSigned : Option (List ℕ) → Option (List ℕ) → ℤ → Type 0
-TakesSigned old new number = (bytes : List ℕ) × Consumes old new bytes × (length bytes ≡ 4) × (number ≡ signed_at 0 bytes)
+abbrev pub TakesSigned : State → State → ℤ → Type 0
+TakesSigned old new number = (bytes : List ℕ) × Consumes old.left new.left bytes × (length bytes ≡ 4) × (number ≡ signed_at 0 bytes)
 
 -- ---- documents
 
 -- the next bytes, as many as the first four of them say
-pub record TakesDocument (old new : Option (List ℕ)) (document : List ℕ) : Type 0 where
-  pub taken : Consumes old new document
+pub record TakesDocument (old new : State) (document : List ℕ) : Type 0 where
+  pub taken : Consumes old.left new.left document
   pub least : 4 ≤ length document
   pub counted : signed_at 0 document ≡ pos (length document)
 
@@ -76,13 +76,9 @@ HasLowLength taken = (length taken ≡ 4) × (signed_at 0 taken <ℤ pos 4)
 abbrev pub TakesSuch : (List ℕ → Type 0) → Option (List ℕ) → Option (List ℕ) → Type 0
 TakesSuch P old new = (taken : List ℕ) × Consumes old new taken × P taken
 
-abbrev pub DocumentUnread : ErrorKind → Option (List ℕ) → Option (List ℕ) → ℕ → ℕ → ℕ → ℕ → Type 0
-DocumentUnread ReadFault old new faults_old faults_new ends_old ends_new = Rose faults_old faults_new × TakesSuch IsShortDocument old new
-DocumentUnread OutOfMemory old new faults_old faults_new ends_old ends_new = TakesSuch IsStartedDocument old new
-DocumentUnread EndOfInput old new faults_old faults_new ends_old ends_new = Rose ends_old ends_new × TakesSuch IsShortDocument old new × IsEmptied new
-DocumentUnread (InvalidArgument CheckedFailure) old new faults_old faults_new ends_old ends_new = TakesSuch HasLowLength old new
-DocumentUnread kind old new faults_old faults_new ends_old ends_new = ⊥
-
--- bytes after others that are there already
-abbrev pub Continues : List ℕ → Option (List ℕ) → Option (List ℕ) → List ℕ → Type 0
-Continues front old new bytes = (more : List ℕ) × Consumes old new more × (bytes ≡ front ++ more)
+abbrev pub DocumentUnread : ErrorKind → State → State → Type 0
+DocumentUnread ReadFault old new = Rose old.read_faults new.read_faults × TakesSuch IsShortDocument old.left new.left
+DocumentUnread OutOfMemory old new = TakesSuch IsStartedDocument old.left new.left
+DocumentUnread EndOfInput old new = Rose old.ends new.ends × TakesSuch IsShortDocument old.left new.left × IsEmptied new.left
+DocumentUnread (InvalidArgument CheckedFailure) old new = TakesSuch HasLowLength old.left new.left
+DocumentUnread kind old new = ⊥

@@ -136,7 +136,7 @@ impl Sink for FailingLink {
 
     fn flush(&mut self) -> Result<(), SinkError>
         ensures bytes { Keeps (output_of self.old.link) (output_of self.new.link) }
-        ensures all { OnOk result (IsFlushed (output_of self.new.link) self.new.link.flushed) }
+        ensures all { OnOk result (IsFlushed (state_of self.new.link self.new.read_faults self.new.write_faults)) }
         ensures failed { IsErrOf result SinkError.Failed → Rose self.old.write_faults self.new.write_faults }
         ensures on { WritesOn (state_of self.old.link self.old.read_faults self.old.write_faults) (state_of self.new.link self.new.read_faults self.new.write_faults) }
         // It fails just where its byte isn't 0, and each call counts.

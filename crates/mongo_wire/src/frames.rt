@@ -5,7 +5,7 @@ ghost use Rattle.std.specs.Prelude.{◌≡◌, ◌≤◌, ℕ, pos, ◌≤ℤ◌
 ghost use Rattle.std.specs.Io.KnownBytes.{Consumes};
 ghost use Rattle.mongo_wire.specs.contracts.frame_buffer.FrameBuffer.{the_row};
 ghost use Rattle.mongo_wire.specs.Error.{kind_of_frame_fault};
-ghost use Rattle.mongo_wire.specs.Outside.{ReadsOn, HasEnded, HasMore, risen};
+ghost use Rattle.mongo_wire.specs.Outside.{State, ReadsOn, HasEnded, HasMore, risen};
 ghost use Rattle.mongo_wire.specs.Frame.{Frame, IsFrame};
 ghost use Rattle.mongo_wire.specs.Header.{maximum_of};
 ghost use Rattle.mongo_wire.specs.Message.{ReadRefused, IsUnreadable};
@@ -33,9 +33,9 @@ impl FrameBuffer {
         maximum: Option<i32>,
     ) -> Result<MessageRef<'_>, FrameFault>
         // The buffer holds the frame that was taken, and nothing where none was.
-        ensures* after { sem 𝓛 (follows_so the_row the_row self.entry.ghost_name none (λ _ _. ⊤) (λ buffer. ReadsInto (maximum_of maximum) (S.state source.old).left (S.state source.new).left self.old result buffer)) }
-        ensures read { IfOk result (IsFrameRead (maximum_of maximum) (S.state source.old).left (S.state source.new).left) }
-        ensures refused { IfErr result (λ fault. ReadRefused (kind_of_frame_fault fault) (maximum_of maximum) (S.state source.old).left (S.state source.new).left (S.state source.old).read_faults (S.state source.new).read_faults (S.state source.old).ends (S.state source.new).ends) }
+        ensures* after { sem 𝓛 (follows_so the_row the_row self.entry.ghost_name none (λ _ _. ⊤) (λ buffer. ReadsInto (maximum_of maximum) (S.state source.old) (S.state source.new) self.old result buffer)) }
+        ensures read { IfOk result (IsFrameRead (maximum_of maximum) (S.state source.old) (S.state source.new)) }
+        ensures refused { IfErr result (λ fault. ReadRefused (kind_of_frame_fault fault) (maximum_of maximum) (S.state source.old) (S.state source.new)) }
         ensures again { (frame rest : List ℕ) (parts : Frame) → (S.state source.old).left ≡ Some (frame ++ rest) → IsFrame frame parts → pos (length frame) ≤ℤ maximum_of maximum → MatchResult result (ShowsAgain frame parts rest (S.state source.new).left) (λ fault. IsUnreadable (kind_of_frame_fault fault)) }
         ensures on { ReadsOn (S.state source.old) (S.state source.new) }
     {
@@ -55,10 +55,10 @@ impl FrameBuffer {
         source: &mut S,
         maximum: Option<i32>,
     ) -> Result<Option<MessageRef<'_>>, FrameFault>
-        ensures* after { sem 𝓛 (follows_so the_row the_row self.entry.ghost_name none (λ _ _. ⊤) (λ buffer. NextInto (maximum_of maximum) (S.state source.old).left (S.state source.new).left self.old result buffer)) }
-        ensures read { IfOk result (λ found. IfSome found (IsFrameRead (maximum_of maximum) (S.state source.old).left (S.state source.new).left)) }
-        ensures ended { IfOk result (λ found. IsNone found → HasEnded (S.state source.old).left (S.state source.new).left (S.state source.old).ends (S.state source.new).ends) }
-        ensures refused { IfErr result (λ fault. ReadRefused (kind_of_frame_fault fault) (maximum_of maximum) (S.state source.old).left (S.state source.new).left (S.state source.old).read_faults (S.state source.new).read_faults (S.state source.old).ends (S.state source.new).ends) }
+        ensures* after { sem 𝓛 (follows_so the_row the_row self.entry.ghost_name none (λ _ _. ⊤) (λ buffer. NextInto (maximum_of maximum) (S.state source.old) (S.state source.new) self.old result buffer)) }
+        ensures read { IfOk result (λ found. IfSome found (IsFrameRead (maximum_of maximum) (S.state source.old) (S.state source.new))) }
+        ensures ended { IfOk result (λ found. IsNone found → HasEnded (S.state source.old) (S.state source.new)) }
+        ensures refused { IfErr result (λ fault. ReadRefused (kind_of_frame_fault fault) (maximum_of maximum) (S.state source.old) (S.state source.new)) }
         // An end that is a refusal came after the first byte.
         ensures more { IfErr result (λ fault. HasMore (kind_of_frame_fault fault) (S.state source.old).left) }
         ensures again { (frame rest : List ℕ) (parts : Frame) → (S.state source.old).left ≡ Some (frame ++ rest) → IsFrame frame parts → pos (length frame) ≤ℤ maximum_of maximum → MatchResult result (FoundAgain frame parts rest (S.state source.new).left) (λ fault. IsUnreadable (kind_of_frame_fault fault)) }
@@ -82,16 +82,16 @@ impl FrameBuffer {
         maximum: Option<i32>,
     ) -> Result<(), FrameFault>
         // What was taken is a frame of the grammar within the maximum, and nothing after it.
-        ensures taken { OnOk result (IsFrameTaken (maximum_of maximum) (S.state source.old).left (S.state source.new).left self.new) }
+        ensures taken { OnOk result (IsFrameTaken (maximum_of maximum) (S.state source.old) (S.state source.new) self.new) }
         // Each refusal is the first row of the table that applies, and has taken what shows it.
-        ensures refused { IfErr result (λ fault. ReadRefused (kind_of_frame_fault fault) (maximum_of maximum) (S.state source.old).left (S.state source.new).left (S.state source.old).read_faults (S.state source.new).read_faults (S.state source.old).ends (S.state source.new).ends) }
+        ensures refused { IfErr result (λ fault. ReadRefused (kind_of_frame_fault fault) (maximum_of maximum) (S.state source.old) (S.state source.new)) }
         // A frame within the maximum is taken, whatever follows it.
         ensures again { (frame rest : List ℕ) (parts : Frame) → (S.state source.old).left ≡ Some (frame ++ rest) → IsFrame frame parts → pos (length frame) ≤ℤ maximum_of maximum → TakesAgain frame parts rest (S.state source.new).left self.new result }
         ensures counted { OnOk result (frames_taken self.new ≡ risen (frames_taken self.old)) }
         ensures emptied { OnErr result (IsCleared self.old self.new) }
         // Memory is for bytes that came, for twice as many at most and one piece of 4096, and never for more than the maximum:
         // the buffer's capacity says so.
-        ensures came { GrowsFor (S.state source.old).left (S.state source.new).left self.old self.new }
+        ensures came { GrowsFor (S.state source.old) (S.state source.new) self.old self.new }
         ensures within { StaysWithin (maximum_of maximum) self.old self.new }
         ensures on { ReadsOn (S.state source.old) (S.state source.new) }
     {
@@ -109,16 +109,16 @@ impl FrameBuffer {
         source: &mut S,
         maximum: Option<i32>,
     ) -> Result<bool, FrameFault>
-        ensures taken { IfOk result (λ found. found ≡ true → IsFrameTaken (maximum_of maximum) (S.state source.old).left (S.state source.new).left self.new) }
+        ensures taken { IfOk result (λ found. found ≡ true → IsFrameTaken (maximum_of maximum) (S.state source.old) (S.state source.new) self.new) }
         // There was none where the end came before the first byte.
-        ensures ended { IfOk result (λ found. found ≡ false → HasEnded (S.state source.old).left (S.state source.new).left (S.state source.old).ends (S.state source.new).ends) }
-        ensures refused { IfErr result (λ fault. ReadRefused (kind_of_frame_fault fault) (maximum_of maximum) (S.state source.old).left (S.state source.new).left (S.state source.old).read_faults (S.state source.new).read_faults (S.state source.old).ends (S.state source.new).ends) }
+        ensures ended { IfOk result (λ found. found ≡ false → HasEnded (S.state source.old) (S.state source.new)) }
+        ensures refused { IfErr result (λ fault. ReadRefused (kind_of_frame_fault fault) (maximum_of maximum) (S.state source.old) (S.state source.new)) }
         ensures more { IfErr result (λ fault. HasMore (kind_of_frame_fault fault) (S.state source.old).left) }
         ensures again { (frame rest : List ℕ) (parts : Frame) → (S.state source.old).left ≡ Some (frame ++ rest) → IsFrame frame parts → pos (length frame) ≤ℤ maximum_of maximum → FindsAgain frame parts rest (S.state source.new).left self.new result }
         ensures counted { IfOk result (λ found. found ≡ true → frames_taken self.new ≡ risen (frames_taken self.old)) }
         ensures none { IfOk result (λ found. found ≡ false → IsCleared self.old self.new) }
         ensures emptied { OnErr result (IsCleared self.old self.new) }
-        ensures came { GrowsFor (S.state source.old).left (S.state source.new).left self.old self.new }
+        ensures came { GrowsFor (S.state source.old) (S.state source.new) self.old self.new }
         ensures within { StaysWithin (maximum_of maximum) self.old self.new }
         ensures on { ReadsOn (S.state source.old) (S.state source.new) }
     {
@@ -134,7 +134,8 @@ impl FrameBuffer {
         }
     }
 
-    // Takes what follows a header that came, into a buffer that holds nothing. `before` is what was left before the header.
+    // Takes what follows a header that came, into a buffer that holds nothing. `before` is what the source
+    // meant before the header.
     fn take_rest<S: Source>(
         &mut self,
         source: &mut S,
@@ -142,11 +143,11 @@ impl FrameBuffer {
         maximum: Option<i32>,
     ) -> Result<(), FrameFault>
         requires nothing { HoldsNothing self.old }
-        ensures taken { (before : Option (List ℕ)) → Consumes before (S.state source.old).left head.now → OnOk result (IsFrameTaken (maximum_of maximum) before (S.state source.new).left self.new) }
-        ensures refused { (before : Option (List ℕ)) (faults ends : ℕ) → Consumes before (S.state source.old).left head.now → is_some (S.state source.old).left ≡ is_some before → faults ≤ (S.state source.old).read_faults → ends ≤ (S.state source.old).ends → IfErr result (λ fault. ReadRefused (kind_of_frame_fault fault) (maximum_of maximum) before (S.state source.new).left faults (S.state source.new).read_faults ends (S.state source.new).ends) }
+        ensures taken { (before : State) → Consumes before.left (S.state source.old).left head.now → OnOk result (IsFrameTaken (maximum_of maximum) before (S.state source.new) self.new) }
+        ensures refused { (before : State) → Consumes before.left (S.state source.old).left head.now → ReadsOn before (S.state source.old) → IfErr result (λ fault. ReadRefused (kind_of_frame_fault fault) (maximum_of maximum) before (S.state source.new)) }
         ensures counted { OnOk result (frames_taken self.new ≡ risen (frames_taken self.old)) }
         ensures emptied { OnErr result (IsCleared self.old self.new) }
-        ensures came { GrowsFor (S.state source.old).left (S.state source.new).left self.old self.new }
+        ensures came { GrowsFor (S.state source.old) (S.state source.new) self.old self.new }
         ensures within { StaysWithin (maximum_of maximum) self.old self.new }
         ensures on { ReadsOn (S.state source.old) (S.state source.new) }
     {
@@ -175,8 +176,8 @@ pub fn read_frame<'b, S: Source>(
     maximum: Option<i32>,
     buffer: &'b mut FrameBuffer,
 ) -> Result<MessageRef<'b>, Error>
-    ensures read { IfOk result (IsFrameRead (maximum_of maximum) (S.state source.old).left (S.state source.new).left) }
-    ensures refused { IfErr result (λ e. ReadRefused e.kind (maximum_of maximum) (S.state source.old).left (S.state source.new).left (S.state source.old).read_faults (S.state source.new).read_faults (S.state source.old).ends (S.state source.new).ends) }
+    ensures read { IfOk result (IsFrameRead (maximum_of maximum) (S.state source.old) (S.state source.new)) }
+    ensures refused { IfErr result (λ e. ReadRefused e.kind (maximum_of maximum) (S.state source.old) (S.state source.new)) }
     ensures again { (frame rest : List ℕ) (parts : Frame) → (S.state source.old).left ≡ Some (frame ++ rest) → IsFrame frame parts → pos (length frame) ≤ℤ maximum_of maximum → MatchResult result (ShowsAgain frame parts rest (S.state source.new).left) (λ e. IsUnreadable e.kind) }
     ensures on { ReadsOn (S.state source.old) (S.state source.new) }
 {
@@ -194,9 +195,9 @@ pub fn next_frame<'b, S: Source>(
     maximum: Option<i32>,
     buffer: &'b mut FrameBuffer,
 ) -> Result<Option<MessageRef<'b>>, Error>
-    ensures read { IfOk result (λ found. IfSome found (IsFrameRead (maximum_of maximum) (S.state source.old).left (S.state source.new).left)) }
-    ensures ended { IfOk result (λ found. IsNone found → HasEnded (S.state source.old).left (S.state source.new).left (S.state source.old).ends (S.state source.new).ends) }
-    ensures refused { IfErr result (λ e. ReadRefused e.kind (maximum_of maximum) (S.state source.old).left (S.state source.new).left (S.state source.old).read_faults (S.state source.new).read_faults (S.state source.old).ends (S.state source.new).ends) }
+    ensures read { IfOk result (λ found. IfSome found (IsFrameRead (maximum_of maximum) (S.state source.old) (S.state source.new))) }
+    ensures ended { IfOk result (λ found. IsNone found → HasEnded (S.state source.old) (S.state source.new)) }
+    ensures refused { IfErr result (λ e. ReadRefused e.kind (maximum_of maximum) (S.state source.old) (S.state source.new)) }
     ensures more { IfErr result (λ e. HasMore e.kind (S.state source.old).left) }
     ensures again { (frame rest : List ℕ) (parts : Frame) → (S.state source.old).left ≡ Some (frame ++ rest) → IsFrame frame parts → pos (length frame) ≤ℤ maximum_of maximum → MatchResult result (FoundAgain frame parts rest (S.state source.new).left) (λ e. IsUnreadable e.kind) }
     ensures on { ReadsOn (S.state source.old) (S.state source.new) }

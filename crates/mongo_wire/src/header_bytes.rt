@@ -28,8 +28,8 @@ impl Header {
     /// `ReadFault` where the source failed, `EndOfInput` where it ended before, `OpCode` of an unknown op code, with the 16
     /// bytes taken.
     pub fn read_from<S: Source>(source: &mut S) -> Result<Header, Error>
-        ensures read { IfOk result (TakesHeader (S.state source.old).left (S.state source.new).left) }
-        ensures refused { IfErr result (λ e. HeaderRefused e.kind (S.state source.old).left (S.state source.new).left (S.state source.old).read_faults (S.state source.new).read_faults (S.state source.old).ends (S.state source.new).ends) }
+        ensures read { IfOk result (TakesHeader (S.state source.old) (S.state source.new)) }
+        ensures refused { IfErr result (λ e. HeaderRefused e.kind (S.state source.old) (S.state source.new)) }
         ensures on { ReadsOn (S.state source.old) (S.state source.new) }
     {
         let mut bytes = [0u8; Header::LENGTH];
@@ -45,7 +45,7 @@ impl Header {
     /// `WriteFault` where the sink failed, `OutOfMemory` where it wanted memory; a front of the bytes is written then.
     pub fn write_to<K: Sink>(&self, sink: &mut K) -> Result<(), Error>
         ensures written { OnOk result (Appends (K.state sink.old).written (K.state sink.new).written (header_bytes self.now)) }
-        ensures refused { IfErr result (λ e. WriteStops e.kind (K.state sink.old).written (K.state sink.new).written (K.state sink.old).write_faults (K.state sink.new).write_faults (header_bytes self.now)) }
+        ensures refused { IfErr result (λ e. WriteStops e.kind (K.state sink.old) (K.state sink.new) (header_bytes self.now)) }
         ensures on { WritesOn (K.state sink.old) (K.state sink.new) }
     {
         write_out(sink, &self.encode())

@@ -63,9 +63,9 @@ impl Message {
         maximum: Option<i32>,
     ) -> Result<Message, Error>
         // What was read is a frame of the grammar within the maximum, and nothing after it was taken.
-        ensures read { IfOk result (IsRead (maximum_of maximum) (S.state source.old).left (S.state source.new).left) }
+        ensures read { IfOk result (IsRead (maximum_of maximum) (S.state source.old) (S.state source.new)) }
         // Each refusal is the first row of the table that applies, and has taken what shows it.
-        ensures refused { IfErr result (λ e. ReadRefused e.kind (maximum_of maximum) (S.state source.old).left (S.state source.new).left (S.state source.old).read_faults (S.state source.new).read_faults (S.state source.old).ends (S.state source.new).ends) }
+        ensures refused { IfErr result (λ e. ReadRefused e.kind (maximum_of maximum) (S.state source.old) (S.state source.new)) }
         // A frame within the maximum is read, whatever follows it.
         ensures again { (frame rest : List ℕ) (parts : Frame) → (S.state source.old).left ≡ Some (frame ++ rest) → IsFrame frame parts → pos (length frame) ≤ℤ maximum_of maximum → ReadsAgain parts rest (S.state source.new).left result }
         // That is one frame and no other: none is a front of another.
@@ -93,10 +93,10 @@ impl Message {
         maximum: Option<i32>,
         ids: &mut RequestIds,
     ) -> Result<(), Error>
-        ensures written { OnOk result (Writes (maximum_of maximum) self.now (K.state sink.old).written (K.state sink.new).written (K.state sink.new).flushed ids.old ids.new) }
+        ensures written { OnOk result (Writes (maximum_of maximum) self.now (K.state sink.old) (K.state sink.new) ids.old ids.new) }
         // It is a frame of the grammar, where its flags tell of its checksum.
         ensures frame { OnOk result (TellsChecksum self.now → IsFrameOf (id_of self.now ids.old) self.now (written_frame (id_of self.now ids.old) self.now)) }
-        ensures refused { IfErr result (λ e. WriteRefused e.kind (maximum_of maximum) self.now (K.state sink.old).written (K.state sink.new).written (K.state sink.old).write_faults (K.state sink.new).write_faults ids.old ids.new) }
+        ensures refused { IfErr result (λ e. WriteRefused e.kind (maximum_of maximum) self.now (K.state sink.old) (K.state sink.new) ids.old ids.new) }
         // Nothing is done where the message is refused before its id is drawn.
         ensures untouched { (fault : ArgumentFault) → IfErr result (λ e. e.kind ≡ InvalidArgument fault → sink.new ≡ sink.old) }
         ensures on { WritesOn (K.state sink.old) (K.state sink.new) }

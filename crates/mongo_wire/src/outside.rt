@@ -61,7 +61,7 @@ pub trait Sink: Outside {
     /// Passes on all that was written. `Failed` comes only where `write_faults` rose.
     fn flush(&mut self) -> Result<(), SinkError>
         ensures bytes { Keeps (Self.state self.old).written (Self.state self.new).written }
-        ensures all { OnOk result (IsFlushed (Self.state self.new).written (Self.state self.new).flushed) }
+        ensures all { OnOk result (IsFlushed (Self.state self.new)) }
         ensures failed { IsErrOf result SinkError.Failed → Rose (Self.state self.old).write_faults (Self.state self.new).write_faults }
         ensures on { WritesOn (Self.state self.old) (Self.state self.new) };
 

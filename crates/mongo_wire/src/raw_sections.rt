@@ -28,10 +28,10 @@ pub fn write_sections<K: Sink>(
 ) -> Result<(), Error>
     ensures fits { OnOk result (SectionsFit (maximum_of maximum) sections.now) }
     ensures written { OnOk result (Appends (K.state sink.old).written (K.state sink.new).written (sections_frame request_id response_to flags.0 sections.now)) }
-    ensures flushed { OnOk result (IsFlushed (K.state sink.new).written (K.state sink.new).flushed) }
+    ensures flushed { OnOk result (IsFlushed (K.state sink.new)) }
     // It is a frame of the grammar, where the bytes are sections with one body.
     ensures frame { OnOk result (IsFrameOfSections request_id response_to flags.0 sections.now) }
-    ensures refused { IfErr result (λ e. SectionsRefused e.kind (maximum_of maximum) sections.now (sections_frame request_id response_to flags.0 sections.now) (K.state sink.old).written (K.state sink.new).written (K.state sink.old).write_faults (K.state sink.new).write_faults) }
+    ensures refused { IfErr result (λ e. SectionsRefused e.kind (maximum_of maximum) sections.now (sections_frame request_id response_to flags.0 sections.now) (K.state sink.old) (K.state sink.new)) }
     // Nothing is done where the sections are refused.
     ensures untouched { (fault : ArgumentFault) → IfErr result (λ e. e.kind ≡ InvalidArgument fault → sink.new ≡ sink.old) }
     ensures on { WritesOn (K.state sink.old) (K.state sink.new) }

@@ -16,8 +16,8 @@ use std::alloc::Global;
 /// Refusals: `EndOfInput` where the source ended before, `CheckedFailure` where the length is below 4, with four bytes
 /// taken; `ReadFault` where the source failed.
 pub fn read_document_bytes<S: Source>(alloc: Global, source: &mut S) -> Result<Bytes, Error>
-    ensures read { IfOk result (TakesDocument (S.state source.old).left (S.state source.new).left) }
-    ensures refused { IfErr result (λ e. DocumentUnread e.kind (S.state source.old).left (S.state source.new).left (S.state source.old).read_faults (S.state source.new).read_faults (S.state source.old).ends (S.state source.new).ends) }
+    ensures read { IfOk result (TakesDocument (S.state source.old) (S.state source.new)) }
+    ensures refused { IfErr result (λ e. DocumentUnread e.kind (S.state source.old) (S.state source.new)) }
     ensures on { ReadsOn (S.state source.old) (S.state source.new) }
 {
     let mut store = Vec::new(alloc);
@@ -31,8 +31,8 @@ pub fn read_document_bytes<S: Source>(alloc: Global, source: &mut S) -> Result<B
 // most.
 fn take_document_bytes<S: Source>(source: &mut S, store: &mut Vec<u8>) -> Result<(), FrameFault>
     requires { store.old.items ≡ [] }
-    ensures read { OnOk result (TakesDocument (S.state source.old).left (S.state source.new).left store.new.items) }
-    ensures refused { IfErr result (λ fault. DocumentUnread (kind_of_frame_fault fault) (S.state source.old).left (S.state source.new).left (S.state source.old).read_faults (S.state source.new).read_faults (S.state source.old).ends (S.state source.new).ends) }
+    ensures read { OnOk result (TakesDocument (S.state source.old) (S.state source.new) store.new.items) }
+    ensures refused { IfErr result (λ fault. DocumentUnread (kind_of_frame_fault fault) (S.state source.old) (S.state source.new)) }
     ensures came { (had left : List ℕ) → (S.state source.old).left ≡ Some had → (S.state source.new).left ≡ Some left → vec_capacity store.new ≤ max (vec_capacity store.old) (4096 + 2 * (length had - length left)) }
     ensures on { ReadsOn (S.state source.old) (S.state source.new) }
 {

@@ -14,7 +14,7 @@ const PIECE: usize = 4096;
 /// `ReadFault` where the source failed, `EndOfInput` where it ended before the buffer was full.
 pub fn fill<S: Source>(source: &mut S, buf: &mut [u8]) -> Result<(), FrameFault>
     ensures filled { OnOk result (Consumes (S.state source.old).left (S.state source.new).left buf.new) }
-    ensures refused { IfErr result (λ fault. ReadStops (kind_of_frame_fault fault) (S.state source.old).left (S.state source.new).left (S.state source.old).read_faults (S.state source.new).read_faults (S.state source.old).ends (S.state source.new).ends (length buf.old)) }
+    ensures refused { IfErr result (λ fault. ReadStops (kind_of_frame_fault fault) (S.state source.old) (S.state source.new) (length buf.old)) }
     ensures of_source { IfErr result (λ fault. IsOfSource (kind_of_frame_fault fault)) }
     ensures on { ReadsOn (S.state source.old) (S.state source.new) }
 {
@@ -36,8 +36,8 @@ pub fn fill<S: Source>(source: &mut S, buf: &mut [u8]) -> Result<(), FrameFault>
 pub fn fill_or_end<S: Source>(source: &mut S, buf: &mut [u8]) -> Result<bool, FrameFault>
     requires { 0 < length buf.old }
     ensures filled { IfOk result (λ found. found ≡ true → Consumes (S.state source.old).left (S.state source.new).left buf.new) }
-    ensures ended { IfOk result (λ found. found ≡ false → HasEnded (S.state source.old).left (S.state source.new).left (S.state source.old).ends (S.state source.new).ends) }
-    ensures refused { IfErr result (λ fault. ReadStops (kind_of_frame_fault fault) (S.state source.old).left (S.state source.new).left (S.state source.old).read_faults (S.state source.new).read_faults (S.state source.old).ends (S.state source.new).ends (length buf.old)) }
+    ensures ended { IfOk result (λ found. found ≡ false → HasEnded (S.state source.old) (S.state source.new)) }
+    ensures refused { IfErr result (λ fault. ReadStops (kind_of_frame_fault fault) (S.state source.old) (S.state source.new) (length buf.old)) }
     ensures more { IfErr result (λ fault. HasMore (kind_of_frame_fault fault) (S.state source.old).left) }
     ensures on { ReadsOn (S.state source.old) (S.state source.new) }
 {
@@ -65,7 +65,7 @@ pub fn take_into<S: Source>(
     ensures front { take before store.new.items ≡ take before store.old.items }
     ensures taken { OnOk result (Consumes (S.state source.old).left (S.state source.new).left (take (wanted - before) (drop before store.new.items))) }
     ensures all { OnOk result (wanted ≤ length store.new.items) }
-    ensures refused { IfErr result (λ fault. ReadStops (kind_of_frame_fault fault) (S.state source.old).left (S.state source.new).left (S.state source.old).read_faults (S.state source.new).read_faults (S.state source.old).ends (S.state source.new).ends (wanted - before)) }
+    ensures refused { IfErr result (λ fault. ReadStops (kind_of_frame_fault fault) (S.state source.old) (S.state source.new) (wanted - before)) }
     ensures some { OnErr result (before < wanted) }
     ensures size { length store.new.items ≤ max (length store.old.items) wanted }
     // Its memory is what it was, or for what was wanted at most, and for twice what came in all and one piece at most.
@@ -100,7 +100,7 @@ fn fill_store<S: Source>(
     ensures size { length store.new.items ≡ length store.old.items }
     ensures memory { vec_capacity store.new ≡ vec_capacity store.old }
     ensures filled { OnOk result (Consumes (S.state source.old).left (S.state source.new).left (take (to - from) (drop from store.new.items))) }
-    ensures refused { IfErr result (λ fault. ReadStops (kind_of_frame_fault fault) (S.state source.old).left (S.state source.new).left (S.state source.old).read_faults (S.state source.new).read_faults (S.state source.old).ends (S.state source.new).ends (to - from)) }
+    ensures refused { IfErr result (λ fault. ReadStops (kind_of_frame_fault fault) (S.state source.old) (S.state source.new) (to - from)) }
     ensures on { ReadsOn (S.state source.old) (S.state source.new) }
 {
     fill_part(source, store.as_mut_slice(), from, to)
@@ -116,7 +116,7 @@ fn fill_part<S: Source>(
     requires { (from ≤ to) × (to ≤ length bytes.old) }
     ensures front { take from bytes.new ≡ take from bytes.old }
     ensures filled { OnOk result (Consumes (S.state source.old).left (S.state source.new).left (take (to - from) (drop from bytes.new))) }
-    ensures refused { IfErr result (λ fault. ReadStops (kind_of_frame_fault fault) (S.state source.old).left (S.state source.new).left (S.state source.old).read_faults (S.state source.new).read_faults (S.state source.old).ends (S.state source.new).ends (to - from)) }
+    ensures refused { IfErr result (λ fault. ReadStops (kind_of_frame_fault fault) (S.state source.old) (S.state source.new) (to - from)) }
     ensures on { ReadsOn (S.state source.old) (S.state source.new) }
 {
     fill(source, &mut bytes[from..to])

@@ -13,20 +13,20 @@ use crate::{Error, Source};
 pub trait SyncLittleEndianRead: Source {
     /// The next four bytes as a signed number.
     fn read_i32_sync(&mut self) -> Result<i32, Error>
-        ensures read { IfOk result (TakesSigned (Self.state self.old).left (Self.state self.new).left) }
-        ensures refused { IfErr result (λ e. FillStops e.kind (Self.state self.old).left (Self.state self.new).left (Self.state self.old).read_faults (Self.state self.new).read_faults (Self.state self.old).ends (Self.state self.new).ends 4) }
+        ensures read { IfOk result (TakesSigned (Self.state self.old) (Self.state self.new)) }
+        ensures refused { IfErr result (λ e. FillStops e.kind (Self.state self.old) (Self.state self.new) 4) }
         ensures on { ReadsOn (Self.state self.old) (Self.state self.new) };
 
     /// The next four bytes as an unsigned number.
     fn read_u32_sync(&mut self) -> Result<u32, Error>
-        ensures read { IfOk result (TakesUnsigned (Self.state self.old).left (Self.state self.new).left) }
-        ensures refused { IfErr result (λ e. FillStops e.kind (Self.state self.old).left (Self.state self.new).left (Self.state self.old).read_faults (Self.state self.new).read_faults (Self.state self.old).ends (Self.state self.new).ends 4) }
+        ensures read { IfOk result (TakesUnsigned (Self.state self.old) (Self.state self.new)) }
+        ensures refused { IfErr result (λ e. FillStops e.kind (Self.state self.old) (Self.state self.new) 4) }
         ensures on { ReadsOn (Self.state self.old) (Self.state self.new) };
 
     /// The next byte.
     fn read_u8_sync(&mut self) -> Result<u8, Error>
         ensures read { IfOk result (λ byte. Consumes (Self.state self.old).left (Self.state self.new).left (byte ∷ [])) }
-        ensures refused { IfErr result (λ e. FillStops e.kind (Self.state self.old).left (Self.state self.new).left (Self.state self.old).read_faults (Self.state self.new).read_faults (Self.state self.old).ends (Self.state self.new).ends 1) }
+        ensures refused { IfErr result (λ e. FillStops e.kind (Self.state self.old) (Self.state self.new) 1) }
         ensures on { ReadsOn (Self.state self.old) (Self.state self.new) };
 }
 

@@ -27,7 +27,7 @@ pub(crate) fn write_frame<K: Sink>(
     requires short { length < 2 ^ 31 }
     requires sizes { AllByRecursion IsCounted message.now.document_sequences }
     ensures written { OnOk result (Appends (K.state sink.old).written (K.state sink.new).written (written_frame request_id message.now)) }
-    ensures refused { IfErr result (λ e. WriteStops e.kind (K.state sink.old).written (K.state sink.new).written (K.state sink.old).write_faults (K.state sink.new).write_faults (written_frame request_id message.now)) }
+    ensures refused { IfErr result (λ e. WriteStops e.kind (K.state sink.old) (K.state sink.new) (written_frame request_id message.now)) }
     ensures numbers { OnOk result (FitsSigned w32 message.now.response_to × IfSome message.now.checksum (λ sum. sum < 2 ^ 32)) }
     ensures on { WritesOn (K.state sink.old) (K.state sink.new) }
 {
@@ -63,7 +63,7 @@ fn section_start(flags: MessageFlags) -> [u8; 5]
 fn write_sequences<K: Sink>(sink: &mut K, sequences: &[DocumentSequence]) -> Result<(), Error>
     requires { AllByRecursion IsCounted sequences.now }
     ensures written { OnOk result (Appends (K.state sink.old).written (K.state sink.new).written (sequences_bytes sequences.now)) }
-    ensures refused { IfErr result (λ e. WriteStops e.kind (K.state sink.old).written (K.state sink.new).written (K.state sink.old).write_faults (K.state sink.new).write_faults (sequences_bytes sequences.now)) }
+    ensures refused { IfErr result (λ e. WriteStops e.kind (K.state sink.old) (K.state sink.new) (sequences_bytes sequences.now)) }
     ensures on { WritesOn (K.state sink.old) (K.state sink.new) }
 {
     'sending: for sequence in sequences {
@@ -76,7 +76,7 @@ fn write_sequences<K: Sink>(sink: &mut K, sequences: &[DocumentSequence]) -> Res
 fn write_sequence<K: Sink>(sink: &mut K, sequence: &DocumentSequence) -> Result<(), Error>
     requires { IsCounted sequence.now }
     ensures written { OnOk result (Appends (K.state sink.old).written (K.state sink.new).written (sequence_section sequence.now)) }
-    ensures refused { IfErr result (λ e. WriteStops e.kind (K.state sink.old).written (K.state sink.new).written (K.state sink.old).write_faults (K.state sink.new).write_faults (sequence_section sequence.now)) }
+    ensures refused { IfErr result (λ e. WriteStops e.kind (K.state sink.old) (K.state sink.new) (sequence_section sequence.now)) }
     ensures on { WritesOn (K.state sink.old) (K.state sink.new) }
 {
     let start = sequence_start(sequence);
@@ -101,7 +101,7 @@ fn sequence_start(sequence: &DocumentSequence) -> [u8; 5]
 // Writes the documents, one after another.
 fn write_documents<K: Sink>(sink: &mut K, documents: &[RawDocumentBuf]) -> Result<(), Error>
     ensures written { OnOk result (Appends (K.state sink.old).written (K.state sink.new).written (documents_bytes documents.now)) }
-    ensures refused { IfErr result (λ e. WriteStops e.kind (K.state sink.old).written (K.state sink.new).written (K.state sink.old).write_faults (K.state sink.new).write_faults (documents_bytes documents.now)) }
+    ensures refused { IfErr result (λ e. WriteStops e.kind (K.state sink.old) (K.state sink.new) (documents_bytes documents.now)) }
     ensures on { WritesOn (K.state sink.old) (K.state sink.new) }
 {
     'sending: for document in documents {
@@ -113,7 +113,7 @@ fn write_documents<K: Sink>(sink: &mut K, documents: &[RawDocumentBuf]) -> Resul
 // Writes the checksum, where there is one.
 fn write_checksum<K: Sink>(sink: &mut K, checksum: Option<u32>) -> Result<(), Error>
     ensures written { OnOk result (Appends (K.state sink.old).written (K.state sink.new).written (checksum_bytes checksum)) }
-    ensures refused { IfErr result (λ e. WriteStops e.kind (K.state sink.old).written (K.state sink.new).written (K.state sink.old).write_faults (K.state sink.new).write_faults (checksum_bytes checksum)) }
+    ensures refused { IfErr result (λ e. WriteStops e.kind (K.state sink.old) (K.state sink.new) (checksum_bytes checksum)) }
     ensures fits { IfSome checksum (λ sum. sum < 2 ^ 32) }
     ensures on { WritesOn (K.state sink.old) (K.state sink.new) }
 {

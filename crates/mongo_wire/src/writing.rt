@@ -28,7 +28,7 @@ pub fn write_all<K: Sink>(sink: &mut K, bytes: &[u8]) -> Result<(), SinkError>
 /// `WriteFault` where the sink failed, `OutOfMemory` where it wanted memory; a front of the bytes is written then.
 pub fn write_out<K: Sink>(sink: &mut K, bytes: &[u8]) -> Result<(), Error>
     ensures written { OnOk result (Appends (K.state sink.old).written (K.state sink.new).written bytes.now) }
-    ensures refused { IfErr result (λ e. WriteStops e.kind (K.state sink.old).written (K.state sink.new).written (K.state sink.old).write_faults (K.state sink.new).write_faults bytes.now) }
+    ensures refused { IfErr result (λ e. WriteStops e.kind (K.state sink.old) (K.state sink.new) bytes.now) }
     ensures on { WritesOn (K.state sink.old) (K.state sink.new) }
 {
     match write_all(sink, bytes) {
@@ -41,9 +41,9 @@ pub fn write_out<K: Sink>(sink: &mut K, bytes: &[u8]) -> Result<(), Error>
 ///
 /// `WriteFault` where the sink failed, `OutOfMemory` where it wanted memory.
 pub fn flush_out<K: Sink>(sink: &mut K) -> Result<(), Error>
-    ensures flushed { OnOk result (IsFlushed (K.state sink.new).written (K.state sink.new).flushed) }
+    ensures flushed { OnOk result (IsFlushed (K.state sink.new)) }
     ensures kept { Keeps (K.state sink.old).written (K.state sink.new).written }
-    ensures refused { IfErr result (λ e. WriteStops e.kind (K.state sink.old).written (K.state sink.new).written (K.state sink.old).write_faults (K.state sink.new).write_faults []) }
+    ensures refused { IfErr result (λ e. WriteStops e.kind (K.state sink.old) (K.state sink.new) []) }
     ensures on { WritesOn (K.state sink.old) (K.state sink.new) }
 {
     match sink.flush() {
@@ -62,7 +62,7 @@ pub fn write_pieces<K: Sink>(
     third: &[u8],
 ) -> Result<(), Error>
     ensures written { OnOk result (Appends (K.state sink.old).written (K.state sink.new).written (first.now ++ (second.now ++ third.now))) }
-    ensures refused { IfErr result (λ e. WriteStops e.kind (K.state sink.old).written (K.state sink.new).written (K.state sink.old).write_faults (K.state sink.new).write_faults (first.now ++ (second.now ++ third.now))) }
+    ensures refused { IfErr result (λ e. WriteStops e.kind (K.state sink.old) (K.state sink.new) (first.now ++ (second.now ++ third.now))) }
     ensures on { WritesOn (K.state sink.old) (K.state sink.new) }
 {
     write_out(sink, first)?;

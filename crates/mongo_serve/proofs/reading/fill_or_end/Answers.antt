@@ -7,4 +7,4 @@ use Rattle.mongo_serve.proofs.reading.fill_or_end.Goals as goal
 pub returns-in-Err-fill-clause-refused : goal.returns-in-Err-fill-clause-refused
 returns-in-Err-fill-clause-refused g c =
     let taken = take c.in-Ok.count c.read.new.buf in
-    stops_after (kind_of_frame_fault c.in-Err-fill.fault) _ _ _ taken _ _ _ _ _ _ _ _ c.in-Ok.ensures.bytes.0 c.in-Ok.ensures.on.faults_stay c.in-Ok.ensures.on.ends_stay (grind (arith, common_steps, c.read.auto.buf, c.in-Ok.ensures.most)) c.in-Err-fill.ensures.refused
+    stops_after (kind_of_frame_fault c.in-Err-fill.fault) _ _ _ taken _ _ c.in-Ok.ensures.bytes.0 c.in-Ok.ensures.on (grind (arith, common_steps, c.read.auto.buf, c.in-Ok.ensures.most)) c.in-Err-fill.ensures.refused

@@ -33,10 +33,10 @@ returns-clause-front g c =
     let to = c.args.request_id in
     let fits : FitsSigned w32 to = search rules in
     let m : Message = record { document_payload = c.args.document; document_sequences = c.new.result; response_to = to_z w32 (of_z w32 to); flags = c.empty.result; checksum = None; request_id = None } in
-    let old = (g.K.Outside.state c.args.sink.now).written in
-    let new = (g.K.Outside.state c.write_op_msg_to.new.sink).written in
+    let old = g.K.Outside.state c.args.sink.now in
+    let new = g.K.Outside.state c.write_op_msg_to.new.sink in
     let spelled = message_spelled c.args.document c.new.result id (to_z w32 (of_z w32 to)) c.empty.result c.new.ensures (c.empty.ensures tt) ∙ ap (λ t. message_reply id t c.args.document) (to_z-of_z w32 to fits) in
-    subst (AppendsFront old new) spelled (refused_front c.in-Err.error.kind (pos 50331648) m old new _ _ id c.write_op_msg_to.new.ids c.in-Err.ensures.refused)
+    subst (AppendsFront old.written new.written) spelled (refused_front c.in-Err.error.kind (pos 50331648) m old new id c.write_op_msg_to.new.ids c.in-Err.ensures.refused)
 
 pub returns-clause-refused : goal.returns-clause-refused
 returns-clause-refused g c =

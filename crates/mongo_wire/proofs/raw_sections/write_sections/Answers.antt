@@ -15,7 +15,7 @@ returns-in_err-write_pieces-clause-refused g c =
     let error = c.in_err-write_pieces.field-0.0 in
     let spelled = sections_spelled a.request_id a.response_to a.flags.0 c.in-Ok.length c.message_header-header.result c.unsummed_word.result a.sections.now c.ranges.request_id c.ranges.response_to c.message_header-header.ensures c.unsummed_word.ensures c.in-Ok.ensures.counted.0 in
     rw (passed_on c.from_residual.result error c.from_residual.ensures.1)
-    (sections_refused error.kind (maximum_of a.maximum) a.sections.now (sections_frame a.request_id a.response_to a.flags.0 a.sections.now) _ _ _ _ c.in-Ok.ensures.fits (subst (WriteStops error.kind _ _ _ _) spelled c.in_err-write_pieces.ensures.refused))
+    (sections_refused error.kind (maximum_of a.maximum) a.sections.now (sections_frame a.request_id a.response_to a.flags.0 a.sections.now) _ _ c.in-Ok.ensures.fits (subst (WriteStops error.kind _ _) spelled c.in_err-write_pieces.ensures.refused))
 
 pub returns-clause-written : goal.returns-clause-written
 returns-clause-written g c =
@@ -36,5 +36,5 @@ returns-clause-refused g c =
     let done = c.in_ok-write_pieces.ensures in
     IfErr-weaker c.flush_out.result _ _
     (λ e s. sections_refused e.kind (maximum_of a.maximum) a.sections.now frame _ _ _ _ c.in-Ok.ensures.fits
-    (cut_at_end e.kind _ _ _ _ _ _ frame (subst (Appends _ _) spelled done.written) done.on.faults_stay s))
+    (cut_at_end e.kind _ _ _ frame (subst (Appends _ _) spelled done.written) done.on s))
     c.flush_out.ensures.refused

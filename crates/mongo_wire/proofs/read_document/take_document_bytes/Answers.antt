@@ -8,7 +8,7 @@ use Rattle.mongo_wire.proofs.ReadStopped.{came_then}
 use Rattle.mongo_wire.proofs.read_document.take_document_bytes.Goals as goal
 
 pub returns-in-Err-clause-refused : goal.returns-in-Err-clause-refused
-returns-in-Err-clause-refused g c = length_cut (kind_of_frame_fault c.in-Err.fault) _ _ _ _ _ _ c.in-Err.ensures.on.tells c.in-Err.ensures.refused
+returns-in-Err-clause-refused g c = length_cut (kind_of_frame_fault c.in-Err.fault) _ _ c.in-Err.ensures.on.tells c.in-Err.ensures.refused
 
 pub returns-in-Err-take_into-clause-refused : goal.returns-in-Err-take_into-clause-refused
 returns-in-Err-take_into-clause-refused g c =
@@ -20,7 +20,7 @@ returns-in-Err-take_into-clause-refused g c =
     let is = ap (signed_at 0) (sym c.as_slice.ensures.value) ∙ c.in-Some.ensures.0 in
     let all : 4 + (n - 4) ≡ n = omega (arith, c.in-Some.ensures.1) in
     let refused = c.in-Err-take_into.ensures in
-    document_cut (kind_of_frame_fault c.in-Err-take_into.fault) _ _ _ _ _ _ _ _ _ field n _ refused.on.tells taken four is all first.on.faults_stay first.on.ends_stay refused.refused
+    document_cut (kind_of_frame_fault c.in-Err-take_into.fault) _ _ _ field n _ refused.on.tells taken four is all first.on refused.refused
 
 pub returns-in-Err-take_into-clause-came : goal.returns-in-Err-take_into-clause-came
 returns-in-Err-take_into-clause-came g c = λ had left had_is left_is.
@@ -29,5 +29,5 @@ returns-in-Err-take_into-clause-came g c = λ had left had_is left_is.
     let four : length field ≡ 4 = omega (arith, first.all, first.size, ap length c.requires) in
     let taken = subst (Consumes _ _) (take_all 4 field (omega (arith, four))) first.taken in
     let refused = c.in-Err-take_into.ensures in
-    let some = came_then (kind_of_frame_fault c.in-Err-take_into.fault) _ _ _ field _ _ _ _ _ had left taken had_is left_is refused.refused in
+    let some = came_then (kind_of_frame_fault c.in-Err-take_into.fault) _ _ _ field _ had left taken had_is left_is refused.refused in
     memory_after _ _ _ field had left _ _ _ taken had_is left_is some four (λ h l p q. omega (arith, first.came h l p q)) refused.came

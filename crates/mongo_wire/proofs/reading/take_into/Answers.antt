@@ -16,7 +16,7 @@ returns-in-Err-fill_store-clause-refused g c =
     let size : length taken ≡ at - before = length-take-le (at - before) (drop before store) (omega (arith, length-drop before store, invariant.within, invariant.behind)) in
     let after : at ≤ c.min-end.result = omega (arith, c.min-end.ensures, c.len.ensures, c.in-Ok.ensures.longer, c.taking-test.true) in
     let within : length taken + (c.min-end.result - at) ≤ c.args.wanted - before = omega (arith, size, after, c.min-end.ensures, invariant.behind) in
-    stops_after (kind_of_frame_fault c.in-Err-fill_store.fault) _ _ _ taken _ _ _ _ _ _ _ _ invariant.taken invariant.on.faults_stay invariant.on.ends_stay within c.in-Err-fill_store.ensures.refused
+    stops_after (kind_of_frame_fault c.in-Err-fill_store.fault) _ _ _ taken _ _ invariant.taken invariant.on within c.in-Err-fill_store.ensures.refused
 
 pub returns-in-Err-fill_store-clause-front : goal.returns-in-Err-fill_store-clause-front
 returns-in-Err-fill_store-clause-front g c =
@@ -32,7 +32,7 @@ returns-in-Err-fill_store-clause-came g c = λ had left had_is left_is.
     let invariant = c.taking.invariant in
     let taken = take (at - before) (drop before store) in
     let size : length taken ≡ at - before = length-take-le (at - before) (drop before store) (omega (arith, length-drop before store, invariant.within, invariant.behind)) in
-    let came = came_then (kind_of_frame_fault c.in-Err-fill_store.fault) _ _ _ taken _ _ _ _ _ had left invariant.taken had_is left_is c.in-Err-fill_store.ensures.refused in
+    let came = came_then (kind_of_frame_fault c.in-Err-fill_store.fault) _ _ _ taken _ had left invariant.taken had_is left_is c.in-Err-fill_store.ensures.refused in
     let room = c.in-Ok.ensures in
     omega (arith, c.in-Err-fill_store.ensures.memory, room.came, invariant.came, invariant.behind, size, came)
 

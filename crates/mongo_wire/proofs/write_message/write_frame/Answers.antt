@@ -14,8 +14,8 @@ returns-in_err-write_pieces-clause-refused g c =
     let m = c.args.message.now in
     let front = c.message_header-header.result ++ (c.section_start-start.result ++ c.as_bytes.result.now) in
     rw (passed_on c.from_residual.result error c.from_residual.ensures.1)
-    (subst (WriteStops error.kind _ _ _ _) (frame_spelled c.args.request_id c.args.length m c.message_header-header.result c.section_start-start.result c.as_bytes.result.now (sequences_bytes m.document_sequences) c.ranges.request_id (search rules) c.message_header-header.ensures c.section_start-start.ensures c.as_bytes.ensures.bytes refl c.requires.counted)
-    (cut_before error.kind _ _ _ _ front (sequences_bytes m.document_sequences ++ checksum_bytes m.checksum) c.in_err-write_pieces.ensures.refused))
+    (subst (WriteStops error.kind _ _) (frame_spelled c.args.request_id c.args.length m c.message_header-header.result c.section_start-start.result c.as_bytes.result.now (sequences_bytes m.document_sequences) c.ranges.request_id (search rules) c.message_header-header.ensures c.section_start-start.ensures c.as_bytes.ensures.bytes refl c.requires.counted)
+    (cut_before error.kind _ _ front (sequences_bytes m.document_sequences ++ checksum_bytes m.checksum) c.in_err-write_pieces.ensures.refused))
 
 pub returns-in_err-write_sequences-clause-refused :
     goal.returns-in_err-write_sequences-clause-refused
@@ -26,9 +26,9 @@ returns-in_err-write_sequences-clause-refused g c =
     let sequences = sequences_bytes c.as_slice.result.now in
     let done = c.in_ok-write_pieces.ensures in
     rw (passed_on c.from_residual-in_err-write_sequences.result error c.from_residual-in_err-write_sequences.ensures.1)
-    (subst (WriteStops error.kind _ _ _ _) (frame_spelled c.args.request_id c.args.length m c.message_header-header.result c.section_start-start.result c.as_bytes.result.now sequences c.ranges.request_id (search rules) c.message_header-header.ensures c.section_start-start.ensures c.as_bytes.ensures.bytes (ap sequences_bytes c.as_slice.ensures) c.requires.counted)
-    (cut_after error.kind _ _ _ _ _ _ front (sequences ++ checksum_bytes m.checksum) done.written done.on.faults_stay
-    (cut_before error.kind _ _ _ _ sequences (checksum_bytes m.checksum) c.in_err-write_sequences.ensures.refused)))
+    (subst (WriteStops error.kind _ _) (frame_spelled c.args.request_id c.args.length m c.message_header-header.result c.section_start-start.result c.as_bytes.result.now sequences c.ranges.request_id (search rules) c.message_header-header.ensures c.section_start-start.ensures c.as_bytes.ensures.bytes (ap sequences_bytes c.as_slice.ensures) c.requires.counted)
+    (cut_after error.kind _ _ _ front (sequences ++ checksum_bytes m.checksum) done.written done.on
+    (cut_before error.kind _ _ sequences (checksum_bytes m.checksum) c.in_err-write_sequences.ensures.refused)))
 
 pub returns-clause-written : goal.returns-clause-written
 returns-clause-written g c =
@@ -48,9 +48,9 @@ returns-clause-refused g c =
     let first = c.in_ok-write_pieces.ensures in
     let second = c.in_ok-write_sequences.ensures in
     IfErr-weaker c.write_checksum.result _ _
-    (λ e w. subst (WriteStops e.kind _ _ _ _) (frame_spelled c.args.request_id c.args.length m c.message_header-header.result c.section_start-start.result c.as_bytes.result.now sequences c.ranges.request_id (search rules) c.message_header-header.ensures c.section_start-start.ensures c.as_bytes.ensures.bytes (ap sequences_bytes c.as_slice.ensures) c.requires.counted)
-    (cut_after e.kind _ _ _ _ _ _ front (sequences ++ checksum_bytes m.checksum) first.written first.on.faults_stay
-    (cut_after e.kind _ _ _ _ _ _ sequences (checksum_bytes m.checksum) second.written second.on.faults_stay w)))
+    (λ e w. subst (WriteStops e.kind _ _) (frame_spelled c.args.request_id c.args.length m c.message_header-header.result c.section_start-start.result c.as_bytes.result.now sequences c.ranges.request_id (search rules) c.message_header-header.ensures c.section_start-start.ensures c.as_bytes.ensures.bytes (ap sequences_bytes c.as_slice.ensures) c.requires.counted)
+    (cut_after e.kind _ _ _ front (sequences ++ checksum_bytes m.checksum) first.written first.on
+    (cut_after e.kind _ _ _ sequences (checksum_bytes m.checksum) second.written second.on w)))
     c.write_checksum.ensures.refused
 
 pub returns-clause-numbers : goal.returns-clause-numbers

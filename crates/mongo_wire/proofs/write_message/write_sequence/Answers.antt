@@ -11,8 +11,8 @@ returns-in_err-write_pieces-clause-refused g c =
     let s = c.args.sequence.now in
     let front = c.sequence_start-start.result ++ (c.as_bytes.result.now ++ 0 ∷ []) in
     rw (passed_on c.from_residual.result error c.from_residual.ensures.1)
-    (subst (WriteStops error.kind _ _ _ _) (section_spelled s c.sequence_start-start.result c.as_bytes.result.now (documents_bytes s.documents) c.sequence_start-start.ensures c.as_bytes.ensures refl)
-    (cut_before error.kind _ _ _ _ front (documents_bytes s.documents) c.in_err-write_pieces.ensures.refused))
+    (subst (WriteStops error.kind _ _) (section_spelled s c.sequence_start-start.result c.as_bytes.result.now (documents_bytes s.documents) c.sequence_start-start.ensures c.as_bytes.ensures refl)
+    (cut_before error.kind _ _ front (documents_bytes s.documents) c.in_err-write_pieces.ensures.refused))
 
 pub returns-clause-refused : goal.returns-clause-refused
 returns-clause-refused g c =
@@ -21,5 +21,5 @@ returns-clause-refused g c =
     let documents = documents_bytes c.as_slice.result.now in
     let spelled = section_spelled s c.sequence_start-start.result c.as_bytes.result.now documents c.sequence_start-start.ensures c.as_bytes.ensures (ap documents_bytes c.as_slice.ensures) in
     IfErr-weaker c.write_documents.result _ _
-    (λ e w. subst (WriteStops e.kind _ _ _ _) spelled (cut_after e.kind _ _ _ _ _ _ front documents c.in_ok-write_pieces.ensures.written c.in_ok-write_pieces.ensures.on.faults_stay w))
+    (λ e w. subst (WriteStops e.kind _ _) spelled (cut_after e.kind _ _ _ front documents c.in_ok-write_pieces.ensures.written c.in_ok-write_pieces.ensures.on w))
     c.write_documents.ensures.refused

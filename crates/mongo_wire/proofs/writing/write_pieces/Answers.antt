@@ -7,18 +7,18 @@ pub returns-in_err-write_out-clause-refused : goal.returns-in_err-write_out-clau
 returns-in_err-write_out-clause-refused g c =
     let error = c.in_err-write_out.field-0.0 in
     rw (passed_on c.from_residual.result error c.from_residual.ensures.1)
-    (cut_before error.kind _ _ _ _ c.args.first.now (c.args.second.now ++ c.args.third.now) c.in_err-write_out.ensures.refused)
+    (cut_before error.kind _ _ c.args.first.now (c.args.second.now ++ c.args.third.now) c.in_err-write_out.ensures.refused)
 
 pub returns-in_err-write_out-2-clause-refused : goal.returns-in_err-write_out-2-clause-refused
 returns-in_err-write_out-2-clause-refused g c =
     let error = c.in_err-write_out-2.field-0.0 in
     rw (passed_on c.from_residual-in_err-write_out-2.result error c.from_residual-in_err-write_out-2.ensures.1)
-    (cut_after error.kind _ _ _ _ _ _ c.args.first.now (c.args.second.now ++ c.args.third.now) c.in_ok-write_out.ensures.written c.in_ok-write_out.ensures.on.faults_stay
-    (cut_before error.kind _ _ _ _ c.args.second.now c.args.third.now c.in_err-write_out-2.ensures.refused))
+    (cut_after error.kind _ _ _ c.args.first.now (c.args.second.now ++ c.args.third.now) c.in_ok-write_out.ensures.written c.in_ok-write_out.ensures.on
+    (cut_before error.kind _ _ c.args.second.now c.args.third.now c.in_err-write_out-2.ensures.refused))
 
 pub returns-clause-refused : goal.returns-clause-refused
 returns-clause-refused g c =
     IfErr-weaker c.write_out-3.result _ _
-    (λ e s. cut_after e.kind _ _ _ _ _ _ c.args.first.now (c.args.second.now ++ c.args.third.now) c.in_ok-write_out.ensures.written c.in_ok-write_out.ensures.on.faults_stay
-    (cut_after e.kind _ _ _ _ _ _ c.args.second.now c.args.third.now c.in_ok-write_out-2.ensures.written c.in_ok-write_out-2.ensures.on.faults_stay s))
+    (λ e s. cut_after e.kind _ _ _ c.args.first.now (c.args.second.now ++ c.args.third.now) c.in_ok-write_out.ensures.written c.in_ok-write_out.ensures.on
+    (cut_after e.kind _ _ _ c.args.second.now c.args.third.now c.in_ok-write_out-2.ensures.written c.in_ok-write_out-2.ensures.on s))
     c.write_out-3.ensures.refused

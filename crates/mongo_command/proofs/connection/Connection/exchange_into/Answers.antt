@@ -1,4 +1,5 @@
 use Rattle.std.proofs.Common.{inr, subst}
+use Rattle.std.specs.Io.KnownBytes.{Consumes}
 use Rattle.mongo_wire.specs.Buffer.{IsFrameTaken}
 use Rattle.mongo_command.specs.Exchange.{frame_maximum}
 use Rattle.mongo_command.proofs.Kept.{received_kept}
@@ -15,7 +16,15 @@ returns-in-Ok-clause-exchanged g c = record {
 pub returns-in-Ok-clause-taken : goal.returns-in-Ok-clause-taken
 returns-in-Ok-clause-taken g c =
     let maximum = frame_maximum c.args.self.now.stream_description in
-    subst (λ left. IsFrameTaken maximum left (g.L.Outside.state c.receive_into.new.link).left c.receive_into.new.buffer) c.in_ok-send.ensures.sent.unread (rw c.frame_maximum-maximum.ensures at c.in-Ok.ensures.taken)
+    let state = g.L.Outside.state in
+    let read : IsFrameTaken maximum (state c.send.new.link) (state c.receive_into.new.link) c.receive_into.new.buffer = rw c.frame_maximum-maximum.ensures at c.in-Ok.ensures.taken in
+    record {
+      frame = read.frame;
+      parts = read.parts;
+      holds = read.holds;
+      within = read.within;
+      taken = subst (λ left. Consumes left (state c.receive_into.new.link).left read.frame) c.in_ok-send.ensures.sent.unread read.taken;
+    }
 
 pub returns-in-Err-clause-refused : goal.returns-in-Err-clause-refused
 returns-in-Err-clause-refused g c unkept =

@@ -12,12 +12,12 @@ returns-in-Ok-clause-again g c = λ frame rest parts is frame_is within.
 pub returns-in-Err-take_rest-clause-again : goal.returns-in-Err-take_rest-clause-again
 returns-in-Err-take_rest-clause-again g c = λ frame rest parts is frame_is within.
     let head = c.in-Ok-true.ensures in
-    no_refusal (kind_of_frame_fault c.in-Err-take_rest.fault) (maximum_of c.args.maximum) _ _ _ _ _ _ frame rest parts is frame_is within (c.in-Err-take_rest.ensures.refused _ _ _ (head.filled c.in-Ok-true.field-0-test) head.on.tells head.on.faults_stay head.on.ends_stay)
+    no_refusal (kind_of_frame_fault c.in-Err-take_rest.fault) (maximum_of c.args.maximum) _ _ frame rest parts is frame_is within (c.in-Err-take_rest.ensures.refused _ (head.filled c.in-Ok-true.field-0-test) head.on)
 
 pub returns-in-Err-clause-refused : goal.returns-in-Err-clause-refused
 returns-in-Err-clause-refused g c =
     let refused = c.in-Err.ensures in
-    header_stopped (kind_of_frame_fault c.in-Err.fault) (maximum_of c.args.maximum) _ _ _ _ _ _ refused.on.tells refused.refused
+    header_stopped (kind_of_frame_fault c.in-Err.fault) (maximum_of c.args.maximum) _ _ refused.on.tells refused.refused
 
 pub returns-in-Ok-clause-came : goal.returns-in-Ok-clause-came
 returns-in-Ok-clause-came g c =

@@ -13,21 +13,21 @@ whole : (n : ℕ) → n - 0 ≡ n
 whole n = omega arith
 
 pub returns-in-Err-clause-refused : goal.returns-in-Err-clause-refused
-returns-in-Err-clause-refused g c = λ before faults ends p tells more_faults more_ends.
+returns-in-Err-clause-refused g c = λ before p on.
     let head : length c.args.head.now ≡ 16 = search rules in
-    header_refused (kind_of_frame_fault c.in-Err.fault) (maximum_of c.args.maximum) before _ c.args.head.now faults _ ends _ p head c.in-Err.ensures.row
+    header_refused (kind_of_frame_fault c.in-Err.fault) (maximum_of c.args.maximum) before _ c.args.head.now p head c.in-Err.ensures.row
 
 pub returns-in-Err-take_into-clause-refused : goal.returns-in-Err-take_into-clause-refused
-returns-in-Err-take_into-clause-refused g c = λ before faults ends p tells more_faults more_ends.
+returns-in-Err-take_into-clause-refused g c = λ before p on.
     let head : length c.args.head.now ≡ 16 = search rules in
     let start = c.in-Ok.ensures in
     let refused = c.in-Err-take_into.ensures in
     let state = g.S.Outside.state in
-    let stops = subst (λ n. ReadStops (kind_of_frame_fault c.in-Err-take_into.fault) (state c.args.source.now).left (state c.take_into.new.source).left (state c.args.source.now).read_faults (state c.take_into.new.source).read_faults (state c.args.source.now).ends (state c.take_into.new.source).ends n) (whole c.in-Ok.start.rest) refused.refused in
-    rest_stopped (kind_of_frame_fault c.in-Err-take_into.fault) (maximum_of c.args.maximum) before _ _ c.args.head.now faults _ _ ends _ _ c.in-Ok.start.rest p head start.passes start.size refused.some (refused.on.tells ∙ tells) more_faults more_ends stops
+    let stops = subst (λ n. ReadStops (kind_of_frame_fault c.in-Err-take_into.fault) (state c.args.source.now) (state c.take_into.new.source) n) (whole c.in-Ok.start.rest) refused.refused in
+    rest_stopped (kind_of_frame_fault c.in-Err-take_into.fault) (maximum_of c.args.maximum) before _ _ c.args.head.now c.in-Ok.start.rest p on refused.on.tells head start.passes start.size refused.some stops
 
 pub returns-in-None-clause-refused : goal.returns-in-None-clause-refused
-returns-in-None-clause-refused g c = λ before faults ends p tells more_faults more_ends.
+returns-in-None-clause-refused g c = λ before p on.
     let head : length c.args.head.now ≡ 16 = search rules in
     let start = c.in-Ok.ensures in
     let rest = c.in-Ok.start.rest in
@@ -35,7 +35,7 @@ returns-in-None-clause-refused g c = λ before faults ends p tells more_faults m
     let size : length bytes ≡ rest = length-take-le rest c.take_into.new.store.items c.in-Ok-take_into.ensures.all in
     let state = g.S.Outside.state in
     let taken = subst (λ n. Consumes (state c.args.source.now).left (state c.take_into.new.source).left (take n c.take_into.new.store.items)) (whole rest) c.in-Ok-take_into.ensures.taken in
-    sections_refused (maximum_of c.args.maximum) before _ _ c.args.head.now bytes faults faults ends ends p taken head start.passes (rw size start.size)
+    sections_refused (maximum_of c.args.maximum) before _ _ c.args.head.now bytes p taken head start.passes (rw size start.size)
     (subst (λ s. NoFrame (c.args.head.now ++ take rest s)) c.as_slice.ensures.value c.in-None.ensures)
 
 pub returns-in-Some-clause-taken : goal.returns-in-Some-clause-taken

@@ -8,4 +8,4 @@ pub returns-clause-written : goal.returns-clause-written
 returns-clause-written g c = IfOk-weaker c.write_out.result _ _ (λ _ s. subst (Appends _ _) c.encode.ensures.bytes s) c.write_out.ensures.written
 
 pub returns-clause-refused : goal.returns-clause-refused
-returns-clause-refused g c = IfErr-weaker c.write_out.result _ _ (λ e s. subst (WriteStops e.kind _ _ _ _) c.encode.ensures.bytes s) c.write_out.ensures.refused
+returns-clause-refused g c = IfErr-weaker c.write_out.result _ _ (λ e s. subst (WriteStops e.kind _ _) c.encode.ensures.bytes s) c.write_out.ensures.refused

@@ -19,7 +19,7 @@ returns-in-Ok-clause-refused g c =
 pub returns-in-Ok-clause-again : goal.returns-in-Ok-clause-again
 returns-in-Ok-clause-again g c =
     let read = c.in-Ok.ensures.taken in
-    reads_again c.owned_message.result (maximum_of c.args.maximum) _ _ 0 0 0 0
+    reads_again c.owned_message.result (maximum_of c.args.maximum) _ _
     (IfOk-weaker c.owned_message.result _ _ (λ m owned. read_whole (maximum_of c.args.maximum) _ _ c.take_frame.new.self m read owned) (c.owned_message.ensures.copied read.frame read.parts read.holds))
     (IfErr-weaker c.owned_message.result _ _ (λ e kind. rw kind (read_then_stopped (maximum_of c.args.maximum) _ _ c.take_frame.new.self read)) c.owned_message.ensures.refused)
 

@@ -19,7 +19,7 @@ returns-in_err-write_frame-clause-refused g c =
     let fits : FitsSigned w32 id = search rules in
     let same = ap (λ i. written_frame i m) (to_z-of_z w32 id fits ∙ c.drawn_id-id.ensures.id) in
     rw (passed_on c.from_residual.result error c.from_residual.ensures.1)
-    (write_refused error.kind (maximum_of c.args.maximum) m _ _ _ _ c.args.ids.now _ c.in-Ok.ensures.fits c.drawn_id-id.ensures.drawn (subst (WriteStops error.kind _ _ _ _) same c.in_err-write_frame.ensures.refused))
+    (write_refused error.kind (maximum_of c.args.maximum) m _ _ c.args.ids.now _ c.in-Ok.ensures.fits c.drawn_id-id.ensures.drawn (subst (WriteStops error.kind _ _) same c.in_err-write_frame.ensures.refused))
 
 pub returns-clause-written : goal.returns-clause-written
 returns-clause-written g c =
@@ -48,6 +48,6 @@ returns-clause-refused g c =
     let same = ap (λ i. written_frame i m) (to_z-of_z w32 id fits ∙ c.drawn_id-id.ensures.id) in
     let frame = written_frame (id_of m c.args.ids.now) m in
     IfErr-weaker c.flush_out.result _ _
-    (λ e s. write_refused e.kind (maximum_of c.args.maximum) m _ _ _ _ c.args.ids.now _ c.in-Ok.ensures.fits c.drawn_id-id.ensures.drawn
-    (cut_at_end e.kind _ _ _ _ _ _ frame (subst (Appends _ _) same c.in_ok-write_frame.ensures.written) c.in_ok-write_frame.ensures.on.faults_stay s))
+    (λ e s. write_refused e.kind (maximum_of c.args.maximum) m _ _ c.args.ids.now _ c.in-Ok.ensures.fits c.drawn_id-id.ensures.drawn
+    (cut_at_end e.kind _ _ _ frame (subst (Appends _ _) same c.in_ok-write_frame.ensures.written) c.in_ok-write_frame.ensures.on s))
     c.flush_out.ensures.refused
