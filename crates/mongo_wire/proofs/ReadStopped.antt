@@ -90,9 +90,7 @@ came_then kind old mid new taken part had left p had_is left_is s =
     (λ _ f. consumed f.1.0 f.1.2) (λ _ e. ended mid.left p e.1) (λ _ m. consumed m.0 m.2)
   where
     consumed : (more : List ℕ) → Consumes mid.left new.left more → length taken ≤ length had - length left
-    consumed more q =
-        let all : had ≡ (taken ++ more) ++ left = rw (had_is, left_is) at Consumes-trans old.left mid.left new.left taken more p q in
-        omega (arith, ap length all, length-append (taken ++ more) left, length-append taken more)
+    consumed more q = omega (arith, came_before old.left new.left (taken ++ more) had left (Consumes-trans old.left mid.left new.left taken more p q) had_is left_is, length-append taken more)
 
     ended : (there : Option (List ℕ)) → Consumes old.left there taken → RanOut there new.left part → length taken ≤ length had - length left
     ended None q r = absurd (rw had_is at q)

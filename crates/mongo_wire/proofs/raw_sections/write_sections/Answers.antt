@@ -35,6 +35,6 @@ returns-clause-refused g c =
     let spelled = sections_spelled a.request_id a.response_to a.flags.0 c.in-Ok.length c.message_header-header.result c.unsummed_word.result a.sections.now c.ranges.request_id c.ranges.response_to c.message_header-header.ensures c.unsummed_word.ensures c.in-Ok.ensures.counted.0 in
     let done = c.in_ok-write_pieces.ensures in
     IfErr-weaker c.flush_out.result _ _
-    (λ e s. sections_refused e.kind (maximum_of a.maximum) a.sections.now frame _ _ _ _ c.in-Ok.ensures.fits
+    (λ e s. sections_refused e.kind (maximum_of a.maximum) a.sections.now frame _ _ c.in-Ok.ensures.fits
     (cut_at_end e.kind _ _ _ frame (subst (Appends _ _) spelled done.written) done.on s))
     c.flush_out.ensures.refused

@@ -29,5 +29,5 @@ returns-in-Err-take_into-clause-came g c = λ had left had_is left_is.
     let four : length field ≡ 4 = omega (arith, first.all, first.size, ap length c.requires) in
     let taken = subst (Consumes _ _) (take_all 4 field (omega (arith, four))) first.taken in
     let refused = c.in-Err-take_into.ensures in
-    let some = came_then (kind_of_frame_fault c.in-Err-take_into.fault) _ _ _ field _ had left taken had_is left_is refused.refused in
+    let some = came_then (kind_of_frame_fault c.in-Err-take_into.fault) (g.S.Outside.state c.args.source.now) _ _ field _ had left taken had_is left_is refused.refused in
     memory_after _ _ _ field had left _ _ _ taken had_is left_is some four (λ h l p q. omega (arith, first.came h l p q)) refused.came

@@ -32,7 +32,7 @@ returns-in-Err-fill_store-clause-came g c = λ had left had_is left_is.
     let invariant = c.taking.invariant in
     let taken = take (at - before) (drop before store) in
     let size : length taken ≡ at - before = length-take-le (at - before) (drop before store) (omega (arith, length-drop before store, invariant.within, invariant.behind)) in
-    let came = came_then (kind_of_frame_fault c.in-Err-fill_store.fault) _ _ _ taken _ had left invariant.taken had_is left_is c.in-Err-fill_store.ensures.refused in
+    let came = came_then (kind_of_frame_fault c.in-Err-fill_store.fault) (g.S.Outside.state c.args.source.now) _ _ taken _ had left invariant.taken had_is left_is c.in-Err-fill_store.ensures.refused in
     let room = c.in-Ok.ensures in
     omega (arith, c.in-Err-fill_store.ensures.memory, room.came, invariant.came, invariant.behind, size, came)
 

@@ -6,13 +6,15 @@ use Rattle.mongo_wire.proofs.frame_buffer.FrameBuffer.take_next_frame.Goals as g
 
 pub returns-in-Ok-clause-again : goal.returns-in-Ok-clause-again
 returns-in-Ok-clause-again g c = λ frame rest parts is frame_is within.
-    let same = same_taken (maximum_of c.args.maximum) _ _ c.take_rest.new.self frame rest parts is frame_is (c.in-Ok.ensures.taken _ (c.in-Ok-true.ensures.filled c.in-Ok-true.field-0-test)) in
+    let state = g.S.Outside.state in
+    let same = same_taken (maximum_of c.args.maximum) (state c.args.source.now) (state c.take_rest.new.source) c.take_rest.new.self frame rest parts is frame_is (c.in-Ok.ensures.taken (state c.args.source.now) (c.in-Ok-true.ensures.filled c.in-Ok-true.field-0-test)) in
     (refl, same.0, same.1)
 
 pub returns-in-Err-take_rest-clause-again : goal.returns-in-Err-take_rest-clause-again
 returns-in-Err-take_rest-clause-again g c = λ frame rest parts is frame_is within.
     let head = c.in-Ok-true.ensures in
-    no_refusal (kind_of_frame_fault c.in-Err-take_rest.fault) (maximum_of c.args.maximum) _ _ frame rest parts is frame_is within (c.in-Err-take_rest.ensures.refused _ (head.filled c.in-Ok-true.field-0-test) head.on)
+    let state = g.S.Outside.state in
+    no_refusal (kind_of_frame_fault c.in-Err-take_rest.fault) (maximum_of c.args.maximum) _ _ frame rest parts is frame_is within (c.in-Err-take_rest.ensures.refused (state c.args.source.now) (head.filled c.in-Ok-true.field-0-test) head.on)
 
 pub returns-in-Err-clause-refused : goal.returns-in-Err-clause-refused
 returns-in-Err-clause-refused g c =
@@ -21,8 +23,10 @@ returns-in-Err-clause-refused g c =
 
 pub returns-in-Ok-clause-came : goal.returns-in-Ok-clause-came
 returns-in-Ok-clause-came g c =
-    grows_later _ _ _ _ c.args.self.now c.clear.new.self c.take_rest.new.self (ap (λ s. vec_capacity s) c.clear.ensures.store) (c.in-Ok-true.ensures.filled c.in-Ok-true.field-0-test) c.in-Ok.ensures.came
+    let state = g.S.Outside.state in
+    grows_later (state c.args.source.now) (state c.fill_or_end.new.source) (state c.take_rest.new.source) _ c.args.self.now c.clear.new.self c.take_rest.new.self (ap (λ s. vec_capacity s) c.clear.ensures.store) (c.in-Ok-true.ensures.filled c.in-Ok-true.field-0-test) c.in-Ok.ensures.came
 
 pub returns-in-Err-take_rest-clause-came : goal.returns-in-Err-take_rest-clause-came
 returns-in-Err-take_rest-clause-came g c =
-    grows_later _ _ _ _ c.args.self.now c.clear.new.self c.take_rest.new.self (ap (λ s. vec_capacity s) c.clear.ensures.store) (c.in-Ok-true.ensures.filled c.in-Ok-true.field-0-test) c.in-Err-take_rest.ensures.came
+    let state = g.S.Outside.state in
+    grows_later (state c.args.source.now) (state c.fill_or_end.new.source) (state c.take_rest.new.source) _ c.args.self.now c.clear.new.self c.take_rest.new.self (ap (λ s. vec_capacity s) c.clear.ensures.store) (c.in-Ok-true.ensures.filled c.in-Ok-true.field-0-test) c.in-Err-take_rest.ensures.came

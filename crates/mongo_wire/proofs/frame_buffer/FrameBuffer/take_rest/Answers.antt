@@ -35,7 +35,7 @@ returns-in-None-clause-refused g c = λ before p on.
     let size : length bytes ≡ rest = length-take-le rest c.take_into.new.store.items c.in-Ok-take_into.ensures.all in
     let state = g.S.Outside.state in
     let taken = subst (λ n. Consumes (state c.args.source.now).left (state c.take_into.new.source).left (take n c.take_into.new.store.items)) (whole rest) c.in-Ok-take_into.ensures.taken in
-    sections_refused (maximum_of c.args.maximum) before _ _ c.args.head.now bytes p taken head start.passes (rw size start.size)
+    sections_refused (maximum_of c.args.maximum) before (state c.args.source.now) (state c.take_into.new.source) c.args.head.now bytes p taken head start.passes (rw size start.size)
     (subst (λ s. NoFrame (c.args.head.now ++ take rest s)) c.as_slice.ensures.value c.in-None.ensures)
 
 pub returns-in-Some-clause-taken : goal.returns-in-Some-clause-taken
@@ -46,7 +46,7 @@ returns-in-Some-clause-taken g c = λ before p.
     let size : length bytes ≡ rest = length-take-le rest c.take_into.new.store.items c.in-Ok-take_into.ensures.all in
     let state = g.S.Outside.state in
     let taken = subst (λ n. Consumes (state c.args.source.now).left (state c.take_into.new.source).left (take n c.take_into.new.store.items)) (whole rest) c.in-Ok-take_into.ensures.taken in
-    frame_taken (maximum_of c.args.maximum) before _ _ c.args.head.now bytes rest c.in-Some.frame c.keep.new.self p taken head size c.in-Ok.ensures.within
+    frame_taken (maximum_of c.args.maximum) before (state c.args.source.now) (state c.take_into.new.source) c.args.head.now bytes rest c.in-Some.frame c.keep.new.self p taken head size c.in-Ok.ensures.within
     (subst (λ s. IsHeld (c.args.head.now ++ take rest s) c.in-Some.frame) c.as_slice.ensures.value c.in-Some.ensures) c.keep.ensures.last c.keep.ensures.held
 
 pub returns-in-Err-take_into-clause-came : goal.returns-in-Err-take_into-clause-came
