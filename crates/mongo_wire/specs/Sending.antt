@@ -1,5 +1,5 @@
 -- A frame whose sections are handed in as bytes.
-use Rattle.std.specs.Prelude.{◌≡◌, ℕ, ℤ, pos, ◌+◌, ◌≤ℤ◌, ◌<ℤ◌, None, Option, List, [], ◌∷◌, ◌++◌, length, flat_map, bit_and}
+use Rattle.std.specs.Prelude.{◌≡◌, ℕ, ℤ, pos, ◌+◌, ◌≤ℤ◌, ◌<ℤ◌, None, List, [], ◌∷◌, ◌++◌, length, flat_map, bit_and}
 use Rattle.std.specs.Io.KnownBytes.{Keeps}
 use Rattle.std.specs.List.{AllByRecursion}
 use Rattle.mongo_wire.specs.Outside.{State, Rose, AppendsFront}
