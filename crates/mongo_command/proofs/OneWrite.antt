@@ -1,5 +1,5 @@
 -- A document says one thing as the reply to a write, so that it has one answer.
-use Rattle.std.proofs.Common.{◌≡◌, ℕ, ℤ, inl, inr, Option, None, Some, Result, Ok, Err, List, [], ◌∷◌, codes, refl, sym, ap, ◌∙◌, subst, arith, IfErr, OnOk}
+use Rattle.std.proofs.Common.{◌≡◌, ℕ, ℤ, inl, inr, Option, None, Some, Result, Ok, Err, List, [], ◌∷◌, refl, sym, ap, ◌∙◌, subst, arith, IfErr, OnOk}
 use Rattle.mongo_bson.specs.Document.{Element, IsDocument}
 use Rattle.mongo_bson.proofs.OneElement.{one_document}
 use Rattle.mongo_wire.specs.declared.error.Error.{Error}
@@ -13,6 +13,7 @@ use Rattle.mongo_wire.specs.declared.write_error.WriteFailure.{WriteFailure}
 use Rattle.mongo_wire.specs.declared.write_error.InsertManyError.{InsertManyError}
 use Rattle.mongo_command.specs.Field.{field_of}
 use Rattle.mongo_command.specs.WriteReply.{HoldsTable, EachReads, ReadsUnsigned32, IsWriteErrorTable, ReadsWriteError, HoldsWriteErrors, ReadsWriteErrors, TextsOrNone, IsConcernErrorTable, ReadsConcernError, IsWriteReplyTable, IsWriteReply, write_failure, insert_failure, SaysOfWrite, SingleWriteRefused, InsertManyRefused, IsKindFor, Validates}
+use Rattle.mongo_command.specs.Keys.{code_name_key, errmsg_key, error_labels_key}
 use Rattle.mongo_command.proofs.OneField.{ReadsOne, optional_one, required_one, text_or_empty_one, labels_one, text_one, texts_one, int32_one, minutes_one, document_one}
 use Rattle.mongo_command.proofs.OneReply.{◌·◌}
 
@@ -36,7 +37,7 @@ one_write_error elements a b p q =
     · required_one _ unsigned32_one _ _ _ p.index q.index
     · required_one _ int32_one _ _ _ p.code q.code
     · optional_one _ text_one _ _ _ p.code_name q.code_name
-    · text_or_empty_one (field_of (codes "errmsg") elements) a.error.message b.error.message p.message q.message
+    · text_or_empty_one (field_of errmsg_key elements) a.error.message b.error.message p.message q.message
     · optional_one _ document_one _ _ _ p.details q.details
 
 write_error_one : ReadsOne ReadsWriteError
@@ -70,10 +71,10 @@ one_concern_error elements a b p q =
     let made : concern_made ≡ concern_made = refl in
     made
     · required_one _ int32_one _ _ _ p.code q.code
-    · text_or_empty_one (field_of (codes "codeName") elements) a.code_name b.code_name p.code_name q.code_name
-    · text_or_empty_one (field_of (codes "errmsg") elements) a.message b.message p.message q.message
+    · text_or_empty_one (field_of code_name_key elements) a.code_name b.code_name p.code_name q.code_name
+    · text_or_empty_one (field_of errmsg_key elements) a.message b.message p.message q.message
     · optional_one _ document_one _ _ _ p.details q.details
-    · one_texts (field_of (codes "errorLabels") elements) a.labels b.labels p.labels q.labels
+    · one_texts (field_of error_labels_key elements) a.labels b.labels p.labels q.labels
 
 concern_error_one : ReadsOne ReadsConcernError
 concern_error_one = record { one = λ e a b p q. one_held IsConcernErrorTable one_concern_error e.value a b p.1 q.1 }
@@ -90,7 +91,7 @@ one_reply elements a b p q =
     made
     · optional_one _ write_errors_one _ _ _ p.write_errors q.write_errors
     · optional_one _ concern_error_one _ _ _ p.write_concern_error q.write_concern_error
-    · labels_one (field_of (codes "errorLabels") elements) a.labels b.labels p.labels q.labels
+    · labels_one (field_of error_labels_key elements) a.labels b.labels p.labels q.labels
 
 one_said : {F : Type 0} (failure_of : InsertManyError → Option F) (document : List ℕ) (a b : Option F) → SaysOfWrite failure_of document a → SaysOfWrite failure_of document b → a ≡ b
 one_said failure_of document a b p q =

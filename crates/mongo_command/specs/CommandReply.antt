@@ -1,5 +1,5 @@
 -- The reply to a command: whether it succeeded, and why it is refused where it didn't.
-use Rattle.std.specs.Prelude.{◌≡◌, ℕ, List, codes, ⊤}
+use Rattle.std.specs.Prelude.{◌≡◌, ℕ, List, ⊤}
 use Rattle.mongo_bson.specs.Document.{Element, IsWellFormed}
 use Rattle.mongo_wire.specs.declared.command_error.CommandError.{CommandError}
 use Rattle.mongo_wire.specs.declared.error.ErrorKind.{ErrorKind}
@@ -10,12 +10,13 @@ use Rattle.mongo_command.specs.declared.field.FieldFault.{FieldFault}
 use Rattle.mongo_command.specs.declared.field.FieldFault.TheVariants.{Unreadable, OutOfMemory}
 use Rattle.mongo_command.specs.Field.{field_of}
 use Rattle.mongo_command.specs.Hello.{IsSuccess, IsErrorTable, IsCommandError, IsNoCommandError}
+use Rattle.mongo_command.specs.Keys.{ok_key}
 
 -- the command succeeded: its reply is well formed, and `ok` reads as 1
 pub record IsCommandBody (document : List ℕ) : Type 0 where
   pub elements : List Element
   pub well_formed : IsWellFormed document elements
-  pub success : IsSuccess (field_of (codes "ok") elements)
+  pub success : IsSuccess (field_of ok_key elements)
 
 abbrev pub IsNoCommandBody : List ℕ → Type 0
 IsNoCommandBody document = IsCommandBody document → ⊥

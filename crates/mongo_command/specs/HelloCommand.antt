@@ -8,6 +8,7 @@ use Rattle.mongo_command.specs.declared.server_api.ServerApi.{ServerApi}
 use Rattle.mongo_command.specs.declared.topology_version.TopologyVersion.{TopologyVersion}
 use Rattle.mongo_command.specs.declared.awaitable_hello.AwaitableHelloOptions.{AwaitableHelloOptions}
 use Rattle.mongo_command.specs.declared.command.Command.{Command}
+use Rattle.mongo_command.specs.Keys.{counter_key, hello_ok_key, process_id_key, topology_version_key}
 
 -- the new command is sent with a server API, to a load balancer, and to a server that said that it understands it
 abbrev pub is_modern : Option ServerApi → Option Bool → Option Bool → Bool
@@ -23,7 +24,7 @@ asked_hello_ok modern hello_ok = if modern then None else if is_none hello_ok th
 -- ---- a hello that waits
 
 abbrev pub topology_version_elements : TopologyVersion → List Element
-topology_version_elements version = id_element (codes "processId") version.process_id.0 ∷ int64_element (codes "counter") version.counter ∷ []
+topology_version_elements version = id_element process_id_key version.process_id.0 ∷ int64_element counter_key version.counter ∷ []
 
 abbrev pub topology_version_document : AwaitableHelloOptions → List ℕ
 topology_version_document options = document_of (topology_version_elements options.topology_version)
@@ -38,9 +39,9 @@ await_time options = if nat_lt options.max_await_time_ms (2 ^ 63) then pos optio
 abbrev pub named_elements : Bool → Option Bool → Option AwaitableHelloOptions → List Element
 named_elements modern hello_ok awaitable =
     int32_element (hello_name modern) (pos 1)
-    ∷ (given (truth_element (codes "helloOk")) (asked_hello_ok modern hello_ok)
+    ∷ (given (truth_element hello_ok_key) (asked_hello_ok modern hello_ok)
     ++ (text_element (codes "backpressure") (codes "2")
-    ∷ (given (document_element (codes "topologyVersion")) (option_map topology_version_document awaitable)
+    ∷ (given (document_element topology_version_key) (option_map topology_version_document awaitable)
     ++ (given (int64_element (codes "maxAwaitTimeMS")) (option_map await_time awaitable)
     ++ []))))
 

@@ -14,6 +14,7 @@ use Rattle.mongo_wire.specs.declared.write_error.WriteFailureCause.TheVariants.{
 use Rattle.mongo_wire.specs.declared.write_error.InsertManyError.{InsertManyError}
 use Rattle.mongo_command.specs.Field.{field_of, whole_number, Required, Optional, ReadsText, ReadsInt32, ReadsDocument, ReadsTexts}
 use Rattle.mongo_command.specs.Hello.{TextOrEmpty, Labels}
+use Rattle.mongo_command.specs.Keys.{code_key, code_name_key, err_info_key, errmsg_key, error_labels_key}
 
 -- a well-formed document whose elements are a table's
 pub record HoldsTable {A : Type 0} (Table : List Element → A → Type 0) (document : List ℕ) (value : A) : Type 0 where
@@ -35,10 +36,10 @@ ReadsUnsigned32 e number = (whole_number e ≡ Some (pos number)) × (number < 2
 
 pub record IsWriteErrorTable (elements : List Element) (indexed : IndexedWriteError) : Type 0 where
   pub index : Required ReadsUnsigned32 (field_of (codes "index") elements) indexed.index
-  pub code : Required ReadsInt32 (field_of (codes "code") elements) indexed.error.code
-  pub code_name : Optional ReadsText (field_of (codes "codeName") elements) indexed.error.code_name
-  pub message : TextOrEmpty (field_of (codes "errmsg") elements) indexed.error.message
-  pub details : Optional ReadsDocument (field_of (codes "errInfo") elements) indexed.error.details
+  pub code : Required ReadsInt32 (field_of code_key elements) indexed.error.code
+  pub code_name : Optional ReadsText (field_of code_name_key elements) indexed.error.code_name
+  pub message : TextOrEmpty (field_of errmsg_key elements) indexed.error.message
+  pub details : Optional ReadsDocument (field_of err_info_key elements) indexed.error.details
 
 abbrev pub ReadsWriteError : Element → IndexedWriteError → Type 0
 ReadsWriteError e indexed = (e.kind ≡ 0x03) × HoldsTable IsWriteErrorTable e.value indexed
@@ -61,11 +62,11 @@ TextsOrNone None texts = texts ≡ []
 TextsOrNone (Some e) texts = ReadsTexts e texts
 
 pub record IsConcernErrorTable (elements : List Element) (error : WriteConcernError) : Type 0 where
-  pub code : Required ReadsInt32 (field_of (codes "code") elements) error.code
-  pub code_name : TextOrEmpty (field_of (codes "codeName") elements) error.code_name
-  pub message : TextOrEmpty (field_of (codes "errmsg") elements) error.message
-  pub details : Optional ReadsDocument (field_of (codes "errInfo") elements) error.details
-  pub labels : TextsOrNone (field_of (codes "errorLabels") elements) error.labels
+  pub code : Required ReadsInt32 (field_of code_key elements) error.code
+  pub code_name : TextOrEmpty (field_of code_name_key elements) error.code_name
+  pub message : TextOrEmpty (field_of errmsg_key elements) error.message
+  pub details : Optional ReadsDocument (field_of err_info_key elements) error.details
+  pub labels : TextsOrNone (field_of error_labels_key elements) error.labels
 
 abbrev pub ReadsConcernError : Element → WriteConcernError → Type 0
 ReadsConcernError e error = (e.kind ≡ 0x03) × HoldsTable IsConcernErrorTable e.value error
@@ -75,7 +76,7 @@ ReadsConcernError e error = (e.kind ≡ 0x03) × HoldsTable IsConcernErrorTable 
 pub record IsWriteReplyTable (elements : List Element) (reply : InsertManyError) : Type 0 where
   pub write_errors : Optional ReadsWriteErrors (field_of (codes "writeErrors") elements) reply.write_errors
   pub write_concern_error : Optional ReadsConcernError (field_of (codes "writeConcernError") elements) reply.write_concern_error
-  pub labels : Labels (field_of (codes "errorLabels") elements) reply.labels
+  pub labels : Labels (field_of error_labels_key elements) reply.labels
 
 abbrev pub IsWriteReply : List ℕ → InsertManyError → Type 0
 IsWriteReply = HoldsTable IsWriteReplyTable

@@ -1,4 +1,4 @@
-ghost use Rattle.std.specs.Prelude.{◌≡◌, ◌++◌, ◌∷◌, flat_map, codes, Contains, option_map, IfOk, IfErr, OnOk};
+ghost use Rattle.std.specs.Prelude.{◌≡◌, ◌++◌, ◌∷◌, flat_map, Contains, option_map, IfOk, IfErr, OnOk};
 ghost use Rattle.std.specs.List.{AllByRecursion};
 ghost use Rattle.mongo_bson.specs.Framed.{IsFramed, body_of, enclosed};
 ghost use Rattle.mongo_bson.specs.Document.{spell};
@@ -6,8 +6,10 @@ ghost use Rattle.mongo_command.specs.Literal.{text_element, document_element, in
 ghost use Rattle.mongo_command.specs.ServerApi.{version_text};
 ghost use Rattle.mongo_command.specs.Command.{given, timestamp_element, sent_concern};
 ghost use Rattle.mongo_command.specs.Arguments.{field_elements, IsNamed, TooLongFor};
+ghost use Rattle.mongo_command.specs.Keys.{api_version_key, db_key, write_concern_key};
 
 use crate::ServerApi;
+use crate::keys::{API_VERSION, DB, WRITE_CONCERN};
 use mongo_bson::{BsonFault, Bytes, RawDocumentBuf, RawValue, Text};
 use std::alloc::Global;
 
@@ -72,11 +74,11 @@ pub(crate) fn append_arguments(
     fields: &[ArgumentField<'_>],
 ) -> Result<(), BsonFault>
     requires named { AllByRecursion IsNamed fields.now }
-    ensures added { OnOk result (document.new ≡ enclosed (body_of document.old ++ flat_map spell (text_element (codes "$db") target_db.now ∷ flat_map field_elements fields.now))) }
+    ensures added { OnOk result (document.new ≡ enclosed (body_of document.old ++ flat_map spell (text_element db_key target_db.now ∷ flat_map field_elements fields.now))) }
     ensures framed { OnOk result (IsFramed document.new) }
-    ensures refused { IfErr result (λ fault. TooLongFor fault (enclosed (body_of document.old ++ flat_map spell (text_element (codes "$db") target_db.now ∷ flat_map field_elements fields.now)))) }
+    ensures refused { IfErr result (λ fault. TooLongFor fault (enclosed (body_of document.old ++ flat_map spell (text_element db_key target_db.now ∷ flat_map field_elements fields.now)))) }
 {
-    document.append("$db", RawValue::Str(target_db))?;
+    document.append(DB, RawValue::Str(target_db))?;
     append_fields(document, fields)
 }
 
@@ -183,23 +185,23 @@ pub(crate) fn timestamp_field<'a>(
 
 // The version of a server API.
 pub(crate) fn version_field(server_api: Option<ServerApi>) -> ArgumentField<'static>
-    ensures elements { field_elements result ≡ given (text_element (codes "apiVersion")) (option_map (λ api. version_text api.version) server_api) }
+    ensures elements { field_elements result ≡ given (text_element api_version_key) (option_map (λ api. version_text api.version) server_api) }
     ensures named { IsNamed result }
 {
     match server_api {
-        Some(api) => Some(("apiVersion", RawValue::Str(api.version.as_str()))),
+        Some(api) => Some((API_VERSION, RawValue::Str(api.version.as_str()))),
         None => None,
     }
 }
 
 // A write concern, unless it is empty.
 pub(crate) fn write_concern_field<'a>(concern: &'a Option<RawDocumentBuf>) -> ArgumentField<'a>
-    ensures elements { field_elements result ≡ given (document_element (codes "writeConcern")) (sent_concern concern.now) }
+    ensures elements { field_elements result ≡ given (document_element write_concern_key) (sent_concern concern.now) }
     ensures named { IsNamed result }
 {
     match concern {
         Some(concern) if concern.as_bytes().len() > EMPTY_DOCUMENT => {
-            Some(("writeConcern", RawValue::Document(concern.borrow())))
+            Some((WRITE_CONCERN, RawValue::Document(concern.borrow())))
         }
         _ => None,
     }

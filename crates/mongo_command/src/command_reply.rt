@@ -1,15 +1,17 @@
-ghost use Rattle.std.specs.Prelude.{◌≡◌, ◌↔◌, ℕ, List, None, IsTrue, IfOk, IfErr, IfSome, codes};
+ghost use Rattle.std.specs.Prelude.{◌≡◌, ◌↔◌, ℕ, List, None, IsTrue, IfOk, IfErr, IfSome};
 ghost use Rattle.mongo_bson.specs.Document.{Element};
 ghost use Rattle.mongo_command.specs.Field.{field_of};
 ghost use Rattle.mongo_command.specs.Hello.{IsSuccess};
 ghost use Rattle.mongo_command.specs.Fields.{AreFields, HoldsWellFormed};
 ghost use Rattle.mongo_command.specs.Response.{reply_document};
 ghost use Rattle.mongo_command.specs.CommandReply.{IsCommandBody, CommandRefused, FieldsRefused, refusal_kind};
+ghost use Rattle.mongo_command.specs.Keys.{ok_key};
 
 use crate::RawCommandResponse;
 use crate::error_table::command_error_of;
 use crate::field::FieldFault;
 use crate::fields::Fields;
+use crate::keys::OK;
 use mongo_bson::{RawDocument, get_int_raw};
 use mongo_wire::{Error, ErrorKind, ResponseFault};
 use std::alloc::Global;
@@ -50,9 +52,9 @@ fn failure_of(alloc: Global, fields: &Fields<'_>) -> Option<Error>
 
 // Whether `ok` is there and is 1.
 pub(crate) fn is_success(fields: &Fields<'_>) -> bool
-    ensures { (elements : List Element) → AreFields elements fields.now → IsTrue result ↔ IsSuccess (field_of (codes "ok") elements) }
+    ensures { (elements : List Element) → AreFields elements fields.now → IsTrue result ↔ IsSuccess (field_of ok_key elements) }
 {
-    match fields.value("ok") {
+    match fields.value(OK) {
         Some(ok) => get_int_raw(ok) == Some(1),
         None => false,
     }

@@ -10,6 +10,7 @@ use crate::arguments::{
     ArgumentField, append_arguments, copy_with_room, document_field, int64_field, size_of_field,
     size_of_fields, truth_field, version_field, write_concern_field,
 };
+use crate::keys::{CLUSTER_TIME, DB};
 use crate::read_concern::ReadConcern;
 use mongo_bson::{BsonFault, RawDocumentBuf, RawValue, copy_of};
 use std::alloc::Global;
@@ -54,7 +55,7 @@ impl GenericArguments {
     {
         let read_concern = self.read_concern_document(alloc)?;
         let fields = self.fields(&read_concern);
-        let db = ("$db", RawValue::Str(target_db));
+        let db = (DB, RawValue::Str(target_db));
         let room = size_of_field(&Some(db)).saturating_add(size_of_fields(&fields));
         let mut document = copy_with_room(alloc, body, room)?;
         append_arguments(&mut document, target_db, &fields)?;
@@ -74,7 +75,7 @@ impl GenericArguments {
     {
         let read_concern = self.read_concern_document(alloc)?;
         let fields = self.fields(&read_concern);
-        let db = ("$db", RawValue::Str(target_db));
+        let db = (DB, RawValue::Str(target_db));
         let room = size_of_field(&Some(db)).saturating_add(size_of_fields(&fields));
         body.reserve_exact(room)?;
         append_arguments(body, target_db, &fields)
@@ -88,7 +89,7 @@ impl GenericArguments {
     {
         [
             document_field("lsid", &self.lsid),
-            document_field("$clusterTime", &self.cluster_time),
+            document_field(CLUSTER_TIME, &self.cluster_time),
             version_field(self.server_api),
             truth_field("apiStrict", strict_of(self.server_api)),
             truth_field(

@@ -5,6 +5,7 @@ ghost use Rattle.mongo_command.specs.Arguments.{field_elements, IsNamed};
 ghost use Rattle.mongo_command.specs.HelloCommand.{hello_name, asked_hello_ok, topology_version_elements, topology_version_document, await_time, named_elements};
 
 use crate::arguments::{ArgumentField, append_fields, document_field, int64_field, truth_field};
+use crate::keys::{COUNTER, HELLO_OK, PROCESS_ID, TOPOLOGY_VERSION};
 use crate::{AwaitableHelloOptions, LEGACY_HELLO_COMMAND_NAME, TopologyVersion};
 use mongo_bson::{BsonFault, RawDocumentBuf, RawValue};
 use std::alloc::Global;
@@ -62,9 +63,9 @@ fn hello_fields<'a>(
 {
     [
         Some((hello_name(modern), RawValue::Int32(1))),
-        truth_field("helloOk", asked_hello_ok(modern, hello_ok)),
+        truth_field(HELLO_OK, asked_hello_ok(modern, hello_ok)),
         Some(("backpressure", RawValue::Str("2"))),
-        document_field("topologyVersion", topology_version),
+        document_field(TOPOLOGY_VERSION, topology_version),
         int64_field("maxAwaitTimeMS", await_time(awaitable)),
     ]
 }
@@ -124,7 +125,7 @@ fn version_fields(version: TopologyVersion) -> [ArgumentField<'static>; 2]
     ensures named { AllByRecursion IsNamed result }
 {
     [
-        Some(("processId", RawValue::ObjectId(version.process_id))),
-        int64_field("counter", Some(version.counter)),
+        Some((PROCESS_ID, RawValue::ObjectId(version.process_id))),
+        int64_field(COUNTER, Some(version.counter)),
     ]
 }

@@ -6,6 +6,7 @@ ghost use Rattle.mongo_command.specs.WriteReply.{HoldsWriteErrors, TextsOrNone};
 use crate::error_table::text_or_empty;
 use crate::field::{FieldFault, FieldValue};
 use crate::fields::Fields;
+use crate::keys::{CODE, CODE_NAME, ERR_INFO, ERRMSG, ERROR_LABELS};
 use crate::table::{Table, read_table};
 use mongo_bson::{RawDocument, RawValue, Texts};
 use mongo_wire::{IndexedWriteError, WriteConcernError, WriteError, WriteErrors};
@@ -18,10 +19,10 @@ impl Table for IndexedWriteError {
 
     fn of_fields(alloc: Global, fields: &Fields<'_>) -> Result<IndexedWriteError, FieldFault> {
         let index = fields.required("index")?;
-        let code = fields.required("code")?;
-        let code_name = fields.optional("codeName")?;
-        let message = text_or_empty(alloc, fields.value("errmsg"))?;
-        let details = fields.optional("errInfo")?;
+        let code = fields.required(CODE)?;
+        let code_name = fields.optional(CODE_NAME)?;
+        let message = text_or_empty(alloc, fields.value(ERRMSG))?;
+        let details = fields.optional(ERR_INFO)?;
         let error = WriteError {
             code,
             code_name,
@@ -38,11 +39,11 @@ impl Table for WriteConcernError {
     ghost table = { IsConcernErrorTable };
 
     fn of_fields(alloc: Global, fields: &Fields<'_>) -> Result<WriteConcernError, FieldFault> {
-        let code = fields.required("code")?;
-        let code_name = text_or_empty(alloc, fields.value("codeName"))?;
-        let message = text_or_empty(alloc, fields.value("errmsg"))?;
-        let details = fields.optional("errInfo")?;
-        let labels = texts_or_none(alloc, fields.value("errorLabels"))?;
+        let code = fields.required(CODE)?;
+        let code_name = text_or_empty(alloc, fields.value(CODE_NAME))?;
+        let message = text_or_empty(alloc, fields.value(ERRMSG))?;
+        let details = fields.optional(ERR_INFO)?;
+        let labels = texts_or_none(alloc, fields.value(ERROR_LABELS))?;
         Ok(WriteConcernError {
             code,
             code_name,

@@ -5,6 +5,7 @@ use crate::command_reply::refused_as;
 use crate::error_table::labels_of;
 use crate::field::FieldFault;
 use crate::fields::Fields;
+use crate::keys::ERROR_LABELS;
 use crate::table::{Table, read_table};
 use mongo_bson::{BsonFault, RawDocument};
 use mongo_wire::{
@@ -21,7 +22,7 @@ impl Table for InsertManyError {
     fn of_fields(alloc: Global, fields: &Fields<'_>) -> Result<InsertManyError, FieldFault> {
         let write_errors = fields.optional("writeErrors")?;
         let write_concern_error = fields.optional("writeConcernError")?;
-        let labels = labels_of(alloc, fields.value("errorLabels"))?;
+        let labels = labels_of(alloc, fields.value(ERROR_LABELS))?;
         Ok(InsertManyError {
             write_errors,
             write_concern_error,

@@ -15,6 +15,7 @@ use Rattle.mongo_wire.specs.declared.fault.ArgumentFault.TheVariants.{Bson}
 use Rattle.mongo_wire.specs.Error.{kind_of_fault}
 use Rattle.mongo_command.specs.Literal.{document_element}
 use Rattle.mongo_command.specs.Exchange.{DocumentRefused}
+use Rattle.mongo_command.specs.Keys.{speculative_authenticate_key}
 use Rattle.mongo_sasl.specs.declared.credential.Credential.{Credential}
 use Rattle.mongo_meta.specs.declared.client_metadata.ClientMetadata.{ClientMetadata}
 use Rattle.mongo_meta.specs.Client.{client_of}
@@ -68,7 +69,7 @@ append_refused result fault kind key value body whole is err refuses zero long =
 -- what is asked and put after it makes a body longer
 pub speculating_longer : (login : Option (List ℕ)) (body : List ℕ) → length body ≤ length (speculating login body)
 speculating_longer None body = omega arith
-speculating_longer (Some login) body = omega (arith, length_followed body (document_element (codes "speculativeAuthenticate") login))
+speculating_longer (Some login) body = omega (arith, length_followed body (document_element speculative_authenticate_key login))
 
 pub introducing_longer : (metadata : ClientMetadata) (body : List ℕ) → length body ≤ length (introducing metadata body)
 introducing_longer metadata body = omega (arith, length_followed body (document_element (codes "client") (client_of metadata (length body))))
@@ -105,7 +106,7 @@ pub unmade_refused : (options : HandshakerOptions) (credential : Option Credenti
 unmade_refused options credential None kind r = subst (BodyRefused (hello_with options credential None).body) (sym r) tt
 unmade_refused options credential (Some document) (InvalidArgument (Bson TooLong)) r =
     let asking = asking_mechanisms credential (common_hello options).body in
-    let body = with_document (codes "speculativeAuthenticate") document asking in
-    omega (arith, holds_document (codes "speculativeAuthenticate") document asking, introducing_longer options.metadata body, r)
+    let body = with_document speculative_authenticate_key document asking in
+    omega (arith, holds_document speculative_authenticate_key document asking, introducing_longer options.metadata body, r)
 unmade_refused options credential (Some document) OutOfMemory r = tt
 unmade_refused options credential (Some document) kind r = absurd r

@@ -1,13 +1,15 @@
 // The hello of a login: what is the same for all, and what the login adds.
 
-ghost use Rattle.std.specs.Prelude.{◌≡◌, codes, Contains, option_map, option_copied, IfOk, IfErr, OnOk};
+ghost use Rattle.std.specs.Prelude.{◌≡◌, Contains, option_map, option_copied, IfOk, IfErr, OnOk};
 ghost use Rattle.mongo_wire.specs.declared.error.ErrorKind.TheVariants.{OutOfMemory};
+ghost use Rattle.mongo_command.specs.Keys.{speculative_authenticate_key};
 ghost use Rattle.mongo_establish.specs.Client.{common_hello, asking_mechanisms, speculating, with_document, introducing};
 ghost use Rattle.mongo_establish.specs.First.{first_document};
 ghost use Rattle.mongo_establish.specs.HelloBody.{BodyRefused};
 
 use crate::{ClientFirst, HandshakerOptions};
 use mongo_bson::{RawDocumentBuf, RawValue};
+use mongo_command::keys::SPECULATIVE_AUTHENTICATE;
 use mongo_command::{Command, hello_command};
 use mongo_meta::ClientMetadata;
 use mongo_sasl::Credential;
@@ -63,11 +65,11 @@ pub(crate) fn speculate(
 }
 
 fn put_first(alloc: Global, first: &ClientFirst, body: &mut RawDocumentBuf) -> Result<(), Error>
-    ensures put { OnOk result (body.new ≡ with_document (codes "speculativeAuthenticate") (first_document first.now) body.old) }
-    ensures refused { IfErr result (λ e. BodyRefused (with_document (codes "speculativeAuthenticate") (first_document first.now) body.old) e.kind) }
+    ensures put { OnOk result (body.new ≡ with_document speculative_authenticate_key (first_document first.now) body.old) }
+    ensures refused { IfErr result (λ e. BodyRefused (with_document speculative_authenticate_key (first_document first.now) body.old) e.kind) }
 {
     let login = first.to_document(alloc)?;
-    put(body, "speculativeAuthenticate", &login)
+    put(body, SPECULATIVE_AUTHENTICATE, &login)
 }
 
 // Puts the client's metadata into the hello, in the least form that fits.

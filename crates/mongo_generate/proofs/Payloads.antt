@@ -1,5 +1,5 @@
 -- The payload of a document, as it is found.
-use Rattle.std.proofs.Common.{◌≡◌, ◌≢◌, ℕ, ℤ, Bool, true, false, Option, None, Some, Err, List, [], ◌∷◌, ◌++◌, codes, if◌then◌else◌, refl, sym, ap, ◌∙◌, subst, arith}
+use Rattle.std.proofs.Common.{◌≡◌, ◌≢◌, ℕ, ℤ, Bool, true, false, Option, None, Some, Err, List, [], ◌∷◌, ◌++◌, if◌then◌else◌, refl, sym, ap, ◌∙◌, subst, arith}
 use Rattle.std.specs.List.{AllByRecursion}
 use Rattle.std.specs.Str.{bytes_eq}
 use Rattle.std.proofs.lemmas.Bool.{false≢true}
@@ -18,6 +18,7 @@ use Rattle.mongo_wire.specs.Message.{ReadRefused, IsUnreadable}
 use Rattle.mongo_wire.specs.Outside.{State}
 use Rattle.mongo_command.specs.Field.{field_of, Required}
 use Rattle.mongo_sasl.specs.Reply.{ReadsGeneric}
+use Rattle.mongo_sasl.specs.Keys.{payload_key}
 use Rattle.mongo_generate.specs.Written.{IsContent, CarriesPayload}
 
 -- ---- the field
@@ -69,19 +70,19 @@ absent : (found : Option Element) (payload : List ℕ) → found ≡ None → Re
 unfolding Required
 absent found payload is reads = subst (λ f. Required ReadsGeneric f payload) is reads
 
-pub payload_found : (document payload : List ℕ) (value : RawValue) → CarriesPayload payload document → FindsValue (body_of document) (codes "payload") (Some value) → IsContent payload value
+pub payload_found : (document payload : List ℕ) (value : RawValue) → CarriesPayload payload document → FindsValue (body_of document) payload_key (Some value) → IsContent payload value
 payload_found document payload value carries found =
     let e = found.0 in
-    let first = first_in_document document (codes "payload") e carries.elements carries.is_document found.1 in
-    let is = ap (field_of (codes "payload")) first.place ∙ first_field (codes "payload") first.before first.after e first.other found.1.key_is in
-    content_read e value payload (required (field_of (codes "payload") carries.elements) e payload is carries.payload_is) found.2
+    let first = first_in_document document payload_key e carries.elements carries.is_document found.1 in
+    let is = ap (field_of payload_key) first.place ∙ first_field payload_key first.before first.after e first.other found.1.key_is in
+    content_read e value payload (required (field_of payload_key carries.elements) e payload is carries.payload_is) found.2
 
-pub payload_absent : (document payload : List ℕ) → CarriesPayload payload document → HasNone (body_of document) (codes "payload") → ⊥
+pub payload_absent : (document payload : List ℕ) → CarriesPayload payload document → HasNone (body_of document) payload_key → ⊥
 payload_absent document payload carries none =
-    absent (field_of (codes "payload") carries.elements) payload (no_field (codes "payload") carries.elements (none_in_document document (codes "payload") carries.elements carries.is_document none)) carries.payload_is
+    absent (field_of payload_key carries.elements) payload (no_field payload_key carries.elements (none_in_document document payload_key carries.elements carries.is_document none)) carries.payload_is
 
-pub payload_broken : (document payload : List ℕ) → CarriesPayload payload document → BreaksOff (body_of document) (codes "payload") → ⊥
-payload_broken document payload carries broken = broken_no_document document (codes "payload") carries.elements carries.is_document broken
+pub payload_broken : (document payload : List ℕ) → CarriesPayload payload document → BreaksOff (body_of document) payload_key → ⊥
+payload_broken document payload carries broken = broken_no_document document payload_key carries.elements carries.is_document broken
 
 -- ---- reading
 

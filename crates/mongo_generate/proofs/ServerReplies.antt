@@ -10,8 +10,10 @@ use Rattle.mongo_command.specs.Literal.{document_element, truth_element, int32_e
 use Rattle.mongo_command.specs.declared.hello.HelloCommandResponse.{HelloCommandResponse}
 use Rattle.mongo_command.specs.Field.{Required, Optional}
 use Rattle.mongo_command.specs.Hello.{IsHelloResponse}
+use Rattle.mongo_command.specs.Keys.{ok_key, speculative_authenticate_key}
 use Rattle.mongo_sasl.specs.Commands.{generic_element}
 use Rattle.mongo_sasl.specs.Reply.{IsSaslReply}
+use Rattle.mongo_sasl.specs.Keys.{conversation_id_key, done_key, payload_key}
 use Rattle.mongo_generate.specs.Replies.{ok_element, round_elements, speculative_elements, hello_elements, final_elements, hello_reply, final_reply}
 use Rattle.mongo_generate.proofs.Documents.{cstring, apart, number_is_element, truth_is_element, binary_is_element, document_is_element, length-document_of, document_of-is, framed_document_of, IsFlat, flat_readable}
 
@@ -34,32 +36,32 @@ flat e shape known other scope d inside = elim inside [ inl x ↦ other (same_sh
 
 -- ---- a round
 
-pub conversation_key : IsCstring (codes "conversationId")
-conversation_key = cstring (codes "conversationId") refl refl
+pub conversation_is_cstring : IsCstring conversation_id_key
+conversation_is_cstring = cstring conversation_id_key refl refl
 
-done_key : IsCstring (codes "done")
-done_key = cstring (codes "done") refl refl
+done_is_cstring : IsCstring done_key
+done_is_cstring = cstring done_key refl refl
 
-pub payload_key : IsCstring (codes "payload")
-payload_key = cstring (codes "payload") refl refl
+pub payload_is_cstring : IsCstring payload_key
+payload_is_cstring = cstring payload_key refl refl
 
 pub one_fits : FitsSigned w32 (pos 1)
 one_fits = omega arith
 
 round_are : (done : Bool) (payload : List ℕ) → length payload < 2 ^ 31 → AllByRecursion IsElement (round_elements done payload)
 round_are done payload short =
-    (number_is_element (codes "conversationId") (pos 1) conversation_key one_fits, (truth_is_element (codes "done") done done_key, (binary_is_element (codes "payload") payload payload_key short, tt)))
+    (number_is_element conversation_id_key (pos 1) conversation_is_cstring one_fits, (truth_is_element done_key done done_is_cstring, (binary_is_element payload_key payload payload_is_cstring short, tt)))
 
 round_flat : (done : Bool) (payload : List ℕ) → AllByRecursion IsFlat (round_elements done payload)
-round_flat done payload = (flat (int32_element (codes "conversationId") (pos 1)) (fixed 4) refl (not_fixed 4) (λ is. absurd (omega arith)), (flat (truth_element (codes "done") done) boolean refl not_boolean (λ is. absurd (omega arith)), (flat (generic_element (codes "payload") payload) binary refl not_binary (λ is. absurd (omega arith)), tt)))
+round_flat done payload = (flat (int32_element conversation_id_key (pos 1)) (fixed 4) refl (not_fixed 4) (λ is. absurd (omega arith)), (flat (truth_element done_key done) boolean refl not_boolean (λ is. absurd (omega arith)), (flat (generic_element payload_key payload) binary refl not_binary (λ is. absurd (omega arith)), tt)))
 
 round_distinct : (done : Bool) (payload : List ℕ) → HasDistinctKeys (round_elements done payload)
-round_distinct done payload = ((apart (codes "done") (codes "conversationId") refl, (apart (codes "payload") (codes "conversationId") refl, tt)), ((apart (codes "payload") (codes "done") refl, tt), (tt, tt)))
+round_distinct done payload = ((apart done_key conversation_id_key refl, (apart payload_key conversation_id_key refl, tt)), ((apart payload_key done_key refl, tt), (tt, tt)))
 
 -- ---- `ok`
 
 ok_is_element : IsElement ok_element
-ok_is_element = written_element (codes "ok") (Double 0x3FF0000000000000) (cstring (codes "ok") refl refl) (let small : 0x3FF0000000000000 < 2 ^ 64 = omega arith in small)
+ok_is_element = written_element ok_key (Double 0x3FF0000000000000) (cstring ok_key refl refl) (let small : 0x3FF0000000000000 < 2 ^ 64 = omega arith in small)
 
 ok_flat : IsFlat ok_element
 ok_flat = flat ok_element (fixed 8) refl (not_fixed 8) (λ is. absurd (omega arith))
@@ -98,7 +100,7 @@ final_says payload short = record {
     document = final_document payload short;
     readable = flat_readable 99 (document_of (final_elements payload)) (final_elements payload) (final_document payload short) (ok_flat, round_flat true payload);
     distinct = (
-      (apart (codes "conversationId") (codes "ok") refl, (apart (codes "done") (codes "ok") refl, (apart (codes "payload") (codes "ok") refl, tt))),
+      (apart conversation_id_key ok_key refl, (apart done_key ok_key refl, (apart payload_key ok_key refl, tt))),
       round_distinct true payload,
     );
   };
@@ -114,8 +116,8 @@ size_key = cstring (codes "maxBsonObjectSize") refl refl
 message_key : IsCstring (codes "maxMessageSizeBytes")
 message_key = cstring (codes "maxMessageSizeBytes") refl refl
 
-speculative_key : IsCstring (codes "speculativeAuthenticate")
-speculative_key = cstring (codes "speculativeAuthenticate") refl refl
+speculative_key : IsCstring speculative_authenticate_key
+speculative_key = cstring speculative_authenticate_key refl refl
 
 size_fits : FitsSigned w32 (pos 16777216)
 size_fits = omega arith
@@ -126,10 +128,10 @@ message_fits = omega arith
 hello_document : (payload : List ℕ) → length payload < 2 ^ 29 → IsDocument (document_of (hello_elements payload)) (hello_elements payload)
 hello_document payload short =
     document_of-is (hello_elements payload)
-    (ok_is_element, (number_is_element (codes "maxBsonObjectSize") (pos 16777216) size_key size_fits, (number_is_element (codes "maxMessageSizeBytes") (pos 48000000) message_key message_fits, (document_is_element (codes "speculativeAuthenticate") (document_of (speculative_elements payload)) speculative_key (framed_document_of (speculative_elements payload) (omega arith)), tt))))
+    (ok_is_element, (number_is_element (codes "maxBsonObjectSize") (pos 16777216) size_key size_fits, (number_is_element (codes "maxMessageSizeBytes") (pos 48000000) message_key message_fits, (document_is_element speculative_authenticate_key (document_of (speculative_elements payload)) speculative_key (framed_document_of (speculative_elements payload) (omega arith)), tt))))
     (omega (arith, length-document_of (speculative_elements payload)))
 
-inner_readable : (levels : ℕ) (payload d : List ℕ) → length payload < 2 ^ 29 → IsInside (document_element (codes "speculativeAuthenticate") (document_of (speculative_elements payload))) d → IsReadable (suc levels) d
+inner_readable : (levels : ℕ) (payload d : List ℕ) → length payload < 2 ^ 29 → IsInside (document_element speculative_authenticate_key (document_of (speculative_elements payload))) d → IsReadable (suc levels) d
 inner_readable levels payload d short inside = elim inside [
   | inl x ↦ subst (IsReadable (suc levels)) (sym x.1) (speculative_readable levels payload (omega arith))
   | inr y ↦ (let scope = y.0 in absurd (omega arith))
@@ -185,7 +187,7 @@ hello_says payload short = record {
   well_formed = record {
     document = hello_document payload short;
     readable = hello_readable 98 payload short;
-    distinct = ((apart (codes "maxBsonObjectSize") (codes "ok") refl, (apart (codes "maxMessageSizeBytes") (codes "ok") refl, (apart (codes "speculativeAuthenticate") (codes "ok") refl, tt))), ((apart (codes "maxMessageSizeBytes") (codes "maxBsonObjectSize") refl, (apart (codes "speculativeAuthenticate") (codes "maxBsonObjectSize") refl, tt)), ((apart (codes "speculativeAuthenticate") (codes "maxMessageSizeBytes") refl, tt), (tt, tt))));
+    distinct = ((apart (codes "maxBsonObjectSize") ok_key refl, (apart (codes "maxMessageSizeBytes") ok_key refl, (apart speculative_authenticate_key ok_key refl, tt))), ((apart (codes "maxMessageSizeBytes") (codes "maxBsonObjectSize") refl, (apart speculative_authenticate_key (codes "maxBsonObjectSize") refl, tt)), ((apart speculative_authenticate_key (codes "maxMessageSizeBytes") refl, tt), (tt, tt))));
   };
   success = refl;
   table = record {

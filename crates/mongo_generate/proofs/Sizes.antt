@@ -17,8 +17,10 @@ use Rattle.mongo_command.specs.Command.{argument_elements, command_document}
 use Rattle.mongo_command.specs.Conversation.{plain_message}
 use Rattle.mongo_command.specs.Field.{Required}
 use Rattle.mongo_command.specs.Literal.{text_element, document_element, document_of}
+use Rattle.mongo_command.specs.Keys.{db_key, speculative_authenticate_key}
 use Rattle.mongo_sasl.specs.declared.mechanism.AuthMechanism.TheVariants.{ScramSha1, ScramSha256}
 use Rattle.mongo_sasl.specs.Commands.{start_elements, continue_elements}
+use Rattle.mongo_sasl.specs.Keys.{conversation_id_key, payload_key, sasl_continue_key}
 use Rattle.mongo_scram.specs.declared.scram_version.ScramVersion.{ScramVersion}
 use Rattle.mongo_scram.specs.declared.scram_version.ScramVersion.TheVariants.{Sha1, Sha256}
 use Rattle.mongo_scram.specs.Base64.{base64_of}
@@ -38,7 +40,7 @@ use Rattle.mongo_generate.specs.Login.{IsPossible, credential_by}
 use Rattle.mongo_generate.specs.Options.{handshaker_options}
 use Rattle.mongo_generate.specs.Written.{CarriesPayload}
 use Rattle.mongo_generate.proofs.Documents.{cstring, ascii_text, text_is_element, number_is_element, binary_is_element, length-document_of, document_of-is}
-use Rattle.mongo_generate.proofs.ServerReplies.{conversation, one_fits, conversation_key, payload_key}
+use Rattle.mongo_generate.proofs.ServerReplies.{conversation, one_fits, conversation_is_cstring, payload_is_cstring}
 use Rattle.mongo_generate.proofs.Texts.{length_open}
 
 -- what the client of an exchange asks for
@@ -95,7 +97,7 @@ length_speculation Sha1 username password nonce = omega (arith, length-document_
 length_speculation Sha256 username password nonce = omega (arith, length-document_of (start_elements ScramSha256 (open_message username (base64_of nonce)) ++ db_elements true (codes "admin")))
 
 length_speculating : (login : Option (List ℕ)) (document d : List ℕ) → login ≡ Some document → length (speculating login d) ≤ length d + length document + 30
-length_speculating login document d is = subst (λ l. length (speculating l d) ≤ length d + length document + 30) (sym is) (omega (arith, length_with (codes "speculativeAuthenticate") document d))
+length_speculating login document d is = subst (λ l. length (speculating l d) ≤ length d + length document + 30) (sym is) (omega (arith, length_with speculative_authenticate_key document d))
 
 length_introducing : (d : List ℕ) → length (introducing handshaker_options.metadata d) ≤ length d + 530
 length_introducing d = omega (arith, length_with (codes "client") (client_of handshaker_options.metadata (length d)) d, short_client (length d))
@@ -128,16 +130,16 @@ abbrev pub close_document : List ℕ → List ℕ
 close_document close = command_document (final_command conversation (codes "admin") close None)
 
 abbrev close_elements : List ℕ → List Element
-close_elements close = continue_elements conversation close ++ text_element (codes "$db") (codes "admin") ∷ []
+close_elements close = continue_elements conversation close ++ text_element db_key (codes "admin") ∷ []
 
 close_is : (close : List ℕ) → length close < 2 ^ 29 → close_document close ≡ document_of (close_elements close)
 close_is close short =
     let first = continue_elements conversation close in
-    let last = text_element (codes "$db") (codes "admin") in
+    let last = text_element db_key (codes "admin") in
     ap (λ b. enclosed (b ++ flat_map spell (last ∷ []))) (body_of-enclosed (flat_map spell first) (omega (arith, length-document_of first, length-enclosed (flat_map spell first)))) ∙ ap enclosed (sym (flat_map-append spell first (last ∷ [])))
 
 close_are : (close : List ℕ) → length close < 2 ^ 29 → AllByRecursion (λ e. IsElement e) (close_elements close)
-close_are close short = (number_is_element (codes "saslContinue") (pos 1) (cstring (codes "saslContinue") refl refl) one_fits, (number_is_element (codes "conversationId") (pos 1) conversation_key one_fits, (binary_is_element (codes "payload") close payload_key (omega arith), (text_is_element (codes "$db") (codes "admin") (cstring (codes "$db") refl refl) (ascii_text (codes "admin") refl) (omega arith), tt))))
+close_are close short = (number_is_element sasl_continue_key (pos 1) (cstring sasl_continue_key refl refl) one_fits, (number_is_element conversation_id_key (pos 1) conversation_is_cstring one_fits, (binary_is_element payload_key close payload_is_cstring (omega arith), (text_is_element db_key (codes "admin") (cstring db_key refl refl) (ascii_text (codes "admin") refl) (omega arith), tt))))
 
 pub close_carries : (close : List ℕ) → length close < 2 ^ 29 → CarriesPayload close (close_document close)
 unfolding Required

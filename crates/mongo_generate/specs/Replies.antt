@@ -4,14 +4,16 @@ use Rattle.std.specs.Prelude.{◌≡◌, ℕ, ℤ, pos, ◌≤ℤ◌, Bool, true
 use Rattle.std.specs.Int.{to_le_bytes, w64}
 use Rattle.mongo_bson.specs.Document.{Element}
 use Rattle.mongo_command.specs.Literal.{document_element, truth_element, int32_element, document_of}
+use Rattle.mongo_command.specs.Keys.{ok_key, speculative_authenticate_key}
 use Rattle.mongo_sasl.specs.Commands.{generic_element}
+use Rattle.mongo_sasl.specs.Keys.{conversation_id_key, done_key, payload_key}
 use Rattle.mongo_wire.specs.declared.memory_link.MemoryLink.{MemoryLink}
 use Rattle.mongo_wire.specs.Frame.{Frame, IsFrame}
 use Rattle.mongo_wire.specs.Memory.{bytes_written}
 
 -- `ok: 1.0`
 abbrev pub ok_element : Element
-ok_element = record { kind = 0x01; key = codes "ok"; value = to_le_bytes w64 0x3FF0000000000000 }
+ok_element = record { kind = 0x01; key = ok_key; value = to_le_bytes w64 0x3FF0000000000000 }
 
 -- the greatest frame that the server takes
 abbrev pub server_maximum : ℤ
@@ -19,7 +21,7 @@ server_maximum = pos 48000000
 
 -- what a round of a conversation says
 abbrev pub round_elements : Bool → List ℕ → List Element
-round_elements done payload = int32_element (codes "conversationId") (pos 1) ∷ truth_element (codes "done") done ∷ generic_element (codes "payload") payload ∷ []
+round_elements done payload = int32_element conversation_id_key (pos 1) ∷ truth_element done_key done ∷ generic_element payload_key payload ∷ []
 
 abbrev pub speculative_elements : List ℕ → List Element
 speculative_elements server_first = round_elements false server_first
@@ -29,7 +31,7 @@ hello_elements server_first =
     ok_element
     ∷ int32_element (codes "maxBsonObjectSize") (pos 16777216)
     ∷ int32_element (codes "maxMessageSizeBytes") server_maximum
-    ∷ document_element (codes "speculativeAuthenticate") (document_of (speculative_elements server_first))
+    ∷ document_element speculative_authenticate_key (document_of (speculative_elements server_first))
     ∷ []
 
 abbrev pub final_elements : List ℕ → List Element

@@ -1,5 +1,5 @@
 -- What a client wrote: two frames, of which the second carries its last message.
-use Rattle.std.specs.Prelude.{◌≡◌, ℕ, pos, ◌≤ℤ◌, List, ◌++◌, length, codes}
+use Rattle.std.specs.Prelude.{◌≡◌, ℕ, pos, ◌≤ℤ◌, List, ◌++◌, length}
 use Rattle.mongo_bson.specs.Document.{Element, IsDocument}
 use Rattle.mongo_bson.specs.declared.raw_value.RawValue.{RawValue}
 use Rattle.mongo_bson.specs.declared.raw_value.RawValue.TheVariants.{Binary}
@@ -7,6 +7,7 @@ use Rattle.mongo_wire.specs.Bytes.{first_maximum}
 use Rattle.mongo_wire.specs.Frame.{Frame, IsFrame}
 use Rattle.mongo_command.specs.Field.{field_of, Required}
 use Rattle.mongo_sasl.specs.Reply.{ReadsGeneric}
+use Rattle.mongo_sasl.specs.Keys.{payload_key}
 
 -- the value is a binary with these bytes
 abbrev pub IsContent : List ℕ → RawValue → Type 0
@@ -17,7 +18,7 @@ IsContent content value = ⊥
 pub record CarriesPayload (payload document : List ℕ) : Type 0 where
   pub elements : List Element
   pub is_document : IsDocument document elements
-  pub payload_is : Required ReadsGeneric (field_of (codes "payload") elements) payload
+  pub payload_is : Required ReadsGeneric (field_of payload_key elements) payload
 
 -- the bytes are two frames, and the second one's document carries the payload
 pub record Carries (payload bytes : List ℕ) : Type 0 where

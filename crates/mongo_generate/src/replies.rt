@@ -7,6 +7,8 @@ ghost use Rattle.mongo_generate.specs.Replies.{round_elements, hello_reply, fina
 
 use bitflags::Flags;
 use mongo_bson::{BsonFault, Bytes, RawDocumentBuf, RawValue};
+use mongo_command::keys::{OK, SPECULATIVE_AUTHENTICATE};
+use mongo_sasl::keys::{CONVERSATION_ID, DONE, PAYLOAD};
 use mongo_wire::{Error, MemoryLink, Message, MessageFlags, RequestIds, Sequences};
 use std::alloc::Global;
 
@@ -55,12 +57,12 @@ fn hello_reply(alloc: Global, server_first: &[u8]) -> Result<RawDocumentBuf, Bso
     let mut speculative = RawDocumentBuf::new(alloc)?;
     put_round(&mut speculative, false, server_first)?;
     let mut reply = RawDocumentBuf::new(alloc)?;
-    put(&mut reply, "ok", RawValue::Double(ONE))?;
+    put(&mut reply, OK, RawValue::Double(ONE))?;
     put(&mut reply, "maxBsonObjectSize", RawValue::Int32(16_777_216))?;
     put(&mut reply, "maxMessageSizeBytes", RawValue::Int32(MAXIMUM))?;
     put(
         &mut reply,
-        "speculativeAuthenticate",
+        SPECULATIVE_AUTHENTICATE,
         RawValue::Document(speculative.borrow()),
     )?;
     Ok(reply)
@@ -72,7 +74,7 @@ fn final_reply(alloc: Global, server_final: &[u8]) -> Result<RawDocumentBuf, Bso
     ensures reply { IfOk result (λ document. document ≡ final_reply server_final.now) }
 {
     let mut reply = RawDocumentBuf::new(alloc)?;
-    put(&mut reply, "ok", RawValue::Double(ONE))?;
+    put(&mut reply, OK, RawValue::Double(ONE))?;
     put_round(&mut reply, true, server_final)?;
     Ok(reply)
 }
@@ -81,9 +83,9 @@ fn final_reply(alloc: Global, server_final: &[u8]) -> Result<RawDocumentBuf, Bso
 fn put_round(document: &mut RawDocumentBuf, done: bool, payload: &[u8]) -> Result<(), BsonFault>
     ensures put { (elements : List Element) → document.old ≡ document_of elements → OnOk result (document.new ≡ document_of (elements ++ round_elements done payload.now)) }
 {
-    put(document, "conversationId", RawValue::Int32(1))?;
-    put(document, "done", RawValue::Bool(done))?;
-    put(document, "payload", RawValue::Binary(0, payload))
+    put(document, CONVERSATION_ID, RawValue::Int32(1))?;
+    put(document, DONE, RawValue::Bool(done))?;
+    put(document, PAYLOAD, RawValue::Binary(0, payload))
 }
 
 // Puts an element at the end of a document.

@@ -8,6 +8,7 @@ ghost use Rattle.mongo_wire.specs.Memory.{bytes_left};
 ghost use Rattle.mongo_generate.specs.Written.{IsContent, CarriesPayload, Carries};
 
 use mongo_bson::{Bytes, RawDocument, RawValue};
+use mongo_sasl::keys::PAYLOAD;
 use mongo_wire::{FrameBuffer, FrameFault, MemoryLink};
 use std::alloc::{AllocError, Global};
 
@@ -62,7 +63,7 @@ fn payload_held(alloc: Global, buffer: &FrameBuffer) -> Result<Option<Bytes>, Al
 fn payload_of(alloc: Global, document: RawDocument<'_>) -> Result<Option<Bytes>, AllocError>
     ensures found { (payload : List ℕ) → CarriesPayload payload document.entry.bytes.now → IfOk result (λ found. found ≡ Some payload) }
 {
-    match document.get("payload") {
+    match document.get(PAYLOAD) {
         Ok(Some(value)) => content_of(alloc, value),
         Ok(None) => Ok(None),
         Err(_) => Ok(None),

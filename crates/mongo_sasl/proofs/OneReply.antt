@@ -1,5 +1,5 @@
 -- A document says one thing as the reply to a login command, and is refused for one reason at most.
-use Rattle.std.proofs.Common.{◌≡◌, ℕ, ℤ, pos, Bool, Option, None, Some, List, codes, refl, sym, ap, ◌∙◌, subst}
+use Rattle.std.proofs.Common.{◌≡◌, ℕ, ℤ, pos, Bool, Option, None, Some, List, refl, sym, ap, ◌∙◌, subst}
 use Rattle.mongo_bson.specs.Document.{Element, IsDocument, IsWellFormed}
 use Rattle.mongo_bson.specs.Number.{int_of_kind}
 use Rattle.mongo_bson.specs.declared.owned_value.OwnedValue.{OwnedValue}
@@ -10,9 +10,11 @@ use Rattle.mongo_wire.specs.declared.error.ErrorKind.{ErrorKind}
 use Rattle.mongo_wire.specs.declared.error.ErrorKind.TheVariants.{Authentication}
 use Rattle.mongo_command.specs.Field.{field_of, Required, ReadsTruth}
 use Rattle.mongo_command.specs.Conversation.{IsOne, HasNone}
+use Rattle.mongo_command.specs.Keys.{errmsg_key, ok_key}
 use Rattle.mongo_command.proofs.OneField.{truth_one}
 use Rattle.mongo_sasl.specs.declared.sasl_response.SaslResponse.{SaslResponse}
 use Rattle.mongo_sasl.specs.Reply.{Succeeded, IsRefusal, failure_text, ReadsValue, ReadsGeneric, IsSaslTable, IsSaslReply, IsSaslFailure, IsSaslMalformed, AuthRow, SaslRow}
+use Rattle.mongo_sasl.specs.Keys.{conversation_id_key, done_key, payload_key}
 
 one_required : {A : Type 0} (Reads : Element → A → Type 0) → ((e : Element) (a b : A) → Reads e a → Reads e b → a ≡ b) → (found : Option Element) (a b : A) → Required Reads found a → Required Reads found b → a ≡ b
 unfolding Required
@@ -34,9 +36,9 @@ made id done payload = record { conversation_id = id; done = done; payload = pay
 one_table : (elements : List Element) (a b : SaslResponse) → IsSaslTable elements a → IsSaslTable elements b → a ≡ b
 unfolding made
 one_table elements a b p q =
-    let ids = one_required ReadsValue one_value (field_of (codes "conversationId") elements) a.conversation_id b.conversation_id p.conversation_id q.conversation_id in
-    let dones = one_required ReadsTruth truth_one.one (field_of (codes "done") elements) a.done b.done p.done q.done in
-    let payloads = one_required ReadsGeneric one_generic (field_of (codes "payload") elements) a.payload b.payload p.payload q.payload in
+    let ids = one_required ReadsValue one_value (field_of conversation_id_key elements) a.conversation_id b.conversation_id p.conversation_id q.conversation_id in
+    let dones = one_required ReadsTruth truth_one.one (field_of done_key elements) a.done b.done p.done q.done in
+    let payloads = one_required ReadsGeneric one_generic (field_of payload_key elements) a.payload b.payload p.payload q.payload in
     ap (λ id. made id a.done a.payload) ids ∙ ap (λ done. made b.conversation_id done a.payload) dones ∙ ap (λ payload. made b.conversation_id b.done payload) payloads
 
 pub same_elements : (reply : List ℕ) (es fs : List Element) → IsWellFormed reply es → IsWellFormed reply fs → es ≡ fs
@@ -48,7 +50,7 @@ one_sasl_reply reply = λ a b p q.
     one_table q.elements a b (subst (λ es. IsSaslTable es a) (same_elements reply p.elements q.elements p.well_formed q.well_formed) p.table) q.table
 
 one_failure : (reply a b : List ℕ) → IsSaslFailure reply a → IsSaslFailure reply b → a ≡ b
-one_failure reply a b p q = p.text_is ∙ ap (λ es. failure_text (field_of (codes "errmsg") es)) (same_elements reply p.elements q.elements p.well_formed q.well_formed) ∙ sym q.text_is
+one_failure reply a b p q = p.text_is ∙ ap (λ es. failure_text (field_of errmsg_key es)) (same_elements reply p.elements q.elements p.well_formed q.well_formed) ∙ sym q.text_is
 
 -- what succeeded didn't fail
 pub not_both : (ok : Option Element) → Succeeded ok → IsRefusal ok → ⊥
@@ -57,7 +59,7 @@ not_both (Some e) succeeded failed = let same : Some (pos 1) ≡ Some failed.0 =
 
 success_no_failure : (reply text : List ℕ) (sasl : SaslResponse) → IsSaslReply reply sasl → IsSaslFailure reply text → ⊥
 success_no_failure reply text sasl p q =
-    not_both (field_of (codes "ok") q.elements) (subst (λ es. Succeeded (field_of (codes "ok") es)) (same_elements reply p.elements q.elements p.well_formed q.well_formed) p.succeeded) q.failed
+    not_both (field_of ok_key q.elements) (subst (λ es. Succeeded (field_of ok_key es)) (same_elements reply p.elements q.elements p.well_formed q.well_formed) p.succeeded) q.failed
 
 one_auth_row : (reply : List ℕ) (a b : AuthFault) → AuthRow reply a → AuthRow reply b → a ≡ b
 one_auth_row reply Malformed Malformed p q = refl

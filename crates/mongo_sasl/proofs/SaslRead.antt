@@ -1,5 +1,5 @@
 -- What the readers of a login reply answer, from what they found.
-use Rattle.std.proofs.Common.{◌≡◌, ℕ, inl, inr, Option, None, Some, Result, Ok, Err, List, codes, refl, sym, ap, ◌∙◌, subst}
+use Rattle.std.proofs.Common.{◌≡◌, ℕ, inl, inr, Option, None, Some, Result, Ok, Err, List, refl, sym, ap, ◌∙◌, subst}
 use Rattle.std.specs.Borrow.{Bor}
 use Rattle.std.specs.Option.{ok_or}
 use Rattle.std.specs.Result.{IsErrAnd}
@@ -14,6 +14,7 @@ use Rattle.mongo_command.specs.declared.field.FieldFault.{FieldFault}
 use Rattle.mongo_command.specs.declared.field.FieldFault.TheVariants.{Unreadable, OutOfMemory as NoMemory}
 use Rattle.mongo_command.specs.Field.{field_of, Required}
 use Rattle.mongo_command.specs.Fields.{Answers, IsValueOf}
+use Rattle.mongo_command.specs.Keys.{ok_key}
 use Rattle.mongo_sasl.specs.declared.sasl_response.SaslResponse.{SaslResponse}
 use Rattle.mongo_sasl.specs.Reply.{Succeeded, IsRefusal, ReadsValue, IsSaslTable, IsSaslReply, IsSaslFailure, SaslRefused, IsUnsuccessful}
 use Rattle.mongo_sasl.specs.View.{value_of, read_as, kind_of_field_fault}
@@ -22,11 +23,11 @@ use Rattle.mongo_sasl.proofs.OneReply.{same_elements, not_both}
 
 -- ---- the whole reply
 
-failed_here : (reply text : List ℕ) (elements : List Element) → IsWellFormed reply elements → IsSaslFailure reply text → IsRefusal (field_of (codes "ok") elements)
-failed_here reply text elements well is = subst (λ es. IsRefusal (field_of (codes "ok") es)) (same_elements reply is.elements elements is.well_formed well) is.failed
+failed_here : (reply text : List ℕ) (elements : List Element) → IsWellFormed reply elements → IsSaslFailure reply text → IsRefusal (field_of ok_key elements)
+failed_here reply text elements well is = subst (λ es. IsRefusal (field_of ok_key es)) (same_elements reply is.elements elements is.well_formed well) is.failed
 
-succeeded_here : (reply : List ℕ) (elements : List Element) (sasl : SaslResponse) → IsWellFormed reply elements → IsSaslReply reply sasl → Succeeded (field_of (codes "ok") elements)
-succeeded_here reply elements sasl well is = subst (λ es. Succeeded (field_of (codes "ok") es)) (same_elements reply is.elements elements is.well_formed well) is.succeeded
+succeeded_here : (reply : List ℕ) (elements : List Element) (sasl : SaslResponse) → IsWellFormed reply elements → IsSaslReply reply sasl → Succeeded (field_of ok_key elements)
+succeeded_here reply elements sasl well is = subst (λ es. Succeeded (field_of ok_key es)) (same_elements reply is.elements elements is.well_formed well) is.succeeded
 
 -- what isn't a success isn't a reply
 pub unsuccessful : (reply : List ℕ) (elements : List Element) (kind : ErrorKind) → IsWellFormed reply elements → IsUnsuccessful elements kind → SaslRefused reply kind
@@ -38,11 +39,11 @@ unsuccessful reply elements (Authentication fault) well is = absurd is
 unsuccessful reply elements kind well is = absurd is
 
 -- nor is a success without its table
-pub no_table : (reply : List ℕ) (elements : List Element) (fault : FieldFault) → IsWellFormed reply elements → Succeeded (field_of (codes "ok") elements) → Answers IsSaslTable elements (Err fault) → SaslRefused reply (kind_of_field_fault fault)
+pub no_table : (reply : List ℕ) (elements : List Element) (fault : FieldFault) → IsWellFormed reply elements → Succeeded (field_of ok_key elements) → Answers IsSaslTable elements (Err fault) → SaslRefused reply (kind_of_field_fault fault)
 no_table reply elements Unreadable well succeeded none =
     inl (record {
       no_reply = λ sasl is. none sasl (subst (λ es. IsSaslTable es sasl) (same_elements reply is.elements elements is.well_formed well) is.table);
-      no_failure = λ text is. not_both (field_of (codes "ok") elements) succeeded (failed_here reply text elements well is);
+      no_failure = λ text is. not_both (field_of ok_key elements) succeeded (failed_here reply text elements well is);
     })
 no_table reply elements NoMemory well succeeded none = inr refl
 

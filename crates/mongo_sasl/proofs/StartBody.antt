@@ -1,15 +1,16 @@
 -- The body of a `saslStart` of SCRAM, as its fields are put.
-use Rattle.std.proofs.Common.{◌≡◌, ℕ, pos, ◌⊎◌, inl, inr, List, [], ◌∷◌, codes, sym, ap, ◌∙◌}
+use Rattle.std.proofs.Common.{◌≡◌, ℕ, pos, ◌⊎◌, inl, inr, List, [], ◌∷◌, sym, ap, ◌∙◌}
 use Rattle.mongo_command.specs.Literal.{text_element, int32_element, document_element, document_of}
 use Rattle.mongo_sasl.specs.declared.mechanism.AuthMechanism.{AuthMechanism}
 use Rattle.mongo_sasl.specs.declared.mechanism.AuthMechanism.TheVariants.{ScramSha1, ScramSha256}
 use Rattle.mongo_sasl.specs.Mechanism.{name_of}
 use Rattle.mongo_sasl.specs.Commands.{generic_element, skip_empty_exchange, options_of, start_body}
+use Rattle.mongo_sasl.specs.Keys.{mechanism_key, options_key, payload_key, sasl_start_key}
 
 abbrev scram_body : List ℕ → List ℕ → List ℕ → List ℕ
-scram_body name payload options = document_of (int32_element (codes "saslStart") (pos 1) ∷ text_element (codes "mechanism") name ∷ generic_element (codes "payload") payload ∷ document_element (codes "options") options ∷ [])
+scram_body name payload options = document_of (int32_element sasl_start_key (pos 1) ∷ text_element mechanism_key name ∷ generic_element payload_key payload ∷ document_element options_key options ∷ [])
 
-options_are : (mechanism : AuthMechanism) → (mechanism ≡ ScramSha1) ⊎ (mechanism ≡ ScramSha256) → options_of mechanism ≡ document_element (codes "options") skip_empty_exchange ∷ []
+options_are : (mechanism : AuthMechanism) → (mechanism ≡ ScramSha1) ⊎ (mechanism ≡ ScramSha256) → options_of mechanism ≡ document_element options_key skip_empty_exchange ∷ []
 options_are mechanism (inl is) = ap options_of is
 options_are mechanism (inr is) = ap options_of is
 
@@ -18,4 +19,4 @@ scram_started mechanism name sent payload options which named is skips =
     ap (λ x. scram_body x sent options) named
     ∙ ap (λ x. scram_body (name_of mechanism) x options) is
     ∙ ap (λ x. scram_body (name_of mechanism) payload x) skips
-    ∙ sym (ap (λ x. document_of (int32_element (codes "saslStart") (pos 1) ∷ text_element (codes "mechanism") (name_of mechanism) ∷ generic_element (codes "payload") payload ∷ x)) (options_are mechanism which))
+    ∙ sym (ap (λ x. document_of (int32_element sasl_start_key (pos 1) ∷ text_element mechanism_key (name_of mechanism) ∷ generic_element payload_key payload ∷ x)) (options_are mechanism which))

@@ -1,10 +1,11 @@
 -- The plan of an X.509 login has one turn, and its end is a login by the script, and the other way round.
-use Rattle.std.proofs.Common.{◌≡◌, ℕ, Bool, true, false, refl, ap, sym, ◌∙◌, subst, inr, List, [], ◌∷◌, codes}
+use Rattle.std.proofs.Common.{◌≡◌, ℕ, Bool, true, false, refl, ap, sym, ◌∙◌, subst, inr, List, [], ◌∷◌}
 use Rattle.mongo_bson.specs.Document.{Element}
 use Rattle.mongo_wire.specs.declared.auth_fault.AuthFault.TheVariants.{Malformed, X509Failed}
 use Rattle.mongo_wire.specs.declared.error.ErrorKind.TheVariants.{Authentication}
 use Rattle.mongo_command.specs.Conversation.{Event, exchanged, ends, IsOne, HasNone, HasOneTurn}
 use Rattle.mongo_command.specs.Field.{field_of}
+use Rattle.mongo_command.specs.Keys.{ok_key}
 use Rattle.mongo_command.proofs.Ends.{Ends, ends_ending, ends_unless, ends_reading, ends_saying}
 use Rattle.mongo_command.proofs.Plans.{one_ending, one_unless, one_reading, one_saying}
 use Rattle.mongo_sasl.specs.X509.{SaysOk, Takes, IsTaken, IsFailed, X509Row, X509Handed, x509_said, x509_heard, x509_plan_from, x509_plan, IsAnsweredX509, IsX509LoginFrom, IsX509Login}
@@ -14,7 +15,7 @@ use Rattle.mongo_sasl.proofs.OneReply.{same_elements}
 -- ---- the reply
 
 not_failed : (reply : List ℕ) (elements : List Element) → Takes reply elements → IsFailed reply → ⊥
-not_failed reply elements taken failed = failed.failed (subst (λ es. SaysOk (field_of (codes "ok") es)) (same_elements reply elements failed.elements taken.well_formed failed.well_formed) taken.ok)
+not_failed reply elements taken failed = failed.failed (subst (λ es. SaysOk (field_of ok_key es)) (same_elements reply elements failed.elements taken.well_formed failed.well_formed) taken.ok)
 
 pub taken_no_row : (reply : List ℕ) (elements : List Element) → Takes reply elements → HasNone (X509Row reply)
 taken_no_row reply elements taken (Authentication Malformed) row = row elements taken.well_formed

@@ -14,6 +14,7 @@ use Rattle.mongo_command.proofs.Steps.{reached_ending, reached_unless, reached_r
 use Rattle.mongo_sasl.specs.Commands.{IsNotBuilt}
 use Rattle.mongo_sasl.specs.Login.{EndsByReply}
 use Rattle.mongo_sasl.specs.X509.{Takes, IsTaken, X509Row, x509_body, x509_command, X509Handed, x509_said, x509_heard, x509_plan_from, x509_plan}
+use Rattle.mongo_sasl.specs.Keys.{authenticate_key, mechanism_key}
 use Rattle.mongo_sasl.proofs.LastReply.{ends_by_reply}
 use Rattle.mongo_sasl.proofs.Unsent.{unbuilt_stopped}
 use Rattle.mongo_sasl.proofs.X509Plan.{taken_no_row}
@@ -28,7 +29,7 @@ module _ (handed : X509Handed) (later : handed.speculated ≡ false) where
   x509_unbuilt kind old before unbuilt =
       x509_stopped kind old old before before
       (unbuilt_stopped (x509_said handed) x509_heard (x509_command handed.credential handed.server_api) kind old before refl
-      (omega (arith, length-enclosed (flat_map spell (int32_element (codes "authenticate") (pos 1) ∷ text_element (codes "mechanism") (codes "MONGODB-X509") ∷ given (text_element (codes "username")) handed.credential.username)))) unbuilt)
+      (omega (arith, length-enclosed (flat_map spell (int32_element authenticate_key (pos 1) ∷ text_element mechanism_key (codes "MONGODB-X509") ∷ given (text_element (codes "username")) handed.credential.username)))) unbuilt)
 
   -- the server took the certificate
   pub x509_reached : {T : Type 0} (r : Result T Error) (reply : List ℕ) (old new : State) (before after : ℤ) → Exchanges handed.maximum (plain_message (x509_said handed).document) old new before after reply → CountsStay old new → OnOk r (IsTaken reply) → OnOk r (Reached (x509_plan handed) tt old new before after)

@@ -16,6 +16,7 @@ use Rattle.mongo_command.specs.Literal.{text_element, int32_element, truth_eleme
 use Rattle.mongo_sasl.specs.declared.mechanism.AuthMechanism.{AuthMechanism}
 use Rattle.mongo_sasl.specs.declared.mechanism.AuthMechanism.TheVariants.{ScramSha1, ScramSha256}
 use Rattle.mongo_sasl.specs.Mechanism.{name_of}
+use Rattle.mongo_sasl.specs.Keys.{conversation_id_key, mechanism_key, options_key, payload_key, sasl_continue_key, sasl_start_key}
 
 -- ---- the bodies
 
@@ -32,24 +33,24 @@ abbrev pub skip_empty_exchange : List ℕ
 skip_empty_exchange = document_of (truth_element (codes "skipEmptyExchange") true ∷ [])
 
 abbrev pub options_of : AuthMechanism → List Element
-options_of ScramSha1 = document_element (codes "options") skip_empty_exchange ∷ []
-options_of ScramSha256 = document_element (codes "options") skip_empty_exchange ∷ []
+options_of ScramSha1 = document_element options_key skip_empty_exchange ∷ []
+options_of ScramSha256 = document_element options_key skip_empty_exchange ∷ []
 options_of other = []
 
 -- the elements of a `saslStart`
 abbrev pub start_elements : AuthMechanism → List ℕ → List Element
 start_elements mechanism payload =
-    int32_element (codes "saslStart") (pos 1)
-    ∷ text_element (codes "mechanism") (name_of mechanism)
-    ∷ generic_element (codes "payload") payload
+    int32_element sasl_start_key (pos 1)
+    ∷ text_element mechanism_key (name_of mechanism)
+    ∷ generic_element payload_key payload
     ∷ options_of mechanism
 
 -- the elements of a `saslContinue`
 abbrev pub continue_elements : OwnedValue → List ℕ → List Element
 continue_elements conversation_id payload =
-    int32_element (codes "saslContinue") (pos 1)
-    ∷ value_element (codes "conversationId") conversation_id
-    ∷ generic_element (codes "payload") payload
+    int32_element sasl_continue_key (pos 1)
+    ∷ value_element conversation_id_key conversation_id
+    ∷ generic_element payload_key payload
     ∷ []
 
 abbrev pub start_body : AuthMechanism → List ℕ → List ℕ

@@ -7,6 +7,7 @@ use Rattle.mongo_wire.specs.declared.error.ErrorKind.{ErrorKind}
 use Rattle.mongo_wire.specs.declared.error.ErrorKind.TheVariants.{InvalidArgument, OutOfMemory}
 use Rattle.mongo_wire.specs.declared.fault.ArgumentFault.TheVariants.{Bson}
 use Rattle.mongo_command.specs.Literal.{text_element}
+use Rattle.mongo_command.specs.Keys.{sasl_supported_mechs_key}
 use Rattle.mongo_sasl.specs.declared.mechanism.AuthMechanism.{AuthMechanism}
 use Rattle.mongo_sasl.specs.declared.credential.Credential.{Credential}
 use Rattle.mongo_sasl.specs.Mechanism.{source_of}
@@ -18,7 +19,7 @@ resolved_source (Some mechanism) = source_of mechanism None
 
 -- what a hello is asked of a user's mechanisms: the user of `admin`
 abbrev pub negotiation_element : List ℕ → Element
-negotiation_element username = text_element (codes "saslSupportedMechs") (codes "admin." ++ username)
+negotiation_element username = text_element sasl_supported_mechs_key (codes "admin." ++ username)
 
 -- a document and the question after it, which is asked where there are a user name and no mechanism
 abbrev pub negotiated_by : Option (List ℕ) → Option AuthMechanism → List ℕ → List ℕ

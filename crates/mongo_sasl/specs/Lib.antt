@@ -1,3 +1,4 @@
+pub mod Keys
 pub mod Mechanism
 pub mod Credential
 pub mod Years

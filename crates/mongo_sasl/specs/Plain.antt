@@ -13,6 +13,7 @@ use Rattle.mongo_sasl.specs.declared.plain.Login.{Login}
 use Rattle.mongo_sasl.specs.declared.sasl_response.SaslResponse.{SaslResponse}
 use Rattle.mongo_sasl.specs.Commands.{start_body}
 use Rattle.mongo_sasl.specs.Reply.{IsSaslReply, SaslRow}
+use Rattle.mongo_sasl.specs.Keys.{sasl_start_key}
 
 -- ---- what is said
 
@@ -44,7 +45,7 @@ plain_body user = start_body Plain (payload_of user.username user.password)
 
 -- the `saslStart` that carries the message
 abbrev pub plain_command : PlainUser → Option ServerApi → Command
-plain_command user api = command_of (codes "saslStart") user.source (plain_body user) api
+plain_command user api = command_of sasl_start_key user.source (plain_body user) api
 
 -- ---- the plan
 

@@ -9,7 +9,9 @@ use Rattle.mongo_wire.specs.declared.auth_fault.AuthFault.TheVariants.{Malformed
 use Rattle.mongo_wire.specs.declared.error.ErrorKind.{ErrorKind}
 use Rattle.mongo_wire.specs.declared.error.ErrorKind.TheVariants.{Authentication, OutOfMemory}
 use Rattle.mongo_command.specs.Field.{field_of, Required, ReadsTruth}
+use Rattle.mongo_command.specs.Keys.{errmsg_key, ok_key}
 use Rattle.mongo_sasl.specs.declared.sasl_response.SaslResponse.{SaslResponse}
+use Rattle.mongo_sasl.specs.Keys.{conversation_id_key, done_key, payload_key}
 
 -- ---- whether the command succeeded
 
@@ -39,9 +41,9 @@ abbrev pub ReadsGeneric : Element → List ℕ → Type 0
 ReadsGeneric e bytes = (e.kind ≡ 0x05) × (slice_index e.value 4 ≡ 0) × (bytes ≡ drop 5 e.value)
 
 pub record IsSaslTable (elements : List Element) (sasl : SaslResponse) : Type 0 where
-  pub conversation_id : Required ReadsValue (field_of (codes "conversationId") elements) sasl.conversation_id
-  pub done : Required ReadsTruth (field_of (codes "done") elements) sasl.done
-  pub payload : Required ReadsGeneric (field_of (codes "payload") elements) sasl.payload
+  pub conversation_id : Required ReadsValue (field_of conversation_id_key elements) sasl.conversation_id
+  pub done : Required ReadsTruth (field_of done_key elements) sasl.done
+  pub payload : Required ReadsGeneric (field_of payload_key elements) sasl.payload
 
 -- ---- the reply
 
@@ -49,15 +51,15 @@ pub record IsSaslTable (elements : List Element) (sasl : SaslResponse) : Type 0 
 pub record IsSaslReply (reply : List ℕ) (sasl : SaslResponse) : Type 0 where
   pub elements : List Element
   pub well_formed : IsWellFormed reply elements
-  pub succeeded : Succeeded (field_of (codes "ok") elements)
+  pub succeeded : Succeeded (field_of ok_key elements)
   pub table : IsSaslTable elements sasl
 
 -- a well-formed document that failed, whatever else it says
 pub record IsSaslFailure (reply text : List ℕ) : Type 0 where
   pub elements : List Element
   pub well_formed : IsWellFormed reply elements
-  pub failed : IsRefusal (field_of (codes "ok") elements)
-  pub text_is : text ≡ failure_text (field_of (codes "errmsg") elements)
+  pub failed : IsRefusal (field_of ok_key elements)
+  pub text_is : text ≡ failure_text (field_of errmsg_key elements)
 
 -- neither: it isn't well formed, or `ok` is no number, or it succeeded and a field is absent or of another kind
 pub record IsSaslMalformed (reply : List ℕ) : Type 0 where
@@ -88,7 +90,7 @@ IsFailureOf errmsg kind = ⊥
 
 -- why elements are no success's: `ok` is no number, or another one, or memory ran out
 abbrev pub IsUnsuccessful : List Element → ErrorKind → Type 0
-IsUnsuccessful elements (Authentication Malformed) = (Succeeded (field_of (codes "ok") elements) → ⊥) × (IsRefusal (field_of (codes "ok") elements) → ⊥)
-IsUnsuccessful elements (Authentication (Refused text)) = IsRefusal (field_of (codes "ok") elements) × (text ≡ failure_text (field_of (codes "errmsg") elements))
+IsUnsuccessful elements (Authentication Malformed) = (Succeeded (field_of ok_key elements) → ⊥) × (IsRefusal (field_of ok_key elements) → ⊥)
+IsUnsuccessful elements (Authentication (Refused text)) = IsRefusal (field_of ok_key elements) × (text ≡ failure_text (field_of errmsg_key elements))
 IsUnsuccessful elements OutOfMemory = ⊤
 IsUnsuccessful elements kind = ⊥

@@ -13,7 +13,9 @@ use Rattle.mongo_command.specs.Command.{given, command_of, command_document}
 use Rattle.mongo_command.specs.Conversation.{Said, Plan, ending, unless, reading, saying}
 use Rattle.mongo_command.specs.Field.{field_of}
 use Rattle.mongo_command.specs.Literal.{text_element, int32_element, document_of}
+use Rattle.mongo_command.specs.Keys.{ok_key}
 use Rattle.mongo_sasl.specs.declared.credential.Credential.{Credential}
+use Rattle.mongo_sasl.specs.Keys.{authenticate_key, mechanism_key}
 
 -- ---- what is said
 
@@ -21,13 +23,13 @@ use Rattle.mongo_sasl.specs.declared.credential.Credential.{Credential}
 abbrev pub x509_body : Option (List ℕ) → List ℕ
 x509_body username =
     document_of
-    (int32_element (codes "authenticate") (pos 1)
-    ∷ text_element (codes "mechanism") (codes "MONGODB-X509")
+    (int32_element authenticate_key (pos 1)
+    ∷ text_element mechanism_key (codes "MONGODB-X509")
     ∷ given (text_element (codes "username")) username)
 
 -- the `authenticate` of `$external`
 abbrev pub x509_command : Credential → Option ServerApi → Command
-x509_command credential api = command_of (codes "authenticate") (codes "$external") (x509_body credential.username) api
+x509_command credential api = command_of authenticate_key (codes "$external") (x509_body credential.username) api
 
 -- ---- what the reply says
 
@@ -39,13 +41,13 @@ SaysOk (Some ok) = int_of_kind ok.kind ok.value ≡ Some (pos 1)
 -- the reply's elements, by which the server took the certificate
 pub record Takes (reply : List ℕ) (elements : List Element) : Type 0 where
   pub well_formed : IsWellFormed reply elements
-  pub ok : SaysOk (field_of (codes "ok") elements)
+  pub ok : SaysOk (field_of ok_key elements)
 
 -- by the reply it didn't
 pub record IsFailed (reply : List ℕ) : Type 0 where
   pub elements : List Element
   pub well_formed : IsWellFormed reply elements
-  pub failed : SaysOk (field_of (codes "ok") elements) → ⊥
+  pub failed : SaysOk (field_of ok_key elements) → ⊥
 
 -- the server took it by some elements
 abbrev pub IsTaken : List ℕ → Type 0

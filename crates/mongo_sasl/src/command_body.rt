@@ -2,6 +2,7 @@ ghost use Rattle.std.specs.Prelude.{◌≡◌, IfOk, IfErr};
 ghost use Rattle.mongo_sasl.specs.Commands.{start_body, continue_body, skip_empty_exchange, IsTooLong};
 
 use crate::documents::document_of;
+use crate::keys::{CONVERSATION_ID, MECHANISM, OPTIONS, PAYLOAD, SASL_CONTINUE, SASL_START};
 use crate::{AuthMechanism, GENERIC};
 use mongo_bson::{BsonFault, Bytes, OwnedValue, RawDocument, RawDocumentBuf, RawValue};
 use std::alloc::Global;
@@ -17,12 +18,12 @@ pub(crate) fn start_body(
     ensures body { IfOk result (λ body. body ≡ start_body mechanism payload.now) }
     ensures refused { IfErr result (λ fault. IsTooLong fault (start_body mechanism payload.now)) }
 {
-    let start = ("saslStart", RawValue::Int32(1));
-    let name = ("mechanism", RawValue::Str(mechanism.as_str()));
-    let payload = ("payload", RawValue::Binary(GENERIC, payload.as_bytes()));
+    let start = (SASL_START, RawValue::Int32(1));
+    let name = (MECHANISM, RawValue::Str(mechanism.as_str()));
+    let payload = (PAYLOAD, RawValue::Binary(GENERIC, payload.as_bytes()));
     match mechanism {
         AuthMechanism::ScramSha1 | AuthMechanism::ScramSha256 => {
-            let options = ("options", RawValue::Document(skip_empty_exchange()));
+            let options = (OPTIONS, RawValue::Document(skip_empty_exchange()));
             document_of(alloc, &[start, name, payload, options])
         }
         _ => document_of(alloc, &[start, name, payload]),
@@ -50,8 +51,8 @@ pub(crate) fn continue_body<'x>(
     ensures body { IfOk result (λ body. body ≡ continue_body conversation_id.now payload.now) }
     ensures refused { IfErr result (λ fault. IsTooLong fault (continue_body conversation_id.now payload.now)) }
 {
-    let start = ("saslContinue", RawValue::Int32(1));
+    let start = (SASL_CONTINUE, RawValue::Int32(1));
     let id = RawValue::Other(conversation_id.kind, conversation_id.bytes.as_bytes());
-    let payload = ("payload", RawValue::Binary(GENERIC, payload.as_bytes()));
-    document_of(alloc, &[start, ("conversationId", id), payload])
+    let payload = (PAYLOAD, RawValue::Binary(GENERIC, payload.as_bytes()));
+    document_of(alloc, &[start, (CONVERSATION_ID, id), payload])
 }

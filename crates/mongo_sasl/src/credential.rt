@@ -3,6 +3,7 @@ ghost use Rattle.mongo_wire.specs.declared.error.ErrorKind.TheVariants.{OutOfMem
 
 use crate::AuthMechanism;
 use mongo_bson::{BsonFault, RawDocumentBuf, RawValue, Text, copy_of};
+use mongo_command::keys::SASL_SUPPORTED_MECHS;
 use mongo_wire::Error;
 use std::alloc::Global;
 use std::fmt;
@@ -102,7 +103,7 @@ impl Credential {
             return Ok(());
         }
         let user = user_of_admin(alloc, username)?;
-        command.append("saslSupportedMechs", RawValue::Str(user.as_str()))?;
+        command.append(SASL_SUPPORTED_MECHS, RawValue::Str(user.as_str()))?;
         Ok(())
     }
 

@@ -18,6 +18,7 @@ mod command_body;
 mod commands;
 mod credential;
 mod documents;
+pub mod keys;
 mod mechanism;
 mod moment;
 pub mod plain;

@@ -1,5 +1,6 @@
 use crate::command_body::continue_body;
 use crate::commands::login_command;
+use crate::keys::SASL_CONTINUE;
 use mongo_bson::{Bytes, OwnedValue, Text};
 use mongo_command::{Command, ServerApi};
 use mongo_wire::Error;
@@ -47,7 +48,7 @@ impl SaslContinue {
         let body = continue_body(alloc, &self.conversation_id, &self.payload)?;
         login_command(
             alloc,
-            "saslContinue",
+            SASL_CONTINUE,
             self.source.as_str(),
             body,
             self.server_api,

@@ -1,6 +1,7 @@
 use crate::AuthMechanism;
 use crate::command_body::start_body;
 use crate::commands::login_command;
+use crate::keys::SASL_START;
 use mongo_bson::{Bytes, Text};
 use mongo_command::{Command, ServerApi};
 use mongo_wire::Error;
@@ -48,7 +49,7 @@ impl SaslStart {
         let body = start_body(alloc, self.mechanism, &self.payload)?;
         login_command(
             alloc,
-            "saslStart",
+            SASL_START,
             self.source.as_str(),
             body,
             self.server_api,

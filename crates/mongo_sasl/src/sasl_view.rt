@@ -1,13 +1,17 @@
-ghost use Rattle.std.specs.Prelude.{◌≡◌, List, Option, IfOk, IfErr, MatchResult, codes};
+ghost use Rattle.std.specs.Prelude.{◌≡◌, List, Option, IfOk, IfErr, MatchResult};
 ghost use Rattle.mongo_bson.specs.Document.{Element, IsDocument};
 ghost use Rattle.mongo_bson.specs.Value.{IsValue};
 ghost use Rattle.mongo_command.specs.Field.{field_of, Required};
 ghost use Rattle.mongo_command.specs.Fields.{IsValueOf, Answers, AreFields, HoldsWellFormed};
+ghost use Rattle.mongo_command.specs.Keys.{errmsg_key, ok_key};
 ghost use Rattle.mongo_sasl.specs.Reply.{ReadsValue, ReadsGeneric, IsSaslTable, IsSaslReply, SaslRefused, Succeeded, IsUnsuccessful, IsFailureOf};
 ghost use Rattle.mongo_sasl.specs.View.{value_of, response_of, read_as, kind_of_field_fault};
+ghost use Rattle.mongo_sasl.specs.Keys.{conversation_id_key};
 
+use crate::keys::{CONVERSATION_ID, DONE, PAYLOAD};
 use crate::{GENERIC, SaslResponse};
 use mongo_bson::{BsonFault, Bytes, OwnedValue, RawDocument, RawValue, Text, get_int_raw};
+use mongo_command::keys::{ERRMSG, OK};
 use mongo_command::{FieldFault, Fields};
 use mongo_wire::{AuthFault, Error, ErrorKind};
 use std::alloc::Global;
@@ -85,9 +89,9 @@ fn view_of<'b>(
 
 // Whether the command succeeded: `ok` is absent or 1.
 fn success_of(alloc: Global, fields: &Fields<'_>) -> Result<(), Error>
-    ensures { (elements : List Element) → AreFields elements fields.now → MatchResult result (λ _. Succeeded (field_of (codes "ok") elements)) (λ e. IsUnsuccessful elements e.kind) }
+    ensures { (elements : List Element) → AreFields elements fields.now → MatchResult result (λ _. Succeeded (field_of ok_key elements)) (λ e. IsUnsuccessful elements e.kind) }
 {
-    let Some(ok) = fields.value("ok") else {
+    let Some(ok) = fields.value(OK) else {
         return Ok(());
     };
     match get_int_raw(ok) {
@@ -99,9 +103,9 @@ fn success_of(alloc: Global, fields: &Fields<'_>) -> Result<(), Error>
 
 // What a failure says.
 fn failure_of(alloc: Global, fields: &Fields<'_>) -> Error
-    ensures { (elements : List Element) → AreFields elements fields.now → IsFailureOf (field_of (codes "errmsg") elements) result.kind }
+    ensures { (elements : List Element) → AreFields elements fields.now → IsFailureOf (field_of errmsg_key elements) result.kind }
 {
-    let text = match fields.value("errmsg") {
+    let text = match fields.value(ERRMSG) {
         Some(RawValue::Str(text)) => text,
         _ => "Authentication failure",
     };
@@ -120,8 +124,8 @@ fn table_of<'b>(response: RawDocument<'b>, fields: &Fields<'b>) -> Result<SaslVi
     ensures { (elements : List Element) → IsDocument response.entry.bytes.now elements → AreFields elements fields.now → Answers IsSaslTable elements (read_as response_of result) }
 {
     let (conversation_kind, conversation_bytes) = conversation_id(response)?;
-    let done = fields.required("done")?;
-    let payload = required_binary(fields.value("payload"))?;
+    let done = fields.required(DONE)?;
+    let payload = required_binary(fields.value(PAYLOAD))?;
     Ok(SaslView {
         conversation_kind,
         conversation_bytes,
@@ -132,10 +136,10 @@ fn table_of<'b>(response: RawDocument<'b>, fields: &Fields<'b>) -> Result<SaslVi
 
 // The conversation's id: the kind byte and the bytes of a value of any kind.
 fn conversation_id<'b>(response: RawDocument<'b>) -> Result<(u8, &'b [u8]), FieldFault>
-    ensures { (elements : List Element) → IsDocument response.entry.bytes.now elements → Answers (Required ReadsValue) (field_of (codes "conversationId") elements) (read_as value_of result) }
+    ensures { (elements : List Element) → IsDocument response.entry.bytes.now elements → Answers (Required ReadsValue) (field_of conversation_id_key elements) (read_as value_of result) }
 {
     response
-        .get_bytes("conversationId")?
+        .get_bytes(CONVERSATION_ID)?
         .ok_or(FieldFault::Unreadable)
 }
 

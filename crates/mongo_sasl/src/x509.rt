@@ -18,10 +18,12 @@ ghost use Rattle.mongo_sasl.specs.X509.{x509_body, x509_command, IsTaken, X509Ro
 use crate::buffered_reply::held_reply;
 use crate::commands::login_command;
 use crate::documents::document_of;
+use crate::keys::{AUTHENTICATE, MECHANISM};
 use crate::refusal::refused;
 use crate::sasl_view::unread;
 use crate::{AuthMechanism, Credential, EXTERNAL};
 use mongo_bson::{BsonFault, RawDocument, RawDocumentBuf, RawValue, Text, get_int_raw};
+use mongo_command::keys::OK;
 use mongo_command::{Command, Connection, Fields, ServerApi};
 use mongo_wire::{AuthFault, Error, FrameBuffer, Link, RequestIds};
 use std::alloc::Global;
@@ -39,7 +41,7 @@ pub fn build_client_first(
     ensures refused { IfErr result (λ e. IsNotBuilt (x509_body credential.now.username) e.kind) }
 {
     let body = authenticate_body(alloc, &credential.username)?;
-    login_command(alloc, "authenticate", EXTERNAL, body, server_api.copied())
+    login_command(alloc, AUTHENTICATE, EXTERNAL, body, server_api.copied())
 }
 
 /// Logs a connection in by the link's certificate: by one command and one reply, which passes through the buffer. Where the
@@ -114,8 +116,8 @@ fn authenticate_body(alloc: Global, username: &Option<Text>) -> Result<RawDocume
     ensures body { IfOk result (λ body. body ≡ x509_body username.now) }
     ensures refused { IfErr result (λ fault. IsTooLong fault (x509_body username.now)) }
 {
-    let authenticate = ("authenticate", RawValue::Int32(1));
-    let mechanism = ("mechanism", RawValue::Str("MONGODB-X509"));
+    let authenticate = (AUTHENTICATE, RawValue::Int32(1));
+    let mechanism = (MECHANISM, RawValue::Str("MONGODB-X509"));
     match username {
         Some(username) => {
             let username = ("username", RawValue::Str(username.as_str()));
@@ -131,7 +133,7 @@ fn take(alloc: Global, reply: RawDocument<'_>) -> Result<(), Error>
     ensures refused { IfErr result (λ e. X509Row reply.entry.bytes.now e.kind ⊎ (e.kind ≡ OutOfMemory)) }
 {
     match Fields::of_well_formed(alloc, reply) {
-        Ok(fields) if says_ok(fields.value("ok")) => Ok(()),
+        Ok(fields) if says_ok(fields.value(OK)) => Ok(()),
         Ok(_) => Err(refused(AuthFault::X509Failed)),
         Err(fault) => Err(unread(fault)),
     }

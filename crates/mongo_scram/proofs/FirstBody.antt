@@ -17,6 +17,7 @@ use Rattle.mongo_sasl.specs.declared.mechanism.AuthMechanism.{AuthMechanism}
 use Rattle.mongo_sasl.specs.declared.sasl_start.SaslStart.{SaslStart}
 use Rattle.mongo_sasl.specs.Commands.{start_elements, start_body, IsNotBuilt}
 use Rattle.mongo_sasl.specs.Sent.{start_command}
+use Rattle.mongo_sasl.specs.Keys.{sasl_start_key}
 use Rattle.mongo_scram.specs.declared.scram_version.ScramVersion.{ScramVersion}
 use Rattle.mongo_scram.specs.Commands.{mechanism_of, db_elements, first_body, first_command}
 
@@ -77,7 +78,7 @@ pub same_step : (version : ScramVersion) (a b c d : List ℕ) (m : AuthMechanism
 same_step version a b c d m api p q r = λ i. started (p i) (q i) (r i) api
 
 abbrev sent : List ℕ → List ℕ → Option ServerApi → Command
-sent source body api = command_of (codes "saslStart") source body api
+sent source body api = command_of sasl_start_key source body api
 
 pub start_sent : (version : ScramVersion) (source message : List ℕ) (include_db : Bool) (api : Option ServerApi) (start : SaslStart) (command : Command) → start ≡ step version source message api → command ≡ start_command start → include_db ≡ false → command ≡ first_command version include_db source message api
 start_sent version source message include_db api start command is built plain =

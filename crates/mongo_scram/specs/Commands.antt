@@ -9,6 +9,7 @@ use Rattle.mongo_command.specs.declared.server_api.ServerApi.{ServerApi}
 use Rattle.mongo_sasl.specs.declared.mechanism.AuthMechanism.{AuthMechanism}
 use Rattle.mongo_sasl.specs.declared.mechanism.AuthMechanism.TheVariants.{ScramSha1, ScramSha256}
 use Rattle.mongo_sasl.specs.Commands.{start_elements, continue_body}
+use Rattle.mongo_sasl.specs.Keys.{sasl_continue_key, sasl_start_key}
 use Rattle.mongo_scram.specs.declared.scram_version.ScramVersion.{ScramVersion}
 use Rattle.mongo_scram.specs.declared.scram_version.ScramVersion.TheVariants.{Sha1, Sha256}
 
@@ -26,8 +27,8 @@ first_body version include_db source message = document_of (start_elements (mech
 
 -- the `saslStart` of the client's first message
 abbrev pub first_command : ScramVersion → Bool → List ℕ → List ℕ → Option ServerApi → Command
-first_command version include_db source message api = command_of (codes "saslStart") source (first_body version include_db source message) api
+first_command version include_db source message api = command_of sasl_start_key source (first_body version include_db source message) api
 
 -- the `saslContinue` of the client's last message
 abbrev pub final_command : OwnedValue → List ℕ → List ℕ → Option ServerApi → Command
-final_command conversation_id source message api = command_of (codes "saslContinue") source (continue_body conversation_id message) api
+final_command conversation_id source message api = command_of sasl_continue_key source (continue_body conversation_id message) api

@@ -10,11 +10,13 @@ use Rattle.mongo_bson.specs.Value.{IsValue, has_variant}
 use Rattle.mongo_bson.specs.declared.raw_value.RawValue.{RawValue}
 use Rattle.mongo_bson.specs.declared.raw_value.RawValue.TheVariants.{Double, Str, Document, Array, Binary, ObjectId, Bool as Boolean, DateTime, Null, Int32, Int64, Other}
 use Rattle.mongo_bson.proofs.OneAnswer.{found_or_none, one_found, one_key}
+use Rattle.mongo_command.specs.Keys.{speculative_authenticate_key}
 use Rattle.mongo_scram.specs.declared.scram_version.ScramVersion.{ScramVersion}
 use Rattle.mongo_serve.specs.Settings.{version_named}
 use Rattle.mongo_serve.specs.declared.request.SaslStart.{SaslStart}
 use Rattle.mongo_serve.specs.Requests.{CarriesLogin, HasPayload, IsCommandName, IsNamed, SaysStart, SaysVersion, SkipsEmptyExchange}
 use Rattle.mongo_serve.specs.Values.{binary_of, HasInside, HasOne, HasText, HasTrue, Holds, inner_of, IsOne, IsTruth, StandsAt, string_of}
+use Rattle.mongo_sasl.specs.Keys.{mechanism_key, options_key, payload_key, sasl_start_key}
 
 -- ---- one value
 
@@ -76,9 +78,9 @@ pub string_held : (document key : List ℕ) (v : RawValue) → FindsValue (body_
 string_held document key (Str text) (e, first, is) = record { element = e; first = first; string = is.0; text_is = is.1 }
 string_held document key other finds = λ text has. other_kind document key other 0x02 finds refl refl has.element has.first has.string
 
-pub binary_held : (document : List ℕ) (v : RawValue) → FindsValue (body_of document) (codes "payload") (Some v) → Holds (HasPayload document) (binary_of v)
+pub binary_held : (document : List ℕ) (v : RawValue) → FindsValue (body_of document) payload_key (Some v) → Holds (HasPayload document) (binary_of v)
 binary_held document (Binary subtype bytes) (e, first, is) = record { element = e; first = first; binary = is.0; payload_is = is.2 }
-binary_held document other finds = λ payload has. other_kind document (codes "payload") other 0x05 finds refl refl has.element has.first has.binary
+binary_held document other finds = λ payload has. other_kind document payload_key other 0x05 finds refl refl has.element has.first has.binary
 
 pub inner_held : (document key : List ℕ) (v : RawValue) → FindsValue (body_of document) key (Some v) → MatchOption (inner_of v) ((inner : List ℕ) → HasInside document key inner → ⊥) (λ inner. HasInside document key inner.bytes.now)
 inner_held document key (Document inner) (e, first, is) = record { element = e; first = first; is_document = is.0; inner_is = is.1 }
@@ -101,21 +103,21 @@ one_held document key other finds = (λ never. absurd never, λ has. absurd (oth
 -- ---- the parts of a login's command
 
 -- the version that a mechanism names is that of its document
-pub version_said : (document name : List ℕ) → HasText document (codes "mechanism") name → (version : Option ScramVersion) → version ≡ version_named name → SaysVersion document version
-version_said document name has None is = λ other other_has. ap version_named (one_text document (codes "mechanism") other name other_has has) ∙ sym is
+pub version_said : (document name : List ℕ) → HasText document mechanism_key name → (version : Option ScramVersion) → version ≡ version_named name → SaysVersion document version
+version_said document name has None is = λ other other_has. ap version_named (one_text document mechanism_key other name other_has has) ∙ sym is
 version_said document name has (Some version) is = (name, has, sym is)
 
-pub version_unsaid : (document : List ℕ) → ((name : List ℕ) → HasText document (codes "mechanism") name → ⊥) → SaysVersion document None
+pub version_unsaid : (document : List ℕ) → ((name : List ℕ) → HasText document mechanism_key name → ⊥) → SaysVersion document None
 version_unsaid document none = λ name has. absurd (none name has)
 
-pub skips_said : (document options : List ℕ) (b : Bool) → HasInside document (codes "options") options → IsTrue b ↔ HasTrue options (codes "skipEmptyExchange") → IsTrue b ↔ SkipsEmptyExchange document
-skips_said document options b inside test = (λ set. (options, inside, test.0 set), λ (other, other_inside, set). test.1 (subst (λ o. HasTrue o (codes "skipEmptyExchange")) (one_inside document (codes "options") other options other_inside inside) set))
+pub skips_said : (document options : List ℕ) (b : Bool) → HasInside document options_key options → IsTrue b ↔ HasTrue options (codes "skipEmptyExchange") → IsTrue b ↔ SkipsEmptyExchange document
+skips_said document options b inside test = (λ set. (options, inside, test.0 set), λ (other, other_inside, set). test.1 (subst (λ o. HasTrue o (codes "skipEmptyExchange")) (one_inside document options_key other options other_inside inside) set))
 
-pub skips_unsaid : (document : List ℕ) → ((options : List ℕ) → HasInside document (codes "options") options → ⊥) → IsTrue false ↔ SkipsEmptyExchange document
+pub skips_unsaid : (document : List ℕ) → ((options : List ℕ) → HasInside document options_key options → ⊥) → IsTrue false ↔ SkipsEmptyExchange document
 skips_unsaid document none = (λ never. absurd (false≢true never), λ (options, inside, set). absurd (none options inside))
 
 -- ---- the login that a hello carries
 
-pub carried : (document inner : List ℕ) → HasInside document (codes "speculativeAuthenticate") inner → (start : Option SaslStart) → MatchOption start (IsNamed inner (codes "saslStart") → ⊥) (SaysStart inner) → CarriesLogin document start
-carried document inner inside None none = λ other other_inside named. none (subst (λ i. IsNamed i (codes "saslStart")) (one_inside document (codes "speculativeAuthenticate") other inner other_inside inside) named)
+pub carried : (document inner : List ℕ) → HasInside document speculative_authenticate_key inner → (start : Option SaslStart) → MatchOption start (IsNamed inner sasl_start_key → ⊥) (SaysStart inner) → CarriesLogin document start
+carried document inner inside None none = λ other other_inside named. none (subst (λ i. IsNamed i sasl_start_key) (one_inside document speculative_authenticate_key other inner other_inside inside) named)
 carried document inner inside (Some start) says = record { inner = inner; inside = inside; says = says }

@@ -1,13 +1,15 @@
-use Rattle.std.proofs.Common.{◌≡◌, ℕ, codes, Option, None, Some, IfSome, List, inl, inr}
+use Rattle.std.proofs.Common.{◌≡◌, ℕ, Option, None, Some, IfSome, List, inl, inr}
 use Rattle.mongo_serve.specs.declared.request.SaslStart.{SaslStart}
 use Rattle.std.specs.Borrow.{Bor}
+use Rattle.mongo_command.specs.Keys.{speculative_authenticate_key}
 use Rattle.mongo_serve.specs.declared.request.SaslContinue.{SaslContinue}
 use Rattle.mongo_serve.specs.Requests.{HasPayload, IsNamed, IsGreeting, SaysStart, SaysContinue, CarriesStart, Opens, Continues}
 use Rattle.mongo_serve.specs.Values.{HasInside, Holds}
+use Rattle.mongo_sasl.specs.Keys.{sasl_continue_key, sasl_start_key}
 
 -- What a request begins, or goes on with.
 
-greets_with : (document inner : List ℕ) (payload : Option (Bor (List ℕ))) → IsGreeting document → HasInside document (codes "speculativeAuthenticate") inner → IsNamed inner (codes "saslStart")
+greets_with : (document inner : List ℕ) (payload : Option (Bor (List ℕ))) → IsGreeting document → HasInside document speculative_authenticate_key inner → IsNamed inner sasl_start_key
     → Holds (HasPayload inner) payload → IfSome payload (λ p. Opens document p.now)
 greets_with document inner None greeting inside named message = tt
 greets_with document inner (Some p) greeting inside named message = inr (record { greeting = greeting; inner = inner; inside = inside; start = record { named = named; message = message } })
@@ -15,14 +17,14 @@ greets_with document inner (Some p) greeting inside named message = inr (record 
 pub greeting_opens : (document : List ℕ) (start : SaslStart) → IsGreeting document → CarriesStart document start → IfSome start.payload (λ p. Opens document p.now)
 greeting_opens document start greeting carries = greets_with document carries.inner start.payload greeting carries.inside carries.says.named carries.says.message
 
-starts_with : (document : List ℕ) (payload : Option (Bor (List ℕ))) → IsNamed document (codes "saslStart") → Holds (HasPayload document) payload → IfSome payload (λ p. Opens document p.now)
+starts_with : (document : List ℕ) (payload : Option (Bor (List ℕ))) → IsNamed document sasl_start_key → Holds (HasPayload document) payload → IfSome payload (λ p. Opens document p.now)
 starts_with document None named message = tt
 starts_with document (Some p) named message = inl (record { named = named; message = message })
 
 pub start_opens : (document : List ℕ) (start : SaslStart) → SaysStart document start → IfSome start.payload (λ p. Opens document p.now)
 start_opens document start says = starts_with document start.payload says.named says.message
 
-goes_on_with : (document : List ℕ) (payload : Option (Bor (List ℕ))) → IsNamed document (codes "saslContinue") → Holds (HasPayload document) payload → IfSome payload (λ p. Continues document p.now)
+goes_on_with : (document : List ℕ) (payload : Option (Bor (List ℕ))) → IsNamed document sasl_continue_key → Holds (HasPayload document) payload → IfSome payload (λ p. Continues document p.now)
 goes_on_with document None named message = tt
 goes_on_with document (Some p) named message = record { named = named; message = message }
 

@@ -1,9 +1,10 @@
 -- The documents of replies, as their elements are put.
-use Rattle.std.proofs.Common.{◌≡◌, ℕ, ℤ, true, Option, Some, Result, Ok, Err, OnOk, OnErr, List, [], ◌∷◌, ◌++◌, codes, sym, ap, ◌∙◌, subst, append_assoc}
+use Rattle.std.proofs.Common.{◌≡◌, ℕ, ℤ, true, Option, Some, Result, Ok, Err, OnOk, OnErr, List, [], ◌∷◌, ◌++◌, sym, ap, ◌∙◌, subst, append_assoc}
 use Rattle.std.specs.Prelude.{⊤}
 use Rattle.std.specs.Io.KnownBytes.{Appends}
 use Rattle.mongo_bson.specs.Document.{Element}
 use Rattle.mongo_command.specs.Literal.{truth_element, document_element, document_of}
+use Rattle.mongo_command.specs.Keys.{speculative_authenticate_key}
 use Rattle.mongo_wire.specs.Bytes.{next_id}
 use Rattle.mongo_wire.specs.Outside.{State, AppendsFront, IsFlushed}
 use Rattle.mongo_serve.specs.declared.fault.ServeFault.{ServeFault}
@@ -14,9 +15,9 @@ use Rattle.mongo_serve.specs.Replies.{description, hello_elements, mechanism_ele
 use Rattle.mongo_serve.specs.Sent.{query_reply, IsSentToQuery}
 
 pub speculated : (elements : List Element) (new : List ℕ) (speculation : Option SaslReply) (message : SaslReply) (bytes : List ℕ) (r : Result ⊤ ServeFault) → speculation ≡ Some message → bytes ≡ sasl_document message
-    → OnOk r (new ≡ document_of (elements ++ document_element (codes "speculativeAuthenticate") bytes ∷ [])) → OnOk r (new ≡ document_of (elements ++ speculation_elements speculation))
+    → OnOk r (new ≡ document_of (elements ++ document_element speculative_authenticate_key bytes ∷ [])) → OnOk r (new ≡ document_of (elements ++ speculation_elements speculation))
 speculated elements new speculation message bytes r given same h =
-    subst (λ s. OnOk r (new ≡ document_of (elements ++ speculation_elements s))) (sym given) (subst (λ b. OnOk r (new ≡ document_of (elements ++ document_element (codes "speculativeAuthenticate") b ∷ []))) same h)
+    subst (λ s. OnOk r (new ≡ document_of (elements ++ speculation_elements s))) (sym given) (subst (λ b. OnOk r (new ≡ document_of (elements ++ document_element speculative_authenticate_key b ∷ []))) same h)
 
 regroup : (d : List Element) (a : Element) (m s : List Element) (o : Element) → (((d ++ a ∷ []) ++ m) ++ s) ++ o ∷ [] ≡ d ++ (a ∷ (m ++ (s ++ o ∷ [])))
 regroup d a m s o = append_assoc ((d ++ a ∷ []) ++ m) s (o ∷ []) ∙ append_assoc (d ++ a ∷ []) m (s ++ o ∷ []) ∙ append_assoc d (a ∷ []) (m ++ (s ++ o ∷ []))

@@ -3,6 +3,7 @@ use Rattle.std.proofs.Common.{◌≡◌, ℕ, Bool, true, false, List, codes, by
 use Rattle.std.proofs.lemmas.Bool.{false≢true}
 use Rattle.mongo_bson.proofs.OneAnswer.{one_key}
 use Rattle.mongo_bson.specs.Framed.{body_of}
+use Rattle.mongo_sasl.specs.Keys.{sasl_continue_key, sasl_start_key}
 use Rattle.mongo_serve.specs.declared.request.Hello.{Hello}
 use Rattle.mongo_serve.specs.declared.request.Request.{Request}
 use Rattle.mongo_serve.specs.declared.request.Request.TheVariants.{Hello as Greeting, SaslStart, SaslContinue, Ping, BuildInfo, EndSessions, Other}
@@ -28,8 +29,8 @@ unknown document name other (inr (unnamed, empty)) (inr (inr is)) = unnamed (cod
 
 pub no_greeting : (document : List ℕ) (request : Request) → Says document request → ((hello : Hello) → request ≡ Greeting hello → ⊥) → IsGreeting document → ⊥
 no_greeting document (Greeting hello) says other greeting = other hello refl
-no_greeting document (SaslStart start) says other greeting = otherwise document (codes "saslStart") refl says.named greeting
-no_greeting document (SaslContinue next) says other greeting = otherwise document (codes "saslContinue") refl says.named greeting
+no_greeting document (SaslStart start) says other greeting = otherwise document sasl_start_key refl says.named greeting
+no_greeting document (SaslContinue next) says other greeting = otherwise document sasl_continue_key refl says.named greeting
 no_greeting document Ping says other greeting = otherwise document (codes "ping") refl says greeting
 no_greeting document BuildInfo (inl says) other greeting = otherwise document (codes "buildInfo") refl says greeting
 no_greeting document BuildInfo (inr says) other greeting = otherwise document (codes "buildinfo") refl says greeting

@@ -3,7 +3,9 @@ use Rattle.std.specs.Prelude.{ℕ, ℤ, pos, Bool, true, false, Option, None, So
 use Rattle.std.specs.Int.{to_le_bytes, cast_unsigned, w64}
 use Rattle.mongo_bson.specs.Document.{Element}
 use Rattle.mongo_command.specs.Literal.{text_element, document_element, truth_element, int32_element, document_of}
+use Rattle.mongo_command.specs.Keys.{code_key, code_name_key, errmsg_key, hello_ok_key, ok_key, sasl_supported_mechs_key, speculative_authenticate_key}
 use Rattle.mongo_sasl.specs.Commands.{generic_element}
+use Rattle.mongo_sasl.specs.Keys.{conversation_id_key, done_key, payload_key}
 use Rattle.mongo_serve.specs.declared.reply.Reply.{Reply}
 use Rattle.mongo_serve.specs.declared.reply.Reply.TheVariants.{Hello, Sasl, BuildInfo, Done, Refused}
 use Rattle.mongo_serve.specs.declared.reply.HelloReply.{HelloReply}
@@ -27,7 +29,7 @@ array_element key array = record { kind = 0x04; key = key; value = array }
 
 -- `ok` 1.0
 abbrev pub ok_element : Element
-ok_element = double_element (codes "ok") 0x3FF0000000000000
+ok_element = double_element ok_key 0x3FF0000000000000
 
 -- ---- documents
 
@@ -36,7 +38,7 @@ done_document = document_of (ok_element ∷ [])
 
 -- a command error
 abbrev pub error_document : List ℕ → ℤ → List ℕ → List ℕ
-error_document message code name = document_of (double_element (codes "ok") 0 ∷ text_element (codes "errmsg") message ∷ int32_element (codes "code") code ∷ text_element (codes "codeName") name ∷ [])
+error_document message code name = document_of (double_element ok_key 0 ∷ text_element errmsg_key message ∷ int32_element code_key code ∷ text_element code_name_key name ∷ [])
 
 abbrev pub refusal_document : Refusal → List ℕ
 refusal_document AuthenticationFailed = error_document (codes "Authentication failed.") (pos 18) (codes "AuthenticationFailed")
@@ -45,7 +47,7 @@ refusal_document (CommandNotFound name) = error_document (codes "no such command
 
 -- a message of a login
 abbrev pub sasl_document : SaslReply → List ℕ
-sasl_document message = document_of (int32_element (codes "conversationId") (pos 1) ∷ truth_element (codes "done") message.is_done ∷ generic_element (codes "payload") message.payload ∷ ok_element ∷ [])
+sasl_document message = document_of (int32_element conversation_id_key (pos 1) ∷ truth_element done_key message.is_done ∷ generic_element payload_key message.payload ∷ ok_element ∷ [])
 
 -- the array [7, 0, 0, 0]
 abbrev pub version_document : List ℕ
@@ -66,7 +68,7 @@ build_info_document =
 -- what is said of the server, whoever asks
 abbrev pub description : List Element
 description =
-    truth_element (codes "helloOk") true
+    truth_element hello_ok_key true
     ∷ int32_element (codes "maxBsonObjectSize") (pos 16777216)
     ∷ int32_element (codes "maxMessageSizeBytes") (pos 48000000)
     ∷ int32_element (codes "maxWriteBatchSize") (pos 100000)
@@ -91,11 +93,11 @@ names_document Both = document_of (text_element (codes "0") (codes "SCRAM-SHA-1"
 
 abbrev pub mechanism_elements : Option Mechanisms → List Element
 mechanism_elements None = []
-mechanism_elements (Some mechanisms) = array_element (codes "saslSupportedMechs") (names_document mechanisms) ∷ []
+mechanism_elements (Some mechanisms) = array_element sasl_supported_mechs_key (names_document mechanisms) ∷ []
 
 abbrev pub speculation_elements : Option SaslReply → List Element
 speculation_elements None = []
-speculation_elements (Some message) = document_element (codes "speculativeAuthenticate") (sasl_document message) ∷ []
+speculation_elements (Some message) = document_element speculative_authenticate_key (sasl_document message) ∷ []
 
 abbrev pub hello_elements : HelloReply → List Element
 hello_elements hello = description ++ (truth_element (writable_key hello.is_legacy) true ∷ (mechanism_elements hello.mechanisms ++ (speculation_elements hello.speculation ++ ok_element ∷ [])))

@@ -4,6 +4,7 @@ use Rattle.std.specs.List.{position_or_len, after_first}
 use Rattle.mongo_bson.specs.Framed.{body_of}
 use Rattle.mongo_bson.specs.Document.{Element}
 use Rattle.mongo_bson.specs.Find.{IsFirstOf, BeginsWithKey}
+use Rattle.mongo_command.specs.Keys.{sasl_supported_mechs_key, speculative_authenticate_key}
 use Rattle.mongo_scram.specs.declared.scram_version.ScramVersion.{ScramVersion}
 use Rattle.mongo_serve.specs.Settings.{version_named}
 use Rattle.mongo_serve.specs.Values.{HasInside, HasText, HasTrue, HasOne, Holds}
@@ -12,6 +13,7 @@ use Rattle.mongo_serve.specs.declared.request.Request.TheVariants.{Hello as Gree
 use Rattle.mongo_serve.specs.declared.request.Hello.{Hello}
 use Rattle.mongo_serve.specs.declared.request.SaslStart.{SaslStart}
 use Rattle.mongo_serve.specs.declared.request.SaslContinue.{SaslContinue}
+use Rattle.mongo_sasl.specs.Keys.{conversation_id_key, mechanism_key, options_key, payload_key, sasl_continue_key, sasl_start_key}
 
 -- the document's command
 abbrev pub IsNamed : List ℕ → List ℕ → Type 0
@@ -22,13 +24,13 @@ IsNamed document name = BeginsWithKey (body_of document) name
 -- its `payload`: a binary of these bytes
 pub record HasPayload (document payload : List ℕ) : Type 0 where
   pub element : Element
-  pub first : IsFirstOf (body_of document) (codes "payload") element
+  pub first : IsFirstOf (body_of document) payload_key element
   pub binary : element.kind ≡ 0x05
   pub payload_is : payload ≡ drop 5 element.value
 
 -- a `saslStart` with this message
 pub record IsStart (document payload : List ℕ) : Type 0 where
-  pub named : IsNamed document (codes "saslStart")
+  pub named : IsNamed document sasl_start_key
   pub message : HasPayload document payload
 
 -- hello, by its name or a legacy one
@@ -39,7 +41,7 @@ IsGreeting document = IsNamed document (codes "hello") ⊎ (IsNamed document (co
 pub record IsGreetingStart (document payload : List ℕ) : Type 0 where
   pub greeting : IsGreeting document
   pub inner : List ℕ
-  pub inside : HasInside document (codes "speculativeAuthenticate") inner
+  pub inside : HasInside document speculative_authenticate_key inner
   pub start : IsStart inner payload
 
 -- a login begins with this message
@@ -48,23 +50,23 @@ Opens document payload = IsStart document payload ⊎ IsGreetingStart document p
 
 -- a `saslContinue` with this message
 pub record Continues (document payload : List ℕ) : Type 0 where
-  pub named : IsNamed document (codes "saslContinue")
+  pub named : IsNamed document sasl_continue_key
   pub message : HasPayload document payload
 
 -- ---- what a request is to its document
 
 -- the version of SCRAM that `mechanism` names; none where it names none that is spoken here
 abbrev pub SaysVersion : List ℕ → Option ScramVersion → Type 0
-SaysVersion document None = (name : List ℕ) → HasText document (codes "mechanism") name → version_named name ≡ None
-SaysVersion document (Some version) = (name : List ℕ) × HasText document (codes "mechanism") name × (version_named name ≡ Some version)
+SaysVersion document None = (name : List ℕ) → HasText document mechanism_key name → version_named name ≡ None
+SaysVersion document (Some version) = (name : List ℕ) × HasText document mechanism_key name × (version_named name ≡ Some version)
 
 -- `options` asks for no empty exchange at the end
 abbrev pub SkipsEmptyExchange : List ℕ → Type 0
-SkipsEmptyExchange document = (options : List ℕ) × HasInside document (codes "options") options × HasTrue options (codes "skipEmptyExchange")
+SkipsEmptyExchange document = (options : List ℕ) × HasInside document options_key options × HasTrue options (codes "skipEmptyExchange")
 
 -- a `saslStart`
 pub record SaysStart (document : List ℕ) (start : SaslStart) : Type 0 where
-  pub named : IsNamed document (codes "saslStart")
+  pub named : IsNamed document sasl_start_key
   pub version : SaysVersion document start.version
   pub message : Holds (HasPayload document) start.payload
   pub skips : IsTrue start.skips_empty_exchange ↔ SkipsEmptyExchange document
@@ -72,12 +74,12 @@ pub record SaysStart (document : List ℕ) (start : SaslStart) : Type 0 where
 -- a login that a hello carries
 pub record CarriesStart (document : List ℕ) (start : SaslStart) : Type 0 where
   pub inner : List ℕ
-  pub inside : HasInside document (codes "speculativeAuthenticate") inner
+  pub inside : HasInside document speculative_authenticate_key inner
   pub says : SaysStart inner start
 
 -- the login that a hello carries; none where what it carries is no `saslStart`
 abbrev pub CarriesLogin : List ℕ → Option SaslStart → Type 0
-CarriesLogin document None = (inner : List ℕ) → HasInside document (codes "speculativeAuthenticate") inner → IsNamed inner (codes "saslStart") → ⊥
+CarriesLogin document None = (inner : List ℕ) → HasInside document speculative_authenticate_key inner → IsNamed inner sasl_start_key → ⊥
 CarriesLogin document (Some start) = CarriesStart document start
 
 -- hello by its name, or by a legacy one
@@ -91,7 +93,7 @@ name_without_database user = if position_or_len (λ b. b == 46) user == length u
 
 -- the mechanisms of this user are asked for
 abbrev pub AsksMechanismsOf : List ℕ → List ℕ → Type 0
-AsksMechanismsOf document user = (text : List ℕ) × HasText document (codes "saslSupportedMechs") text × (user ≡ name_without_database text)
+AsksMechanismsOf document user = (text : List ℕ) × HasText document sasl_supported_mechs_key text × (user ≡ name_without_database text)
 
 pub record SaysHello (document : List ℕ) (hello : Hello) : Type 0 where
   pub greeting : IsGreeting document
@@ -101,15 +103,15 @@ pub record SaysHello (document : List ℕ) (hello : Hello) : Type 0 where
 
 -- a `saslContinue`
 pub record SaysContinue (document : List ℕ) (next : SaslContinue) : Type 0 where
-  pub named : IsNamed document (codes "saslContinue")
-  pub conversation : IsTrue next.is_of_conversation ↔ HasOne document (codes "conversationId")
+  pub named : IsNamed document sasl_continue_key
+  pub conversation : IsTrue next.is_of_conversation ↔ HasOne document conversation_id_key
   pub message : Holds (HasPayload document) next.payload
 
 -- the names that are known
 abbrev pub is_known : List ℕ → Bool
 is_known name =
     bytes_eq name (codes "hello") || bytes_eq name (codes "isMaster") || bytes_eq name (codes "ismaster")
-    || bytes_eq name (codes "saslStart") || bytes_eq name (codes "saslContinue") || bytes_eq name (codes "ping")
+    || bytes_eq name sasl_start_key || bytes_eq name sasl_continue_key || bytes_eq name (codes "ping")
     || bytes_eq name (codes "buildInfo") || bytes_eq name (codes "buildinfo") || bytes_eq name (codes "endSessions")
 
 -- the document has no first key

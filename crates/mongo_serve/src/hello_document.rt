@@ -12,6 +12,7 @@ use crate::fault::ServeFault;
 use crate::reply::{HelloReply, Mechanisms, SaslReply};
 use crate::reply_document::{MAX_BSON_OBJECT_SIZE, sasl_document};
 use mongo_bson::{RawDocument, RawDocumentBuf, RawValue};
+use mongo_command::keys::{HELLO_OK, OK, SASL_SUPPORTED_MECHS, SPECULATIVE_AUTHENTICATE};
 use mongo_sasl::document_of;
 use std::alloc::Global;
 
@@ -30,7 +31,7 @@ pub fn hello_document(alloc: Global, hello: &HelloReply) -> Result<RawDocumentBu
     )?;
     put_mechanisms(&mut document, hello.mechanisms)?;
     put_speculation(alloc, &mut document, &hello.speculation)?;
-    put(&mut document, "ok", RawValue::Double(ONE))?;
+    put(&mut document, OK, RawValue::Double(ONE))?;
     Ok(document)
 }
 
@@ -42,7 +43,7 @@ fn description(alloc: Global) -> Result<RawDocumentBuf, ServeFault>
     Ok(document_of(
         alloc,
         &[
-            ("helloOk", RawValue::Bool(true)),
+            (HELLO_OK, RawValue::Bool(true)),
             ("maxBsonObjectSize", RawValue::Int32(MAX_BSON_OBJECT_SIZE)),
             ("maxMessageSizeBytes", RawValue::Int32(48_000_000)),
             ("maxWriteBatchSize", RawValue::Int32(100_000)),
@@ -87,7 +88,7 @@ fn put_mechanisms(
     match mechanisms {
         Some(mechanisms) => {
             let names = RawValue::Array(names_of(mechanisms));
-            put(document, "saslSupportedMechs", names)
+            put(document, SASL_SUPPORTED_MECHS, names)
         }
         None => Ok(()),
     }
@@ -125,7 +126,7 @@ fn put_speculation(
         Some(message) => {
             let message = sasl_document(alloc, message)?;
             let message = RawValue::Document(message.borrow());
-            put(document, "speculativeAuthenticate", message)
+            put(document, SPECULATIVE_AUTHENTICATE, message)
         }
         None => Ok(()),
     }

@@ -9,11 +9,13 @@ use crate::fault::ServeFault;
 use crate::hello_document::hello_document;
 use crate::reply::{Refusal, Reply, SaslReply};
 use mongo_bson::{RawDocument, RawDocumentBuf, RawValue, Text};
+use mongo_command::keys::{CODE, CODE_NAME, ERRMSG, OK};
 use mongo_sasl::document_of;
+use mongo_sasl::keys::{CONVERSATION_ID, DONE, PAYLOAD};
 use std::alloc::Global;
 
 // The number of each conversation: there is one at a time.
-const CONVERSATION_ID: i32 = 1;
+const CONVERSATION: i32 = 1;
 
 // The subtype of a generic binary, BSON 1.1.
 const GENERIC: u8 = 0;
@@ -41,7 +43,7 @@ fn done_document(alloc: Global) -> Result<RawDocumentBuf, ServeFault>
     ensures document { IfOk result (λ document. document ≡ done_document) }
     ensures refused { IfErr result IsOfDocument }
 {
-    Ok(document_of(alloc, &[("ok", RawValue::Double(ONE))])?)
+    Ok(document_of(alloc, &[(OK, RawValue::Double(ONE))])?)
 }
 
 fn refusal_document(alloc: Global, refusal: &Refusal) -> Result<RawDocumentBuf, ServeFault>
@@ -74,10 +76,10 @@ fn error_document<'x>(
     ensures document { IfOk result (λ document. document ≡ error_document message.now code name.now) }
     ensures refused { IfErr result IsOfDocument }
 {
-    let ok = ("ok", RawValue::Double(ZERO));
-    let message = ("errmsg", RawValue::Str(message));
-    let code = ("code", RawValue::Int32(code));
-    let name = ("codeName", RawValue::Str(name));
+    let ok = (OK, RawValue::Double(ZERO));
+    let message = (ERRMSG, RawValue::Str(message));
+    let code = (CODE, RawValue::Int32(code));
+    let name = (CODE_NAME, RawValue::Str(name));
     Ok(document_of(alloc, &[ok, message, code, name])?)
 }
 
@@ -86,11 +88,11 @@ pub fn sasl_document(alloc: Global, message: &SaslReply) -> Result<RawDocumentBu
     ensures document { IfOk result (λ document. document ≡ sasl_document message.now) }
     ensures refused { IfErr result IsOfDocument }
 {
-    let id = ("conversationId", RawValue::Int32(CONVERSATION_ID));
-    let done = ("done", RawValue::Bool(message.is_done));
+    let id = (CONVERSATION_ID, RawValue::Int32(CONVERSATION));
+    let done = (DONE, RawValue::Bool(message.is_done));
     let payload = RawValue::Binary(GENERIC, message.payload.as_bytes());
-    let ok = ("ok", RawValue::Double(ONE));
-    Ok(document_of(alloc, &[id, done, ("payload", payload), ok])?)
+    let ok = (OK, RawValue::Double(ONE));
+    Ok(document_of(alloc, &[id, done, (PAYLOAD, payload), ok])?)
 }
 
 fn build_info_document(alloc: Global) -> Result<RawDocumentBuf, ServeFault>
@@ -101,7 +103,7 @@ fn build_info_document(alloc: Global) -> Result<RawDocumentBuf, ServeFault>
     let git = ("gitVersion", RawValue::Str(""));
     let numbers = ("versionArray", RawValue::Array(version_numbers()));
     let size = ("maxBsonObjectSize", RawValue::Int32(MAX_BSON_OBJECT_SIZE));
-    let ok = ("ok", RawValue::Double(ONE));
+    let ok = (OK, RawValue::Double(ONE));
     Ok(document_of(alloc, &[version, git, numbers, size, ok])?)
 }
 

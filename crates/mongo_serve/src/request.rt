@@ -1,11 +1,14 @@
 //! What a client asks for: a command, by the first key of its document.
 
-ghost use Rattle.std.specs.Prelude.{◌≡◌, ◌↔◌, ℕ, List, codes, MatchOption, IsTrue};
+ghost use Rattle.std.specs.Prelude.{◌≡◌, ◌↔◌, ℕ, List, MatchOption, IsTrue};
+ghost use Rattle.mongo_sasl.specs.Keys.{conversation_id_key, sasl_start_key};
 ghost use Rattle.mongo_serve.specs.Settings.{version_named};
 ghost use Rattle.mongo_serve.specs.Requests.{AsksMechanismsOf, CarriesLogin, HasPayload, IsCommandName, IsNamed, name_without_database, Says, SaysStart, SaysVersion, SkipsEmptyExchange};
 ghost use Rattle.mongo_serve.specs.Values.{binary_of, HasInside, HasOne, HasText, HasTrue, Holds, inner_of, IsOne, IsTruth, StandsAt, string_of};
 
 use mongo_bson::{RawDocument, RawValue, first_key};
+use mongo_command::keys::{SASL_SUPPORTED_MECHS, SPECULATIVE_AUTHENTICATE};
+use mongo_sasl::keys::{CONVERSATION_ID, MECHANISM, OPTIONS, PAYLOAD};
 use mongo_scram::ScramVersion;
 
 /// A command that a client asks for. What is borrowed lies in its document.
@@ -102,7 +105,7 @@ fn hello_of<'a>(document: RawDocument<'a>, is_legacy: bool) -> Hello<'a>
 fn user_asked_of<'a>(document: RawDocument<'a>) -> Option<&'a str>
     ensures { Holds (AsksMechanismsOf document.entry.bytes.now) result }
 {
-    match text_in(document, "saslSupportedMechs") {
+    match text_in(document, SASL_SUPPORTED_MECHS) {
         Some(user) => Some(name_without_database(user)),
         None => None,
     }
@@ -112,7 +115,7 @@ fn user_asked_of<'a>(document: RawDocument<'a>) -> Option<&'a str>
 fn carried_start<'a>(document: RawDocument<'a>) -> Option<SaslStart<'a>>
     ensures { CarriesLogin document.entry.bytes.now result }
 {
-    match document_in(document, "speculativeAuthenticate") {
+    match document_in(document, SPECULATIVE_AUTHENTICATE) {
         Some(inner) => speculation_of(inner),
         None => None,
     }
@@ -120,7 +123,7 @@ fn carried_start<'a>(document: RawDocument<'a>) -> Option<SaslStart<'a>>
 
 // The login that a document begins, where it is a `saslStart`.
 fn speculation_of<'a>(document: RawDocument<'a>) -> Option<SaslStart<'a>>
-    ensures { MatchOption result (IsNamed document.entry.bytes.now (codes "saslStart") → ⊥) (SaysStart document.entry.bytes.now) }
+    ensures { MatchOption result (IsNamed document.entry.bytes.now sasl_start_key → ⊥) (SaysStart document.entry.bytes.now) }
 {
     match command_name(document) {
         "saslStart" => Some(start_of(document)),
@@ -154,7 +157,7 @@ fn start_of<'a>(document: RawDocument<'a>) -> SaslStart<'a>
 fn version_in(document: RawDocument<'_>) -> Option<ScramVersion>
     ensures { SaysVersion document.entry.bytes.now result }
 {
-    match text_in(document, "mechanism") {
+    match text_in(document, MECHANISM) {
         Some(name) => version_named(name),
         None => None,
     }
@@ -164,18 +167,18 @@ fn version_in(document: RawDocument<'_>) -> Option<ScramVersion>
 fn skips_empty_exchange(document: RawDocument<'_>) -> bool
     ensures { IsTrue result ↔ SkipsEmptyExchange document.entry.bytes.now }
 {
-    match document_in(document, "options") {
+    match document_in(document, OPTIONS) {
         Some(options) => is_true_in(options, "skipEmptyExchange"),
         None => false,
     }
 }
 
 fn continue_of<'a>(document: RawDocument<'a>) -> SaslContinue<'a>
-    ensures conversation { IsTrue result.is_of_conversation ↔ HasOne document.entry.bytes.now (codes "conversationId") }
+    ensures conversation { IsTrue result.is_of_conversation ↔ HasOne document.entry.bytes.now conversation_id_key }
     ensures message { Holds (HasPayload document.entry.bytes.now) result.payload }
 {
     SaslContinue {
-        is_of_conversation: is_one_in(document, "conversationId"),
+        is_of_conversation: is_one_in(document, CONVERSATION_ID),
         payload: payload_of(document),
     }
 }
@@ -195,7 +198,7 @@ pub fn version_named(name: &str) -> Option<ScramVersion>
 fn payload_of<'a>(document: RawDocument<'a>) -> Option<&'a [u8]>
     ensures { Holds (HasPayload document.entry.bytes.now) result }
 {
-    match value_in(document, "payload") {
+    match value_in(document, PAYLOAD) {
         Some(value) => binary_of(value),
         None => None,
     }

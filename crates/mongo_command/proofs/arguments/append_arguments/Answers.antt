@@ -1,13 +1,14 @@
-use Rattle.std.proofs.Common.{◌≡◌, List, ℕ, codes, refl, subst, IfErr, OnOk}
+use Rattle.std.proofs.Common.{◌≡◌, List, ℕ, refl, subst, IfErr, OnOk}
 use Rattle.mongo_command.specs.Literal.{text_element}
 use Rattle.mongo_command.specs.Arguments.{TooLongFor}
+use Rattle.mongo_command.specs.Keys.{db_key}
 use Rattle.mongo_command.proofs.CommandDocument.{then_carried}
 use Rattle.mongo_command.proofs.arguments.append_arguments.Goals as goal
 
 pub returns-clause-added : goal.returns-clause-added
 returns-clause-added c =
-    subst (λ (d : List ℕ). OnOk c.append_fields.result (c.append_fields.new.document ≡ d)) (then_carried c.args.document.now c.append.new.self (text_element (codes "$db") c.args.target_db.now) _ _ c.in_ok-append.ensures.framed c.in_ok-append.ensures.added refl) c.append_fields.ensures.added
+    subst (λ (d : List ℕ). OnOk c.append_fields.result (c.append_fields.new.document ≡ d)) (then_carried c.args.document.now c.append.new.self (text_element db_key c.args.target_db.now) _ _ c.in_ok-append.ensures.framed c.in_ok-append.ensures.added refl) c.append_fields.ensures.added
 
 pub returns-clause-refused : goal.returns-clause-refused
 returns-clause-refused c =
-    subst (λ (d : List ℕ). IfErr c.append_fields.result (λ fault. TooLongFor fault d)) (then_carried c.args.document.now c.append.new.self (text_element (codes "$db") c.args.target_db.now) _ _ c.in_ok-append.ensures.framed c.in_ok-append.ensures.added refl) c.append_fields.ensures.refused
+    subst (λ (d : List ℕ). IfErr c.append_fields.result (λ fault. TooLongFor fault d)) (then_carried c.args.document.now c.append.new.self (text_element db_key c.args.target_db.now) _ _ c.in_ok-append.ensures.framed c.in_ok-append.ensures.added refl) c.append_fields.ensures.refused

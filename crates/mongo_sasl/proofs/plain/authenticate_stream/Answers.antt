@@ -1,7 +1,8 @@
-use Rattle.std.proofs.Common.{◌≡◌, ◌⊎◌, option_copied, codes, inl, inr}
+use Rattle.std.proofs.Common.{◌≡◌, ◌⊎◌, option_copied, inl, inr}
 use Rattle.mongo_wire.specs.declared.error.ErrorKind.TheVariants.{OutOfMemory}
 use Rattle.mongo_command.specs.Exchange.{frame_maximum}
 use Rattle.mongo_sasl.specs.Plain.{FinishedRow, plain_handed, plain_body, plain_heard, plain_plan, IsPlainLogin, user_of}
+use Rattle.mongo_sasl.specs.Keys.{sasl_start_key}
 use Rattle.mongo_sasl.proofs.KeptAfter.{kept_after, own_keeps, plain_own, unbuilt_own, finished_own, handed_keeps, row_keeps}
 use Rattle.mongo_sasl.proofs.OneExchange.{exchanged_as, unanswered_as, led, led_handed, completed}
 use Rattle.mongo_sasl.proofs.PlainPlan.{one_plain, plain_ends}
@@ -54,7 +55,7 @@ returns-in_err-exchange_into-clause-refused g c faultless =
     let handed = plain_handed c.args.credential.now (option_copied c.args.server_api) (frame_maximum c.args.connection.now.stream_description) in
     handed_stopped c.from_residual-in_err-exchange_into.result c.in_err-exchange_into.field-0.0 _ _ _ _ _ c.from_residual-in_err-exchange_into.ensures.1
     (let user = user_of c.in_ok-login.login in
-    user_stopped handed user c.in_ok-login.ensures.user _ _ _ _ _ (unanswered_as (codes "saslStart") user.source (plain_body user) handed.server_api handed.maximum c.in_ok-command.command plain_heard _ _ _ _ _ _ c.in_ok-command.ensures.command c.in_err-exchange_into.ensures.counts (c.in_err-exchange_into.ensures.refused faultless)))
+    user_stopped handed user c.in_ok-login.ensures.user _ _ _ _ _ (unanswered_as sasl_start_key user.source (plain_body user) handed.server_api handed.maximum c.in_ok-command.command plain_heard _ _ _ _ _ _ c.in_ok-command.ensures.command c.in_err-exchange_into.ensures.counts (c.in_err-exchange_into.ensures.refused faultless)))
 
 pub returns-in_err-exchange_into-clause-complete : goal.returns-in_err-exchange_into-clause-complete
 returns-in_err-exchange_into-clause-complete g c bytes faultless is has unfailed unwritten =
@@ -75,7 +76,7 @@ returns-clause-accepted g c =
     let handed = plain_handed c.args.credential.now (option_copied c.args.server_api) (frame_maximum c.args.connection.now.stream_description) in
     let user = user_of c.in_ok-login.login in
     plain_reached handed user c.in_ok-login.ensures.user c.finish.result _ _ _ _ _
-    (exchanged_as (codes "saslStart") user.source (plain_body user) handed.server_api handed.maximum c.in_ok-command.command _ _ _ _ _ _ c.in_ok-command.ensures.command c.held_reply.ensures c.in_ok-exchange_into.ensures.exchanged)
+    (exchanged_as sasl_start_key user.source (plain_body user) handed.server_api handed.maximum c.in_ok-command.command _ _ _ _ _ _ c.in_ok-command.ensures.command c.held_reply.ensures c.in_ok-exchange_into.ensures.exchanged)
     c.in_ok-exchange_into.ensures.counts c.finish.ensures.finished
 
 pub returns-clause-refused : goal.returns-clause-refused
@@ -83,7 +84,7 @@ returns-clause-refused g c faultless =
     let handed = plain_handed c.args.credential.now (option_copied c.args.server_api) (frame_maximum c.args.connection.now.stream_description) in
     let user = user_of c.in_ok-login.login in
     plain_refused handed user c.in_ok-login.ensures.user c.finish.result _ _ _ _ _
-    (exchanged_as (codes "saslStart") user.source (plain_body user) handed.server_api handed.maximum c.in_ok-command.command _ _ _ _ _ _ c.in_ok-command.ensures.command c.held_reply.ensures c.in_ok-exchange_into.ensures.exchanged)
+    (exchanged_as sasl_start_key user.source (plain_body user) handed.server_api handed.maximum c.in_ok-command.command _ _ _ _ _ _ c.in_ok-command.ensures.command c.held_reply.ensures c.in_ok-exchange_into.ensures.exchanged)
     c.in_ok-exchange_into.ensures.counts c.finish.ensures.refused
 
 pub returns-clause-complete : goal.returns-clause-complete
@@ -103,7 +104,7 @@ returns-clause-reply g c =
     let handed = plain_handed c.args.credential.now (option_copied c.args.server_api) (frame_maximum c.args.connection.now.stream_description) in
     let user = user_of c.in_ok-login.login in
     plain_replied handed user c.in_ok-login.ensures.user c.finish.result _ _ _ _ _ _ c.held_reply.ensures
-    (exchanged_as (codes "saslStart") user.source (plain_body user) handed.server_api handed.maximum c.in_ok-command.command _ _ _ _ _ _ c.in_ok-command.ensures.command c.held_reply.ensures c.in_ok-exchange_into.ensures.exchanged)
+    (exchanged_as sasl_start_key user.source (plain_body user) handed.server_api handed.maximum c.in_ok-command.command _ _ _ _ _ _ c.in_ok-command.ensures.command c.held_reply.ensures c.in_ok-exchange_into.ensures.exchanged)
     c.in_ok-exchange_into.ensures.counts c.finish.ensures.finished
 
 pub returns-in_err-login-clause-keeps : goal.returns-in_err-login-clause-keeps

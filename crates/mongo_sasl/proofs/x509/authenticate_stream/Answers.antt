@@ -2,6 +2,7 @@ use Rattle.std.proofs.Common.{◌≡◌, ◌⊎◌, option_copied, codes, inl, i
 use Rattle.mongo_wire.specs.declared.error.ErrorKind.TheVariants.{OutOfMemory}
 use Rattle.mongo_command.specs.Exchange.{frame_maximum}
 use Rattle.mongo_sasl.specs.X509.{X509Row, x509_handed, x509_body, x509_heard, x509_plan, IsX509Login}
+use Rattle.mongo_sasl.specs.Keys.{authenticate_key}
 use Rattle.mongo_sasl.proofs.KeptAfter.{kept_after, own_keeps, unbuilt_own, x509_own, handed_keeps, row_keeps}
 use Rattle.mongo_sasl.proofs.OneExchange.{exchanged_as, unanswered_as, led, led_handed, completed}
 use Rattle.mongo_sasl.proofs.Unsent.{handed_stopped, answered_fault, handed_kept}
@@ -33,7 +34,7 @@ pub returns-in_err-exchange_into-clause-refused : goal.returns-in_err-exchange_i
 returns-in_err-exchange_into-clause-refused g c faultless =
     let handed = x509_handed c.args.credential.now (option_copied c.args.server_api) c.args.speculated (frame_maximum c.args.connection.now.stream_description) in
     handed_stopped c.from_residual-in_err-exchange_into.result c.in_err-exchange_into.field-0.0 _ _ _ _ _ c.from_residual-in_err-exchange_into.ensures.1
-    (x509_stopped handed c.if-speculated.false _ _ _ _ _ (unanswered_as (codes "authenticate") (codes "$external") (x509_body handed.credential.username) handed.server_api handed.maximum c.in_ok-command.command x509_heard _ _ _ _ _ _ c.in_ok-command.ensures.command c.in_err-exchange_into.ensures.counts (c.in_err-exchange_into.ensures.refused faultless)))
+    (x509_stopped handed c.if-speculated.false _ _ _ _ _ (unanswered_as authenticate_key (codes "$external") (x509_body handed.credential.username) handed.server_api handed.maximum c.in_ok-command.command x509_heard _ _ _ _ _ _ c.in_ok-command.ensures.command c.in_err-exchange_into.ensures.counts (c.in_err-exchange_into.ensures.refused faultless)))
 
 pub returns-in_err-exchange_into-clause-complete : goal.returns-in_err-exchange_into-clause-complete
 returns-in_err-exchange_into-clause-complete g c bytes faultless is has unfailed unwritten =
@@ -53,14 +54,14 @@ pub returns-clause-accepted : goal.returns-clause-accepted
 returns-clause-accepted g c =
     let handed = x509_handed c.args.credential.now (option_copied c.args.server_api) c.args.speculated (frame_maximum c.args.connection.now.stream_description) in
     x509_reached handed c.if-speculated.false c.take.result _ _ _ _ _
-    (exchanged_as (codes "authenticate") (codes "$external") (x509_body handed.credential.username) handed.server_api handed.maximum c.in_ok-command.command _ _ _ _ _ _ c.in_ok-command.ensures.command c.held_reply.ensures c.in_ok-exchange_into.ensures.exchanged)
+    (exchanged_as authenticate_key (codes "$external") (x509_body handed.credential.username) handed.server_api handed.maximum c.in_ok-command.command _ _ _ _ _ _ c.in_ok-command.ensures.command c.held_reply.ensures c.in_ok-exchange_into.ensures.exchanged)
     c.in_ok-exchange_into.ensures.counts c.take.ensures.taken
 
 pub returns-clause-refused : goal.returns-clause-refused
 returns-clause-refused g c faultless =
     let handed = x509_handed c.args.credential.now (option_copied c.args.server_api) c.args.speculated (frame_maximum c.args.connection.now.stream_description) in
     x509_refused handed c.if-speculated.false c.take.result _ _ _ _ _
-    (exchanged_as (codes "authenticate") (codes "$external") (x509_body handed.credential.username) handed.server_api handed.maximum c.in_ok-command.command _ _ _ _ _ _ c.in_ok-command.ensures.command c.held_reply.ensures c.in_ok-exchange_into.ensures.exchanged)
+    (exchanged_as authenticate_key (codes "$external") (x509_body handed.credential.username) handed.server_api handed.maximum c.in_ok-command.command _ _ _ _ _ _ c.in_ok-command.ensures.command c.held_reply.ensures c.in_ok-exchange_into.ensures.exchanged)
     c.in_ok-exchange_into.ensures.counts c.take.ensures.refused
 
 pub returns-clause-complete : goal.returns-clause-complete
@@ -79,7 +80,7 @@ pub returns-clause-reply : goal.returns-clause-reply
 returns-clause-reply g c later =
     let handed = x509_handed c.args.credential.now (option_copied c.args.server_api) c.args.speculated (frame_maximum c.args.connection.now.stream_description) in
     x509_replied handed c.if-speculated.false c.take.result _ _ _ _ _ _ c.held_reply.ensures
-    (exchanged_as (codes "authenticate") (codes "$external") (x509_body handed.credential.username) handed.server_api handed.maximum c.in_ok-command.command _ _ _ _ _ _ c.in_ok-command.ensures.command c.held_reply.ensures c.in_ok-exchange_into.ensures.exchanged)
+    (exchanged_as authenticate_key (codes "$external") (x509_body handed.credential.username) handed.server_api handed.maximum c.in_ok-command.command _ _ _ _ _ _ c.in_ok-command.ensures.command c.held_reply.ensures c.in_ok-exchange_into.ensures.exchanged)
     c.in_ok-exchange_into.ensures.counts c.take.ensures.taken
 
 pub returns-in_err-command-clause-keeps : goal.returns-in_err-command-clause-keeps

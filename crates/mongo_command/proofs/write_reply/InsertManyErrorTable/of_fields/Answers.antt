@@ -1,7 +1,7 @@
-use Rattle.std.proofs.Common.{codes}
 use Rattle.mongo_command.specs.Field.{field_of}
 use Rattle.mongo_command.specs.Hello.{Labels}
 use Rattle.mongo_command.specs.WriteReply.{IsWriteReplyTable}
+use Rattle.mongo_command.specs.Keys.{error_labels_key}
 use Rattle.mongo_command.proofs.FieldAnswers.{refused, part_fault}
 use Rattle.mongo_command.proofs.write_reply.InsertManyErrorTable.of_fields.Goals as goal
 
@@ -13,5 +13,5 @@ returns-in_err-write_concern_error c = λ es are. refused IsWriteReplyTable es _
 
 pub returns-in_err-labels : goal.returns-in_err-labels
 returns-in_err-labels c = λ es are.
-    let field = field_of (codes "errorLabels") es in
+    let field = field_of error_labels_key es in
     part_fault IsWriteReplyTable Labels es field c.in_err-labels.field-0.0 c.from_residual-in_err-labels.result c.from_residual-in_err-labels.ensures.1 (λ t is. (t.labels, is.labels)) (c.in_err-labels.ensures field (c.value.ensures es are))

@@ -1,0 +1,53 @@
+-- Keys that stand in more than one table, as the protocol spells them.
+use Rattle.std.specs.Prelude.{ℕ, List, codes}
+
+abbrev pub ok_key : List ℕ
+ok_key = codes "ok"
+
+abbrev pub code_key : List ℕ
+code_key = codes "code"
+
+abbrev pub code_name_key : List ℕ
+code_name_key = codes "codeName"
+
+abbrev pub errmsg_key : List ℕ
+errmsg_key = codes "errmsg"
+
+abbrev pub error_labels_key : List ℕ
+error_labels_key = codes "errorLabels"
+
+abbrev pub err_info_key : List ℕ
+err_info_key = codes "errInfo"
+
+abbrev pub n_key : List ℕ
+n_key = codes "n"
+
+abbrev pub cluster_time_key : List ℕ
+cluster_time_key = codes "$clusterTime"
+
+abbrev pub db_key : List ℕ
+db_key = codes "$db"
+
+abbrev pub api_version_key : List ℕ
+api_version_key = codes "apiVersion"
+
+abbrev pub write_concern_key : List ℕ
+write_concern_key = codes "writeConcern"
+
+abbrev pub hello_ok_key : List ℕ
+hello_ok_key = codes "helloOk"
+
+abbrev pub topology_version_key : List ℕ
+topology_version_key = codes "topologyVersion"
+
+abbrev pub process_id_key : List ℕ
+process_id_key = codes "processId"
+
+abbrev pub counter_key : List ℕ
+counter_key = codes "counter"
+
+abbrev pub sasl_supported_mechs_key : List ℕ
+sasl_supported_mechs_key = codes "saslSupportedMechs"
+
+abbrev pub speculative_authenticate_key : List ℕ
+speculative_authenticate_key = codes "speculativeAuthenticate"

@@ -1,0 +1,26 @@
+-- Keys of the commands of a login and of their replies, as the authentication specification spells them.
+use Rattle.std.specs.Prelude.{ℕ, List, codes}
+
+abbrev pub sasl_start_key : List ℕ
+sasl_start_key = codes "saslStart"
+
+abbrev pub sasl_continue_key : List ℕ
+sasl_continue_key = codes "saslContinue"
+
+abbrev pub authenticate_key : List ℕ
+authenticate_key = codes "authenticate"
+
+abbrev pub mechanism_key : List ℕ
+mechanism_key = codes "mechanism"
+
+abbrev pub payload_key : List ℕ
+payload_key = codes "payload"
+
+abbrev pub options_key : List ℕ
+options_key = codes "options"
+
+abbrev pub conversation_id_key : List ℕ
+conversation_id_key = codes "conversationId"
+
+abbrev pub done_key : List ℕ
+done_key = codes "done"
