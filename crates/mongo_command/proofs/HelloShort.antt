@@ -31,8 +31,8 @@ short_hello true hello_ok None short = omega (arith, length-document_of (named_e
 short_hello true hello_ok (Some options) short = omega (arith, length-document_of (named_elements true hello_ok (Some options)))
 short_hello false None None short = omega (arith, length-document_of (named_elements false None None))
 short_hello false None (Some options) short = omega (arith, length-document_of (named_elements false None (Some options)))
-short_hello false (Some truth) None short = omega (arith, length-document_of (named_elements false (Some truth) None))
-short_hello false (Some truth) (Some options) short = omega (arith, length-document_of (named_elements false (Some truth) (Some options)))
+short_hello false (Some boolean) None short = omega (arith, length-document_of (named_elements false (Some boolean) None))
+short_hello false (Some boolean) (Some options) short = omega (arith, length-document_of (named_elements false (Some boolean) (Some options)))
 
 -- fields that are put into an empty document are the whole
 pub first_fields : (old new : List ℕ) (fields elements : List Element) → fields ≡ elements → old ≡ enclosed [] → new ≡ enclosed (body_of old ++ flat_map spell fields) → new ≡ document_of elements

@@ -31,8 +31,8 @@ Optional Reads (Some e) (Some value) = (e.kind ≢ 0x0A) × Reads e value
 abbrev pub whole_number : Element → Option ℤ
 whole_number e = if e.kind == 0x10 then Some (cast_signed w32 (from_le_bytes w32 e.value)) else if e.kind == 0x12 then Some (cast_signed w64 (from_le_bytes w64 e.value)) else None
 
-abbrev pub ReadsTruth : Element → Bool → Type 0
-ReadsTruth e truth = (e.kind ≡ 0x08) × (e.value ≡ from_bool truth ∷ [])
+abbrev pub ReadsBoolean : Element → Bool → Type 0
+ReadsBoolean e boolean = (e.kind ≡ 0x08) × (e.value ≡ from_bool boolean ∷ [])
 
 abbrev pub ReadsText : Element → List ℕ → Type 0
 ReadsText e text = (e.kind ≡ 0x02) × (text ≡ text_of e.value)

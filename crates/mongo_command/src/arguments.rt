@@ -2,7 +2,7 @@ ghost use Rattle.std.specs.Prelude.{◌≡◌, ◌++◌, ◌∷◌, flat_map, Co
 ghost use Rattle.std.specs.List.{AllByRecursion};
 ghost use Rattle.mongo_bson.specs.Framed.{IsFramed, body_of, enclosed};
 ghost use Rattle.mongo_bson.specs.Document.{spell};
-ghost use Rattle.mongo_command.specs.Literal.{text_element, document_element, int64_element, truth_element};
+ghost use Rattle.mongo_command.specs.Literal.{text_element, document_element, int64_element, boolean_element};
 ghost use Rattle.mongo_command.specs.ServerApi.{version_text};
 ghost use Rattle.mongo_command.specs.Command.{given, timestamp_element, sent_concern};
 ghost use Rattle.mongo_command.specs.Arguments.{field_elements, IsNamed, TooLongFor};
@@ -144,14 +144,14 @@ pub(crate) fn document_field<'a>(
     }
 }
 
-// A truth value.
-pub(crate) fn truth_field(key: &'static str, truth: Option<bool>) -> ArgumentField<'static>
+// A boolean.
+pub(crate) fn boolean_field(key: &'static str, boolean: Option<bool>) -> ArgumentField<'static>
     requires { ¬ Contains key.now 0 }
-    ensures elements { field_elements result ≡ given (truth_element key.now) truth }
+    ensures elements { field_elements result ≡ given (boolean_element key.now) boolean }
     ensures named { IsNamed result }
 {
-    match truth {
-        Some(truth) => Some((key, RawValue::Bool(truth))),
+    match boolean {
+        Some(boolean) => Some((key, RawValue::Bool(boolean))),
         None => None,
     }
 }

@@ -7,8 +7,8 @@ ghost use Rattle.mongo_command.specs.Arguments.{field_elements, IsNamed, TooLong
 
 use crate::ServerApi;
 use crate::arguments::{
-    ArgumentField, append_arguments, copy_with_room, document_field, int64_field, size_of_field,
-    size_of_fields, truth_field, version_field, write_concern_field,
+    ArgumentField, append_arguments, boolean_field, copy_with_room, document_field, int64_field,
+    size_of_field, size_of_fields, version_field, write_concern_field,
 };
 use crate::keys::{CLUSTER_TIME, DB};
 use crate::read_concern::ReadConcern;
@@ -91,15 +91,15 @@ impl GenericArguments {
             document_field("lsid", &self.lsid),
             document_field(CLUSTER_TIME, &self.cluster_time),
             version_field(self.server_api),
-            truth_field("apiStrict", strict_of(self.server_api)),
-            truth_field(
+            boolean_field("apiStrict", strict_of(self.server_api)),
+            boolean_field(
                 "apiDeprecationErrors",
                 deprecation_errors_of(self.server_api),
             ),
             document_field("$readPreference", &self.read_preference),
             int64_field("txnNumber", self.txn_number),
-            truth_field("startTransaction", self.start_transaction),
-            truth_field("autocommit", self.autocommit),
+            boolean_field("startTransaction", self.start_transaction),
+            boolean_field("autocommit", self.autocommit),
             document_field("readConcern", read_concern),
             write_concern_field(&self.write_concern),
             document_field("recoveryToken", &self.recovery_token),

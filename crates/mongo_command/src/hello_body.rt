@@ -4,7 +4,7 @@ ghost use Rattle.mongo_command.specs.Literal.{document_of};
 ghost use Rattle.mongo_command.specs.Arguments.{field_elements, IsNamed};
 ghost use Rattle.mongo_command.specs.HelloCommand.{hello_name, asked_hello_ok, topology_version_elements, topology_version_document, await_time, named_elements};
 
-use crate::arguments::{ArgumentField, append_fields, document_field, int64_field, truth_field};
+use crate::arguments::{ArgumentField, append_fields, boolean_field, document_field, int64_field};
 use crate::keys::{COUNTER, HELLO_OK, PROCESS_ID, TOPOLOGY_VERSION};
 use crate::{AwaitableHelloOptions, LEGACY_HELLO_COMMAND_NAME, TopologyVersion};
 use mongo_bson::{BsonFault, RawDocumentBuf, RawValue};
@@ -63,7 +63,7 @@ fn hello_fields<'a>(
 {
     [
         Some((hello_name(modern), RawValue::Int32(1))),
-        truth_field(HELLO_OK, asked_hello_ok(modern, hello_ok)),
+        boolean_field(HELLO_OK, asked_hello_ok(modern, hello_ok)),
         Some(("backpressure", RawValue::Str("2"))),
         document_field(TOPOLOGY_VERSION, topology_version),
         int64_field("maxAwaitTimeMS", await_time(awaitable)),

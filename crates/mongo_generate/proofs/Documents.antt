@@ -12,7 +12,7 @@ use Rattle.mongo_bson.specs.Framed.{IsFramed}
 use Rattle.mongo_bson.specs.declared.raw_value.RawValue.TheVariants.{Str, Binary, Bool as Boolean, Int32}
 use Rattle.mongo_bson.proofs.Enclosed.{length-enclosed, body_of-enclosed, framed-enclosed}
 use Rattle.mongo_bson.proofs.ReadBack.{written_element}
-use Rattle.mongo_command.specs.Literal.{text_element, document_element, truth_element, int32_element, document_of}
+use Rattle.mongo_command.specs.Literal.{text_element, document_element, boolean_element, int32_element, document_of}
 use Rattle.mongo_sasl.specs.Commands.{generic_element}
 
 -- ---- keys
@@ -62,8 +62,8 @@ text_is_element key text name utf8 short = written_element key (Str (record { re
 pub number_is_element : (key : List ℕ) (number : ℤ) → IsCstring key → FitsSigned w32 number → IsElement (int32_element key number)
 number_is_element key number name fits = written_element key (Int32 number) name fits
 
-pub truth_is_element : (key : List ℕ) (truth : Bool) → IsCstring key → IsElement (truth_element key truth)
-truth_is_element key truth name = written_element key (Boolean truth) name tt
+pub boolean_is_element : (key : List ℕ) (boolean : Bool) → IsCstring key → IsElement (boolean_element key boolean)
+boolean_is_element key boolean name = written_element key (Boolean boolean) name tt
 
 pub binary_is_element : (key bytes : List ℕ) → IsCstring key → length bytes < 2 ^ 31 → IsElement (generic_element key bytes)
 binary_is_element key bytes name short = written_element key (Binary 0 (record { ref_ptr = (0, 0); now = bytes })) name short

@@ -6,7 +6,7 @@ use Rattle.mongo_bson.specs.Document.{Element, Shape, fixed, boolean, binary, do
 use Rattle.mongo_bson.specs.declared.owned_value.OwnedValue.{OwnedValue}
 use Rattle.mongo_bson.specs.declared.raw_value.RawValue.TheVariants.{Double}
 use Rattle.mongo_bson.proofs.ReadBack.{written_element}
-use Rattle.mongo_command.specs.Literal.{document_element, truth_element, int32_element, document_of}
+use Rattle.mongo_command.specs.Literal.{document_element, boolean_element, int32_element, document_of}
 use Rattle.mongo_command.specs.declared.hello.HelloCommandResponse.{HelloCommandResponse}
 use Rattle.mongo_command.specs.Field.{Required, Optional}
 use Rattle.mongo_command.specs.Hello.{IsHelloResponse}
@@ -15,7 +15,7 @@ use Rattle.mongo_sasl.specs.Commands.{generic_element}
 use Rattle.mongo_sasl.specs.Reply.{IsSaslReply}
 use Rattle.mongo_sasl.specs.Keys.{conversation_id_key, done_key, payload_key}
 use Rattle.mongo_generate.specs.Replies.{ok_element, round_elements, speculative_elements, hello_elements, final_elements, hello_reply, final_reply}
-use Rattle.mongo_generate.proofs.Documents.{cstring, apart, number_is_element, truth_is_element, binary_is_element, document_is_element, length-document_of, document_of-is, framed_document_of, IsFlat, flat_readable}
+use Rattle.mongo_generate.proofs.Documents.{cstring, apart, number_is_element, boolean_is_element, binary_is_element, document_is_element, length-document_of, document_of-is, framed_document_of, IsFlat, flat_readable}
 
 -- ---- what no document is inside of
 
@@ -50,10 +50,10 @@ one_fits = omega arith
 
 round_are : (done : Bool) (payload : List ℕ) → length payload < 2 ^ 31 → AllByRecursion IsElement (round_elements done payload)
 round_are done payload short =
-    (number_is_element conversation_id_key (pos 1) conversation_is_cstring one_fits, (truth_is_element done_key done done_is_cstring, (binary_is_element payload_key payload payload_is_cstring short, tt)))
+    (number_is_element conversation_id_key (pos 1) conversation_is_cstring one_fits, (boolean_is_element done_key done done_is_cstring, (binary_is_element payload_key payload payload_is_cstring short, tt)))
 
 round_flat : (done : Bool) (payload : List ℕ) → AllByRecursion IsFlat (round_elements done payload)
-round_flat done payload = (flat (int32_element conversation_id_key (pos 1)) (fixed 4) refl (not_fixed 4) (λ is. absurd (omega arith)), (flat (truth_element done_key done) boolean refl not_boolean (λ is. absurd (omega arith)), (flat (generic_element payload_key payload) binary refl not_binary (λ is. absurd (omega arith)), tt)))
+round_flat done payload = (flat (int32_element conversation_id_key (pos 1)) (fixed 4) refl (not_fixed 4) (λ is. absurd (omega arith)), (flat (boolean_element done_key done) boolean refl not_boolean (λ is. absurd (omega arith)), (flat (generic_element payload_key payload) binary refl not_binary (λ is. absurd (omega arith)), tt)))
 
 round_distinct : (done : Bool) (payload : List ℕ) → HasDistinctKeys (round_elements done payload)
 round_distinct done payload = ((apart done_key conversation_id_key refl, (apart payload_key conversation_id_key refl, tt)), ((apart payload_key done_key refl, tt), (tt, tt)))

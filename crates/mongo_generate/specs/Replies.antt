@@ -3,7 +3,7 @@
 use Rattle.std.specs.Prelude.{◌≡◌, ℕ, ℤ, pos, ◌≤ℤ◌, Bool, true, false, List, [], ◌∷◌, ◌++◌, length, codes}
 use Rattle.std.specs.Int.{to_le_bytes, w64}
 use Rattle.mongo_bson.specs.Document.{Element}
-use Rattle.mongo_command.specs.Literal.{document_element, truth_element, int32_element, document_of}
+use Rattle.mongo_command.specs.Literal.{document_element, boolean_element, int32_element, document_of}
 use Rattle.mongo_command.specs.Keys.{ok_key, speculative_authenticate_key}
 use Rattle.mongo_sasl.specs.Commands.{generic_element}
 use Rattle.mongo_sasl.specs.Keys.{conversation_id_key, done_key, payload_key}
@@ -21,7 +21,7 @@ server_maximum = pos 48000000
 
 -- what a round of a conversation says
 abbrev pub round_elements : Bool → List ℕ → List Element
-round_elements done payload = int32_element conversation_id_key (pos 1) ∷ truth_element done_key done ∷ generic_element payload_key payload ∷ []
+round_elements done payload = int32_element conversation_id_key (pos 1) ∷ boolean_element done_key done ∷ generic_element payload_key payload ∷ []
 
 abbrev pub speculative_elements : List ℕ → List Element
 speculative_elements server_first = round_elements false server_first

@@ -8,10 +8,10 @@ use Rattle.mongo_wire.specs.declared.auth_fault.AuthFault.{AuthFault}
 use Rattle.mongo_wire.specs.declared.auth_fault.AuthFault.TheVariants.{Malformed, Refused}
 use Rattle.mongo_wire.specs.declared.error.ErrorKind.{ErrorKind}
 use Rattle.mongo_wire.specs.declared.error.ErrorKind.TheVariants.{Authentication}
-use Rattle.mongo_command.specs.Field.{field_of, Required, ReadsTruth}
+use Rattle.mongo_command.specs.Field.{field_of, Required, ReadsBoolean}
 use Rattle.mongo_command.specs.Conversation.{IsOne, HasNone}
 use Rattle.mongo_command.specs.Keys.{errmsg_key, ok_key}
-use Rattle.mongo_command.proofs.OneField.{truth_one}
+use Rattle.mongo_command.proofs.OneField.{boolean_one}
 use Rattle.mongo_sasl.specs.declared.sasl_response.SaslResponse.{SaslResponse}
 use Rattle.mongo_sasl.specs.Reply.{Succeeded, IsRefusal, failure_text, ReadsValue, ReadsGeneric, IsSaslTable, IsSaslReply, IsSaslFailure, IsSaslMalformed, AuthRow, SaslRow}
 use Rattle.mongo_sasl.specs.Keys.{conversation_id_key, done_key, payload_key}
@@ -37,7 +37,7 @@ one_table : (elements : List Element) (a b : SaslResponse) → IsSaslTable eleme
 unfolding made
 one_table elements a b p q =
     let ids = one_required ReadsValue one_value (field_of conversation_id_key elements) a.conversation_id b.conversation_id p.conversation_id q.conversation_id in
-    let dones = one_required ReadsTruth truth_one.one (field_of done_key elements) a.done b.done p.done q.done in
+    let dones = one_required ReadsBoolean boolean_one.one (field_of done_key elements) a.done b.done p.done q.done in
     let payloads = one_required ReadsGeneric one_generic (field_of payload_key elements) a.payload b.payload p.payload q.payload in
     ap (λ id. made id a.done a.payload) ids ∙ ap (λ done. made b.conversation_id done a.payload) dones ∙ ap (λ payload. made b.conversation_id b.done payload) payloads
 

@@ -12,7 +12,7 @@ use Rattle.mongo_bson.specs.declared.owned_value.OwnedValue.{OwnedValue}
 use Rattle.mongo_wire.specs.declared.error.ErrorKind.{ErrorKind}
 use Rattle.mongo_wire.specs.declared.error.ErrorKind.TheVariants.{InvalidArgument, OutOfMemory}
 use Rattle.mongo_wire.specs.declared.fault.ArgumentFault.TheVariants.{Bson}
-use Rattle.mongo_command.specs.Literal.{text_element, int32_element, truth_element, document_element, document_of}
+use Rattle.mongo_command.specs.Literal.{text_element, int32_element, boolean_element, document_element, document_of}
 use Rattle.mongo_sasl.specs.declared.mechanism.AuthMechanism.{AuthMechanism}
 use Rattle.mongo_sasl.specs.declared.mechanism.AuthMechanism.TheVariants.{ScramSha1, ScramSha256}
 use Rattle.mongo_sasl.specs.Mechanism.{name_of}
@@ -30,7 +30,7 @@ value_element key value = record { kind = value.kind; key = key; value = value.b
 
 -- SCRAM ends with the server's last message, with no empty exchange after it
 abbrev pub skip_empty_exchange : List ℕ
-skip_empty_exchange = document_of (truth_element (codes "skipEmptyExchange") true ∷ [])
+skip_empty_exchange = document_of (boolean_element (codes "skipEmptyExchange") true ∷ [])
 
 abbrev pub options_of : AuthMechanism → List Element
 options_of ScramSha1 = document_element options_key skip_empty_exchange ∷ []

@@ -8,7 +8,7 @@ use Rattle.mongo_wire.specs.declared.auth_fault.AuthFault.{AuthFault}
 use Rattle.mongo_wire.specs.declared.auth_fault.AuthFault.TheVariants.{Malformed, Refused}
 use Rattle.mongo_wire.specs.declared.error.ErrorKind.{ErrorKind}
 use Rattle.mongo_wire.specs.declared.error.ErrorKind.TheVariants.{Authentication, OutOfMemory}
-use Rattle.mongo_command.specs.Field.{field_of, Required, ReadsTruth}
+use Rattle.mongo_command.specs.Field.{field_of, Required, ReadsBoolean}
 use Rattle.mongo_command.specs.Keys.{errmsg_key, ok_key}
 use Rattle.mongo_sasl.specs.declared.sasl_response.SaslResponse.{SaslResponse}
 use Rattle.mongo_sasl.specs.Keys.{conversation_id_key, done_key, payload_key}
@@ -42,7 +42,7 @@ ReadsGeneric e bytes = (e.kind ≡ 0x05) × (slice_index e.value 4 ≡ 0) × (by
 
 pub record IsSaslTable (elements : List Element) (sasl : SaslResponse) : Type 0 where
   pub conversation_id : Required ReadsValue (field_of conversation_id_key elements) sasl.conversation_id
-  pub done : Required ReadsTruth (field_of done_key elements) sasl.done
+  pub done : Required ReadsBoolean (field_of done_key elements) sasl.done
   pub payload : Required ReadsGeneric (field_of payload_key elements) sasl.payload
 
 -- ---- the reply

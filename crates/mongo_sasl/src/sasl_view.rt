@@ -40,7 +40,7 @@ impl<'b> SaslView<'b> {
     /// - `Malformed` where the document isn't well formed.
     /// - `Refused` where `ok` is there and is a number other than 1, with the text `errmsg`, or `Authentication failure`
     ///   where that is no text. A reply without `ok` succeeded.
-    /// - `Malformed` where `ok` is no whole number; where `conversationId` is absent, `done` is no truth value or
+    /// - `Malformed` where `ok` is no whole number; where `conversationId` is absent, `done` is no boolean or
     ///   `payload` is no binary of the generic subtype.
     pub fn parse(alloc: Global, response: RawDocument<'b>) -> Result<SaslView<'b>, Error>
         ensures read { IfOk result (λ view. IsSaslReply response.entry.bytes.now (response_of view)) }

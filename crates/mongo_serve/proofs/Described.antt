@@ -3,7 +3,7 @@ use Rattle.std.proofs.Common.{◌≡◌, ℕ, ℤ, true, Option, Some, Result, O
 use Rattle.std.specs.Prelude.{⊤}
 use Rattle.std.specs.Io.KnownBytes.{Appends}
 use Rattle.mongo_bson.specs.Document.{Element}
-use Rattle.mongo_command.specs.Literal.{truth_element, document_element, document_of}
+use Rattle.mongo_command.specs.Literal.{boolean_element, document_element, document_of}
 use Rattle.mongo_command.specs.Keys.{speculative_authenticate_key}
 use Rattle.mongo_wire.specs.Bytes.{next_id}
 use Rattle.mongo_wire.specs.Outside.{State, AppendsFront, IsFlushed}
@@ -23,11 +23,11 @@ regroup : (d : List Element) (a : Element) (m s : List Element) (o : Element) �
 regroup d a m s o = append_assoc ((d ++ a ∷ []) ++ m) s (o ∷ []) ∙ append_assoc (d ++ a ∷ []) m (s ++ o ∷ []) ∙ append_assoc d (a ∷ []) (m ++ (s ++ o ∷ []))
 
 pub hello_described : (hello : HelloReply) (key : List ℕ) → key ≡ writable_key hello.is_legacy
-    → document_of ((((description ++ truth_element key true ∷ []) ++ mechanism_elements hello.mechanisms) ++ speculation_elements hello.speculation) ++ ok_element ∷ []) ≡ document_of (hello_elements hello)
+    → document_of ((((description ++ boolean_element key true ∷ []) ++ mechanism_elements hello.mechanisms) ++ speculation_elements hello.speculation) ++ ok_element ∷ []) ≡ document_of (hello_elements hello)
 hello_described hello key named =
     let m = mechanism_elements hello.mechanisms in
     let s = speculation_elements hello.speculation in
-    ap document_of (regroup description (truth_element key true) m s ok_element ∙ ap (λ k. description ++ (truth_element k true ∷ (m ++ (s ++ ok_element ∷ [])))) named)
+    ap document_of (regroup description (boolean_element key true) m s ok_element ∙ ap (λ k. description ++ (boolean_element k true ∷ (m ++ (s ++ ok_element ∷ [])))) named)
 
 -- the ids of a reply's frame, which are spelled in two ways
 pub query_numbered : (frame document : List ℕ) (i id t to : ℤ) → frame ≡ query_reply i t document → i ≡ id → t ≡ to → frame ≡ query_reply id to document

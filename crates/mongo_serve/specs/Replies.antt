@@ -2,7 +2,7 @@
 use Rattle.std.specs.Prelude.{ℕ, ℤ, pos, Bool, true, false, Option, None, Some, List, [], ◌∷◌, ◌++◌, codes, if◌then◌else◌}
 use Rattle.std.specs.Int.{to_le_bytes, cast_unsigned, w64}
 use Rattle.mongo_bson.specs.Document.{Element}
-use Rattle.mongo_command.specs.Literal.{text_element, document_element, truth_element, int32_element, document_of}
+use Rattle.mongo_command.specs.Literal.{text_element, document_element, boolean_element, int32_element, document_of}
 use Rattle.mongo_command.specs.Keys.{code_key, code_name_key, errmsg_key, hello_ok_key, ok_key, sasl_supported_mechs_key, speculative_authenticate_key}
 use Rattle.mongo_sasl.specs.Commands.{generic_element}
 use Rattle.mongo_sasl.specs.Keys.{conversation_id_key, done_key, payload_key}
@@ -47,7 +47,7 @@ refusal_document (CommandNotFound name) = error_document (codes "no such command
 
 -- a message of a login
 abbrev pub sasl_document : SaslReply → List ℕ
-sasl_document message = document_of (int32_element conversation_id_key (pos 1) ∷ truth_element done_key message.is_done ∷ generic_element payload_key message.payload ∷ ok_element ∷ [])
+sasl_document message = document_of (int32_element conversation_id_key (pos 1) ∷ boolean_element done_key message.is_done ∷ generic_element payload_key message.payload ∷ ok_element ∷ [])
 
 -- the array [7, 0, 0, 0]
 abbrev pub version_document : List ℕ
@@ -68,7 +68,7 @@ build_info_document =
 -- what is said of the server, whoever asks
 abbrev pub description : List Element
 description =
-    truth_element hello_ok_key true
+    boolean_element hello_ok_key true
     ∷ int32_element (codes "maxBsonObjectSize") (pos 16777216)
     ∷ int32_element (codes "maxMessageSizeBytes") (pos 48000000)
     ∷ int32_element (codes "maxWriteBatchSize") (pos 100000)
@@ -77,7 +77,7 @@ description =
     ∷ int32_element (codes "connectionId") (pos 1)
     ∷ int32_element (codes "minWireVersion") (pos 0)
     ∷ int32_element (codes "maxWireVersion") (pos 21)
-    ∷ truth_element (codes "readOnly") false
+    ∷ boolean_element (codes "readOnly") false
     ∷ []
 
 -- the key that says that writes are taken
@@ -100,7 +100,7 @@ speculation_elements None = []
 speculation_elements (Some message) = document_element speculative_authenticate_key (sasl_document message) ∷ []
 
 abbrev pub hello_elements : HelloReply → List Element
-hello_elements hello = description ++ (truth_element (writable_key hello.is_legacy) true ∷ (mechanism_elements hello.mechanisms ++ (speculation_elements hello.speculation ++ ok_element ∷ [])))
+hello_elements hello = description ++ (boolean_element (writable_key hello.is_legacy) true ∷ (mechanism_elements hello.mechanisms ++ (speculation_elements hello.speculation ++ ok_element ∷ [])))
 
 -- ---- the document of a reply
 

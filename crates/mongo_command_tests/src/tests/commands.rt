@@ -120,7 +120,7 @@ const AWAITED: AwaitableHelloOptions = AwaitableHelloOptions {
 };
 
 // Whether a word is true or false, or none.
-fn truth(word: &str) -> Option<bool> {
+fn boolean(word: &str) -> Option<bool> {
     match word {
         "true" => Some(true),
         "false" => Some(false),
@@ -132,8 +132,8 @@ fn truth(word: &str) -> Option<bool> {
 // server API is given or the hello waits.
 fn hello(alloc: Global, words: &str) -> Result<Command, Error> {
     let mut words = words.split_whitespace();
-    let load_balanced = truth(words.next().unwrap_or(""));
-    let hello_ok = truth(words.next().unwrap_or(""));
+    let load_balanced = boolean(words.next().unwrap_or(""));
+    let hello_ok = boolean(words.next().unwrap_or(""));
     let (api, awaited) = match words.next() {
         Some("api") => (Some(SERVER_API), None),
         Some("await") => (None, Some(AWAITED)),

@@ -1,4 +1,4 @@
-use Rattle.mongo_command.specs.Field.{field_of, ReadsTruth}
+use Rattle.mongo_command.specs.Field.{field_of, ReadsBoolean}
 use Rattle.mongo_command.proofs.FieldAnswers.{required_refused}
 use Rattle.mongo_sasl.specs.Reply.{ReadsValue, ReadsGeneric, IsSaslTable}
 use Rattle.mongo_sasl.specs.View.{read_as, response_of}
@@ -12,7 +12,7 @@ returns-in_err-conversation_kind c = λ es is are.
 
 pub returns-in_err-done : goal.returns-in_err-done
 returns-in_err-done c = λ es is are.
-    required_refused IsSaslTable es ReadsTruth (field_of done_key es) _ (read_as response_of c.from_residual-in_err-done.result) (as_err response_of c.from_residual-in_err-done.result _ c.from_residual-in_err-done.ensures.1) (λ t table. (t.done, table.done)) (c.in_err-done.ensures es are)
+    required_refused IsSaslTable es ReadsBoolean (field_of done_key es) _ (read_as response_of c.from_residual-in_err-done.result) (as_err response_of c.from_residual-in_err-done.result _ c.from_residual-in_err-done.ensures.1) (λ t table. (t.done, table.done)) (c.in_err-done.ensures es are)
 
 pub returns-in_err-payload : goal.returns-in_err-payload
 returns-in_err-payload c = λ es is are.
