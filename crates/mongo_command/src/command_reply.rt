@@ -50,8 +50,8 @@ fn failure_of(alloc: Global, fields: &Fields<'_>) -> Option<Error>
     }
 }
 
-// Whether `ok` is there and is 1.
-pub(crate) fn is_success(fields: &Fields<'_>) -> bool
+/// Whether the fields are those of a command that succeeded: `ok` is there and is 1 as [`get_int_raw`] reads it.
+pub fn is_success(fields: &Fields<'_>) -> bool
     ensures { (elements : List Element) → AreFields elements fields.now → IsTrue result ↔ IsSuccess (field_of ok_key elements) }
 {
     match fields.value(OK) {

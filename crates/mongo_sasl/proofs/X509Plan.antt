@@ -5,17 +5,18 @@ use Rattle.mongo_wire.specs.declared.auth_fault.AuthFault.TheVariants.{Malformed
 use Rattle.mongo_wire.specs.declared.error.ErrorKind.TheVariants.{Authentication}
 use Rattle.mongo_command.specs.Conversation.{Event, exchanged, ends, IsOne, HasNone, HasOneTurn}
 use Rattle.mongo_command.specs.Field.{field_of}
-use Rattle.mongo_command.specs.Keys.{ok_key}
 use Rattle.mongo_command.proofs.Ends.{Ends, ends_ending, ends_unless, ends_reading, ends_saying}
 use Rattle.mongo_command.proofs.Plans.{one_ending, one_unless, one_reading, one_saying}
-use Rattle.mongo_sasl.specs.X509.{SaysOk, Takes, IsTaken, IsFailed, X509Row, X509Handed, x509_said, x509_heard, x509_plan_from, x509_plan, IsAnsweredX509, IsX509LoginFrom, IsX509Login}
+use Rattle.mongo_sasl.specs.X509.{Takes, IsTaken, IsFailed, X509Row, X509Handed, x509_said, x509_heard, x509_plan_from, x509_plan, IsAnsweredX509, IsX509LoginFrom, IsX509Login}
 use Rattle.mongo_sasl.proofs.LoginEvents.{replies_in, documents_in, AreWithin, LoginEnd, EndsBy}
 use Rattle.mongo_sasl.proofs.OneReply.{same_elements}
+use Rattle.mongo_command.specs.Hello.{IsSuccess}
+use Rattle.mongo_command.specs.Keys.{ok_key}
 
 -- ---- the reply
 
 not_failed : (reply : List ℕ) (elements : List Element) → Takes reply elements → IsFailed reply → ⊥
-not_failed reply elements taken failed = failed.failed (subst (λ es. SaysOk (field_of ok_key es)) (same_elements reply elements failed.elements taken.well_formed failed.well_formed) taken.ok)
+not_failed reply elements taken failed = failed.failed (subst (λ es. IsSuccess (field_of ok_key es)) (same_elements reply elements failed.elements taken.well_formed failed.well_formed) taken.ok)
 
 pub taken_no_row : (reply : List ℕ) (elements : List Element) → Takes reply elements → HasNone (X509Row reply)
 taken_no_row reply elements taken (Authentication Malformed) row = row elements taken.well_formed

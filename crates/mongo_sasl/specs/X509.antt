@@ -2,7 +2,6 @@
 -- server to take it.
 use Rattle.std.specs.Prelude.{◌≡◌, ℕ, ℤ, pos, Bool, true, false, Option, None, Some, List, [], ◌∷◌, codes}
 use Rattle.mongo_bson.specs.Document.{Element, IsWellFormed}
-use Rattle.mongo_bson.specs.Number.{int_of_kind}
 use Rattle.mongo_wire.specs.declared.error.ErrorKind.{ErrorKind}
 use Rattle.mongo_wire.specs.declared.error.ErrorKind.TheVariants.{Authentication}
 use Rattle.mongo_wire.specs.declared.auth_fault.AuthFault.TheVariants.{Malformed, X509Failed}
@@ -12,6 +11,7 @@ use Rattle.mongo_command.specs.declared.server_api.ServerApi.{ServerApi}
 use Rattle.mongo_command.specs.Command.{given, command_of, command_document}
 use Rattle.mongo_command.specs.Conversation.{Said, Plan, ending, unless, reading, saying}
 use Rattle.mongo_command.specs.Field.{field_of}
+use Rattle.mongo_command.specs.Hello.{IsSuccess}
 use Rattle.mongo_command.specs.Literal.{text_element, int32_element, document_of}
 use Rattle.mongo_command.specs.Keys.{ok_key}
 use Rattle.mongo_sasl.specs.declared.credential.Credential.{Credential}
@@ -33,21 +33,16 @@ x509_command credential api = command_of authenticate_key (codes "$external") (x
 
 -- ---- what the reply says
 
--- `ok` is there and is the number 1
-abbrev pub SaysOk : Option Element → Type 0
-SaysOk None = ⊥
-SaysOk (Some ok) = int_of_kind ok.kind ok.value ≡ Some (pos 1)
-
 -- the reply's elements, by which the server took the certificate
 pub record Takes (reply : List ℕ) (elements : List Element) : Type 0 where
   pub well_formed : IsWellFormed reply elements
-  pub ok : SaysOk (field_of ok_key elements)
+  pub ok : IsSuccess (field_of ok_key elements)
 
 -- by the reply it didn't
 pub record IsFailed (reply : List ℕ) : Type 0 where
   pub elements : List Element
   pub well_formed : IsWellFormed reply elements
-  pub failed : SaysOk (field_of ok_key elements) → ⊥
+  pub failed : IsSuccess (field_of ok_key elements) → ⊥
 
 -- the server took it by some elements
 abbrev pub IsTaken : List ℕ → Type 0

@@ -1,7 +1,6 @@
 //! MONGODB-X509: the certificate of the link is the credential, and one command asks the server to take it.
 
-ghost use Rattle.std.specs.Prelude.{◌≡◌, ◌⊎◌, ◌↔◌, ℕ, List, true, false, Ok, Option, None, Some, option_copied, IsTrue, IfOk, IfErr, OnOk};
-ghost use Rattle.mongo_bson.specs.Document.{Element};
+ghost use Rattle.std.specs.Prelude.{◌≡◌, ◌⊎◌, ℕ, List, true, false, Ok, Option, None, Some, option_copied, IfOk, IfErr, OnOk};
 ghost use Rattle.mongo_wire.specs.declared.error.ErrorKind.{ErrorKind};
 ghost use Rattle.mongo_wire.specs.declared.error.ErrorKind.TheVariants.{OutOfMemory};
 ghost use Rattle.mongo_wire.specs.Outside.{Rose};
@@ -9,11 +8,10 @@ ghost use Rattle.mongo_wire.specs.Buffer.{frames_taken, held_document, IsFrameTa
 ghost use Rattle.mongo_command.specs.Connection.{kept_fault, KeepsRest};
 ghost use Rattle.mongo_command.specs.Conversation.{Said, Turn, Reached, Stopped, Leads};
 ghost use Rattle.mongo_command.specs.Exchange.{frame_maximum, HoldsReply, CountsStay};
-ghost use Rattle.mongo_command.specs.Fields.{IsValueOf};
 ghost use Rattle.mongo_sasl.specs.Commands.{IsTooLong, IsNotBuilt};
 ghost use Rattle.mongo_sasl.specs.Kept.{KeepsAfter};
 ghost use Rattle.mongo_sasl.specs.Login.{HasLogin, IsLed, EndsByReply};
-ghost use Rattle.mongo_sasl.specs.X509.{x509_body, x509_command, IsTaken, X509Row, x509_plan, IsX509Login, x509_handed, frames_after, SaysOk};
+ghost use Rattle.mongo_sasl.specs.X509.{x509_body, x509_command, IsTaken, X509Row, x509_plan, IsX509Login, x509_handed, frames_after};
 
 use crate::buffered_reply::held_reply;
 use crate::commands::login_command;
@@ -22,9 +20,8 @@ use crate::keys::{AUTHENTICATE, MECHANISM};
 use crate::refusal::refused;
 use crate::sasl_view::unread;
 use crate::{AuthMechanism, Credential, EXTERNAL};
-use mongo_bson::{BsonFault, RawDocument, RawDocumentBuf, RawValue, Text, get_int_raw};
-use mongo_command::keys::OK;
-use mongo_command::{Command, Connection, Fields, ServerApi};
+use mongo_bson::{BsonFault, RawDocument, RawDocumentBuf, RawValue, Text};
+use mongo_command::{Command, Connection, Fields, ServerApi, is_success};
 use mongo_wire::{AuthFault, Error, FrameBuffer, Link, RequestIds};
 use std::alloc::Global;
 
@@ -133,18 +130,8 @@ fn take(alloc: Global, reply: RawDocument<'_>) -> Result<(), Error>
     ensures refused { IfErr result (λ e. X509Row reply.entry.bytes.now e.kind ⊎ (e.kind ≡ OutOfMemory)) }
 {
     match Fields::of_well_formed(alloc, reply) {
-        Ok(fields) if says_ok(fields.value(OK)) => Ok(()),
+        Ok(fields) if is_success(&fields) => Ok(()),
         Ok(_) => Err(refused(AuthFault::X509Failed)),
         Err(fault) => Err(unread(fault)),
-    }
-}
-
-// Whether a value is there and is the number 1.
-fn says_ok(ok: Option<RawValue<'_>>) -> bool
-    ensures { (found : Option Element) → IsValueOf found ok.entry → IsTrue result ↔ SaysOk found }
-{
-    match ok {
-        Some(ok) => get_int_raw(ok) == Some(1),
-        None => false,
     }
 }
