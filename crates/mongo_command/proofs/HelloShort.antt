@@ -8,8 +8,8 @@ use Rattle.mongo_bson.proofs.Enclosed.{length-enclosed}
 use Rattle.mongo_command.specs.Literal.{document_of}
 use Rattle.mongo_command.specs.Arguments.{TooLongFor}
 use Rattle.mongo_command.specs.HelloCommand.{named_elements, topology_version_elements, topology_version_document}
-use Rattle.mongo_command.specs.declared.topology_version.TopologyVersion.{TopologyVersion}
-use Rattle.mongo_command.specs.declared.awaitable_hello.AwaitableHelloOptions.{AwaitableHelloOptions}
+use Rattle.mongo_command.specs.declared.inner_documents.TopologyVersion.{TopologyVersion}
+use Rattle.mongo_command.specs.declared.hello.AwaitableHelloOptions.{AwaitableHelloOptions}
 
 -- how many bytes elements take: a kind byte and a zero each, the key and the value
 abbrev spelled_length : List Element → ℕ

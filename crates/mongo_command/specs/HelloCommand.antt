@@ -5,8 +5,8 @@ use Rattle.mongo_bson.specs.Document.{Element}
 use Rattle.mongo_command.specs.Literal.{text_element, document_element, id_element, int32_element, int64_element, boolean_element, document_of}
 use Rattle.mongo_command.specs.Command.{given, command_of}
 use Rattle.mongo_command.specs.declared.server_api.ServerApi.{ServerApi}
-use Rattle.mongo_command.specs.declared.topology_version.TopologyVersion.{TopologyVersion}
-use Rattle.mongo_command.specs.declared.awaitable_hello.AwaitableHelloOptions.{AwaitableHelloOptions}
+use Rattle.mongo_command.specs.declared.inner_documents.TopologyVersion.{TopologyVersion}
+use Rattle.mongo_command.specs.declared.hello.AwaitableHelloOptions.{AwaitableHelloOptions}
 use Rattle.mongo_command.specs.declared.command.Command.{Command}
 use Rattle.mongo_command.specs.Keys.{counter_key, hello_ok_key, process_id_key, topology_version_key}
 

@@ -7,6 +7,13 @@ use mongo_command::{Command, ServerApi};
 use mongo_wire::Error;
 use std::alloc::Global;
 
+/// What every login command carries besides its own: the server API, where one is asked for.
+#[derive(Clone, Copy, Debug, Default, PartialEq, Drop)]
+pub struct AuthOptions {
+    /// The server API.
+    pub server_api: Option<ServerApi>,
+}
+
 // The command of this name and body on the user's source, with the server API where there is one.
 pub(crate) fn login_command(
     alloc: Global,

@@ -12,7 +12,6 @@
 //! Want of memory may stand in place of any answer of a call that is handed an allocator.
 #![tactic(auto)]
 
-mod auth_options;
 mod buffered_reply;
 mod command_body;
 mod commands;
@@ -32,8 +31,8 @@ mod sasl_view;
 mod validation;
 pub mod x509;
 
-pub use auth_options::AuthOptions;
 pub use buffered_reply::held_reply;
+pub use commands::AuthOptions;
 pub use credential::Credential;
 pub use documents::document_of;
 pub use mechanism::AuthMechanism;
