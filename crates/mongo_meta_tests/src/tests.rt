@@ -28,11 +28,13 @@ const NOTHING: Given<'static> = Given {
     row: "",
 };
 
+// A copy of this variable.
 fn variable(alloc: Global, name: &str, value: &str) -> Result<Variable, BsonFault> {
-    Ok(Variable {
+    let made = Variable {
         name: Text::from_slice(alloc, name)?,
         value: Text::from_slice(alloc, value)?,
-    })
+    };
+    made.try_clone(alloc)
 }
 
 // The variables of a row: each NAME=VALUE, apart by semicolons.
@@ -46,12 +48,13 @@ fn variables(alloc: Global, row: &str) -> Result<Variables, BsonFault> {
     Ok(held)
 }
 
-// The environment of a row's variables. The word docker among them stands for a container.
+// A copy of the environment of a row's variables. The word docker among them stands for a container.
 fn environment(alloc: Global, row: &str) -> Result<Environment, BsonFault> {
-    Ok(Environment {
+    let made = Environment {
         dockerenv: row.split(';').any(|word| word == "docker"),
         variables: variables(alloc, row)?,
-    })
+    };
+    made.try_clone(alloc)
 }
 
 fn text(alloc: Global, given: Option<&str>) -> Result<Option<Text>, BsonFault> {

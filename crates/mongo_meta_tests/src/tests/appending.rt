@@ -1,4 +1,5 @@
 use super::{Given, NOTHING, library, metadata};
+use mongo_bson::BsonFault;
 use mongo_meta::ClientMetadata;
 use mongo_wire::Error;
 use std::alloc::Global;
@@ -25,10 +26,19 @@ fn is_driver(metadata: &ClientMetadata, name: &str, version: &str) -> bool {
         && metadata.platform.as_str() == "rattle / sync"
 }
 
+// Whether the application has this name, in a copy of it.
+fn is_application(alloc: Global, metadata: &ClientMetadata, name: &str) -> Result<bool, BsonFault> {
+    match &metadata.application {
+        Some(application) => Ok(application.try_clone(alloc)?.name.as_str() == name),
+        None => Ok(false),
+    }
+}
+
 #[test]
 fn a_library_adds_itself_once(rt: HostRuntime) {
     match metadata(rt.alloc(), &MAPPED) {
         Ok(mut metadata) => {
+            assert!(rt; matches!(is_application(rt.alloc(), &metadata, "shop"), Ok(true)));
             let changed = changes(rt.alloc(), &mut metadata, "2");
             assert!(rt; matches!(changed, Ok(false)));
             assert!(rt; is_driver(&metadata, "mongo-rust-driver|mapper", "3.9.1|2"));

@@ -123,9 +123,18 @@ struct Taken {
     of: Option<RuntimeEnvironment>,
 }
 
+fn copy_of(alloc: Global, taken: &Taken) -> Result<Option<RuntimeEnvironment>, BsonFault> {
+    match &taken.of {
+        Some(taken) => Ok(Some(taken.try_clone(alloc)?)),
+        None => Ok(None),
+    }
+}
+
+// A copy of what is taken from a row.
 fn take_from(alloc: Global, row: &str) -> Result<Taken, Error> {
     let environment = environment(alloc, row)?;
     let of = RuntimeEnvironment::from_environment(alloc, &environment)?;
+    let of = copy_of(alloc, &Taken { of })?;
     Ok(Taken { of })
 }
 

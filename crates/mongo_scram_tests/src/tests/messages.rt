@@ -111,9 +111,18 @@ fn server_final(alloc: Global, number: i32, message: &[u8]) -> Result<ServerFina
     ServerFinal::parse(alloc, document.borrow())
 }
 
+// A copy of it, with a copy of what that says.
 fn copied_final(alloc: Global, number: i32, message: &[u8]) -> Result<ServerFinal, Error> {
-    let last = server_final(alloc, number, message)?;
-    Ok(last.try_clone(alloc)?)
+    let ServerFinal {
+        conversation_id,
+        done,
+        body,
+    } = server_final(alloc, number, message)?.try_clone(alloc)?;
+    Ok(ServerFinal {
+        conversation_id,
+        done,
+        body: body.try_clone(alloc)?,
+    })
 }
 
 // A server's first message, `ok` and `done` of the reply that carries it, and what a client with the nonce `nonce` and the
