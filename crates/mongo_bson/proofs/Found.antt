@@ -5,7 +5,7 @@ use Rattle.std.proofs.lemmas.List.{append_assoc}
 use Rattle.mongo_bson.specs.Framed.{body_of}
 use Rattle.mongo_bson.specs.Document.{Element, IsElement, IsDocument, spell}
 use Rattle.mongo_bson.specs.Keys.{Fill}
-use Rattle.mongo_bson.specs.Find.{IsFirstOf, HasNone, BreaksOff}
+use Rattle.mongo_bson.specs.Find.{IsFirstOf, LacksKey, BreaksOff}
 use Rattle.mongo_bson.proofs.OneElement.{one_list}
 use Rattle.mongo_bson.proofs.Filled.{fill_rest, no_fill}
 
@@ -33,7 +33,7 @@ first_in_document b key element elements is found =
     record { before = passed.before; after = split.0; place = front.1 ∙ ap (λ w. passed.before ++ w) split.1; other = passed.other }
 
 -- where none was found, no element of the document has the key
-pub none_in_document : (b key : List ℕ) (elements : List Element) → IsDocument b elements → HasNone (body_of b) key → AllByRecursion (λ e. e.key ≢ key) elements
+pub none_in_document : (b key : List ℕ) (elements : List Element) → IsDocument b elements → LacksKey (body_of b) key → AllByRecursion (λ e. e.key ≢ key) elements
 none_in_document b key elements is none =
     subst (AllByRecursion (λ e. e.key ≢ key)) (one_list none.elements elements none.fill.each is.each (sym none.fill.spelled ∙ is.filled)) none.other
 

@@ -6,7 +6,7 @@ use Rattle.mongo_bson.specs.Document.{Element, IsElement, spell}
 use Rattle.mongo_bson.specs.Reading.{BeginsWithElement}
 use Rattle.mongo_bson.specs.Steps.{HasNoElement}
 use Rattle.mongo_bson.specs.Keys.{keys_of}
-use Rattle.mongo_bson.specs.Find.{IsFirstOf, HasNone, BreaksOff, FindsValue, FindsBytes, BeginsWithKey}
+use Rattle.mongo_bson.specs.Find.{IsFirstOf, LacksKey, BreaksOff, FindsValue, FindsBytes, BeginsWithKey}
 use Rattle.mongo_bson.specs.Checks.{IsModifier, BeginsWithModifier, BeginsWithField, IsUpdate, IsReplacement}
 use Rattle.std.specs.Prelude.{IsErrOf}
 use Rattle.std.specs.Borrow.{Bor}
@@ -63,7 +63,7 @@ record Ends (bytes key : List ℕ) : Type 0 where
 same_end : (bytes key : List ℕ) (p q : Ends bytes key) → p.rest ≡ q.rest
 same_end bytes key p q = one_end p.before q.before bytes key p.rest q.rest p.walk q.walk p.outcome q.outcome
 
-abbrev none_ends : (bytes key : List ℕ) → HasNone bytes key → Ends bytes key
+abbrev none_ends : (bytes key : List ℕ) → LacksKey bytes key → Ends bytes key
 none_ends bytes key none =
     record { before = none.elements; rest = []; walk = (none.fill.spelled ∙ sym (append-nil (flat_map spell none.elements)), none.fill.each, none.other); outcome = inl refl }
 
@@ -77,14 +77,14 @@ found_ends bytes key e found =
     let passed = found.passed in
     record { before = passed.before; rest = found.rest; walk = (passed.spelled, passed.each, passed.other); outcome = inr (inr (e, found.after, found.begins, found.key_is)) }
 
-pub none_or_broken : (bytes key : List ℕ) → HasNone bytes key → BreaksOff bytes key → ⊥
+pub none_or_broken : (bytes key : List ℕ) → LacksKey bytes key → BreaksOff bytes key → ⊥
 none_or_broken bytes key none broken = broken.broken.left (same_end bytes key (broken_ends bytes key broken) (none_ends bytes key none))
 
 pub found_or_broken : (bytes key : List ℕ) (e : Element) → IsFirstOf bytes key e → BreaksOff bytes key → ⊥
 found_or_broken bytes key e found broken =
     no_first found.rest found.after e (subst HasNoElement (same_end bytes key (broken_ends bytes key broken) (found_ends bytes key e found)) broken.broken) found.begins
 
-pub found_or_none : (bytes key : List ℕ) (e : Element) → IsFirstOf bytes key e → HasNone bytes key → ⊥
+pub found_or_none : (bytes key : List ℕ) (e : Element) → IsFirstOf bytes key e → LacksKey bytes key → ⊥
 found_or_none bytes key e found none =
     nothing_begins found.rest found.after e (same_end bytes key (found_ends bytes key e found) (none_ends bytes key none)) found.begins
 

@@ -5,7 +5,7 @@ use Rattle.std.proofs.lemmas.List.{append_assoc, append-nil}
 use Rattle.std.proofs.lemmas.List.Concat.{flat_map-append}
 use Rattle.mongo_bson.specs.Document.{Element, IsElement, spell}
 use Rattle.mongo_bson.specs.Reading.{BeginsWithElement}
-use Rattle.mongo_bson.specs.Find.{PassesOver, HasNone}
+use Rattle.mongo_bson.specs.Find.{PassesOver, LacksKey}
 
 -- what holds of each and of one more
 pub all_push : {X : Type 0} (P : X → Type 0) (xs : List X) (x : X) → AllByRecursion P xs → P x → AllByRecursion P (xs ++ x ∷ [])
@@ -27,7 +27,7 @@ passes_one bytes key rest after e passed begins other =
       other = all_push (λ x. x.key ≢ key) before e passed.other other;
     }
 
-pub passes_all : (bytes key rest : List ℕ) → PassesOver bytes key rest → rest ≡ [] → HasNone bytes key
+pub passes_all : (bytes key rest : List ℕ) → PassesOver bytes key rest → rest ≡ [] → LacksKey bytes key
 passes_all bytes key rest passed over =
     let filled = passed.spelled ∙ ap (λ w. flat_map spell passed.before ++ w) over ∙ append-nil (flat_map spell passed.before) in
     record { elements = passed.before; fill = record { spelled = filled; each = passed.each }; other = passed.other }

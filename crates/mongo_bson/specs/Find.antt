@@ -25,7 +25,7 @@ pub record IsFirstOf (bytes key : List ℕ) (element : Element) : Type 0 where
   pub key_is : element.key ≡ key
 
 -- elements fill the bytes, and none has that key
-pub record HasNone (bytes key : List ℕ) : Type 0 where
+pub record LacksKey (bytes key : List ℕ) : Type 0 where
   pub elements : List Element
   pub fill : Fill bytes elements
   pub other : AllByRecursion (λ e. e.key ≢ key) elements
@@ -38,11 +38,11 @@ pub record BreaksOff (bytes key : List ℕ) : Type 0 where
 
 -- what the first element of a key is, or that there is none
 abbrev pub FindsValue : List ℕ → List ℕ → Option RawValue → Type 0
-FindsValue bytes key None = HasNone bytes key
+FindsValue bytes key None = LacksKey bytes key
 FindsValue bytes key (Some value) = (e : Element) × IsFirstOf bytes key e × IsValue e.kind e.value value
 
 abbrev pub FindsBytes : List ℕ → List ℕ → Option (ℕ × Bor (List ℕ)) → Type 0
-FindsBytes bytes key None = HasNone bytes key
+FindsBytes bytes key None = LacksKey bytes key
 FindsBytes bytes key (Some found) = IsFirstOf bytes key (record { kind = found.0; key = key; value = found.1.now })
 
 -- the first element, whatever its key

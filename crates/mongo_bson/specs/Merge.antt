@@ -4,7 +4,7 @@ use Rattle.std.specs.List.{Contains}
 use Rattle.mongo_bson.specs.Framed.{body_of, enclosed}
 use Rattle.mongo_bson.specs.Document.{Element, spell}
 use Rattle.mongo_bson.specs.Keys.{Fill, keys_of}
-use Rattle.mongo_bson.specs.Find.{IsFirstOf, HasNone}
+use Rattle.mongo_bson.specs.Find.{IsFirstOf, LacksKey}
 
 -- a text stands in both
 abbrev pub HaveCommon : List (List ℕ) → List (List ℕ) → Type 0
@@ -47,7 +47,7 @@ pub record KeepsId (old new : List ℕ) (kind : ℕ) (value : List ℕ) : Type 0
 
 -- the id put first, the elements that were there after it
 pub record PutsId (old new id : List ℕ) (kind : ℕ) (value : List ℕ) : Type 0 where
-  pub none : HasNone (body_of old) id_key
+  pub none : LacksKey (body_of old) id_key
   pub is_id : kind ≡ 0x07
   pub bytes : value ≡ id
   pub first : new ≡ enclosed (spell (id_element id) ++ body_of old)

@@ -1,7 +1,7 @@
 ghost use Rattle.std.specs.Prelude.{◌≡◌, ◌↔◌, Option, IsErr, IfOk, MatchOption, MatchResult, IfErr};
 ghost use Rattle.mongo_bson.specs.Framed.{body_of};
 ghost use Rattle.mongo_bson.specs.Reading.{element_read};
-ghost use Rattle.mongo_bson.specs.Find.{IsFirstOf, HasNone, BreaksOff, FindsValue, FindsBytes};
+ghost use Rattle.mongo_bson.specs.Find.{IsFirstOf, LacksKey, BreaksOff, FindsValue, FindsBytes};
 
 use crate::element::{RawElement, take_element};
 use crate::meaning::value_of;
@@ -42,7 +42,7 @@ impl<'a> RawDocument<'a> {
 
 // The first element of that key.
 fn find<'a>(bytes: &'a [u8], key: &str) -> Result<Option<RawElement<'a>>, BsonFault>
-    ensures found { IfOk result (λ found. MatchOption found (HasNone bytes.now key.now) (λ e. IsFirstOf bytes.now key.now (element_read e))) }
+    ensures found { IfOk result (λ found. MatchOption found (LacksKey bytes.now key.now) (λ e. IsFirstOf bytes.now key.now (element_read e))) }
     ensures malformed { IfErr result (λ fault. (fault ≡ BsonFault.Malformed) × BreaksOff bytes.now key.now) }
     ensures breaks_off { IsErr result ↔ BreaksOff bytes.now key.now }
 {

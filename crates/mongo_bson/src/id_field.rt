@@ -1,7 +1,7 @@
 ghost use Rattle.std.specs.Prelude.{◌≡◌, ◌↔◌, ◌+◌, ◌-◌, ◌^◌, ◌<◌, ◌++◌, length, IfOk, IfErr, IsErrOf, OnOk, OnErr};
 ghost use Rattle.mongo_bson.specs.Framed.{IsFramed, body_of, enclosed};
 ghost use Rattle.mongo_bson.specs.Document.{spell};
-ghost use Rattle.mongo_bson.specs.Find.{HasNone, BreaksOff};
+ghost use Rattle.mongo_bson.specs.Find.{LacksKey, BreaksOff};
 ghost use Rattle.mongo_bson.specs.Merge.{HasIdNow, id_key, id_element};
 ghost use Rattle.mongo_bson.specs.Refusals.{IdRefuses, PushRefuses, HadMemory};
 
@@ -25,7 +25,7 @@ pub fn get_or_prepend_id_field(
 ) -> Result<OwnedValue, BsonFault>
     ensures id { IfOk result (λ value. HasIdNow document.old document.new id.0 value.kind value.bytes) }
     ensures malformed { IsErrOf result BsonFault.Malformed ↔ BreaksOff (body_of document.old) id_key }
-    ensures too_long { IsErrOf result BsonFault.TooLong ↔ (HadMemory result × HasNone (body_of document.old) id_key × (2 ^ 31 - 1 < length document.old + length (spell (id_element id.0)))) }
+    ensures too_long { IsErrOf result BsonFault.TooLong ↔ (HadMemory result × LacksKey (body_of document.old) id_key × (2 ^ 31 - 1 < length document.old + length (spell (id_element id.0)))) }
     ensures unchanged { OnErr result (document.new ≡ document.old) }
     ensures refused { IfErr result IdRefuses }
 {

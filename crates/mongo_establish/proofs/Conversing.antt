@@ -20,7 +20,7 @@ use Rattle.mongo_scram.specs.declared.scram_version.ScramVersion.TheVariants.{Sh
 use Rattle.mongo_scram.specs.Base64.{base64_of}
 use Rattle.mongo_scram.specs.Client.{speculated_of, handed_to}
 use Rattle.mongo_scram.specs.Commands.{mechanism_of}
-use Rattle.mongo_scram.specs.Costs.{Ledgers, CostsNothing, Accepted, StoppedLogin}
+use Rattle.mongo_scram.specs.Costs.{Ledgers, CostsNothing, Accepted, StoppedScram}
 use Rattle.mongo_scram.specs.Plan.{Handed, scram_plan}
 use Rattle.mongo_scram.proofs.ScramCosts.{accepted_reached, stopped_whole}
 use Rattle.mongo_establish.specs.declared.first_round.FirstRound.{FirstRound}
@@ -65,7 +65,7 @@ scram_accepted Sha256 asked credential greeting document old new before after ea
   costs = record { document = document; accepted = is };
 }
 
-scram_stopped : (version : ScramVersion) (asked : Asked) (credential : Credential) (greeting : Greeting) (kind : ErrorKind) (old new : State) (before after : ℤ) (early late : Ledgers) → StoppedLogin (handed_by version asked credential greeting) kind old new before after early late → ConversationStopped (mechanism_of version) asked credential greeting kind old new before after early late
+scram_stopped : (version : ScramVersion) (asked : Asked) (credential : Credential) (greeting : Greeting) (kind : ErrorKind) (old new : State) (before after : ℤ) (early late : Ledgers) → StoppedScram (handed_by version asked credential greeting) kind old new before after early late → ConversationStopped (mechanism_of version) asked credential greeting kind old new before after early late
 unfolding conversation
 scram_stopped Sha1 asked credential greeting kind old new before after early late is = record {
   stopped = then_stopped (scram_plan (handed_by Sha1 asked credential greeting)) greeting kind old new before after (stopped_whole (handed_by Sha1 asked credential greeting) kind old new before after early late is);
@@ -80,7 +80,7 @@ module _ (version : ScramVersion) (asked : Asked) (credential : Credential) (hel
   abbrev handed : Handed
   handed = handed_to version credential api begun (base64_of asked.nonces.second) asked.options.max_iterations (frame_maximum held)
 
-  pub scram_converses : (r : Result (Unit {0}) Error) (document : List ℕ) (old new : State) (before after : ℤ) (early late : Ledgers) → OnOk r (Accepted handed document old new before after early late) → IfErr r (λ e. StoppedLogin handed e.kind old new before after early late)
+  pub scram_converses : (r : Result (Unit {0}) Error) (document : List ℕ) (old new : State) (before after : ℤ) (early late : Ledgers) → OnOk r (Accepted handed document old new before after early late) → IfErr r (λ e. StoppedScram handed e.kind old new before after early late)
       → Converses r (mechanism_of version) asked credential held round old new before after early late
   scram_converses (Ok done) document old new before after early late accepted stopped = record {
     accepted = λ greeting described went.
@@ -92,7 +92,7 @@ module _ (version : ScramVersion) (asked : Asked) (credential : Credential) (hel
     accepted = λ greeting described went. tt;
     refused = λ greeting described went.
         let is = handed_same version asked credential greeting api round begun held same begins went described in
-        scram_stopped version asked credential greeting e.kind old new before after early late (subst (λ h. StoppedLogin h e.kind old new before after early late) is stopped);
+        scram_stopped version asked credential greeting e.kind old new before after early late (subst (λ h. StoppedScram h e.kind old new before after early late) is stopped);
   }
 
 -- ---- PLAIN

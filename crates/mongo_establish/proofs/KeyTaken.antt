@@ -19,7 +19,7 @@ use Rattle.mongo_scram.specs.declared.scram_version.ScramVersion.{ScramVersion}
 use Rattle.mongo_scram.specs.declared.scram_version.ScramVersion.TheVariants.{Sha1, Sha256}
 use Rattle.mongo_scram.specs.Cache.{entries_of, Adds}
 use Rattle.mongo_scram.specs.Commands.{mechanism_of}
-use Rattle.mongo_scram.specs.Costs.{Ledgers, key_by, HasEntry, SameEntries, CostsNothing, Accepted, StoppedClosing, StoppedLogin}
+use Rattle.mongo_scram.specs.Costs.{Ledgers, key_by, HasEntry, SameEntries, CostsNothing, Accepted, StoppedClosing, StoppedScram}
 use Rattle.mongo_scram.specs.Entry.{salted_of}
 use Rattle.mongo_scram.specs.Plan.{Handed, Challenge, opening}
 use Rattle.mongo_scram.specs.User.{User, IsUser, CredentialRow}
@@ -99,7 +99,7 @@ module _ (version : ScramVersion) (asked : Asked) (credential : Credential) (gre
     takes = accepted_takes handed document old new before after first last is;
   }
 
-  scram_spends : (kind : ErrorKind) (old new : State) (before after : ℤ) (first last : Ledgers) → StoppedLogin handed kind old new before after first last → KeySpent (derivation_by (mechanism_of version) asked credential greeting) kind old new before after first last
+  scram_spends : (kind : ErrorKind) (old new : State) (before after : ℤ) (first last : Ledgers) → StoppedScram handed kind old new before after first last → KeySpent (derivation_by (mechanism_of version) asked credential greeting) kind old new before after first last
   scram_spends kind old new before after first last is =
       elim is [
         | inl early ↦ inl (record { stopped = opening_stopped version asked credential greeting kind old new before after none early.0; nothing = early.1 })

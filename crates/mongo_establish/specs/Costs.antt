@@ -10,7 +10,7 @@ use Rattle.mongo_sasl.specs.declared.mechanism.AuthMechanism.{AuthMechanism}
 use Rattle.mongo_sasl.specs.declared.mechanism.AuthMechanism.TheVariants.{ScramSha1, ScramSha256}
 use Rattle.mongo_scram.specs.declared.scram_version.ScramVersion.{ScramVersion}
 use Rattle.mongo_scram.specs.declared.scram_version.ScramVersion.TheVariants.{Sha1, Sha256}
-use Rattle.mongo_scram.specs.Costs.{Ledgers, CostsNothing, Accepted, StoppedLogin}
+use Rattle.mongo_scram.specs.Costs.{Ledgers, CostsNothing, Accepted, StoppedScram}
 use Rattle.mongo_establish.specs.declared.establisher.EstablishError.{EstablishError}
 use Rattle.mongo_establish.specs.Asked.{Asked}
 use Rattle.mongo_establish.specs.Greeting.{Greeting}
@@ -32,8 +32,8 @@ AcceptedCosts mechanism asked credential greeting old new before after first las
 
 -- that was stopped: SCRAM derived its key where the opening had ended and the key had no entry; the entries stay
 abbrev pub StoppedCosts : AuthMechanism → Asked → Credential → Greeting → ErrorKind → State → State → ℤ → ℤ → Ledgers → Ledgers → Type 0
-StoppedCosts ScramSha1 asked credential greeting kind old new before after first last = StoppedLogin (handed_by Sha1 asked credential greeting) kind old new before after first last
-StoppedCosts ScramSha256 asked credential greeting kind old new before after first last = StoppedLogin (handed_by Sha256 asked credential greeting) kind old new before after first last
+StoppedCosts ScramSha1 asked credential greeting kind old new before after first last = StoppedScram (handed_by Sha1 asked credential greeting) kind old new before after first last
+StoppedCosts ScramSha256 asked credential greeting kind old new before after first last = StoppedScram (handed_by Sha256 asked credential greeting) kind old new before after first last
 StoppedCosts mechanism asked credential greeting kind old new before after first last = CostsNothing first last
 
 -- ---- a login

@@ -5,7 +5,7 @@ use Rattle.std.specs.Str.{bytes_eq}
 use Rattle.std.proofs.lemmas.Bool.{false≢true}
 use Rattle.std.proofs.lemmas.Slice.Eq.{bytes_eq-Decides}
 use Rattle.mongo_bson.specs.Document.{Element}
-use Rattle.mongo_bson.specs.Find.{FindsValue, HasNone, BreaksOff}
+use Rattle.mongo_bson.specs.Find.{FindsValue, LacksKey, BreaksOff}
 use Rattle.mongo_bson.specs.Framed.{body_of}
 use Rattle.mongo_bson.specs.Value.{IsValue, has_variant}
 use Rattle.mongo_bson.specs.declared.raw_value.RawValue.{RawValue}
@@ -77,7 +77,7 @@ payload_found document payload value carries found =
     let is = ap (field_of payload_key) first.place ∙ first_field payload_key first.before first.after e first.other found.1.key_is in
     content_read e value payload (required (field_of payload_key carries.elements) e payload is carries.payload_is) found.2
 
-pub payload_absent : (document payload : List ℕ) → CarriesPayload payload document → HasNone (body_of document) payload_key → ⊥
+pub payload_absent : (document payload : List ℕ) → CarriesPayload payload document → LacksKey (body_of document) payload_key → ⊥
 payload_absent document payload carries none =
     absent (field_of payload_key carries.elements) payload (no_field payload_key carries.elements (none_in_document document payload_key carries.elements carries.is_document none)) carries.payload_is
 

@@ -18,7 +18,7 @@ name_text Vercel = codes "vercel"
 -- ---- the table of providers
 
 -- whether a provider's variables are there, and what is taken of them
-pub record Provider : Type 0 where
+pub record ProviderSigns : Type 0 where
   pub found : Bool
   pub runtime : Option (List ℕ)
   pub timeout_sec : Option ℤ
@@ -30,10 +30,10 @@ begins_with start None = false
 begins_with start (Some value) = starts_with nat_eq value start
 
 -- a provider of whose variables nothing is taken
-abbrev pub found_by : Bool → Provider
+abbrev pub found_by : Bool → ProviderSigns
 found_by found = record { found = found; runtime = None; timeout_sec = None; memory_mb = None; region = None }
 
-abbrev pub provider : FaasEnvironmentName → Environment → Provider
+abbrev pub provider : FaasEnvironmentName → Environment → ProviderSigns
 provider AwsLambda env = record (found_by (begins_with (codes "AWS_Lambda_") (value_of (codes "AWS_EXECUTION_ENV") env) || is_set (codes "AWS_LAMBDA_RUNTIME_API") env)) {
   runtime = value_of (codes "AWS_EXECUTION_ENV") env;
   memory_mb = number_of (codes "AWS_LAMBDA_FUNCTION_MEMORY_SIZE") env;
@@ -88,7 +88,7 @@ container_in env = document_unless_empty (flat_map (λ es. es) (container_elemen
 abbrev pub unset : RuntimeEnvironment
 unset = record { name = None; runtime = None; timeout_sec = None; memory_mb = None; region = None; container = None }
 
-abbrev pub taken_of : FaasEnvironmentName → Provider → RuntimeEnvironment
+abbrev pub taken_of : FaasEnvironmentName → ProviderSigns → RuntimeEnvironment
 taken_of name p = record { name = Some name; runtime = p.runtime; timeout_sec = p.timeout_sec; memory_mb = p.memory_mb; region = p.region; container = None }
 
 -- what is taken of the provider's variables

@@ -6,7 +6,7 @@ use Rattle.std.specs.Bool.{Decides}
 use Rattle.std.proofs.lemmas.Slice.Eq.{bytes_eq-Decides}
 use Rattle.mongo_bson.specs.Framed.{body_of}
 use Rattle.mongo_bson.specs.Document.{Element, IsDocument, IsReadable, maximum_depth}
-use Rattle.mongo_bson.specs.Find.{IsFirstOf, HasNone, BreaksOff, FindsValue, FindsBytes}
+use Rattle.mongo_bson.specs.Find.{IsFirstOf, LacksKey, BreaksOff, FindsValue, FindsBytes}
 use Rattle.mongo_bson.specs.declared.raw_value.RawValue.{RawValue}
 use Rattle.mongo_bson.proofs.Found.{StandsFirst, first_in_document, none_in_document, broken_no_document}
 use Rattle.mongo_command.specs.Field.{field_of}
@@ -41,7 +41,7 @@ field_first b key elements e is first =
     let stands = first_in_document b key e elements is first in
     ap (field_of key) stands.place ∙ field_there key stands.before stands.after e stands.other first.key_is
 
-field_none : (b key : List ℕ) (elements : List Element) → IsDocument b elements → HasNone (body_of b) key → field_of key elements ≡ None
+field_none : (b key : List ℕ) (elements : List Element) → IsDocument b elements → LacksKey (body_of b) key → field_of key elements ≡ None
 field_none b key elements is none = field_absent key elements (none_in_document b key elements is none)
 
 -- a value that is found by key is the field's

@@ -13,7 +13,7 @@ use Rattle.mongo_command.specs.Conversation.{IsOne, HasNone}
 use Rattle.mongo_command.specs.Keys.{errmsg_key, ok_key}
 use Rattle.mongo_command.proofs.OneField.{boolean_one}
 use Rattle.mongo_sasl.specs.declared.sasl_response.SaslResponse.{SaslResponse}
-use Rattle.mongo_sasl.specs.Reply.{Succeeded, IsRefusal, failure_text, ReadsValue, ReadsGeneric, IsSaslTable, IsSaslReply, IsSaslFailure, IsSaslMalformed, AuthRow, SaslRow}
+use Rattle.mongo_sasl.specs.Reply.{Succeeded, SaysFailure, failure_text, ReadsValue, ReadsGeneric, IsSaslTable, IsSaslReply, IsSaslFailure, IsSaslMalformed, AuthRow, SaslRow}
 use Rattle.mongo_sasl.specs.Keys.{conversation_id_key, done_key, payload_key}
 
 one_required : {A : Type 0} (Reads : Element → A → Type 0) → ((e : Element) (a b : A) → Reads e a → Reads e b → a ≡ b) → (found : Option Element) (a b : A) → Required Reads found a → Required Reads found b → a ≡ b
@@ -53,7 +53,7 @@ one_failure : (reply a b : List ℕ) → IsSaslFailure reply a → IsSaslFailure
 one_failure reply a b p q = p.text_is ∙ ap (λ es. failure_text (field_of errmsg_key es)) (same_elements reply p.elements q.elements p.well_formed q.well_formed) ∙ sym q.text_is
 
 -- what succeeded didn't fail
-pub not_both : (ok : Option Element) → Succeeded ok → IsRefusal ok → ⊥
+pub not_both : (ok : Option Element) → Succeeded ok → SaysFailure ok → ⊥
 not_both None succeeded failed = absurd failed
 not_both (Some e) succeeded failed = let same : Some (pos 1) ≡ Some failed.0 = sym succeeded ∙ failed.1 in failed.2 cc
 

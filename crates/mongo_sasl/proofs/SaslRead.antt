@@ -16,15 +16,15 @@ use Rattle.mongo_command.specs.Field.{field_of, Required}
 use Rattle.mongo_command.specs.Fields.{Answers, IsValueOf}
 use Rattle.mongo_command.specs.Keys.{ok_key}
 use Rattle.mongo_sasl.specs.declared.sasl_response.SaslResponse.{SaslResponse}
-use Rattle.mongo_sasl.specs.Reply.{Succeeded, IsRefusal, ReadsValue, IsSaslTable, IsSaslReply, IsSaslFailure, SaslRefused, IsUnsuccessful}
+use Rattle.mongo_sasl.specs.Reply.{Succeeded, SaysFailure, ReadsValue, IsSaslTable, IsSaslReply, IsSaslFailure, SaslRefused, IsUnsuccessful}
 use Rattle.mongo_sasl.specs.View.{value_of, read_as, kind_of_field_fault}
 use Rattle.mongo_sasl.proofs.FirstOfKey.{bytes_found, bytes_none}
 use Rattle.mongo_sasl.proofs.OneReply.{same_elements, not_both}
 
 -- ---- the whole reply
 
-failed_here : (reply text : List ℕ) (elements : List Element) → IsWellFormed reply elements → IsSaslFailure reply text → IsRefusal (field_of ok_key elements)
-failed_here reply text elements well is = subst (λ es. IsRefusal (field_of ok_key es)) (same_elements reply is.elements elements is.well_formed well) is.failed
+failed_here : (reply text : List ℕ) (elements : List Element) → IsWellFormed reply elements → IsSaslFailure reply text → SaysFailure (field_of ok_key elements)
+failed_here reply text elements well is = subst (λ es. SaysFailure (field_of ok_key es)) (same_elements reply is.elements elements is.well_formed well) is.failed
 
 succeeded_here : (reply : List ℕ) (elements : List Element) (sasl : SaslResponse) → IsWellFormed reply elements → IsSaslReply reply sasl → Succeeded (field_of ok_key elements)
 succeeded_here reply elements sasl well is = subst (λ es. Succeeded (field_of ok_key es)) (same_elements reply is.elements elements is.well_formed well) is.succeeded

@@ -7,7 +7,7 @@ use Rattle.mongo_command.specs.Conversation.{Event, exchanged, ends, IsOne, HasN
 use Rattle.mongo_command.specs.Field.{field_of}
 use Rattle.mongo_command.proofs.Ends.{Ends, ends_ending, ends_unless, ends_reading, ends_saying}
 use Rattle.mongo_command.proofs.Plans.{one_ending, one_unless, one_reading, one_saying}
-use Rattle.mongo_sasl.specs.X509.{Takes, IsTaken, IsFailed, X509Row, X509Handed, x509_said, x509_heard, x509_plan_from, x509_plan, IsAnsweredX509, IsX509LoginFrom, IsX509Login}
+use Rattle.mongo_sasl.specs.X509.{Takes, IsCertificateTaken, IsFailed, X509Row, X509Handed, x509_said, x509_heard, x509_plan_from, x509_plan, IsAnsweredX509, IsX509LoginFrom, IsX509Login}
 use Rattle.mongo_sasl.proofs.LoginEvents.{replies_in, documents_in, AreWithin, LoginEnd, EndsBy}
 use Rattle.mongo_sasl.proofs.OneReply.{same_elements}
 use Rattle.mongo_command.specs.Hello.{IsSuccess}
@@ -49,7 +49,7 @@ one_x509 handed = one_from handed.speculated handed
 
 -- ---- an end is a login
 
-heard_ended : (reply : List ℕ) (events : List Event) (answer : Unit {0}) → Ends (x509_heard reply) events answer → (events ≡ []) × IsTaken reply
+heard_ended : (reply : List ℕ) (events : List Event) (answer : Unit {0}) → Ends (x509_heard reply) events answer → (events ≡ []) × IsCertificateTaken reply
 heard_ended reply events answer e =
     let read = ends_reading (Takes reply) _ events answer (one_taken reply) (ends_unless (X509Row reply) _ events answer e).1 in
     ((ends_ending tt events answer read.2).0, (read.0, read.1))
@@ -70,7 +70,7 @@ x509_ended handed events answer e = from_ended handed.speculated handed events a
 
 -- ---- and a login is an end
 
-heard_turn : (reply : List ℕ) → IsTaken reply → x509_heard reply [] (ends tt)
+heard_turn : (reply : List ℕ) → IsCertificateTaken reply → x509_heard reply [] (ends tt)
 heard_turn reply taken = inr (taken_no_row reply taken.0 taken.1, (taken.0, taken.1, refl))
 
 from_ends : (speculated : Bool) (handed : X509Handed) (commands replies : List (List ℕ)) → IsX509LoginFrom speculated handed commands replies → LoginEnd (x509_plan_from speculated handed) tt handed.maximum commands replies

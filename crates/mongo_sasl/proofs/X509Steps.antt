@@ -13,7 +13,7 @@ use Rattle.mongo_command.specs.Literal.{text_element, int32_element}
 use Rattle.mongo_command.proofs.Steps.{reached_ending, reached_unless, reached_reading, reached_saying, stopped_memory, stopped_row, stopped_later}
 use Rattle.mongo_sasl.specs.Commands.{IsNotBuilt}
 use Rattle.mongo_sasl.specs.Login.{EndsByReply}
-use Rattle.mongo_sasl.specs.X509.{Takes, IsTaken, X509Row, x509_body, x509_command, X509Handed, x509_said, x509_heard, x509_plan_from, x509_plan}
+use Rattle.mongo_sasl.specs.X509.{Takes, IsCertificateTaken, X509Row, x509_body, x509_command, X509Handed, x509_said, x509_heard, x509_plan_from, x509_plan}
 use Rattle.mongo_sasl.specs.Keys.{authenticate_key, mechanism_key}
 use Rattle.mongo_sasl.proofs.LastReply.{ends_by_reply}
 use Rattle.mongo_sasl.proofs.Unsent.{unbuilt_stopped}
@@ -32,7 +32,7 @@ module _ (handed : X509Handed) (later : handed.speculated ≡ false) where
       (omega (arith, length-enclosed (flat_map spell (int32_element authenticate_key (pos 1) ∷ text_element mechanism_key (codes "MONGODB-X509") ∷ given (text_element (codes "username")) handed.credential.username)))) unbuilt)
 
   -- the server took the certificate
-  pub x509_reached : {T : Type 0} (r : Result T Error) (reply : List ℕ) (old new : State) (before after : ℤ) → Exchanges handed.maximum (plain_message (x509_said handed).document) old new before after reply → CountsStay old new → OnOk r (IsTaken reply) → OnOk r (Reached (x509_plan handed) tt old new before after)
+  pub x509_reached : {T : Type 0} (r : Result T Error) (reply : List ℕ) (old new : State) (before after : ℤ) → Exchanges handed.maximum (plain_message (x509_said handed).document) old new before after reply → CountsStay old new → OnOk r (IsCertificateTaken reply) → OnOk r (Reached (x509_plan handed) tt old new before after)
   x509_reached (Ok x) reply old new before after e counts is =
       subst (λ s. Reached (x509_plan_from s handed) tt old new before after) (sym later)
       (reached_saying (x509_said handed) x509_heard reply tt old new new before after after e counts
@@ -41,7 +41,7 @@ module _ (handed : X509Handed) (later : handed.speculated ≡ false) where
   x509_reached (Err x) reply old new before after e counts is = tt
 
   -- and it is the reply of the login's one exchange
-  pub x509_replied : {T : Type 0} (r : Result T Error) (reply held : List ℕ) (old new : State) (before after : ℤ) → reply ≡ held → Exchanges handed.maximum (plain_message (x509_said handed).document) old new before after reply → CountsStay old new → OnOk r (IsTaken reply) → OnOk r (EndsByReply (x509_plan handed) tt held old new before after)
+  pub x509_replied : {T : Type 0} (r : Result T Error) (reply held : List ℕ) (old new : State) (before after : ℤ) → reply ≡ held → Exchanges handed.maximum (plain_message (x509_said handed).document) old new before after reply → CountsStay old new → OnOk r (IsCertificateTaken reply) → OnOk r (EndsByReply (x509_plan handed) tt held old new before after)
   x509_replied (Ok x) reply held old new before after same e counts is =
       subst (λ s. EndsByReply (x509_plan_from s handed) tt held old new before after) (sym later)
       (subst (λ document. EndsByReply (saying (x509_said handed) x509_heard) tt document old new before after) same

@@ -21,9 +21,9 @@ Succeeded None = ⊤
 Succeeded (Some ok) = int_of_kind ok.kind ok.value ≡ Some (pos 1)
 
 -- `ok` is another number
-abbrev pub IsRefusal : Option Element → Type 0
-IsRefusal None = ⊥
-IsRefusal (Some ok) = (number : ℤ) × (int_of_kind ok.kind ok.value ≡ Some number) × (number ≢ pos 1)
+abbrev pub SaysFailure : Option Element → Type 0
+SaysFailure None = ⊥
+SaysFailure (Some ok) = (number : ℤ) × (int_of_kind ok.kind ok.value ≡ Some number) × (number ≢ pos 1)
 
 -- what a failure says: `errmsg`, where it is a text
 abbrev pub failure_text : Option Element → List ℕ
@@ -58,7 +58,7 @@ pub record IsSaslReply (reply : List ℕ) (sasl : SaslResponse) : Type 0 where
 pub record IsSaslFailure (reply text : List ℕ) : Type 0 where
   pub elements : List Element
   pub well_formed : IsWellFormed reply elements
-  pub failed : IsRefusal (field_of ok_key elements)
+  pub failed : SaysFailure (field_of ok_key elements)
   pub text_is : text ≡ failure_text (field_of errmsg_key elements)
 
 -- neither: it isn't well formed, or `ok` is no number, or it succeeded and a field is absent or of another kind
@@ -90,7 +90,7 @@ IsFailureOf errmsg kind = ⊥
 
 -- why elements are no success's: `ok` is no number, or another one, or memory ran out
 abbrev pub IsUnsuccessful : List Element → ErrorKind → Type 0
-IsUnsuccessful elements (Authentication Malformed) = (Succeeded (field_of ok_key elements) → ⊥) × (IsRefusal (field_of ok_key elements) → ⊥)
-IsUnsuccessful elements (Authentication (Refused text)) = IsRefusal (field_of ok_key elements) × (text ≡ failure_text (field_of errmsg_key elements))
+IsUnsuccessful elements (Authentication Malformed) = (Succeeded (field_of ok_key elements) → ⊥) × (SaysFailure (field_of ok_key elements) → ⊥)
+IsUnsuccessful elements (Authentication (Refused text)) = SaysFailure (field_of ok_key elements) × (text ≡ failure_text (field_of errmsg_key elements))
 IsUnsuccessful elements OutOfMemory = ⊤
 IsUnsuccessful elements kind = ⊥

@@ -45,8 +45,8 @@ pub record IsFailed (reply : List ℕ) : Type 0 where
   pub failed : IsSuccess (field_of ok_key elements) → ⊥
 
 -- the server took it by some elements
-abbrev pub IsTaken : List ℕ → Type 0
-IsTaken reply = (elements : List Element) × Takes reply elements
+abbrev pub IsCertificateTaken : List ℕ → Type 0
+IsCertificateTaken reply = (elements : List Element) × Takes reply elements
 
 -- why a reply is refused
 abbrev pub X509Row : List ℕ → ErrorKind → Type 0
@@ -86,7 +86,7 @@ pub record IsAnsweredX509 (handed : X509Handed) (commands replies : List (List �
   pub commands_are : commands ≡ (x509_said handed).document ∷ []
   pub reply : List ℕ
   pub replies_are : replies ≡ reply ∷ []
-  pub taken : IsTaken reply
+  pub taken : IsCertificateTaken reply
 
 abbrev pub IsX509LoginFrom : Bool → X509Handed → List (List ℕ) → List (List ℕ) → Type 0
 IsX509LoginFrom true handed commands replies = (commands ≡ []) × (replies ≡ [])

@@ -11,7 +11,7 @@ ghost use Rattle.mongo_command.specs.Exchange.{frame_maximum, HoldsReply, Counts
 ghost use Rattle.mongo_sasl.specs.Commands.{IsTooLong, IsNotBuilt};
 ghost use Rattle.mongo_sasl.specs.Kept.{KeepsAfter};
 ghost use Rattle.mongo_sasl.specs.Login.{HasLogin, IsLed, EndsByReply};
-ghost use Rattle.mongo_sasl.specs.X509.{x509_body, x509_command, IsTaken, X509Row, x509_plan, IsX509Login, x509_handed, frames_after};
+ghost use Rattle.mongo_sasl.specs.X509.{x509_body, x509_command, IsCertificateTaken, X509Row, x509_plan, IsX509Login, x509_handed, frames_after};
 
 use crate::buffered_reply::held_reply;
 use crate::commands::login_command;
@@ -126,7 +126,7 @@ fn authenticate_body(alloc: Global, username: &Option<Text>) -> Result<RawDocume
 
 // Takes the reply where the server took the certificate.
 fn take(alloc: Global, reply: RawDocument<'_>) -> Result<(), Error>
-    ensures taken { OnOk result (IsTaken reply.entry.bytes.now) }
+    ensures taken { OnOk result (IsCertificateTaken reply.entry.bytes.now) }
     ensures refused { IfErr result (λ e. X509Row reply.entry.bytes.now e.kind ⊎ (e.kind ≡ OutOfMemory)) }
 {
     match Fields::of_well_formed(alloc, reply) {

@@ -4,7 +4,7 @@ use Rattle.mongo_command.specs.Conversation.{Event, exchanged, ends, HasNone, en
 use Rattle.mongo_command.proofs.Ends.{Ends, ends_ending, ends_unless, ends_reading, ends_saying}
 use Rattle.mongo_scram.specs.declared.server_final.ServerFinal.{ServerFinal}
 use Rattle.mongo_scram.specs.Replies.{CarriesFinal}
-use Rattle.mongo_scram.specs.Validity.{IsValidFinal, FinalRow}
+use Rattle.mongo_scram.specs.Validity.{IsValidFinal, ServerFinalRow}
 use Rattle.mongo_scram.specs.Plan.{Handed, Challenge, verifier_by, close_said, NotCompletedRow, LastRow, closed, closing}
 use Rattle.mongo_scram.proofs.OneMessage.{one_final, no_final_row}
 use Rattle.mongo_scram.proofs.NoRows.{none_first, none_second, none_else, valid_final, valid_final_row, completed, not_completed}
@@ -28,14 +28,14 @@ proved_by handed c reply last carries none =
     record {
       last = last;
       carries = carries;
-      valid = valid_final last c.first.conversation_id owed (none_first (FinalRow last c.first.conversation_id owed) (NotCompletedRow last) none);
-      done = completed last.done (none_second (FinalRow last c.first.conversation_id owed) (NotCompletedRow last) none);
+      valid = valid_final last c.first.conversation_id owed (none_first (ServerFinalRow last c.first.conversation_id owed) (NotCompletedRow last) none);
+      done = completed last.done (none_second (ServerFinalRow last c.first.conversation_id owed) (NotCompletedRow last) none);
     }
 
 pub proved_row : (handed : Handed) (c : Challenge) (last : ServerFinal) → IsValidFinal last c.first.conversation_id (verifier_by handed c) → last.done ≡ true → HasNone (LastRow handed c last)
 proved_row handed c last valid done =
     let owed = verifier_by handed c in
-    none_else (FinalRow last c.first.conversation_id owed) (NotCompletedRow last) (valid_final_row last c.first.conversation_id owed valid) (not_completed last.done done)
+    none_else (ServerFinalRow last c.first.conversation_id owed) (NotCompletedRow last) (valid_final_row last c.first.conversation_id owed valid) (not_completed last.done done)
 
 pub closing_ended : (handed : Handed) (c : Challenge) (events : List Event) (result : Challenge) → Ends (closing handed c) events result → (result ≡ c) × IsClosed handed c events
 closing_ended handed c events result e =

@@ -12,7 +12,7 @@ use Rattle.mongo_command.specs.Command.{command_document}
 use Rattle.mongo_scram.specs.Costs.{EndsLogin}
 use Rattle.mongo_scram.specs.Messages.{transcript, close_message, verifier}
 use Rattle.mongo_scram.specs.Plan.{Handed, Challenge, message_by, salted_by, auth_message_by, close_by, verifier_by, close_said, LastRow, closing}
-use Rattle.mongo_scram.specs.Rounds.{final_said, RoundRow, last_round, IsTaken}
+use Rattle.mongo_scram.specs.Rounds.{final_said, RoundRow, last_round, TakesLastMessage}
 use Rattle.mongo_scram.specs.Version.{digest_of}
 
 -- the client's last message in answer to a challenge, by its salted password
@@ -67,7 +67,7 @@ closing_stopped handed c tag final maximum kind old new before after same is r =
     (subst (λ said. Stopped (last_round said (conversation_of final) (verifier (digest_of handed.version) tag (auth_message_of final)) c) kind old new before after) (same_said handed c tag final maximum same is) r))
 
 -- the last reply ends the login
-pub ends_login : (handed : Handed) (c : Challenge) (tag : List ℕ) (final : ClientFinal) (document : List ℕ) → IsFinal handed c tag final → IsTaken (conversation_of final) (verifier (digest_of handed.version) tag (auth_message_of final)) document → EndsLogin handed c document
+pub ends_login : (handed : Handed) (c : Challenge) (tag : List ℕ) (final : ClientFinal) (document : List ℕ) → IsFinal handed c tag final → TakesLastMessage (conversation_of final) (verifier (digest_of handed.version) tag (auth_message_of final)) document → EndsLogin handed c document
 ends_login handed c tag final document is taken =
     let row : HasNone (LastRow handed c taken.last) =
     subst (λ owed. HasNone (RoundRow c.first.conversation_id owed taken.last)) (same_owed handed c tag final is)

@@ -19,7 +19,7 @@ use Rattle.mongo_scram.specs.Client.{final_of, conversation_of, final_source_of,
 use Rattle.mongo_scram.specs.Commands.{final_command}
 use Rattle.mongo_scram.specs.Plan.{Challenge}
 use Rattle.mongo_scram.specs.Replies.{FinalReplyRow}
-use Rattle.mongo_scram.specs.Rounds.{final_said, RoundRow, last_heard, last_round, IsTaken, LastRefusal}
+use Rattle.mongo_scram.specs.Rounds.{final_said, RoundRow, last_heard, last_round, TakesLastMessage, LastRefusal}
 use Rattle.mongo_scram.proofs.OneMessage.{no_final_row}
 use Rattle.mongo_sasl.proofs.Unsent.{unbuilt_stopped}
 
@@ -44,7 +44,7 @@ final_exchanged final command maximum old new before after held reply is same e 
 -- ---- the reply
 
 -- the reply is taken, and it is that of the round's one exchange
-pub taken_ends : {T : Type 0} (r : Result T Error) (said : Said) (conversation : OwnedValue) (owed : List ℕ) (c : Challenge) (reply held : List ℕ) (old new : State) (before after : ℤ) → reply ≡ held → Exchanges said.maximum (plain_message said.document) old new before after reply → CountsStay old new → OnOk r (IsTaken conversation owed reply)
+pub taken_ends : {T : Type 0} (r : Result T Error) (said : Said) (conversation : OwnedValue) (owed : List ℕ) (c : Challenge) (reply held : List ℕ) (old new : State) (before after : ℤ) → reply ≡ held → Exchanges said.maximum (plain_message said.document) old new before after reply → CountsStay old new → OnOk r (TakesLastMessage conversation owed reply)
     → OnOk r (EndsByReply (last_round said conversation owed c) c held old new before after)
 taken_ends (Ok x) said conversation owed c reply held old new before after same e counts is =
     subst (λ document. EndsByReply (last_round said conversation owed c) c document old new before after) same

@@ -14,7 +14,7 @@ use Rattle.mongo_scram.specs.declared.conversation.FirstRound.{FirstRound}
 use Rattle.mongo_scram.specs.declared.rounds.Opened.{Opened}
 use Rattle.mongo_scram.specs.Cache.{entries_of, rounds_of, Adds}
 use Rattle.mongo_scram.specs.Client.{nonce_of, frames_after}
-use Rattle.mongo_scram.specs.Costs.{Ledgers, ledgers, key_by, HasEntry, Derives, SameEntries, CostsNothing, EndsLogin, Accepted, StoppedLogin, FaultCosts}
+use Rattle.mongo_scram.specs.Costs.{Ledgers, ledgers, key_by, HasEntry, Derives, SameEntries, CostsNothing, EndsLogin, Accepted, StoppedScram, FaultCosts}
 use Rattle.mongo_scram.specs.Entry.{salted_of, IsUsable}
 use Rattle.mongo_scram.specs.Plan.{Handed, salted_by, opening, closing}
 use Rattle.mongo_scram.specs.Rounds.{frames_opened, Opens, key_for, IsAnswered}
@@ -24,9 +24,9 @@ use Rattle.mongo_scram.proofs.ScramPlan.{challenge_of}
 
 -- ---- before anything was derived
 
-pub stopped_early : {T : Type 0} (handed : Handed) (e : Error) (r : Result T Error) (old new : State) (before after : ℤ) (first last : Ledgers) → IsErrAnd r (λ x. x ≡ e) → Stopped (opening handed) e.kind old new before after → CostsNothing first last → IfErr r (λ x. StoppedLogin handed x.kind old new before after first last)
+pub stopped_early : {T : Type 0} (handed : Handed) (e : Error) (r : Result T Error) (old new : State) (before after : ℤ) (first last : Ledgers) → IsErrAnd r (λ x. x ≡ e) → Stopped (opening handed) e.kind old new before after → CostsNothing first last → IfErr r (λ x. StoppedScram handed x.kind old new before after first last)
 stopped_early handed e (Ok x) old new before after first last is stopped nothing = tt
-stopped_early handed e (Err x) old new before after first last is stopped nothing = subst (λ (y : Error). StoppedLogin handed y.kind old new before after first last) (sym is) (inl (stopped, nothing))
+stopped_early handed e (Err x) old new before after first last is stopped nothing = subst (λ (y : Error). StoppedScram handed y.kind old new before after first last) (sym is) (inl (stopped, nothing))
 
 -- ---- between the rounds
 
@@ -55,10 +55,10 @@ between_derived handed user o key tag old middle before between first last is = 
 
 -- a stop of the closing
 pub stopped_late : {T : Type 0} (handed : Handed) (user : User) (o : Opened) (key : SaltedKey) (tag : List ℕ) (e : Error) (r : Result T Error) (old middle new : State) (before between after : ℤ) (first last : Ledgers) → IsErrAnd r (λ x. x ≡ e) → IsBetween handed user o key tag old middle before between first last
-    → Stopped (closing handed (challenge_of user o.server_first)) e.kind middle new between after → IfErr r (λ x. StoppedLogin handed x.kind old new before after first last)
+    → Stopped (closing handed (challenge_of user o.server_first)) e.kind middle new between after → IfErr r (λ x. StoppedScram handed x.kind old new before after first last)
 stopped_late handed user o key tag e (Ok x) old middle new before between after first last is_e is stopped = tt
 stopped_late handed user o key tag e (Err x) old middle new before between after first last is_e is stopped =
-    subst (λ (y : Error). StoppedLogin handed y.kind old new before after first last) (sym is_e)
+    subst (λ (y : Error). StoppedScram handed y.kind old new before after first last) (sym is_e)
     (inr (record {
       challenge = challenge_of user o.server_first;
       middle = middle;
@@ -82,7 +82,7 @@ reached_stopped plan answer kind old new before after memory r =
     record { events = r.events; middle = new; between = after; talked = r.talked; given_is = r.given_is; stop = inl (record { cause = inr memory; link = refl; ids = refl }) }
 
 pub stopped_last : {T : Type 0} (r : Result T Error) (handed : Handed) (user : User) (o : Opened) (key : SaltedKey) (tag document : List ℕ) (old middle new : State) (before between after : ℤ) (first : Ledgers) (steps : ℕ) (derived kept : SaltedCache) → IsBetween handed user o key tag old middle before between first (ledgers steps derived)
-    → EndsByReply (closing handed (challenge_of user o.server_first)) (challenge_of user o.server_first) document middle new between after → rounds_of kept ≡ rounds_of derived → OnErr r (entries_of kept ≡ entries_of derived) → IfErr r (λ e. e.kind ≡ OutOfMemory) → IfErr r (λ e. StoppedLogin handed e.kind old new before after first (ledgers steps kept))
+    → EndsByReply (closing handed (challenge_of user o.server_first)) (challenge_of user o.server_first) document middle new between after → rounds_of kept ≡ rounds_of derived → OnErr r (entries_of kept ≡ entries_of derived) → IfErr r (λ e. e.kind ≡ OutOfMemory) → IfErr r (λ e. StoppedScram handed e.kind old new before after first (ledgers steps kept))
 stopped_last (Ok x) handed user o key tag document old middle new before between after first steps derived kept is closed rounds entries memory = tt
 stopped_last (Err e) handed user o key tag document old middle new before between after first steps derived kept is closed rounds entries memory =
     let c = challenge_of user o.server_first in
@@ -131,11 +131,11 @@ not_accepted (Ok x) e is = is
 not_accepted (Err x) e is = tt
 
 -- a stop before an exchange: the link and the ids are as they were
-pub kept_stopped : {T : Type 0} (r : Result T Error) (handed : Handed) (kind : ErrorKind) (old new : State) (before after : ℤ) (first last : Ledgers) → new ≡ old → after ≡ before → IfErr r (λ e. StoppedLogin handed e.kind old new before after first last)
-    → IfErr r (λ e. ((e.kind ≡ kind) × FaultCosts handed old before first last) ⊎ StoppedLogin handed e.kind old old before before first last)
+pub kept_stopped : {T : Type 0} (r : Result T Error) (handed : Handed) (kind : ErrorKind) (old new : State) (before after : ℤ) (first last : Ledgers) → new ≡ old → after ≡ before → IfErr r (λ e. StoppedScram handed e.kind old new before after first last)
+    → IfErr r (λ e. ((e.kind ≡ kind) × FaultCosts handed old before first last) ⊎ StoppedScram handed e.kind old old before before first last)
 kept_stopped (Ok x) handed kind old new before after first last link ids s = tt
 kept_stopped (Err x) handed kind old new before after first last link ids s =
-    inr (subst (λ state. StoppedLogin handed x.kind old state before before first last) link (subst (λ id. StoppedLogin handed x.kind old new before id first last) ids s))
+    inr (subst (λ state. StoppedScram handed x.kind old state before before first last) link (subst (λ id. StoppedScram handed x.kind old new before id first last) ids s))
 
 -- what was derived by a first round that went with the hello, before the fault is answered
 pub fault_costs : (handed : Handed) (user : User) (o : Opened) (key : SaltedKey) (tag : List ℕ) (old middle : State) (before between : ℤ) (first last : Ledgers) → middle ≡ old → between ≡ before → IsBetween handed user o key tag old middle before between first last → FaultCosts handed old before first last
@@ -150,6 +150,6 @@ fault_costs handed user o key tag old middle before between first last link ids 
 
 -- the fault is answered
 pub fault_answered : {T : Type 0} (r : Result T Error) (e : Error) (handed : Handed) (kind : ErrorKind) (old : State) (before : ℤ) (first last : Ledgers) → IsErrAnd r (λ x. x ≡ e) → e.kind ≡ kind → FaultCosts handed old before first last
-    → IfErr r (λ x. ((x.kind ≡ kind) × FaultCosts handed old before first last) ⊎ StoppedLogin handed x.kind old old before before first last)
+    → IfErr r (λ x. ((x.kind ≡ kind) × FaultCosts handed old before first last) ⊎ StoppedScram handed x.kind old old before before first last)
 fault_answered (Ok x) e handed kind old before first last is same costs = tt
 fault_answered (Err x) e handed kind old before first last is same costs = inl (ap (λ (y : Error). y.kind) is ∙ same, costs)

@@ -12,7 +12,7 @@ use Rattle.mongo_scram.specs.declared.server_first.ServerFirst.{ServerFirst}
 use Rattle.mongo_scram.specs.declared.server_final.ServerFinal.{ServerFinal}
 use Rattle.mongo_scram.specs.declared.server_final.ServerFinalBody.{ServerFinalBody}
 use Rattle.mongo_scram.specs.declared.server_final.ServerFinalBody.TheVariants.{Error, Verifier}
-use Rattle.mongo_scram.specs.Validity.{BeginsWith, least_count, IsValidFirst, FirstRow, IsValidFinal, FinalRow}
+use Rattle.mongo_scram.specs.Validity.{BeginsWith, least_count, IsValidFirst, ServerFirstRow, IsValidFinal, ServerFinalRow}
 
 -- ---- what can be decided
 
@@ -61,7 +61,7 @@ none_else first second p q x is = elim is [ inl a ↦ p x a | inr b ↦ q x b.1 
 
 -- ---- the server's first message
 
-pub valid_first : (first : ServerFirst) (nonce : List ℕ) (most : ℕ) → HasNone (FirstRow first nonce most) → IsValidFirst first nonce most
+pub valid_first : (first : ServerFirst) (nonce : List ℕ) (most : ℕ) → HasNone (ServerFirstRow first nonce most) → IsValidFirst first nonce most
 valid_first first nonce most none =
     let goes_on = not_true first.done (λ is. none (Authentication EndedEarly) is) in
     let begins = begun first.nonce nonce (λ other. none (Authentication Nonce) (goes_on, other)) in
@@ -69,7 +69,7 @@ valid_first first nonce most none =
     let within = not_less most first.i (λ high. none (Authentication CountHigh) (goes_on, begins, enough, high)) in
     record { goes_on = goes_on; begins = begins; enough = enough; within = within }
 
-pub valid_first_row : (first : ServerFirst) (nonce : List ℕ) (most : ℕ) → IsValidFirst first nonce most → HasNone (FirstRow first nonce most)
+pub valid_first_row : (first : ServerFirst) (nonce : List ℕ) (most : ℕ) → IsValidFirst first nonce most → HasNone (ServerFirstRow first nonce most)
 valid_first_row first nonce most valid (Authentication EndedEarly) row = let no : true ≡ false = sym row ∙ valid.goes_on in cc
 valid_first_row first nonce most valid (Authentication Nonce) row = row.1 valid.begins
 valid_first_row first nonce most valid (Authentication CountLow) row = omega (arith, row.2, valid.enough)
@@ -78,13 +78,13 @@ valid_first_row first nonce most valid kind row = row
 
 -- ---- the server's last message
 
-verified : (last : ServerFinal) (conversation : OwnedValue) (owed : List ℕ) → HasNone (FinalRow last conversation owed) → last.conversation_id ≡ conversation → (body : ServerFinalBody) → last.body ≡ body → last.body ≡ Verifier (Some owed)
+verified : (last : ServerFinal) (conversation : OwnedValue) (owed : List ℕ) → HasNone (ServerFinalRow last conversation owed) → last.conversation_id ≡ conversation → (body : ServerFinalBody) → last.body ≡ body → last.body ≡ Verifier (Some owed)
 verified last conversation owed none same (Error text) is = absurd (none (Authentication (ServerError text)) (same, is))
 verified last conversation owed none same (Verifier None) is = absurd (none (Authentication Malformed) (same, is))
 verified last conversation owed none same (Verifier (Some bytes)) is =
     is ∙ ap (λ b. Verifier (Some b)) (same_bytes bytes owed (λ other. none (Authentication WrongVerifier) (same, (bytes, is, other))))
 
-pub valid_final : (last : ServerFinal) (conversation : OwnedValue) (owed : List ℕ) → HasNone (FinalRow last conversation owed) → IsValidFinal last conversation owed
+pub valid_final : (last : ServerFinal) (conversation : OwnedValue) (owed : List ℕ) → HasNone (ServerFinalRow last conversation owed) → IsValidFinal last conversation owed
 valid_final last conversation owed none =
     let same = same_value last.conversation_id conversation (λ other. none (Authentication Conversation) other) in
     record { conversation_is = same; body = verified last conversation owed none same last.body refl }
@@ -98,7 +98,7 @@ no_bytes owed is = cc
 same_owed : (a b : List ℕ) → ◌≡◌ {A = ServerFinalBody} (Verifier (Some a)) (Verifier (Some b)) → a ≡ b
 same_owed a b is = cc
 
-pub valid_final_row : (last : ServerFinal) (conversation : OwnedValue) (owed : List ℕ) → IsValidFinal last conversation owed → HasNone (FinalRow last conversation owed)
+pub valid_final_row : (last : ServerFinal) (conversation : OwnedValue) (owed : List ℕ) → IsValidFinal last conversation owed → HasNone (ServerFinalRow last conversation owed)
 valid_final_row last conversation owed valid (Authentication Conversation) row = row valid.conversation_is
 valid_final_row last conversation owed valid (Authentication (ServerError text)) row = no_error text (Some owed) (sym row.1 ∙ valid.body)
 valid_final_row last conversation owed valid (Authentication Malformed) row = no_bytes owed (sym row.1 ∙ valid.body)

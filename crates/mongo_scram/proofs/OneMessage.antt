@@ -19,7 +19,7 @@ use Rattle.mongo_scram.specs.declared.server_final.ServerFinal.{ServerFinal}
 use Rattle.mongo_scram.specs.declared.server_final.ServerFinalBody.{ServerFinalBody}
 use Rattle.mongo_scram.specs.declared.server_final.ServerFinalBody.TheVariants.{Error, Verifier}
 use Rattle.mongo_scram.specs.Base64.{base64_of}
-use Rattle.mongo_scram.specs.ServerMessages.{IsServerFirst, IsCount, FirstMessageRow, Decodes, Says, SaysFinal}
+use Rattle.mongo_scram.specs.ServerMessages.{IsServerFirst, IsIterationCount, FirstMessageRow, Decodes, SaysAttribute, SaysFinal}
 use Rattle.mongo_scram.specs.Replies.{CarriesFirst, FirstPayloadRow, FirstReplyRow, CarriesFinal, FinalPayloadRow, FinalReplyRow}
 use Rattle.mongo_scram.proofs.Parts.{SameParts, one_parts, heads}
 
@@ -87,10 +87,10 @@ one_first_payload_row reply a b p q = absurd p
 pub one_first_row : (reply : List ℕ) → IsOne (FirstReplyRow reply)
 one_first_row reply = one_else (SaslRow reply) (FirstPayloadRow reply) (one_sasl_row reply) (one_first_payload_row reply)
 
-no_first_message_row : (message nonce salt count : List ℕ) (i : ℕ) (fault : AuthFault) → IsServerFirst message nonce salt count → IsCount count i → FirstMessageRow message fault → ⊥
+no_first_message_row : (message nonce salt count : List ℕ) (i : ℕ) (fault : AuthFault) → IsServerFirst message nonce salt count → IsIterationCount count i → FirstMessageRow message fault → ⊥
 no_first_message_row message nonce salt count i Malformed is counts row = row nonce salt count is
 no_first_message_row message nonce salt count i CountUnreadable is counts row =
-    row.4 i (subst (λ text. IsCount text i) (one_server_first message nonce salt count row.0 row.1 row.2 is row.3).third counts)
+    row.4 i (subst (λ text. IsIterationCount text i) (one_server_first message nonce salt count row.0 row.1 row.2 is row.3).third counts)
 no_first_message_row message nonce salt count i fault is counts row = row
 
 no_first_payload_row : (reply : List ℕ) (first : ServerFirst) (kind : ErrorKind) → CarriesFirst reply first → FirstPayloadRow reply kind → ⊥
@@ -112,7 +112,7 @@ one_decoded text None (Some b) p q = absurd (p b q.0 q.1)
 one_decoded text (Some a) None p q = absurd (q a p.0 p.1)
 one_decoded text (Some a) (Some b) p q = ap Some (one_base64 a b p.0 q.0 (sym p.1 ∙ q.1))
 
-one_said : (message : List ℕ) (a b : ServerFinalBody) → Says message a → Says message b → a ≡ b
+one_said : (message : List ℕ) (a b : ServerFinalBody) → SaysAttribute message a → SaysAttribute message b → a ≡ b
 one_said message (Error a) (Error b) p q = ap Error (behind 101 61 a b (sym p ∙ q))
 one_said message (Error a) (Verifier b) p q = absurd (another_letter 61 a q.0 (sym p ∙ q.1))
 one_said message (Verifier a) (Error b) p q = absurd (another_letter 61 b p.0 (sym q ∙ p.1))

@@ -16,7 +16,7 @@ use Rattle.mongo_scram.specs.declared.server_final.ServerFinalBody.{ServerFinalB
 use Rattle.mongo_scram.specs.declared.server_final.ServerFinalBody.TheVariants.{Error, Verifier}
 use Rattle.mongo_scram.specs.Key.{PasswordRow}
 use Rattle.mongo_scram.specs.User.{User, IsUser, CredentialRow}
-use Rattle.mongo_scram.specs.Validity.{FirstRow, FinalRow}
+use Rattle.mongo_scram.specs.Validity.{ServerFirstRow, ServerFinalRow}
 
 -- ---- credentials
 
@@ -104,7 +104,7 @@ one_password_row version password = λ a b p q. one_password_kind version passwo
 true_false : (done : Bool) → done ≡ true → done ≡ false → ⊥
 true_false done p q = false≢true (sym q ∙ p)
 
-one_first_fault : (first : ServerFirst) (nonce : List ℕ) (most : ℕ) (a b : AuthFault) → FirstRow first nonce most (Authentication a) → FirstRow first nonce most (Authentication b) → a ≡ b
+one_first_fault : (first : ServerFirst) (nonce : List ℕ) (most : ℕ) (a b : AuthFault) → ServerFirstRow first nonce most (Authentication a) → ServerFirstRow first nonce most (Authentication b) → a ≡ b
 one_first_fault first nonce most EndedEarly EndedEarly p q = refl
 one_first_fault first nonce most EndedEarly Nonce p q = absurd (true_false first.done p q.0)
 one_first_fault first nonce most EndedEarly CountLow p q = absurd (true_false first.done p q.0)
@@ -127,12 +127,12 @@ one_first_fault first nonce most CountLow b p q = absurd q
 one_first_fault first nonce most CountHigh b p q = absurd q
 one_first_fault first nonce most a b p q = absurd p
 
-one_first_kind : (first : ServerFirst) (nonce : List ℕ) (most : ℕ) (a b : ErrorKind) → FirstRow first nonce most a → FirstRow first nonce most b → a ≡ b
+one_first_kind : (first : ServerFirst) (nonce : List ℕ) (most : ℕ) (a b : ErrorKind) → ServerFirstRow first nonce most a → ServerFirstRow first nonce most b → a ≡ b
 one_first_kind first nonce most (Authentication a) (Authentication b) p q = ap Authentication (one_first_fault first nonce most a b p q)
 one_first_kind first nonce most (Authentication a) b p q = absurd q
 one_first_kind first nonce most a b p q = absurd p
 
-pub one_valid_first_row : (first : ServerFirst) (nonce : List ℕ) (most : ℕ) → IsOne (FirstRow first nonce most)
+pub one_valid_first_row : (first : ServerFirst) (nonce : List ℕ) (most : ℕ) → IsOne (ServerFirstRow first nonce most)
 one_valid_first_row first nonce most = λ a b p q. one_first_kind first nonce most a b p q
 
 -- ---- whether the server has proved itself
@@ -146,7 +146,7 @@ verifier_or_none body verifier p q = let never : Verifier None ≡ Verifier (Som
 same_text : (body : ServerFinalBody) (a b : List ℕ) → body ≡ Error a → body ≡ Error b → a ≡ b
 same_text body a b p q = let is : Error a ≡ Error b = sym p ∙ q in cc
 
-one_final_fault : (last : ServerFinal) (id : OwnedValue) (owed : List ℕ) (a b : AuthFault) → FinalRow last id owed (Authentication a) → FinalRow last id owed (Authentication b) → a ≡ b
+one_final_fault : (last : ServerFinal) (id : OwnedValue) (owed : List ℕ) (a b : AuthFault) → ServerFinalRow last id owed (Authentication a) → ServerFinalRow last id owed (Authentication b) → a ≡ b
 one_final_fault last id owed Conversation Conversation p q = refl
 one_final_fault last id owed Conversation (ServerError text) p q = absurd (p q.0)
 one_final_fault last id owed Conversation Malformed p q = absurd (p q.0)
@@ -169,10 +169,10 @@ one_final_fault last id owed Malformed b p q = absurd q
 one_final_fault last id owed WrongVerifier b p q = absurd q
 one_final_fault last id owed a b p q = absurd p
 
-one_final_kind : (last : ServerFinal) (id : OwnedValue) (owed : List ℕ) (a b : ErrorKind) → FinalRow last id owed a → FinalRow last id owed b → a ≡ b
+one_final_kind : (last : ServerFinal) (id : OwnedValue) (owed : List ℕ) (a b : ErrorKind) → ServerFinalRow last id owed a → ServerFinalRow last id owed b → a ≡ b
 one_final_kind last id owed (Authentication a) (Authentication b) p q = ap Authentication (one_final_fault last id owed a b p q)
 one_final_kind last id owed (Authentication a) b p q = absurd q
 one_final_kind last id owed a b p q = absurd p
 
-pub one_valid_final_row : (last : ServerFinal) (id : OwnedValue) (owed : List ℕ) → IsOne (FinalRow last id owed)
+pub one_valid_final_row : (last : ServerFinal) (id : OwnedValue) (owed : List ℕ) → IsOne (ServerFinalRow last id owed)
 one_valid_final_row last id owed = λ a b p q. one_final_kind last id owed a b p q

@@ -6,7 +6,7 @@ use Rattle.mongo_command.proofs.Talked.{follows_more}
 use Rattle.mongo_scram.specs.User.{User, IsUser}
 use Rattle.mongo_scram.specs.Key.{PasswordRow}
 use Rattle.mongo_scram.specs.Replies.{CarriesFirst}
-use Rattle.mongo_scram.specs.Validity.{IsValidFirst, FirstRow}
+use Rattle.mongo_scram.specs.Validity.{IsValidFirst, ServerFirstRow}
 use Rattle.mongo_scram.specs.Plan.{Speculated, Handed, Challenge, nonce_by, start_said, ChallengeRow, challenged, opened, opening}
 use Rattle.mongo_scram.proofs.OneMessage.{one_first, no_first_row}
 use Rattle.mongo_scram.proofs.OneRow.{one_user, no_credential_row}
@@ -29,14 +29,14 @@ challenged_ended handed user reply events c e =
     let end = ends_ending made events c passed.1 in
     let asked : IsChallenged handed reply made = record {
       carries = read.1;
-      valid = valid_first read.0 (nonce_by handed) handed.most (none_first (FirstRow read.0 (nonce_by handed) handed.most) (PasswordRow handed.version user.password) passed.0);
-      usable = none_second (FirstRow read.0 (nonce_by handed) handed.most) (PasswordRow handed.version user.password) passed.0;
+      valid = valid_first read.0 (nonce_by handed) handed.most (none_first (ServerFirstRow read.0 (nonce_by handed) handed.most) (PasswordRow handed.version user.password) passed.0);
+      usable = none_second (ServerFirstRow read.0 (nonce_by handed) handed.most) (PasswordRow handed.version user.password) passed.0;
     } in
     (end.0, ap (λ x. x.user) end.1, subst (IsChallenged handed reply) (sym end.1) asked)
 
 challenged_turn : (handed : Handed) (reply : List ℕ) (c : Challenge) → IsChallenged handed reply c → challenged handed c.user reply [] (ends c)
 challenged_turn handed reply c is =
-    let none = none_else (FirstRow c.first (nonce_by handed) handed.most) (PasswordRow handed.version c.user.password) (valid_first_row c.first (nonce_by handed) handed.most is.valid) is.usable in
+    let none = none_else (ServerFirstRow c.first (nonce_by handed) handed.most) (PasswordRow handed.version c.user.password) (valid_first_row c.first (nonce_by handed) handed.most is.valid) is.usable in
     inr (no_first_row reply c.first is.carries, (c.first, is.carries, inr (none, refl)))
 
 -- ---- the first command, unless it went with the hello

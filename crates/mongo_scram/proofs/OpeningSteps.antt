@@ -13,7 +13,7 @@ use Rattle.mongo_scram.specs.Plan.{Speculated, Handed, Challenge, nonce_by, star
 use Rattle.mongo_scram.specs.Replies.{CarriesFirst, FirstReplyRow}
 use Rattle.mongo_scram.specs.Rounds.{Replies, Opens, AnswerRow}
 use Rattle.mongo_scram.specs.User.{User, IsUser, CredentialRow}
-use Rattle.mongo_scram.specs.Validity.{IsValidFirst, FirstRow}
+use Rattle.mongo_scram.specs.Validity.{IsValidFirst, ServerFirstRow}
 use Rattle.mongo_scram.proofs.NoRows.{none_else, valid_first_row}
 use Rattle.mongo_scram.proofs.OneMessage.{no_first_row}
 use Rattle.mongo_scram.proofs.OneRow.{no_credential_row}
@@ -44,7 +44,7 @@ user_stopped handed user kind old new before after is r =
     stopped_unless (CredentialRow handed.credential) _ kind old new before after (no_credential_row handed.credential user is) (stopped_reading (IsUser handed.credential) (opened handed.speculated handed) user kind old new before after is r)
 
 challenge_none : (handed : Handed) (user : User) (first : ServerFirst) → IsValidFirst first (nonce_by handed) handed.most → HasNone (PasswordRow handed.version user.password) → HasNone (ChallengeRow handed (challenge_of user first))
-challenge_none handed user first valid usable = none_else (FirstRow first (nonce_by handed) handed.most) (PasswordRow handed.version user.password) (valid_first_row first (nonce_by handed) handed.most valid) usable
+challenge_none handed user first valid usable = none_else (ServerFirstRow first (nonce_by handed) handed.most) (PasswordRow handed.version user.password) (valid_first_row first (nonce_by handed) handed.most valid) usable
 
 pub opening_reached : (handed : Handed) (user : User) (o : Opened) (old new : State) (before after : ℤ) → IsUser handed.credential user → Opens handed user o old new before after → IsValidFirst o.server_first (nonce_of o.client_first) handed.most → HasNone (PasswordRow handed.version user.password) → Reached (opening handed) (challenge_of user o.server_first) old new before after
 opening_reached handed user o old new before after is opens valid usable =

@@ -14,7 +14,7 @@ use Rattle.mongo_scram.specs.Key.{PasswordRow}
 use Rattle.mongo_scram.specs.Replies.{FirstPayloadRow, FirstReplyRow, FinalReplyRow}
 use Rattle.mongo_scram.specs.Rounds.{AnswerRow, RoundRow, LastRefusal}
 use Rattle.mongo_scram.specs.User.{CredentialRow}
-use Rattle.mongo_scram.specs.Validity.{FirstRow, FinalRow}
+use Rattle.mongo_scram.specs.Validity.{ServerFirstRow, ServerFinalRow}
 
 pub credential_own : (credential : Credential) (kind : ErrorKind) → CredentialRow credential kind → IsOwn kind
 credential_own credential (Authentication fault) row = inl refl
@@ -33,7 +33,7 @@ first_reply_own reply kind (inr memory) = inr memory
 
 -- ---- the derivation
 
-first_own : (first : ServerFirst) (nonce : List ℕ) (most : ℕ) (kind : ErrorKind) → FirstRow first nonce most kind → IsOwn kind
+first_own : (first : ServerFirst) (nonce : List ℕ) (most : ℕ) (kind : ErrorKind) → ServerFirstRow first nonce most kind → IsOwn kind
 first_own first nonce most (Authentication fault) row = inl refl
 first_own first nonce most kind row = absurd row
 
@@ -54,7 +54,7 @@ final_reply_own : (document : List ℕ) (kind : ErrorKind) → FinalReplyRow doc
 final_reply_own document kind (inl row) = sasl_own document kind row
 final_reply_own document kind (inr row) = inl (ap is_kept row.1.0)
 
-final_own : (last : ServerFinal) (conversation : OwnedValue) (owed : List ℕ) (kind : ErrorKind) → FinalRow last conversation owed kind → IsOwn kind
+final_own : (last : ServerFinal) (conversation : OwnedValue) (owed : List ℕ) (kind : ErrorKind) → ServerFinalRow last conversation owed kind → IsOwn kind
 final_own last conversation owed (Authentication fault) row = inl refl
 final_own last conversation owed kind row = absurd row
 

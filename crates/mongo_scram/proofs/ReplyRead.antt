@@ -11,7 +11,7 @@ use Rattle.mongo_sasl.specs.declared.sasl_response.SaslResponse.{SaslResponse}
 use Rattle.mongo_sasl.specs.Reply.{IsSaslReply, SaslRow, SaslRefused}
 use Rattle.mongo_sasl.proofs.OneReply.{sasl_reply_no_row}
 use Rattle.mongo_scram.specs.declared.server_final.ServerFinalBody.{ServerFinalBody}
-use Rattle.mongo_scram.specs.Parsed.{FirstRefused, FinalRefused}
+use Rattle.mongo_scram.specs.Parsed.{FirstRefused, ServerFinalUnread}
 use Rattle.mongo_scram.specs.ServerMessages.{FirstMessageRow, SaysFinal}
 use Rattle.mongo_scram.specs.Replies.{FirstReplyRow, FinalReplyRow}
 
@@ -38,7 +38,7 @@ first_refused reply sasl kind is row = absurd row
 pub first_without_text : (payload : List ℕ) → (IsUtf8 payload → ⊥) → FirstMessageRow payload Malformed
 first_without_text payload none nonce salt count is = none is.text
 
-pub final_refused : (reply : List ℕ) (sasl : SaslResponse) (kind : ErrorKind) → IsSaslReply reply sasl → FinalRefused sasl.payload kind → FinalReplyRow reply kind ⊎ (kind ≡ OutOfMemory)
+pub final_refused : (reply : List ℕ) (sasl : SaslResponse) (kind : ErrorKind) → IsSaslReply reply sasl → ServerFinalUnread sasl.payload kind → FinalReplyRow reply kind ⊎ (kind ≡ OutOfMemory)
 final_refused reply sasl (Authentication Malformed) is row = inl (inr (sasl_reply_no_row reply sasl is, (refl, (sasl, is, row))))
 final_refused reply sasl OutOfMemory is row = inr refl
 final_refused reply sasl (Authentication fault) is row = absurd row

@@ -6,14 +6,14 @@ use Rattle.mongo_command.specs.Conversation.{Reached, Stopped}
 use Rattle.mongo_command.proofs.FollowedBy.{reached_both, stopped_first, stopped_second}
 use Rattle.mongo_sasl.proofs.LastReply.{ends_reached}
 use Rattle.mongo_scram.specs.Plan.{Handed, opening, closing, scram_plan}
-use Rattle.mongo_scram.specs.Costs.{Ledgers, Accepted, StoppedLogin}
+use Rattle.mongo_scram.specs.Costs.{Ledgers, Accepted, StoppedScram}
 
 pub accepted_reached : (handed : Handed) (document : List ℕ) (old new : State) (before after : ℤ) (first last : Ledgers) → (is : Accepted handed document old new before after first last) → Reached (scram_plan handed) is.challenge old new before after
 accepted_reached handed document old new before after first last is =
     reached_both (opening handed) (closing handed) is.challenge is.challenge old is.middle new before is.between after is.opened
     (ends_reached (closing handed is.challenge) is.challenge document is.middle new is.between after is.closed)
 
-pub stopped_whole : (handed : Handed) (kind : ErrorKind) (old new : State) (before after : ℤ) (first last : Ledgers) → StoppedLogin handed kind old new before after first last → Stopped (scram_plan handed) kind old new before after
+pub stopped_whole : (handed : Handed) (kind : ErrorKind) (old new : State) (before after : ℤ) (first last : Ledgers) → StoppedScram handed kind old new before after first last → Stopped (scram_plan handed) kind old new before after
 stopped_whole handed kind old new before after first last is =
     elim is [
       | inl early ↦ stopped_first (opening handed) (closing handed) kind old new before after early.0

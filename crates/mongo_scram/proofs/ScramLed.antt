@@ -7,13 +7,13 @@ use Rattle.mongo_wire.specs.Outside.{State, Rose}
 use Rattle.mongo_command.specs.Conversation.{Said, Turn, refuses, ends, Leads}
 use Rattle.mongo_command.proofs.Leads.{only_end, only_refusal}
 use Rattle.mongo_scram.specs.Plan.{Handed, Challenge, scram_plan}
-use Rattle.mongo_scram.specs.Costs.{Ledgers, Accepted, StoppedLogin}
+use Rattle.mongo_scram.specs.Costs.{Ledgers, Accepted, StoppedScram}
 use Rattle.mongo_scram.specs.Led.{AnswersLed}
 use Rattle.mongo_scram.proofs.ScramPlan.{one_scram}
 use Rattle.mongo_scram.proofs.ScramCosts.{accepted_reached, stopped_whole}
 
 pub answer_led : {T : Type 0} (r : Result T Error) (handed : Handed) (document : List ℕ) (old new : State) (before after : ℤ) (first last : Ledgers) (bytes taken unread : List ℕ) (outcome : Turn Challenge) (commands : List Said)
-    → OnOk r (Accepted handed document old new before after first last) → IfErr r (λ e. StoppedLogin handed e.kind old new before after first last)
+    → OnOk r (Accepted handed document old new before after first last) → IfErr r (λ e. StoppedScram handed e.kind old new before after first last)
     → old.left ≡ Some bytes → Leads (scram_plan handed) bytes outcome commands taken unread → (Rose old.read_faults new.read_faults → ⊥) → (Rose old.write_faults new.write_faults → ⊥) → AnswersLed r outcome commands unread old new before after
 answer_led (Ok x) handed document old new before after first last bytes taken unread outcome commands accepted stopped is leads unfailed unwritten =
     let end = only_end (scram_plan handed) accepted.challenge outcome old new before after bytes commands taken unread (one_scram handed) (accepted_reached handed document old new before after first last accepted) is leads in
@@ -23,7 +23,7 @@ answer_led (Err e) handed document old new before after first last bytes taken u
 
 -- the same of a login that was refused
 pub refusal_led : {T : Type 0} (r : Result T Error) (e : Error) (handed : Handed) (old new : State) (before after : ℤ) (first last : Ledgers) (bytes taken unread : List ℕ) (outcome : Turn Challenge) (commands : List Said)
-    → IsErrAnd r (λ x. x ≡ e) → IfErr r (λ x. StoppedLogin handed x.kind old new before after first last)
+    → IsErrAnd r (λ x. x ≡ e) → IfErr r (λ x. StoppedScram handed x.kind old new before after first last)
     → old.left ≡ Some bytes → Leads (scram_plan handed) bytes outcome commands taken unread → (Rose old.read_faults new.read_faults → ⊥) → (Rose old.write_faults new.write_faults → ⊥) → AnswersLed r outcome commands unread old new before after
 refusal_led (Ok x) e handed old new before after first last bytes taken unread outcome commands passed stopped is leads unfailed unwritten = absurd passed
 refusal_led (Err x) e handed old new before after first last bytes taken unread outcome commands passed stopped is leads unfailed unwritten =

@@ -77,8 +77,8 @@ pub record StoppedClosing (handed : Handed) (kind : ErrorKind) (old new : State)
   pub entries : SameEntries first last
 
 -- Where a login was stopped: in the opening, before anything was derived, or in the closing.
-abbrev pub StoppedLogin : Handed → ErrorKind → State → State → ℤ → ℤ → Ledgers → Ledgers → Type 0
-StoppedLogin handed kind old new before after first last =
+abbrev pub StoppedScram : Handed → ErrorKind → State → State → ℤ → ℤ → Ledgers → Ledgers → Type 0
+StoppedScram handed kind old new before after first last =
     (Stopped (opening handed) kind old new before after × CostsNothing first last) ⊎ StoppedClosing handed kind old new before after first last
 
 -- ---- over a connection that keeps a fault

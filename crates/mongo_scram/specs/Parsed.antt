@@ -5,13 +5,13 @@ use Rattle.mongo_wire.specs.declared.error.ErrorKind.TheVariants.{Authentication
 use Rattle.mongo_wire.specs.declared.auth_fault.AuthFault.TheVariants.{Malformed}
 use Rattle.mongo_scram.specs.declared.server_final.ServerFinalBody.{ServerFinalBody}
 use Rattle.mongo_scram.specs.declared.parse.FirstMessage.{FirstMessage}
-use Rattle.mongo_scram.specs.ServerMessages.{IsServerFirst, IsCount, FirstMessageRow, SaysFinal}
+use Rattle.mongo_scram.specs.ServerMessages.{IsServerFirst, IsIterationCount, FirstMessageRow, SaysFinal}
 
 -- what the message says
-pub record HoldsFirst (message : List ℕ) (first : FirstMessage) : Type 0 where
+pub record HoldsServerFirst (message : List ℕ) (first : FirstMessage) : Type 0 where
   pub count : List ℕ
   pub is_first : IsServerFirst message first.nonce.now first.salt count
-  pub is_count : IsCount count first.i
+  pub is_count : IsIterationCount count first.i
 
 -- why nothing was read: a row of the message, or want of memory
 abbrev pub FirstRefused : List ℕ → ErrorKind → Type 0
@@ -20,7 +20,7 @@ FirstRefused message OutOfMemory = ⊤
 FirstRefused message kind = ⊥
 
 -- why it says nothing: it is no server final message, or memory ran out
-abbrev pub FinalRefused : List ℕ → ErrorKind → Type 0
-FinalRefused message (Authentication Malformed) = (body : ServerFinalBody) → SaysFinal message body → ⊥
-FinalRefused message OutOfMemory = ⊤
-FinalRefused message kind = ⊥
+abbrev pub ServerFinalUnread : List ℕ → ErrorKind → Type 0
+ServerFinalUnread message (Authentication Malformed) = (body : ServerFinalBody) → SaysFinal message body → ⊥
+ServerFinalUnread message OutOfMemory = ⊤
+ServerFinalUnread message kind = ⊥

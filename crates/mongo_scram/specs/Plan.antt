@@ -16,7 +16,7 @@ use Rattle.mongo_scram.specs.Messages.{open_message, transcript, close_message, 
 use Rattle.mongo_scram.specs.Key.{PasswordRow, salted}
 use Rattle.mongo_scram.specs.Commands.{first_command, final_command}
 use Rattle.mongo_scram.specs.Replies.{CarriesFirst, FirstReplyRow, CarriesFinal, FinalReplyRow}
-use Rattle.mongo_scram.specs.Validity.{FirstRow, FinalRow}
+use Rattle.mongo_scram.specs.Validity.{ServerFirstRow, ServerFinalRow}
 
 -- ---- what a login is handed
 
@@ -84,7 +84,7 @@ close_said handed c = record { maximum = handed.maximum; document = command_docu
 
 -- why the server's first message isn't gone on from: its rows, and then those of the password
 abbrev pub ChallengeRow : Handed → Challenge → ErrorKind → Type 0
-ChallengeRow handed c = or_else (FirstRow c.first (nonce_by handed) handed.most) (PasswordRow handed.version c.user.password)
+ChallengeRow handed c = or_else (ServerFirstRow c.first (nonce_by handed) handed.most) (PasswordRow handed.version c.user.password)
 
 -- after the reply with the server's first message
 abbrev pub challenged : Handed → User → List ℕ → Plan Challenge
@@ -107,7 +107,7 @@ NotCompletedRow last kind = (kind ≡ Authentication NotCompleted) × (last.done
 
 -- why the server's last message isn't taken
 abbrev pub LastRow : Handed → Challenge → ServerFinal → ErrorKind → Type 0
-LastRow handed c last = or_else (FinalRow last c.first.conversation_id (verifier_by handed c)) (NotCompletedRow last)
+LastRow handed c last = or_else (ServerFinalRow last c.first.conversation_id (verifier_by handed c)) (NotCompletedRow last)
 
 -- after the reply with the server's last message
 abbrev pub closed : Handed → Challenge → List ℕ → Plan Challenge

@@ -9,7 +9,7 @@ use Rattle.mongo_sasl.specs.Reply.{IsSaslReply, SaslRow}
 use Rattle.mongo_scram.specs.declared.server_first.ServerFirst.{ServerFirst}
 use Rattle.mongo_scram.specs.declared.server_final.ServerFinal.{ServerFinal}
 use Rattle.mongo_scram.specs.declared.server_final.ServerFinalBody.{ServerFinalBody}
-use Rattle.mongo_scram.specs.ServerMessages.{IsServerFirst, IsCount, FirstMessageRow, SaysFinal}
+use Rattle.mongo_scram.specs.ServerMessages.{IsServerFirst, IsIterationCount, FirstMessageRow, SaysFinal}
 
 -- ---- the server's first message
 
@@ -22,7 +22,7 @@ pub record CarriesFirst (reply : List ℕ) (first : ServerFirst) : Type 0 where
   pub message : first.message ≡ sasl.payload
   pub count : List ℕ
   pub is_first : IsServerFirst sasl.payload first.nonce first.salt count
-  pub is_count : IsCount count first.i
+  pub is_count : IsIterationCount count first.i
 
 -- the reply reads, and its payload is no server first message
 abbrev pub FirstPayloadRow : List ℕ → ErrorKind → Type 0

@@ -23,7 +23,7 @@ use Rattle.mongo_scram.specs.Key.{PasswordRow}
 use Rattle.mongo_scram.specs.Plan.{Speculated, Handed, Challenge, message_by, nonce_by, start_said, NotCompletedRow}
 use Rattle.mongo_scram.specs.Replies.{CarriesFirst, CarriesFinal, FinalReplyRow}
 use Rattle.mongo_scram.specs.User.{User}
-use Rattle.mongo_scram.specs.Validity.{IsValidFirst, FirstRow, FinalRow}
+use Rattle.mongo_scram.specs.Validity.{IsValidFirst, ServerFirstRow, ServerFinalRow}
 
 -- what a login is handed, with a first round or without, over a link of this maximum
 abbrev pub handed_by : Login → Option FirstRound → ℤ → Handed
@@ -66,7 +66,7 @@ pub record IsAnswered (first : ServerFirst) (nonce : List ℕ) (most : ℕ) (key
 
 -- why it doesn't: a row of the message, and then one of the password
 abbrev pub AnswerRow : ServerFirst → List ℕ → ℕ → ScramVersion → List ℕ → ErrorKind → Type 0
-AnswerRow first nonce most version password = or_else (FirstRow first nonce most) (PasswordRow version password)
+AnswerRow first nonce most version password = or_else (ServerFirstRow first nonce most) (PasswordRow version password)
 
 -- ---- the last round
 
@@ -76,7 +76,7 @@ final_said final maximum = record { maximum = maximum; document = command_docume
 
 -- why the server's last message isn't taken in this conversation, by the verifier that is owed
 abbrev pub RoundRow : OwnedValue → List ℕ → ServerFinal → ErrorKind → Type 0
-RoundRow conversation owed last = or_else (FinalRow last conversation owed) (NotCompletedRow last)
+RoundRow conversation owed last = or_else (ServerFinalRow last conversation owed) (NotCompletedRow last)
 
 -- after the reply with it
 abbrev pub last_heard : OwnedValue → List ℕ → Challenge → List ℕ → Plan Challenge
@@ -88,7 +88,7 @@ abbrev pub last_round : Said → OwnedValue → List ℕ → Challenge → Plan 
 last_round said conversation owed c = saying said (last_heard conversation owed c)
 
 -- the document carries a last message of the server that is taken
-pub record IsTaken (conversation : OwnedValue) (owed document : List ℕ) : Type 0 where
+pub record TakesLastMessage (conversation : OwnedValue) (owed document : List ℕ) : Type 0 where
   pub last : ServerFinal
   pub carries : CarriesFinal document last
   pub taken : HasNone (RoundRow conversation owed last)

@@ -5,7 +5,7 @@ use Rattle.mongo_wire.specs.declared.error.ErrorKind.{ErrorKind}
 use Rattle.mongo_sasl.specs.Reply.{IsSaslReply}
 use Rattle.mongo_scram.specs.Base64.{base64_of}
 use Rattle.mongo_scram.specs.Key.{PasswordRow}
-use Rattle.mongo_scram.specs.ServerMessages.{IsServerFirst, IsCount}
+use Rattle.mongo_scram.specs.ServerMessages.{IsServerFirst, IsIterationCount}
 use Rattle.mongo_scram.specs.Validity.{BeginsWith, least_count}
 use Rattle.mongo_scram.specs.User.{User, IsUser}
 use Rattle.mongo_scram.specs.Plan.{Speculated, Handed, Challenge, nonce_by, start_said, close_said, verifier_by}
@@ -20,7 +20,7 @@ pub record IsConversation (handed : Handed) (user : User) (first_reply command l
   pub replied : IsSaslReply first_reply (record { conversation_id = challenge.first.conversation_id; done = false; payload = challenge.first.message })
   pub count : List ℕ
   pub is_first : IsServerFirst challenge.first.message challenge.first.nonce challenge.first.salt count
-  pub is_count : IsCount count challenge.first.i
+  pub is_count : IsIterationCount count challenge.first.i
   pub begins : BeginsWith challenge.first.nonce (nonce_by handed)
   pub enough : least_count ≤ challenge.first.i
   pub within : challenge.first.i ≤ handed.most

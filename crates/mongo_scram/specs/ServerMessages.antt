@@ -31,13 +31,13 @@ pub record IsServerFirst (message nonce salt count : List ℕ) : Type 0 where
   pub bytes : IsBytes salt
 
 -- the text is this number in decimal digits, where a `+` may stand first
-abbrev pub IsCount : List ℕ → ℕ → Type 0
-IsCount text number = IsNumeral 10 (without_leading_plus text) × (digits_value 10 (without_leading_plus text) ≡ number) × (number < 2 ^ 32)
+abbrev pub IsIterationCount : List ℕ → ℕ → Type 0
+IsIterationCount text number = IsNumeral 10 (without_leading_plus text) × (digits_value 10 (without_leading_plus text) ≡ number) × (number < 2 ^ 32)
 
 -- why a message is no server first message
 abbrev pub FirstMessageRow : List ℕ → AuthFault → Type 0
 FirstMessageRow message Malformed = (nonce salt count : List ℕ) → IsServerFirst message nonce salt count → ⊥
-FirstMessageRow message CountUnreadable = (nonce salt count : List ℕ) × IsServerFirst message nonce salt count × ((number : ℕ) → IsCount count number → ⊥)
+FirstMessageRow message CountUnreadable = (nonce salt count : List ℕ) × IsServerFirst message nonce salt count × ((number : ℕ) → IsIterationCount count number → ⊥)
 FirstMessageRow message fault = ⊥
 
 -- the part stands at the front of the text, up to a comma or the text's end
@@ -53,10 +53,10 @@ Decodes text None = (bytes : List ℕ) → IsBytes bytes → text ≢ base64_of 
 Decodes text (Some bytes) = IsBytes bytes × (text ≡ base64_of bytes)
 
 -- what the attribute says: `e=` and an error's text, or `v=` and the verifier in base64
-abbrev pub Says : List ℕ → ServerFinalBody → Type 0
-Says message (Error text) = message ≡ codes "e=" ++ text
-Says message (Verifier bytes) = (text : List ℕ) × (message ≡ codes "v=" ++ text) × Decodes text bytes
+abbrev pub SaysAttribute : List ℕ → ServerFinalBody → Type 0
+SaysAttribute message (Error text) = message ≡ codes "e=" ++ text
+SaysAttribute message (Verifier bytes) = (text : List ℕ) × (message ≡ codes "v=" ++ text) × Decodes text bytes
 
 -- `server-final-message`
 abbrev pub SaysFinal : List ℕ → ServerFinalBody → Type 0
-SaysFinal message body = IsUtf8 message × Says message body
+SaysFinal message body = IsUtf8 message × SaysAttribute message body

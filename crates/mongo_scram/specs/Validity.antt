@@ -24,12 +24,12 @@ pub record IsValidFirst (first : ServerFirst) (nonce : List ℕ) (most : ℕ) : 
   pub within : first.i ≤ most
 
 -- why it doesn't: the first row that applies
-abbrev pub FirstRow : ServerFirst → List ℕ → ℕ → ErrorKind → Type 0
-FirstRow first nonce most (Authentication EndedEarly) = first.done ≡ true
-FirstRow first nonce most (Authentication Nonce) = (first.done ≡ false) × (BeginsWith first.nonce nonce → ⊥)
-FirstRow first nonce most (Authentication CountLow) = (first.done ≡ false) × BeginsWith first.nonce nonce × (first.i < least_count)
-FirstRow first nonce most (Authentication CountHigh) = (first.done ≡ false) × BeginsWith first.nonce nonce × (least_count ≤ first.i) × (most < first.i)
-FirstRow first nonce most kind = ⊥
+abbrev pub ServerFirstRow : ServerFirst → List ℕ → ℕ → ErrorKind → Type 0
+ServerFirstRow first nonce most (Authentication EndedEarly) = first.done ≡ true
+ServerFirstRow first nonce most (Authentication Nonce) = (first.done ≡ false) × (BeginsWith first.nonce nonce → ⊥)
+ServerFirstRow first nonce most (Authentication CountLow) = (first.done ≡ false) × BeginsWith first.nonce nonce × (first.i < least_count)
+ServerFirstRow first nonce most (Authentication CountHigh) = (first.done ≡ false) × BeginsWith first.nonce nonce × (least_count ≤ first.i) × (most < first.i)
+ServerFirstRow first nonce most kind = ⊥
 
 -- the server has proved that it knows the key: it answers in this conversation with the verifier that it owes, all of it
 pub record IsValidFinal (last : ServerFinal) (conversation : OwnedValue) (owed : List ℕ) : Type 0 where
@@ -37,9 +37,9 @@ pub record IsValidFinal (last : ServerFinal) (conversation : OwnedValue) (owed :
   pub body : last.body ≡ Verifier (Some owed)
 
 -- why it hasn't: the first row that applies
-abbrev pub FinalRow : ServerFinal → OwnedValue → List ℕ → ErrorKind → Type 0
-FinalRow last conversation owed (Authentication Conversation) = last.conversation_id ≢ conversation
-FinalRow last conversation owed (Authentication (ServerError text)) = (last.conversation_id ≡ conversation) × (last.body ≡ Error text)
-FinalRow last conversation owed (Authentication Malformed) = (last.conversation_id ≡ conversation) × (last.body ≡ Verifier None)
-FinalRow last conversation owed (Authentication WrongVerifier) = (last.conversation_id ≡ conversation) × ((bytes : List ℕ) × (last.body ≡ Verifier (Some bytes)) × (bytes ≢ owed))
-FinalRow last conversation owed kind = ⊥
+abbrev pub ServerFinalRow : ServerFinal → OwnedValue → List ℕ → ErrorKind → Type 0
+ServerFinalRow last conversation owed (Authentication Conversation) = last.conversation_id ≢ conversation
+ServerFinalRow last conversation owed (Authentication (ServerError text)) = (last.conversation_id ≡ conversation) × (last.body ≡ Error text)
+ServerFinalRow last conversation owed (Authentication Malformed) = (last.conversation_id ≡ conversation) × (last.body ≡ Verifier None)
+ServerFinalRow last conversation owed (Authentication WrongVerifier) = (last.conversation_id ≡ conversation) × ((bytes : List ℕ) × (last.body ≡ Verifier (Some bytes)) × (bytes ≢ owed))
+ServerFinalRow last conversation owed kind = ⊥

@@ -33,7 +33,7 @@ impl ScramVersion {
     ghost use Rattle.mongo_scram.specs.Base64.{base64_of};
     ghost use Rattle.mongo_scram.specs.Cache.{entries_of};
     ghost use Rattle.mongo_scram.specs.Client.{handed_to, frames_after};
-    ghost use Rattle.mongo_scram.specs.Costs.{ledgers, Accepted, StoppedLogin, FaultCosts};
+    ghost use Rattle.mongo_scram.specs.Costs.{ledgers, Accepted, StoppedScram, FaultCosts};
     ghost use Rattle.mongo_scram.specs.Led.{AnswersLed};
     ghost use Rattle.mongo_scram.specs.Plan.{Challenge, scram_plan};
 
@@ -75,7 +75,7 @@ impl ScramVersion {
             (L.state link.old) (L.state link.new) ids.old ids.new (ledgers steps.old salted.old) (ledgers steps.new salted.new)) }
 
         // A refusal says why it comes, what it left, and whether the key was derived before it.
-        ensures refused { kept_fault connection.old ≡ None → IfErr result (λ e. StoppedLogin (handed_to self.now credential.now (option_copied server_api.entry) first_round (base64_of nonce.now) most (frame_maximum connection.old.stream_description)) e.kind
+        ensures refused { kept_fault connection.old ≡ None → IfErr result (λ e. StoppedScram (handed_to self.now credential.now (option_copied server_api.entry) first_round (base64_of nonce.now) most (frame_maximum connection.old.stream_description)) e.kind
             (L.state link.old) (L.state link.new) ids.old ids.new (ledgers steps.old salted.old) (ledgers steps.new salted.new)) }
 
         // Where the link doesn't fail, bytes left that lead to the login's end are accepted, and those that lead to a refusal get
@@ -107,7 +107,7 @@ impl ScramVersion {
         // message's, nothing was derived, counted or put in.
         ensures answers { (kind : ErrorKind) → kept_fault connection.old ≡ Some kind → IfErr result (λ e. ((e.kind ≡ kind) × FaultCosts (handed_to self.now credential.now (option_copied server_api.entry) first_round (base64_of nonce.now) most (frame_maximum connection.old.stream_description))
             (L.state link.old) ids.old (ledgers steps.old salted.old) (ledgers steps.new salted.new))
-            ⊎ StoppedLogin (handed_to self.now credential.now (option_copied server_api.entry) first_round (base64_of nonce.now) most (frame_maximum connection.old.stream_description)) e.kind
+            ⊎ StoppedScram (handed_to self.now credential.now (option_copied server_api.entry) first_round (base64_of nonce.now) most (frame_maximum connection.old.stream_description)) e.kind
             (L.state link.old) (L.state link.old) ids.old ids.old (ledgers steps.old salted.old) (ledgers steps.new salted.new)) }
         ensures counts { CountsStay (L.state link.old) (L.state link.new) }
     {

@@ -4,7 +4,7 @@ ghost use Rattle.std.specs.Prelude.{◌≡◌, ◌≢◌, ℕ, ◌++◌, ◌∷�
 ghost use Rattle.mongo_bson.specs.declared.fault.BsonFault.TheVariants.{OutOfMemory};
 ghost use Rattle.mongo_sasl.specs.View.{response_of};
 ghost use Rattle.mongo_scram.specs.ServerMessages.{HasNoComma, BeginsWithParts, IsBeforeComma, SaysFinal};
-ghost use Rattle.mongo_scram.specs.Parsed.{HoldsFirst, FirstRefused, FinalRefused};
+ghost use Rattle.mongo_scram.specs.Parsed.{HoldsServerFirst, FirstRefused, ServerFinalUnread};
 
 use crate::base64_text::decoded;
 use crate::server_final::ServerFinalBody;
@@ -30,7 +30,7 @@ pub struct FirstMessage<'a> {
 /// `Malformed` where a part is missing, has another key, or the salt is no base64; else `CountUnreadable` where the count
 /// is no decimal number below 2^32.
 pub fn read_server_first<'a>(alloc: Global, message: &'a str) -> Result<FirstMessage<'a>, Error>
-    ensures first { IfOk result (HoldsFirst message.now) }
+    ensures first { IfOk result (HoldsServerFirst message.now) }
     ensures refused { IfErr result (λ e. FirstRefused message.now e.kind) }
 {
     let Some(parts) = parts_of(message) else {
@@ -60,7 +60,7 @@ pub fn read_server_first<'a>(alloc: Global, message: &'a str) -> Result<FirstMes
 /// `Malformed` where it is neither.
 pub fn read_server_final(alloc: Global, message: &str) -> Result<ServerFinalBody, Error>
     ensures says { IfOk result (SaysFinal message.now) }
-    ensures refused { IfErr result (λ e. FinalRefused message.now e.kind) }
+    ensures refused { IfErr result (λ e. ServerFinalUnread message.now e.kind) }
 {
     if let Some(text) = value_of(message, "e=") {
         return Ok(ServerFinalBody::Error(Text::from_slice(alloc, text)?));

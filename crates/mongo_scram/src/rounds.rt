@@ -14,7 +14,7 @@ ghost use Rattle.mongo_scram.specs.Client.{auth_message_of, conversation_of};
 ghost use Rattle.mongo_scram.specs.Messages.{verifier};
 ghost use Rattle.mongo_scram.specs.Plan.{Challenge};
 ghost use Rattle.mongo_scram.specs.Replies.{CarriesFirst, FirstReplyRow};
-ghost use Rattle.mongo_scram.specs.Rounds.{final_said, last_round, IsTaken, LastRefusal};
+ghost use Rattle.mongo_scram.specs.Rounds.{final_said, last_round, TakesLastMessage, LastRefusal};
 ghost use Rattle.mongo_scram.specs.Version.{digest_of};
 
 use crate::auth_info::ClientAuthInfo;
@@ -173,7 +173,7 @@ pub fn close<L: Link>(
         (L.state link.old) (L.state link.new) ids.old ids.new) }
     ensures refused { (c : Challenge) → kept_fault connection.old ≡ None → IfErr result (λ e. Stopped (last_round (final_said client_final.now (frame_maximum connection.old.stream_description)) (conversation_of client_final.now) (verifier (digest_of version) salted.now (auth_message_of client_final.now)) c) e.kind
         (L.state link.old) (L.state link.new) ids.old ids.new) }
-    ensures taken { OnOk result (IsTaken (conversation_of client_final.now) (verifier (digest_of version) salted.now (auth_message_of client_final.now)) (held_document buffer.new)) }
+    ensures taken { OnOk result (TakesLastMessage (conversation_of client_final.now) (verifier (digest_of version) salted.now (auth_message_of client_final.now)) (held_document buffer.new)) }
     ensures frames { OnOk result (frames_taken buffer.new ≡ risen (frames_taken buffer.old)) }
     ensures holds { OnOk result (HoldsReply buffer.new) }
     ensures connection { KeepsRest connection.old connection.new }
@@ -197,7 +197,7 @@ fn take_last(
     salted: &SaltedPassword,
     client_final: &ClientFinal,
 ) -> Result<(), Error>
-    ensures taken { OnOk result (IsTaken (conversation_of client_final.now) (verifier (digest_of version) salted.now (auth_message_of client_final.now)) reply.entry.bytes.now) }
+    ensures taken { OnOk result (TakesLastMessage (conversation_of client_final.now) (verifier (digest_of version) salted.now (auth_message_of client_final.now)) reply.entry.bytes.now) }
     ensures refused { IfErr result (λ e. LastRefusal (conversation_of client_final.now) (verifier (digest_of version) salted.now (auth_message_of client_final.now)) reply.entry.bytes.now e.kind ⊎ (e.kind ≡ OutOfMemory)) }
 {
     let last = ServerFinal::parse(alloc, reply)?;

@@ -6,7 +6,7 @@ ghost use Rattle.mongo_sasl.specs.View.{response_of};
 ghost use Rattle.mongo_scram.specs.Client.{auth_message_of, conversation_of};
 ghost use Rattle.mongo_scram.specs.Messages.{verifier};
 ghost use Rattle.mongo_scram.specs.Replies.{CarriesFinal, FinalReplyRow};
-ghost use Rattle.mongo_scram.specs.Validity.{IsValidFinal, FinalRow};
+ghost use Rattle.mongo_scram.specs.Validity.{IsValidFinal, ServerFinalRow};
 ghost use Rattle.mongo_scram.specs.Version.{digest_of};
 
 use crate::ScramVersion;
@@ -95,7 +95,7 @@ impl ServerFinal {
         version: &ScramVersion,
     ) -> Result<(), Error>
         ensures valid { OnOk result (IsValidFinal self (conversation_of client_final.now) (verifier (digest_of version.now) salted.now (auth_message_of client_final.now))) }
-        ensures refused { IfErr result (λ e. FinalRow self (conversation_of client_final.now) (verifier (digest_of version.now) salted.now (auth_message_of client_final.now)) e.kind) }
+        ensures refused { IfErr result (λ e. ServerFinalRow self (conversation_of client_final.now) (verifier (digest_of version.now) salted.now (auth_message_of client_final.now)) e.kind) }
     {
         let salted = SaltedPassword::new(*version, *salted);
         self.validate_by(&salted, client_final, version)
@@ -109,7 +109,7 @@ impl ServerFinal {
         version: &ScramVersion,
     ) -> Result<(), Error>
         ensures valid { OnOk result (IsValidFinal self (conversation_of client_final.now) (verifier (digest_of version.now) salted.now (auth_message_of client_final.now))) }
-        ensures refused { IfErr result (λ e. FinalRow self (conversation_of client_final.now) (verifier (digest_of version.now) salted.now (auth_message_of client_final.now)) e.kind) }
+        ensures refused { IfErr result (λ e. ServerFinalRow self (conversation_of client_final.now) (verifier (digest_of version.now) salted.now (auth_message_of client_final.now)) e.kind) }
     {
         let ServerFinal {
             conversation_id,

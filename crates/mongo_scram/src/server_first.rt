@@ -4,7 +4,7 @@ ghost use Rattle.mongo_wire.specs.declared.error.ErrorKind.TheVariants.{OutOfMem
 ghost use Rattle.mongo_sasl.specs.Reply.{IsSaslReply};
 ghost use Rattle.mongo_sasl.specs.View.{response_of};
 ghost use Rattle.mongo_scram.specs.Replies.{CarriesFirst, FirstReplyRow};
-ghost use Rattle.mongo_scram.specs.Validity.{IsValidFirst, FirstRow};
+ghost use Rattle.mongo_scram.specs.Validity.{IsValidFirst, ServerFirstRow};
 
 use crate::parse::{conversation_id_of, read_server_first};
 use mongo_bson::{BsonFault, Bytes, OwnedValue, RawDocument, Text};
@@ -56,7 +56,7 @@ impl ServerFirst {
     /// client's, `CountLow` where the iteration count is below 4096, `CountHigh` where it is above `most`.
     pub fn validate(&self, nonce: &str, most: u32) -> Result<(), Error>
         ensures valid { OnOk result (IsValidFirst self.now nonce.now most) }
-        ensures refused { IfErr result (λ e. FirstRow self.now nonce.now most e.kind) }
+        ensures refused { IfErr result (λ e. ServerFirstRow self.now nonce.now most e.kind) }
     {
         if self.done {
             Err(refused(AuthFault::EndedEarly))

@@ -13,7 +13,7 @@ use Rattle.base64.specs.Engines.{standard}
 use Rattle.base64.specs.GeneralPurpose.{IsBytes}
 use Rattle.base64.proofs.EngineFacts.{IsAscii-encode_of}
 use Rattle.mongo_scram.specs.Base64.{base64_of}
-use Rattle.mongo_scram.specs.ServerMessages.{HasNoComma, IsServerFirst, IsCount}
+use Rattle.mongo_scram.specs.ServerMessages.{HasNoComma, IsServerFirst, IsIterationCount}
 use Rattle.mongo_server.specs.ClientMessages.{IsNonce}
 use Rattle.mongo_server.specs.ServerTexts.{server_first}
 use Rattle.mongo_server.proofs.Base64Commas.{base64-no_comma}
@@ -61,7 +61,7 @@ read_first nonce salt count is_nonce bytes within =
       bytes = bytes;
     }
 
-pub read_count : (count : ℕ) → count < 2 ^ 32 → IsCount (decimal count) count
+pub read_count : (count : ℕ) → count < 2 ^ 32 → IsIterationCount (decimal count) count
 read_count count within =
     let both = decimal_is_IsNumeral count (omega (arith, within)) in
     let range : IsInRange 48 57 (get_or (decimal count) 0 0) = digit_at (decimal count) 0 both.0.1 both.0.0 in

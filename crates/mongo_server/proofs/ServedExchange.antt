@@ -14,7 +14,7 @@ use Rattle.mongo_server.specs.declared.server_core.Conversation.{Conversation}
 use Rattle.mongo_server.specs.declared.server_core.ServerCore.{ServerCore}
 use Rattle.mongo_server.specs.ClientMessages.{IsPrintable, IsNonce, IsClientFirst, IsClientFinal}
 use Rattle.mongo_server.specs.Exchange.{Exchange, joined_of, salted_of, open_of, first_of, auth_message_of, close_of, final_of, IsReadAs}
-use Rattle.mongo_server.specs.Server.{user_of, salt_of, suffix_of, username_of, conversation_of, first_by, conversation_by, FirstRow, IsTaken, FinalRefused, Serves, HasBegun}
+use Rattle.mongo_server.specs.Server.{user_of, salt_of, suffix_of, username_of, conversation_of, first_by, conversation_by, ClientFirstRow, IsLastMessageTaken, FinalRefused, Serves, HasBegun}
 use Rattle.mongo_server.specs.ServerTexts.{server_first, server_final}
 use Rattle.mongo_server.proofs.ClientFinals.{one_final}
 use Rattle.mongo_server.proofs.ClientFirsts.{one_first}
@@ -72,7 +72,7 @@ accepts_first core new message text nonce first text_is bytes same_user same_suf
     (read_as core x serves text nonce same printable bytes text_is, has_begun core x serves new nonce same printable bytes same_user same_suffix begun)
 
 -- a client of the exchange isn't refused
-pub hears_first : (core : ServerCore) (message : List ℕ) (fault : ServerFault) → FirstRow core message fault → (x : Exchange) → Serves core x → IsNonce x.nonce → message ≡ open_of x → fault ≡ OutOfMemory
+pub hears_first : (core : ServerCore) (message : List ℕ) (fault : ServerFault) → ClientFirstRow core message fault → (x : Exchange) → Serves core x → IsNonce x.nonce → message ≡ open_of x → fault ≡ OutOfMemory
 hears_first core message fault row x serves printable is =
     absurd (first_no_row core message x.nonce fault (subst (λ name. IsClientFirst message name x.nonce) (sym serves.user.username_is) (client_first core x serves message printable is)) row)
 
@@ -100,7 +100,7 @@ module _ (core : ServerCore) (x : Exchange) (begun : HasBegun core x) where
   client_final message is = record { message_is = is; bytes = proof_bytes x.version (salted_of x) (auth_message_of x) }
 
   -- what it takes is the client's last message
-  taken_is : (message : List ℕ) → IsTaken core message → message ≡ close_of x
+  taken_is : (message : List ℕ) → IsLastMessageTaken core message → message ≡ close_of x
   unfolding close_message
   taken_is message is = is.2.message_is ∙ (λ i. no_proof ((held_is is.0 is.1 i).nonce) ++ (codes ",p=" ++ base64_of (owed_is is.0 is.1 i)))
 
@@ -128,6 +128,6 @@ takes_final core message Proof row x begun is =
 takes_final core message fault row x begun is = absurd row
 
 -- and no other message is taken
-pub takes_only : {T : Type 0} (core : ServerCore) (message : List ℕ) (r : Result T ServerFault) → IsTaken core message → (x : Exchange) → HasBegun core x → OnOk r (message ≡ close_of x)
+pub takes_only : {T : Type 0} (core : ServerCore) (message : List ℕ) (r : Result T ServerFault) → IsLastMessageTaken core message → (x : Exchange) → HasBegun core x → OnOk r (message ≡ close_of x)
 takes_only core message (Ok t) is x begun = taken_is core x begun message is
 takes_only core message (Err fault) is x begun = tt

@@ -7,14 +7,14 @@ use Rattle.mongo_server.specs.declared.server_core.Conversation.{Conversation}
 use Rattle.mongo_server.specs.declared.server_core.ServerCore.{ServerCore}
 use Rattle.mongo_server.specs.ClientMessages.{IsClientFirst}
 use Rattle.mongo_scram.specs.Keys.{proof_under}
-use Rattle.mongo_server.specs.Server.{username_of, conversation_of, FirstRow, FinalRow, FinalRefused, IsTaken}
+use Rattle.mongo_server.specs.Server.{username_of, conversation_of, ClientFirstRow, ClientFinalRow, FinalRefused, IsLastMessageTaken}
 use Rattle.mongo_server.proofs.ClientFirsts.{one_first}
 use Rattle.mongo_server.proofs.UserNames.{escaped_same}
 use Rattle.mongo_server.proofs.ClientFinals.{one_final}
 
 -- ---- the first message
 
-pub one_first_row : (core : ServerCore) (message : List ℕ) (a b : ServerFault) → FirstRow core message a → FirstRow core message b → a ≡ b
+pub one_first_row : (core : ServerCore) (message : List ℕ) (a b : ServerFault) → ClientFirstRow core message a → ClientFirstRow core message b → a ≡ b
 one_first_row core message Malformed Malformed p q = refl
 one_first_row core message Malformed UnknownUser p q = absurd (p q.0 q.1 q.2)
 one_first_row core message UnknownUser Malformed p q = absurd (q p.0 p.1 p.2)
@@ -23,10 +23,10 @@ one_first_row core message Malformed b p q = absurd q
 one_first_row core message UnknownUser b p q = absurd q
 one_first_row core message a b p q = absurd p
 
-pub one_first_errors : {T : Type 0} (core : ServerCore) (message : List ℕ) (a : ServerFault) → FirstRow core message a → (fault : ServerFault) → FirstRow core message fault → ◌≡◌ {A = Result T ServerFault} (Err a) (Err fault)
+pub one_first_errors : {T : Type 0} (core : ServerCore) (message : List ℕ) (a : ServerFault) → ClientFirstRow core message a → (fault : ServerFault) → ClientFirstRow core message fault → ◌≡◌ {A = Result T ServerFault} (Err a) (Err fault)
 one_first_errors core message a is fault row = ap Err (one_first_row core message a fault is row)
 
-pub first_no_row : (core : ServerCore) (message nonce : List ℕ) (fault : ServerFault) → IsClientFirst message (username_of core) nonce → FirstRow core message fault → ⊥
+pub first_no_row : (core : ServerCore) (message nonce : List ℕ) (fault : ServerFault) → IsClientFirst message (username_of core) nonce → ClientFirstRow core message fault → ⊥
 first_no_row core message nonce Malformed is row = row (username_of core) nonce is
 first_no_row core message nonce UnknownUser is row = row.3 (one_first message row.0 row.1 (username_of core) nonce row.2 is).username_is
 first_no_row core message nonce fault is row = row
@@ -47,12 +47,12 @@ started_not (Some c) none some = absurd (cc none)
 one_held : (held : Option Conversation) (c d : Conversation) → held ≡ Some c → held ≡ Some d → c ≡ d
 one_held held c d p q = let same : Some c ≡ Some d = sym p ∙ q in cc
 
-nonce_and_proof : (core : ServerCore) (message : List ℕ) → FinalRow core message Nonce → FinalRow core message Proof → ⊥
+nonce_and_proof : (core : ServerCore) (message : List ℕ) → ClientFinalRow core message Nonce → ClientFinalRow core message Proof → ⊥
 nonce_and_proof core message p q =
     let same = one_final message p.2.0 p.2.1 q.0.nonce q.2.0 p.2.2 q.2.1 in
     p.2.3 (same.nonce_is ∙ ap (λ (c : Conversation). c.nonce) (one_held (conversation_of core) q.0 p.0 q.1 p.1))
 
-pub one_final_row : (core : ServerCore) (message : List ℕ) (a b : ServerFault) → FinalRefused core message a → FinalRow core message b → (a ≡ b) ⊎ (a ≡ OutOfMemory)
+pub one_final_row : (core : ServerCore) (message : List ℕ) (a b : ServerFault) → FinalRefused core message a → ClientFinalRow core message b → (a ≡ b) ⊎ (a ≡ OutOfMemory)
 one_final_row core message OutOfMemory b p q = inr refl
 one_final_row core message NotStarted NotStarted p q = inl refl
 one_final_row core message NotStarted Malformed p q = absurd (started_not (conversation_of core) p q.0)
@@ -76,7 +76,7 @@ one_final_row core message Proof Proof p q = inl refl
 one_final_row core message Proof b p q = absurd q
 one_final_row core message a b p q = absurd p
 
-taken_no_row : (core : ServerCore) (message : List ℕ) (fault : ServerFault) → IsTaken core message → FinalRow core message fault → ⊥
+taken_no_row : (core : ServerCore) (message : List ℕ) (fault : ServerFault) → IsLastMessageTaken core message → ClientFinalRow core message fault → ⊥
 taken_no_row core message NotStarted is row = not_started (conversation_of core) is.0 row is.1
 taken_no_row core message Malformed is row = row.1 is.0.nonce (proof_under core.user.keys is.0.auth_message) is.2
 taken_no_row core message Nonce is row =
@@ -87,12 +87,12 @@ taken_no_row core message Proof is row =
     row.2.2 (same.proof_is ∙ ap (λ (c : Conversation). proof_under core.user.keys c.auth_message) (one_held (conversation_of core) is.0 row.0 is.1 row.1))
 taken_no_row core message fault is row = row
 
-pub exact_taken : {T : Type 0} (core : ServerCore) (message : List ℕ) (r : Result T ServerFault) → IsTaken core message → (fault : ServerFault) → FinalRow core message fault → (r ≡ Err fault) ⊎ (r ≡ Err OutOfMemory)
+pub exact_taken : {T : Type 0} (core : ServerCore) (message : List ℕ) (r : Result T ServerFault) → IsLastMessageTaken core message → (fault : ServerFault) → ClientFinalRow core message fault → (r ≡ Err fault) ⊎ (r ≡ Err OutOfMemory)
 exact_taken core message r is fault row = absurd (taken_no_row core message fault is row)
 
 as_errors : {T : Type 0} (a b : ServerFault) → (a ≡ b) ⊎ (a ≡ OutOfMemory) → (◌≡◌ {A = Result T ServerFault} (Err a) (Err b)) ⊎ (◌≡◌ {A = Result T ServerFault} (Err a) (Err OutOfMemory))
 as_errors a b (inl same) = inl (ap Err same)
 as_errors a b (inr memory) = inr (ap Err memory)
 
-pub exact_refused : {T : Type 0} (core : ServerCore) (message : List ℕ) (a : ServerFault) → FinalRefused core message a → (fault : ServerFault) → FinalRow core message fault → (◌≡◌ {A = Result T ServerFault} (Err a) (Err fault)) ⊎ (◌≡◌ {A = Result T ServerFault} (Err a) (Err OutOfMemory))
+pub exact_refused : {T : Type 0} (core : ServerCore) (message : List ℕ) (a : ServerFault) → FinalRefused core message a → (fault : ServerFault) → ClientFinalRow core message fault → (◌≡◌ {A = Result T ServerFault} (Err a) (Err fault)) ⊎ (◌≡◌ {A = Result T ServerFault} (Err a) (Err OutOfMemory))
 exact_refused core message a is fault row = as_errors a fault (one_final_row core message a fault is row)

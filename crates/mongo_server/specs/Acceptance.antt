@@ -24,7 +24,7 @@ pub record IsClientOf (x : Exchange) (handed : Handed) (user : User) : Type 0 wh
   pub usable : (kind : ErrorKind) → PasswordRow x.version x.password kind → ⊥
 
 -- two replies of one conversation carry these payloads, and the second ends it
-pub record Carries (conversation_id : OwnedValue) (first last first_reply last_reply : List ℕ) : Type 0 where
+pub record CarryPayloads (conversation_id : OwnedValue) (first last first_reply last_reply : List ℕ) : Type 0 where
   pub first_carried : IsSaslReply first_reply (record { conversation_id = conversation_id; done = false; payload = first })
   pub last_carried : IsSaslReply last_reply (record { conversation_id = conversation_id; done = true; payload = last })
 
@@ -40,4 +40,4 @@ pub record IsAccepted (x : Exchange) (handed : Handed) (user : User) (conversati
 -- whatever replies carry the server's first message and this last one, each client of the exchange accepts
 abbrev pub Accepts : Exchange → List ℕ → Type 0
 Accepts x last =
-    (handed : Handed) (user : User) (conversation_id : OwnedValue) (first_reply last_reply : List ℕ) → IsClientOf x handed user → Carries conversation_id (first_of x) last first_reply last_reply → IsAccepted x handed user conversation_id first_reply last_reply
+    (handed : Handed) (user : User) (conversation_id : OwnedValue) (first_reply last_reply : List ℕ) → IsClientOf x handed user → CarryPayloads conversation_id (first_of x) last first_reply last_reply → IsAccepted x handed user conversation_id first_reply last_reply

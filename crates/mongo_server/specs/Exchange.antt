@@ -3,7 +3,7 @@ use Rattle.std.specs.Prelude.{◌≡◌, ℕ, List, ◌++◌, decimal}
 use Rattle.mongo_scram.specs.declared.scram_version.ScramVersion.{ScramVersion}
 use Rattle.mongo_scram.specs.Key.{salted}
 use Rattle.mongo_scram.specs.Messages.{bare_message, open_message, transcript, close_message, verifier}
-use Rattle.mongo_scram.specs.ServerMessages.{IsServerFirst, IsCount}
+use Rattle.mongo_scram.specs.ServerMessages.{IsServerFirst, IsIterationCount}
 use Rattle.mongo_scram.specs.Validity.{BeginsWith}
 use Rattle.mongo_scram.specs.Version.{digest_of}
 use Rattle.mongo_server.specs.ServerTexts.{server_first, server_final}
@@ -50,5 +50,5 @@ final_of x = server_final (verifier (digest_of x.version) (salted_of x) (auth_me
 pub record IsReadAs (text : List ℕ) (x : Exchange) : Type 0 where
   pub text_is : text ≡ first_of x
   pub is_first : IsServerFirst text (joined_of x) x.salt (decimal x.count)
-  pub is_count : IsCount (decimal x.count) x.count
+  pub is_count : IsIterationCount (decimal x.count) x.count
   pub begins : BeginsWith (joined_of x) x.nonce

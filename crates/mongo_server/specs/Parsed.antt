@@ -9,7 +9,7 @@ use Rattle.mongo_scram.specs.Messages.{bare_message}
 use Rattle.mongo_server.specs.ClientMessages.{IsClientFirst, IsClientFinal}
 
 -- what the first message says
-pub record HoldsFirst (message : List ℕ) (first : FirstMessage) : Type 0 where
+pub record HoldsClientFirst (message : List ℕ) (first : FirstMessage) : Type 0 where
   pub username : List ℕ
   pub is_first : IsClientFirst message username first.nonce.now
   pub saslname_is : first.saslname.now ≡ escaped username
@@ -20,7 +20,7 @@ abbrev pub HoldsFinal : List ℕ → FinalMessage → Type 0
 HoldsFinal message last = IsClientFinal message last.nonce.now last.proof
 
 -- why nothing was read: it is no last message, or memory ran out
-abbrev pub FinalRefused : List ℕ → ServerFault → Type 0
-FinalRefused message Malformed = (nonce proof : List ℕ) → IsClientFinal message nonce proof → ⊥
-FinalRefused message OutOfMemory = ⊤
-FinalRefused message fault = ⊥
+abbrev pub ClientFinalUnread : List ℕ → ServerFault → Type 0
+ClientFinalUnread message Malformed = (nonce proof : List ℕ) → IsClientFinal message nonce proof → ⊥
+ClientFinalUnread message OutOfMemory = ⊤
+ClientFinalUnread message fault = ⊥

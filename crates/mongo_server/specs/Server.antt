@@ -46,14 +46,14 @@ abbrev pub conversation_by : ServerCore → List ℕ → Conversation
 conversation_by core nonce = record { nonce = joined_by core nonce; auth_message = transcript (bare_message core.user.username nonce) (first_by core nonce) (joined_by core nonce) }
 
 -- a client of this nonce is answered by the text, and its conversation is held from then on
-pub record Answers (core : ServerCore) (nonce text : List ℕ) (new : ServerCore) : Type 0 where
+pub record BeginsConversation (core : ServerCore) (nonce text : List ℕ) (new : ServerCore) : Type 0 where
   pub text_is : text ≡ first_by core nonce
   pub begun : conversation_of new ≡ Some (conversation_by core nonce)
   pub user : user_of new ≡ user_of core
   pub suffix : suffix_of new ≡ suffix_of core
 
 -- the client's first message, of the user, and what it says
-pub record IsHeard (core : ServerCore) (message : List ℕ) (first : FirstMessage) : Type 0 where
+pub record HearsFirst (core : ServerCore) (message : List ℕ) (first : FirstMessage) : Type 0 where
   pub is_first : IsClientFirst message (username_of core) first.nonce.now
   pub bare_is : first.bare.now ≡ bare_message (username_of core) first.nonce.now
 
@@ -62,27 +62,27 @@ abbrev pub IsOwed : ServerCore → List ℕ → Type 0
 IsOwed core text = (held : Conversation) × (conversation_of core ≡ Some held) × (text ≡ server_final (verifier_under core.user.keys held.auth_message))
 
 -- the message is a client's last one, with the joined nonce and the proof that the client owes
-abbrev pub IsTaken : ServerCore → List ℕ → Type 0
-IsTaken core message = (held : Conversation) × (conversation_of core ≡ Some held) × IsClientFinal message held.nonce (proof_under core.user.keys held.auth_message)
+abbrev pub IsLastMessageTaken : ServerCore → List ℕ → Type 0
+IsLastMessageTaken core message = (held : Conversation) × (conversation_of core ≡ Some held) × IsClientFinal message held.nonce (proof_under core.user.keys held.auth_message)
 
 -- ---- why it refuses: the first row that applies
 
-abbrev pub FirstRow : ServerCore → List ℕ → ServerFault → Type 0
-FirstRow core message Malformed = (username nonce : List ℕ) → IsClientFirst message username nonce → ⊥
-FirstRow core message UnknownUser = (username : List ℕ) × (nonce : List ℕ) × IsClientFirst message username nonce × (username ≢ username_of core)
-FirstRow core message fault = ⊥
+abbrev pub ClientFirstRow : ServerCore → List ℕ → ServerFault → Type 0
+ClientFirstRow core message Malformed = (username nonce : List ℕ) → IsClientFirst message username nonce → ⊥
+ClientFirstRow core message UnknownUser = (username : List ℕ) × (nonce : List ℕ) × IsClientFirst message username nonce × (username ≢ username_of core)
+ClientFirstRow core message fault = ⊥
 
-abbrev pub FinalRow : ServerCore → List ℕ → ServerFault → Type 0
-FinalRow core message NotStarted = conversation_of core ≡ None
-FinalRow core message Malformed = IsSome (conversation_of core) × ((nonce proof : List ℕ) → IsClientFinal message nonce proof → ⊥)
-FinalRow core message Nonce = (held : Conversation) × (conversation_of core ≡ Some held) × ((nonce : List ℕ) × (proof : List ℕ) × IsClientFinal message nonce proof × (nonce ≢ held.nonce))
-FinalRow core message Proof = (held : Conversation) × (conversation_of core ≡ Some held) × ((proof : List ℕ) × IsClientFinal message held.nonce proof × (proof ≢ proof_under core.user.keys held.auth_message))
-FinalRow core message fault = ⊥
+abbrev pub ClientFinalRow : ServerCore → List ℕ → ServerFault → Type 0
+ClientFinalRow core message NotStarted = conversation_of core ≡ None
+ClientFinalRow core message Malformed = IsSome (conversation_of core) × ((nonce proof : List ℕ) → IsClientFinal message nonce proof → ⊥)
+ClientFinalRow core message Nonce = (held : Conversation) × (conversation_of core ≡ Some held) × ((nonce : List ℕ) × (proof : List ℕ) × IsClientFinal message nonce proof × (nonce ≢ held.nonce))
+ClientFinalRow core message Proof = (held : Conversation) × (conversation_of core ≡ Some held) × ((proof : List ℕ) × IsClientFinal message held.nonce proof × (proof ≢ proof_under core.user.keys held.auth_message))
+ClientFinalRow core message fault = ⊥
 
 -- the same, with what is known where memory ran out: a conversation was held
 abbrev pub FinalRefused : ServerCore → List ℕ → ServerFault → Type 0
 FinalRefused core message OutOfMemory = IsSome (conversation_of core)
-FinalRefused core message fault = FinalRow core message fault
+FinalRefused core message fault = ClientFinalRow core message fault
 
 -- ---- the server of an exchange
 

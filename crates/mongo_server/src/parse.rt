@@ -5,7 +5,7 @@ ghost use Rattle.base64.specs.GeneralPurpose.{IsBytes};
 ghost use Rattle.mongo_scram.specs.Base64.{base64_of};
 ghost use Rattle.mongo_scram.specs.ServerMessages.{HasNoComma};
 ghost use Rattle.mongo_server.specs.ClientMessages.{IsNonce, IsClientFirst};
-ghost use Rattle.mongo_server.specs.Parsed.{HoldsFirst, HoldsFinal, FinalRefused};
+ghost use Rattle.mongo_server.specs.Parsed.{HoldsClientFirst, HoldsFinal, ClientFinalUnread};
 ghost use Rattle.mongo_server.specs.declared.fault.ServerFault.TheVariants.{OutOfMemory};
 
 use crate::fault::ServerFault;
@@ -41,7 +41,7 @@ pub struct FinalMessage<'a> {
 pub fn read_client_first(message: &[u8]) -> Option<FirstMessage<'_>>
     ensures { MatchOption result
         ((username nonce : List ℕ) → IsClientFirst message.now username nonce → ⊥)
-        (HoldsFirst message.now) }
+        (HoldsClientFirst message.now) }
 {
     let Ok(message) = str::from_utf8(message) else {
         return None;
@@ -76,7 +76,7 @@ pub fn read_client_first(message: &[u8]) -> Option<FirstMessage<'_>>
 /// `Malformed` where the bytes are none.
 pub fn read_client_final(alloc: Global, message: &[u8]) -> Result<FinalMessage<'_>, ServerFault>
     ensures read { IfOk result (HoldsFinal message.now) }
-    ensures refused { IfErr result (FinalRefused message.now) }
+    ensures refused { IfErr result (ClientFinalUnread message.now) }
 {
     let Some(attributes) = after(message, b"c=biws,r=") else {
         return Err(ServerFault::Malformed);

@@ -47,7 +47,7 @@ impl ServerCore {
     ghost use Rattle.mongo_server.specs.Acceptance.{Accepts};
     ghost use Rattle.mongo_server.specs.ClientMessages.{IsNonce, IsClientFirst};
     ghost use Rattle.mongo_server.specs.Exchange.{Exchange, open_of, close_of, final_of, IsReadAs};
-    ghost use Rattle.mongo_server.specs.Server.{user_of, salt_of, suffix_of, username_of, conversation_of, conversation_by, first_by, Answers, IsHeard, FirstRow, IsOwed, IsTaken, FinalRow, FinalRefused, Serves, HasBegun};
+    ghost use Rattle.mongo_server.specs.Server.{user_of, salt_of, suffix_of, username_of, conversation_of, conversation_by, first_by, BeginsConversation, HearsFirst, ClientFirstRow, IsOwed, IsLastMessageTaken, ClientFinalRow, FinalRefused, Serves, HasBegun};
     ghost use Rattle.mongo_server.specs.declared.fault.ServerFault.{ServerFault as Fault};
     ghost use Rattle.mongo_server.specs.declared.fault.ServerFault.TheVariants.{NotStarted, OutOfMemory};
 
@@ -76,9 +76,9 @@ impl ServerCore {
     /// In this order: `Malformed` where the bytes aren't such a message of a UTF-8 user name and a nonce of printable ASCII
     /// without a comma; `UnknownUser` where it names another user; want of memory. A refusal leaves the server as it was.
     pub fn first(&mut self, alloc: Global, client_first: &[u8]) -> Result<Text, ServerFault>
-        ensures answered { IfOk result (λ text. (nonce : List ℕ) × IsClientFirst client_first.now (username_of self.old) nonce × Answers self.old nonce text self.new) }
-        ensures refused { IfErr result (λ fault. FirstRow self.old client_first.now fault ⊎ (fault ≡ OutOfMemory)) }
-        ensures exact { (fault : Fault) → FirstRow self.old client_first.now fault → result ≡ Err fault }
+        ensures answered { IfOk result (λ text. (nonce : List ℕ) × IsClientFirst client_first.now (username_of self.old) nonce × BeginsConversation self.old nonce text self.new) }
+        ensures refused { IfErr result (λ fault. ClientFirstRow self.old client_first.now fault ⊎ (fault ≡ OutOfMemory)) }
+        ensures exact { (fault : Fault) → ClientFirstRow self.old client_first.now fault → result ≡ Err fault }
         ensures unchanged { OnErr result (self.new ≡ self.old) }
 
         // The client of any exchange with this server is answered, and reads the answer.
@@ -131,11 +131,11 @@ impl ServerCore {
     /// the client owes. Want of memory may stand in the place of each but the first. The server is left as it was, and holds
     /// the conversation still.
     pub fn last(&mut self, alloc: Global, client_final: &[u8]) -> Result<Text, ServerFault>
-        ensures taken { OnOk result (IsTaken self.old client_final.now) }
+        ensures taken { OnOk result (IsLastMessageTaken self.old client_final.now) }
         ensures answered { IfOk result (IsOwed self.old) }
-        ensures refused { IfErr result (λ fault. FinalRow self.old client_final.now fault ⊎ (fault ≡ OutOfMemory)) }
+        ensures refused { IfErr result (λ fault. ClientFinalRow self.old client_final.now fault ⊎ (fault ≡ OutOfMemory)) }
         ensures not_started { conversation_of self.old ≡ None → result ≡ Err NotStarted }
-        ensures exact { (fault : Fault) → FinalRow self.old client_final.now fault → (result ≡ Err fault) ⊎ (result ≡ Err OutOfMemory) }
+        ensures exact { (fault : Fault) → ClientFinalRow self.old client_final.now fault → (result ≡ Err fault) ⊎ (result ≡ Err OutOfMemory) }
         ensures unchanged { self.new ≡ self.old }
 
         // In any exchange that has begun, only the client's last message is taken, byte for byte.
@@ -153,8 +153,8 @@ impl ServerCore {
 
     // What a client's first message says, where it is one of the user. It takes no memory.
     fn hear<'a>(&self, client_first: &'a [u8]) -> Result<FirstMessage<'a>, ServerFault>
-        ensures heard { IfOk result (IsHeard self.now client_first.now) }
-        ensures refused { IfErr result (FirstRow self.now client_first.now) }
+        ensures heard { IfOk result (HearsFirst self.now client_first.now) }
+        ensures refused { IfErr result (ClientFirstRow self.now client_first.now) }
     {
         let Some(message) = read_client_first(client_first) else {
             return Err(ServerFault::Malformed);
@@ -193,7 +193,7 @@ impl ServerCore {
 
     // Whether a client's last message proves the key in the conversation.
     fn check(&self, alloc: Global, client_final: &[u8]) -> Result<(), ServerFault>
-        ensures taken { OnOk result (IsTaken self.now client_final.now) }
+        ensures taken { OnOk result (IsLastMessageTaken self.now client_final.now) }
         ensures refused { IfErr result (FinalRefused self.now client_final.now) }
     {
         let Some(conversation) = &self.conversation else {

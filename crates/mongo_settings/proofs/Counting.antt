@@ -6,7 +6,7 @@ use Rattle.mongo_sasl.specs.declared.credential.Credential.{Credential}
 use Rattle.mongo_sasl.specs.declared.mechanism.AuthMechanism.{AuthMechanism}
 use Rattle.mongo_sasl.specs.declared.mechanism.AuthMechanism.TheVariants.{MongoDbCr, ScramSha1, ScramSha256, MongoDbX509, Plain, MongoDbAws, MongoDbOidc}
 use Rattle.mongo_scram.specs.declared.cache.SaltedKey.{SaltedKey}
-use Rattle.mongo_scram.specs.Costs.{Ledgers, Counts, Derives, StoppedLogin}
+use Rattle.mongo_scram.specs.Costs.{Ledgers, Counts, Derives, StoppedScram}
 use Rattle.mongo_scram.specs.Plan.{Handed}
 use Rattle.mongo_establish.specs.declared.establisher.EstablishError.{EstablishError}
 use Rattle.mongo_establish.specs.Asked.{Asked}
@@ -33,7 +33,7 @@ module _ (first last : Ledgers) where
   accepted MongoDbAws asked credential greeting old new before after c = counted 0 c.counts
   accepted MongoDbOidc asked credential greeting old new before after c = counted 0 c.counts
 
-  stopped_scram : (handed : Handed) (kind : ErrorKind) (old new : State) (before after : ℤ) → StoppedLogin handed kind old new before after first last → first.steps ≤ last.steps
+  stopped_scram : (handed : Handed) (kind : ErrorKind) (old new : State) (before after : ℤ) → StoppedScram handed kind old new before after first last → first.steps ≤ last.steps
   stopped_scram handed kind old new before after (inl early) = counted 0 early.1.counts
   stopped_scram handed kind old new before after (inr late) =
       elim late.derived [

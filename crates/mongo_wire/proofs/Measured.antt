@@ -3,7 +3,7 @@ use Rattle.std.proofs.Common.{◌≡◌, ℕ, ◌+◌, ◌-◌, ◌^◌, ◌<◌
 use Rattle.std.proofs.lemmas.List.Folds.{flat_map-map}
 use Rattle.std.specs.List.{AllByRecursion}
 use Rattle.mongo_wire.specs.Frame.{IsSection, sequence, section_bytes}
-use Rattle.mongo_wire.specs.Measure.{IsNamed, IsCounted, HoldsDocuments, sequences_bytes}
+use Rattle.mongo_wire.specs.Measure.{HasIdentifier, HasCountedSize, HoldsDocuments, sequences_bytes}
 use Rattle.mongo_wire.specs.Message.{frame_length, checksum_bytes}
 use Rattle.mongo_wire.specs.declared.document_sequence.DocumentSequence.{DocumentSequence}
 use Rattle.mongo_wire.specs.declared.message.Message.{Message}
@@ -21,6 +21,6 @@ sum_below body size sum sequences whole p q r = omega arith
 pub sum_within : (body size sum sequences whole : ℕ) → size ≡ min sequences (2 ^ 64 - 1) → whole ≡ min (21 + body + size + sum) (2 ^ 64 - 1) → whole ≤ 21 + body + sequences + sum
 sum_within body size sum sequences whole p q = omega arith
 
-pub sections_good : (sequences : List DocumentSequence) → AllByRecursion IsNamed sequences → AllByRecursion HoldsDocuments sequences → AllByRecursion IsCounted sequences → AllByRecursion IsSection (map sequence sequences)
+pub sections_good : (sequences : List DocumentSequence) → AllByRecursion HasIdentifier sequences → AllByRecursion HoldsDocuments sequences → AllByRecursion HasCountedSize sequences → AllByRecursion IsSection (map sequence sequences)
 sections_good [] p q r = tt
 sections_good (s ∷ sequences) p q r = (record { name = p.0; each = q.0; size = r.0 }, sections_good sequences p.1 q.1 r.1)

@@ -9,12 +9,12 @@ use Rattle.mongo_wire.specs.declared.document_sequence.DocumentSequence.{Documen
 abbrev pub IsWithoutZero : DocumentSequence → Type 0
 IsWithoutZero s = AllByRecursion (λ b. b ≢ 0) s.identifier
 
-abbrev pub IsNamed : DocumentSequence → Type 0
-IsNamed s = IsCstring s.identifier
+abbrev pub HasIdentifier : DocumentSequence → Type 0
+HasIdentifier s = IsCstring s.identifier
 
 -- its size is one that an int32 counts
-abbrev pub IsCounted : DocumentSequence → Type 0
-IsCounted s = 4 + length (sequence_bytes s) < 2 ^ 31
+abbrev pub HasCountedSize : DocumentSequence → Type 0
+HasCountedSize s = 4 + length (sequence_bytes s) < 2 ^ 31
 
 abbrev pub HoldsDocuments : DocumentSequence → Type 0
 HoldsDocuments s = AllByRecursion IsFramed s.documents

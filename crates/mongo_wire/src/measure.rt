@@ -4,7 +4,7 @@ ghost use Rattle.mongo_bson.specs.Framed.{IsFramed};
 ghost use Rattle.mongo_wire.specs.Frame.{IsSection, sequence_bytes};
 ghost use Rattle.mongo_wire.specs.Header.{maximum_of};
 ghost use Rattle.mongo_wire.specs.Message.{Fits, ArgumentRow, frame_length, sections_of, checksum_bytes};
-ghost use Rattle.mongo_wire.specs.Measure.{IsWithoutZero, IsNamed, IsCounted, HoldsDocuments, documents_bytes, sequences_bytes};
+ghost use Rattle.mongo_wire.specs.Measure.{IsWithoutZero, HasIdentifier, HasCountedSize, HoldsDocuments, documents_bytes, sequences_bytes};
 
 use crate::message::FIRST_MAXIMUM;
 use crate::{ArgumentFault, DocumentSequence, Message};
@@ -57,7 +57,7 @@ fn whole_length(body: usize, sequences: u64, checksum: Option<u32>) -> u64
 // Whether no identifier holds a zero byte.
 pub(crate) fn are_named(sequences: &[DocumentSequence]) -> bool
     ensures without_zero { IsTrue result ↔ AllByRecursion IsWithoutZero sequences.now }
-    ensures named { IsTrue result → AllByRecursion IsNamed sequences.now }
+    ensures named { IsTrue result → AllByRecursion HasIdentifier sequences.now }
 {
     'naming: for sequence in sequences {
         if !is_named(sequence) {
@@ -70,7 +70,7 @@ pub(crate) fn are_named(sequences: &[DocumentSequence]) -> bool
 // Whether the identifier holds no zero byte.
 fn is_named(sequence: &DocumentSequence) -> bool
     ensures without_zero { IsTrue result ↔ IsWithoutZero sequence.now }
-    ensures named { IsTrue result → IsNamed sequence.now }
+    ensures named { IsTrue result → HasIdentifier sequence.now }
 {
     let identifier = sequence.identifier.as_str();
     !identifier.as_bytes().contains(&0)
@@ -80,9 +80,9 @@ fn is_named(sequence: &DocumentSequence) -> bool
 // that an int32 counts.
 fn sequences_size(sequences: &[DocumentSequence]) -> Option<u64>
     ensures size { IfSome result (λ size. size ≡ min (length (sequences_bytes sequences.now)) (2 ^ 64 - 1)) }
-    ensures counted { IfSome result (λ _. AllByRecursion IsCounted sequences.now) }
+    ensures counted { IfSome result (λ _. AllByRecursion HasCountedSize sequences.now) }
     ensures documents { IfSome result (λ _. AllByRecursion HoldsDocuments sequences.now) }
-    ensures none { IfNone result (¬ AllByRecursion IsCounted sequences.now) }
+    ensures none { IfNone result (¬ AllByRecursion HasCountedSize sequences.now) }
 {
     let mut size: u64 = 0;
     'summing: for sequence in sequences {
@@ -97,9 +97,9 @@ fn sequences_size(sequences: &[DocumentSequence]) -> Option<u64>
 // A sequence's size: the bytes of its size, its identifier and its documents. None where an int32 doesn't count it.
 pub(crate) fn sequence_size(sequence: &DocumentSequence) -> Option<u32>
     ensures size { IfSome result (λ size. size ≡ 4 + length (sequence_bytes sequence.now)) }
-    ensures counted { IfSome result (λ _. IsCounted sequence.now) }
+    ensures counted { IfSome result (λ _. HasCountedSize sequence.now) }
     ensures documents { IfSome result (λ _. HoldsDocuments sequence.now) }
-    ensures none { IfNone result (¬ IsCounted sequence.now) }
+    ensures none { IfNone result (¬ HasCountedSize sequence.now) }
 {
     let identifier = sequence.identifier.as_bytes();
     if identifier.len() > LONGEST - 5 {

@@ -5,7 +5,7 @@ ghost use Rattle.std.specs.List.{AllByRecursion};
 ghost use Rattle.mongo_wire.specs.Outside.{WritesOn, WriteStops};
 ghost use Rattle.mongo_wire.specs.Frame.{sequence_bytes, int32, uint32, message_code, known_flags};
 ghost use Rattle.mongo_wire.specs.Message.{frame_length, written_frame, checksum_bytes};
-ghost use Rattle.mongo_wire.specs.Measure.{IsCounted, documents_bytes, sequence_section, sequences_bytes};
+ghost use Rattle.mongo_wire.specs.Measure.{HasCountedSize, documents_bytes, sequence_section, sequences_bytes};
 
 use crate::header_bytes::numbers_bytes;
 use crate::measure::sequence_size;
@@ -25,7 +25,7 @@ pub(crate) fn write_frame<K: Sink>(
 ) -> Result<(), Error>
     requires counted { length ≡ frame_length message.now }
     requires short { length < 2 ^ 31 }
-    requires sizes { AllByRecursion IsCounted message.now.document_sequences }
+    requires sizes { AllByRecursion HasCountedSize message.now.document_sequences }
     ensures written { OnOk result (Appends (K.state sink.old).written (K.state sink.new).written (written_frame request_id message.now)) }
     ensures refused { IfErr result (λ e. WriteStops e.kind (K.state sink.old) (K.state sink.new) (written_frame request_id message.now)) }
     ensures numbers { OnOk result (FitsSigned w32 message.now.response_to × IfSome message.now.checksum (λ sum. sum < 2 ^ 32)) }
@@ -61,7 +61,7 @@ fn section_start(flags: MessageFlags) -> [u8; 5]
 
 // Writes the sections of the sequences, one after another.
 fn write_sequences<K: Sink>(sink: &mut K, sequences: &[DocumentSequence]) -> Result<(), Error>
-    requires { AllByRecursion IsCounted sequences.now }
+    requires { AllByRecursion HasCountedSize sequences.now }
     ensures written { OnOk result (Appends (K.state sink.old).written (K.state sink.new).written (sequences_bytes sequences.now)) }
     ensures refused { IfErr result (λ e. WriteStops e.kind (K.state sink.old) (K.state sink.new) (sequences_bytes sequences.now)) }
     ensures on { WritesOn (K.state sink.old) (K.state sink.new) }
@@ -74,7 +74,7 @@ fn write_sequences<K: Sink>(sink: &mut K, sequences: &[DocumentSequence]) -> Res
 
 // Writes the section of a sequence: its kind and size, its identifier and a zero, its documents.
 fn write_sequence<K: Sink>(sink: &mut K, sequence: &DocumentSequence) -> Result<(), Error>
-    requires { IsCounted sequence.now }
+    requires { HasCountedSize sequence.now }
     ensures written { OnOk result (Appends (K.state sink.old).written (K.state sink.new).written (sequence_section sequence.now)) }
     ensures refused { IfErr result (λ e. WriteStops e.kind (K.state sink.old) (K.state sink.new) (sequence_section sequence.now)) }
     ensures on { WritesOn (K.state sink.old) (K.state sink.new) }
@@ -86,7 +86,7 @@ fn write_sequence<K: Sink>(sink: &mut K, sequence: &DocumentSequence) -> Result<
 
 // The kind byte of a sequence's section, and its size.
 fn sequence_start(sequence: &DocumentSequence) -> [u8; 5]
-    requires { IsCounted sequence.now }
+    requires { HasCountedSize sequence.now }
     ensures { result ≡ 1 ∷ uint32 (4 + length (sequence_bytes sequence.now)) }
 {
     match sequence_size(sequence) {

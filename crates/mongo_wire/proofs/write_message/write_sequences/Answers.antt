@@ -1,11 +1,11 @@
 use Rattle.std.proofs.Common.{rules}
-use Rattle.mongo_wire.specs.Measure.{IsCounted, sequence_section}
+use Rattle.mongo_wire.specs.Measure.{HasCountedSize, sequence_section}
 use Rattle.mongo_wire.proofs.Passed.{one_of_all}
 use Rattle.mongo_wire.proofs.Written.{cut_among, written_more, passed_on}
 use Rattle.mongo_wire.proofs.write_message.write_sequences.Goals as goal
 
 pub write_sequence-requires : goal.write_sequence-requires
-write_sequence-requires g c = one_of_all IsCounted c.args.sequences.now c.sending.sequence-index c.sequence-item.result c.sending-test.true c.sequence-item.is c.requires
+write_sequence-requires g c = one_of_all HasCountedSize c.args.sequences.now c.sending.sequence-index c.sequence-item.result c.sending-test.true c.sequence-item.is c.requires
 
 pub returns-in_err-write_sequence-clause-refused : goal.returns-in_err-write_sequence-clause-refused
 returns-in_err-write_sequence-clause-refused g c =

@@ -1,7 +1,7 @@
 use Rattle.std.proofs.Common.{◌≡◌, subst, ap, ◌∙◌, rules}
 use Rattle.mongo_scram.specs.Messages.{bare_message}
 use Rattle.mongo_server.specs.ClientMessages.{IsClientFirst}
-use Rattle.mongo_server.specs.Parsed.{HoldsFirst}
+use Rattle.mongo_server.specs.Parsed.{HoldsClientFirst}
 use Rattle.mongo_server.proofs.ServerRows.{heard_of}
 use Rattle.mongo_server.proofs.server_core.ServerCore.hear.Goals as goal
 
@@ -10,7 +10,7 @@ returns-clause-heard c =
     let core = c.args.self.now in
     let message = c.args.client_first.now in
     let first = c.in-Some.message in
-    let holds : HoldsFirst message first = search rules in
+    let holds : HoldsClientFirst message first = search rules in
     let same : first.saslname.now ≡ core.user.saslname = search rules in
     let named = heard_of core message holds.username first.nonce.now first.saslname.now holds.is_first holds.saslname_is same in
     record {
