@@ -114,7 +114,7 @@ rest_stopped kind most old mid new head wanted p on tells sixteen row size some 
     stop_cases (λ k. ReadRefused k most old new) kind mid new wanted s
     (λ _ f. (rose_after old.read_faults mid.read_faults new.read_faults on.faults_stay f.0, unfinished f.1))
     (λ _ e. let (row_of, empty) = cut_frame most old.left mid.left new.left head wanted p sixteen row size some (tells ∙ on.tells) e.1 in
-      (rose_after old.ends mid.ends new.ends on.ends_stay e.0, row_of, empty))
+    (rose_after old.ends mid.ends new.ends on.ends_stay e.0, row_of, empty))
     (λ _ m. started m)
   where
     started : ConsumesAtMost mid.left new.left wanted → TakesStarted most old.left new.left
