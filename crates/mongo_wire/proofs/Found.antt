@@ -13,7 +13,7 @@ use Rattle.mongo_bson.specs.Framed.{IsFramed}
 use Rattle.mongo_wire.specs.Frame.{Frame, Section, body, sequence, IsSection, section_bytes, bodies, sequences_of, int32, uint32, message_code, known_flags}
 use Rattle.mongo_wire.specs.Header.{number_at, signed_at, header_with}
 use Rattle.mongo_wire.specs.Content.{IsAt, IsContentOf, HasNoContent}
-use Rattle.mongo_wire.specs.Held.{NoFrame, IsHeld}
+use Rattle.mongo_wire.specs.Held.{NoFrame, IsHeld, LiesIn}
 use Rattle.mongo_wire.specs.declared.header.Header.{Header}
 use Rattle.mongo_wire.specs.declared.op_code.OpCode.TheVariants.{Message}
 use Rattle.mongo_wire.specs.declared.held_frame.HeldFrame.{HeldFrame}
@@ -31,6 +31,19 @@ pub framed_body : (ss : List Section) (b : List ℕ) (bs : List (List ℕ)) → 
 framed_body [] b bs each e = absurd (omega (arith, ap length e))
 framed_body (body d ∷ ss) b bs each e = subst IsFramed (same_first d b (bodies ss) bs e) each.0
 framed_body (sequence s ∷ ss) b bs each e = framed_body ss b bs each.1 e
+
+-- the parts of a frame lie in what follows its header
+pub parts_lie : (head bytes : List ℕ) (held : HeldFrame) → length head ≡ 16 → IsHeld (head ++ bytes) held → LiesIn bytes held
+parts_lie head bytes held sixteen (parts, is) =
+    let cut : drop 16 (head ++ bytes) ≡ bytes = drop_at head bytes 16 sixteen in
+    let same : slice_range bytes held.offsets.body_start held.offsets.body_end ≡ parts.body = ap (λ b. slice_range b held.offsets.body_start held.offsets.body_end) (sym cut) ∙ is.body_at.is in
+    record {
+      body_ordered = is.body_at.ordered;
+      body_within = subst (λ b. held.offsets.body_end ≤ length b) cut is.body_at.within;
+      flags_before = is.sections_at.ordered;
+      sections_within = subst (λ b. held.offsets.sections_end ≤ length b) cut is.sections_at.within;
+      framed = subst IsFramed (sym same) (framed_body is.is_frame.sections parts.body [] is.is_frame.each is.is_frame.one_body);
+    }
 
 -- ---- the header
 

@@ -1,5 +1,6 @@
 -- A frame by places in what follows its header.
-use Rattle.std.specs.Prelude.{◌≡◌, ℕ, pos, List, length, drop, flat_map, bit_and}
+use Rattle.std.specs.Prelude.{◌≡◌, ◌≤◌, ℕ, pos, List, length, drop, slice_range, flat_map, bit_and}
+use Rattle.mongo_bson.specs.Framed.{IsFramed}
 use Rattle.mongo_wire.specs.Frame.{Frame, IsFrame, section_bytes, known_flags}
 use Rattle.mongo_wire.specs.Content.{IsAt}
 use Rattle.mongo_wire.specs.declared.header.Header.{Header}
@@ -18,6 +19,14 @@ pub record IsHeldFrame (frame : List ℕ) (parts : Frame) (held : HeldFrame) : T
   pub checksum_is : held.checksum ≡ parts.checksum
   pub body_at : IsAt (drop 16 frame) parts.body held.offsets.body_start held.offsets.body_end
   pub sections_at : IsAt (drop 16 frame) (flat_map section_bytes is_frame.sections) 4 held.offsets.sections_end
+
+-- the places of its parts lie in the bytes, and a document lies at the body's
+pub record LiesIn (bytes : List ℕ) (held : HeldFrame) : Type 0 where
+  pub body_ordered : held.offsets.body_start ≤ held.offsets.body_end
+  pub body_within : held.offsets.body_end ≤ length bytes
+  pub flags_before : 4 ≤ held.offsets.sections_end
+  pub sections_within : held.offsets.sections_end ≤ length bytes
+  pub framed : IsFramed (slice_range bytes held.offsets.body_start held.offsets.body_end)
 
 -- the bytes are no frame of the grammar
 abbrev pub NoFrame : List ℕ → Type 0

@@ -1,4 +1,6 @@
 ghost use Rattle.std.specs.Prelude.{◌≡◌, ◌-◌, ◌≤◌, length, take, slice_range};
+ghost use Rattle.std.specs.Option.{ForSome};
+ghost use Rattle.mongo_wire.specs.Held.{LiesIn};
 
 use crate::MessageRef;
 use crate::held_frame::HeldFrame;
@@ -17,6 +19,8 @@ pub struct FrameBuffer {
     pub(crate) last: Option<HeldFrame>,
     pub(crate) frames: u64,
     pub ghost within: { held ≤ length store.items },
+    // The parts of the last frame lie in the bytes that are held.
+    pub ghost lies: { ForSome last (LiesIn (take held store.items)) },
 }
 
 impl FrameBuffer {
@@ -62,7 +66,7 @@ impl FrameBuffer {
         ensures none { HoldsNothing self.now → IsNone result }
     {
         match self.last {
-            Some(held) => MessageRef::of(held, self.as_bytes()),
+            Some(held) => Some(MessageRef::of(held, self.as_bytes())),
             None => None,
         }
     }
@@ -96,13 +100,14 @@ impl FrameBuffer {
         ensures frames { frames_taken self.new ≡ frames_taken self.old }
         ensures store { self.new.store ≡ self.old.store }
     {
-        self.held = 0;
         self.last = None;
+        self.held = 0;
     }
 
     // Holds a frame that lies at the front of the store, and counts it.
     pub(crate) fn keep(&mut self, frame: HeldFrame, length: usize)
-        requires { length ≤ vec_len self.old.store }
+        requires within { length ≤ vec_len self.old.store }
+        requires lies { LiesIn (take length self.old.store.items) frame }
         ensures last { self.new.last ≡ Some frame }
         ensures held { held_bytes self.new ≡ take length self.old.store.items }
         ensures frames { frames_taken self.new ≡ risen (frames_taken self.old) }

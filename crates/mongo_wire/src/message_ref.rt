@@ -1,6 +1,6 @@
-ghost use Rattle.std.specs.Prelude.{◌≡◌, ℕ, List, drop, slice_range, IsSome, IfSome};
+ghost use Rattle.std.specs.Prelude.{◌≡◌, ℕ, List, drop, slice_range};
 ghost use Rattle.mongo_wire.specs.Frame.{Frame};
-ghost use Rattle.mongo_wire.specs.Held.{IsHeldFrame};
+ghost use Rattle.mongo_wire.specs.Held.{IsHeldFrame, LiesIn};
 
 use crate::held_frame::HeldFrame;
 use crate::{Header, MessageFlags};
@@ -26,22 +26,22 @@ impl<'b> MessageRef<'b> {
     ghost use Rattle.mongo_wire.specs.Ref.{IsRefOf};
 
     // The message of a frame, from the bytes after its header.
-    pub(crate) fn of(held: HeldFrame, bytes: &'b [u8]) -> Option<MessageRef<'b>>
-        ensures some { (frame : List ℕ) (parts : Frame) → IsHeldFrame frame parts held → bytes.now ≡ drop 16 frame → IsSome result }
-        ensures shown { (frame : List ℕ) (parts : Frame) → IsHeldFrame frame parts held → bytes.now ≡ drop 16 frame → IfSome result (IsRefOf frame parts) }
-        ensures document { IfSome result (λ message. message.document_payload.bytes.now ≡ slice_range bytes.now held.offsets.body_start held.offsets.body_end) }
+    pub(crate) fn of(held: HeldFrame, bytes: &'b [u8]) -> MessageRef<'b>
+        requires { LiesIn bytes.now held }
+        ensures shown { (frame : List ℕ) (parts : Frame) → IsHeldFrame frame parts held → bytes.now ≡ drop 16 frame → IsRefOf frame parts result }
+        ensures document { result.document_payload.bytes.now ≡ slice_range bytes.now held.offsets.body_start held.offsets.body_end }
     {
-        let document = bytes.get(held.offsets.body_start..held.offsets.body_end)?;
-        let sections = bytes.get(4..held.offsets.sections_end)?;
+        let document = &bytes[held.offsets.body_start..held.offsets.body_end];
+        let sections = &bytes[4..held.offsets.sections_end];
         match RawDocument::from_bytes(document) {
-            Ok(document_payload) => Some(MessageRef {
+            Ok(document_payload) => MessageRef {
                 header: held.header,
                 flags: MessageFlags::from_bits_truncate(held.word),
                 checksum: held.checksum,
                 document_payload,
                 sections,
-            }),
-            Err(_) => None,
+            },
+            Err(_) => unreachable!(),
         }
     }
 }

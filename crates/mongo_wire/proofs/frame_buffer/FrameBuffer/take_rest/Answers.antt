@@ -5,6 +5,7 @@ use Rattle.mongo_wire.specs.Error.{kind_of_frame_fault}
 use Rattle.mongo_wire.specs.Outside.{ReadStops}
 use Rattle.mongo_wire.specs.Header.{maximum_of}
 use Rattle.mongo_wire.specs.Held.{NoFrame, IsHeld}
+use Rattle.mongo_wire.proofs.Found.{parts_lie}
 use Rattle.mongo_wire.proofs.FrameRead.{header_refused, rest_stopped, sections_refused, frame_taken}
 use Rattle.mongo_wire.proofs.frame_buffer.FrameBuffer.take_rest.Goals as goal
 
@@ -37,6 +38,11 @@ returns-in-None-clause-refused g c = λ before p on.
     let taken = subst (λ n. Consumes (state c.args.source.now).left (state c.take_into.new.source).left (take n c.take_into.new.store.items)) (whole rest) c.in-Ok-take_into.ensures.taken in
     sections_refused (maximum_of c.args.maximum) before (state c.args.source.now) (state c.take_into.new.source) c.args.head.now bytes p taken head start.passes (rw size start.size)
     (subst (λ s. NoFrame (c.args.head.now ++ take rest s)) c.as_slice.ensures.value c.in-None.ensures)
+
+pub keep-requires-clause-lies : goal.keep-requires-clause-lies
+keep-requires-clause-lies g c =
+    let head : length c.args.head.now ≡ 16 = search rules in
+    parts_lie c.args.head.now _ c.in-Some.frame head (subst (λ s. IsHeld (c.args.head.now ++ take c.in-Ok.start.rest s) c.in-Some.frame) c.as_slice.ensures.value c.in-Some.ensures)
 
 pub returns-in-Some-clause-taken : goal.returns-in-Some-clause-taken
 returns-in-Some-clause-taken g c = λ before p.
