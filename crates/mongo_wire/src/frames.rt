@@ -32,7 +32,7 @@ impl FrameBuffer {
         source: &mut S,
         maximum: Option<i32>,
     ) -> Result<MessageRef<'_>, FrameFault>
-        // The buffer holds the frame that was taken, and nothing where none was.
+        // The buffer holds the frame that was taken, and nothing where none was. Its memory is for bytes that came.
         ensures* after { sem 𝓛 (follows_so the_row the_row self.entry.ghost_name none (λ _ _. ⊤) (λ buffer. ReadsInto (maximum_of maximum) (S.state source.old) (S.state source.new) self.old result buffer)) }
         ensures read { IfOk result (IsFrameRead (maximum_of maximum) (S.state source.old) (S.state source.new)) }
         ensures refused { IfErr result (λ fault. ReadRefused (kind_of_frame_fault fault) (maximum_of maximum) (S.state source.old) (S.state source.new)) }
