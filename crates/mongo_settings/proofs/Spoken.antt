@@ -1,5 +1,5 @@
 -- Settings hold no credential whose mechanism isn't spoken.
-use Rattle.std.proofs.Common.{◌≡◌, ℕ, ℤ, List, [], ◌∷◌, Option, None, Some, option_map, Result, Ok, Err, IfOk, codes, refl, sym, ap, ◌∙◌, subst}
+use Rattle.std.proofs.Common.{◌≡◌, ℕ, ℤ, List, [], ◌∷◌, Option, None, Some, option_map, Result, Ok, Err, IfOk, refl, sym, ap, ◌∙◌, subst}
 use Rattle.std.specs.Prelude.{⊤, unwrap_or}
 use Rattle.serde_json.specs.Data.{Data}
 use Rattle.serde_json.specs.Find.{get, as_str}
@@ -10,6 +10,7 @@ use Rattle.mongo_meta.specs.declared.client_options.ClientOptions.{ClientOptions
 use Rattle.mongo_establish.specs.declared.login_state.Nonces.{Nonces}
 use Rattle.mongo_establish.specs.declared.establisher.PendingConnection.{PendingConnection}
 use Rattle.mongo_establish.specs.Speculation.{mechanism_before, IsSpoken, SpeaksFor}
+use Rattle.mongo_settings.specs.Keys.{credential_keys, replies_key, credential_key, nonces_key, first_id_key, max_iterations_key, username_key, source_key, password_key, mechanism_key, properties_key}
 use Rattle.mongo_settings.specs.Kinds.{◌>>=◌, optional, optional_in, object_of, joined_hex_in, nonces_in, int32_in, iterations_in}
 use Rattle.mongo_settings.specs.Credential.{mechanism_in, credential_in}
 use Rattle.mongo_settings.specs.Meaning.{default_nonces, default_first_id, default_iterations, settings_in}
@@ -65,20 +66,20 @@ its_mechanism (Some o) (Some u) (Some s) None m x credential is = cc
 its_mechanism (Some o) (Some u) (Some s) (Some p) None x credential is = cc
 its_mechanism (Some o) (Some u) (Some s) (Some p) (Some m) None credential is = cc
 
-mechanism_of : (d : Data) (credential : Credential) → credential_in d ≡ Some credential → optional (codes "mechanism") mechanism_in d ≡ Some credential.mechanism
+mechanism_of : (d : Data) (credential : Credential) → credential_in d ≡ Some credential → optional mechanism_key mechanism_in d ≡ Some credential.mechanism
 unfolding credential_in
 mechanism_of d credential is =
-    its_mechanism (object_of (codes "username" ∷ codes "source" ∷ codes "password" ∷ codes "mechanism" ∷ codes "properties" ∷ []) d)
-    (optional (codes "username") as_str d) (optional (codes "source") as_str d) (optional (codes "password") as_str d) (optional (codes "mechanism") mechanism_in d) (optional (codes "properties") properties_in d) credential is
+    its_mechanism (object_of credential_keys d)
+    (optional username_key as_str d) (optional source_key as_str d) (optional password_key as_str d) (optional mechanism_key mechanism_in d) (optional properties_key properties_in d) credential is
 
-credential_spoken : (found credential : Option Credential) (d : Data) → found ≡ credential_in d → option_map Some found ≡ Some credential → mechanism_judged (get (codes "mechanism") d >>= mechanism_in) ≡ Ok tt → SpeaksFor credential
+credential_spoken : (found credential : Option Credential) (d : Data) → found ≡ credential_in d → option_map Some found ≡ Some credential → mechanism_judged (get mechanism_key d >>= mechanism_in) ≡ Ok tt → SpeaksFor credential
 credential_spoken None credential d at is judged = let no : ⊥ = cc in absurd no
 credential_spoken (Some one) None d at is judged = tt
 credential_spoken (Some one) (Some other) d at is judged =
     let same : credential_in d ≡ Some other = sym at ∙ cc in
-    given_spoken (get (codes "mechanism") d) other.mechanism (mechanism_of d other same) judged
+    given_spoken (get mechanism_key d) other.mechanism (mechanism_of d other same) judged
 
-optional_spoken : (given : Option Data) (credential : Option Credential) → optional_in credential_in given ≡ Some credential → mechanism_judged (given >>= (λ c. get (codes "mechanism") c >>= mechanism_in)) ≡ Ok tt → SpeaksFor credential
+optional_spoken : (given : Option Data) (credential : Option Credential) → optional_in credential_in given ≡ Some credential → mechanism_judged (given >>= (λ c. get mechanism_key c >>= mechanism_in)) ≡ Ok tt → SpeaksFor credential
 optional_spoken None None is judged = tt
 optional_spoken None (Some credential) is judged = let no : ⊥ = cc in absurd no
 optional_spoken (Some d) credential is judged = credential_spoken (credential_in d) credential d refl is judged
@@ -116,16 +117,16 @@ their_credential (Some p) (Some r) (Some c) (Some n) None o i s is = cc
 their_credential (Some p) (Some r) (Some c) (Some n) (Some f) None i s is = cc
 their_credential (Some p) (Some r) (Some c) (Some n) (Some f) (Some o) None s is = cc
 
-credential_of : (d : Data) (s : Settings) → settings_in d ≡ Some s → optional (codes "credential") credential_in d ≡ Some s.credential
+credential_of : (d : Data) (s : Settings) → settings_in d ≡ Some s → optional credential_key credential_in d ≡ Some s.credential
 unfolding settings_in
 credential_of d s is =
-    their_credential (pending_in d) (optional (codes "replies") joined_hex_in d) (optional (codes "credential") credential_in d) (optional (codes "nonces") nonces_in d)
-    (optional (codes "first_id") int32_in d) (options_in d) (optional (codes "max_iterations") iterations_in d) s is
+    their_credential (pending_in d) (optional replies_key joined_hex_in d) (optional credential_key credential_in d) (optional nonces_key nonces_in d)
+    (optional first_id_key int32_in d) (options_in d) (optional max_iterations_key iterations_in d) s is
 
 settings_spoken : (d : Data) (s : Settings) → settings_of d ≡ Ok s → SpeaksFor s.credential
 settings_spoken d s is =
     let known = settings_of-ok d s is in
-    optional_spoken (get (codes "credential") d) s.credential (credential_of d s known.1) known.0
+    optional_spoken (get credential_key d) s.credential (credential_of d s known.1) known.0
 
 -- what is read as settings
 pub spoken : (d : Data) (r : Result Settings SettingsError) → Gives (λ s. s) r (settings_of d) → IfOk r (λ s. SpeaksFor s.credential)

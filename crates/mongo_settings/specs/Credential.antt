@@ -1,5 +1,5 @@
 -- Credentials as settings have them.
-use Rattle.std.specs.Prelude.{ℕ, Bool, true, false, Option, Some, option_and_then, List, [], ◌∷◌, codes, bytes_eq}
+use Rattle.std.specs.Prelude.{ℕ, Bool, true, false, Option, Some, option_and_then, List, [], ◌∷◌, bytes_eq}
 use Rattle.std.specs.List.{find}
 use Rattle.serde_json.specs.Data.{Data}
 use Rattle.serde_json.specs.Find.{get, as_str}
@@ -7,6 +7,7 @@ use Rattle.mongo_sasl.specs.declared.credential.Credential.{Credential}
 use Rattle.mongo_sasl.specs.declared.mechanism.AuthMechanism.{AuthMechanism}
 use Rattle.mongo_sasl.specs.declared.mechanism.AuthMechanism.TheVariants.{MongoDbCr, ScramSha1, ScramSha256, MongoDbX509, Plain, MongoDbAws, MongoDbOidc}
 use Rattle.mongo_sasl.specs.Mechanism.{name_of}
+use Rattle.mongo_settings.specs.Keys.{credential_keys, credential_key, username_key, source_key, password_key, mechanism_key, properties_key}
 use Rattle.mongo_settings.specs.Kinds.{◌>>=◌, optional, object_of}
 use Rattle.mongo_settings.specs.Properties.{properties_in}
 
@@ -23,8 +24,8 @@ mechanism_in d = option_and_then mechanism_named (as_str d)
 -- the mechanism that the credential of an object names
 abbrev pub named_mechanism : Data → Option AuthMechanism
 named_mechanism d = do
-  credential ← get (codes "credential") d
-  name ← get (codes "mechanism") credential
+  credential ← get credential_key d
+  name ← get mechanism_key credential
   mechanism_in name
 
 -- a login by it is made, or is refused with its reason
@@ -39,10 +40,10 @@ is_built MongoDbOidc = false
 
 unfoldable pub credential_in : Data → Option Credential
 credential_in d = do
-  object ← object_of (codes "username" ∷ codes "source" ∷ codes "password" ∷ codes "mechanism" ∷ codes "properties" ∷ []) d
-  username ← optional (codes "username") as_str d
-  source ← optional (codes "source") as_str d
-  password ← optional (codes "password") as_str d
-  mechanism ← optional (codes "mechanism") mechanism_in d
-  properties ← optional (codes "properties") properties_in d
+  object ← object_of credential_keys d
+  username ← optional username_key as_str d
+  source ← optional source_key as_str d
+  password ← optional password_key as_str d
+  mechanism ← optional mechanism_key mechanism_in d
+  properties ← optional properties_key properties_in d
   Some (record { username = username; source = source; password = password; mechanism = mechanism; mechanism_properties = properties })

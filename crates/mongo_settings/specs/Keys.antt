@@ -1,7 +1,81 @@
--- The keys of settings: those of the format, and whether each is read yet.
+-- The keys of settings and of the objects in them: those of the format, and whether one of settings is read yet.
 use Rattle.std.specs.Prelude.{ℕ, Bool, true, false, Option, None, Some, is_some, if◌then◌else◌, List, [], ◌∷◌, codes, bytes_eq}
 use Rattle.mongo_settings.specs.declared.settings.keys.Reading.{Reading}
 use Rattle.mongo_settings.specs.declared.settings.keys.Reading.TheVariants.{Built, Later}
+
+-- ---- keys of settings
+
+abbrev pub host_key : List ℕ
+host_key = codes "host"
+
+abbrev pub replies_key : List ℕ
+replies_key = codes "replies"
+
+abbrev pub port_key : List ℕ
+port_key = codes "port"
+
+abbrev pub unix_key : List ℕ
+unix_key = codes "unix"
+
+abbrev pub id_key : List ℕ
+id_key = codes "id"
+
+abbrev pub generation_key : List ℕ
+generation_key = codes "generation"
+
+abbrev pub load_balanced_key : List ℕ
+load_balanced_key = codes "load_balanced"
+
+abbrev pub generations_key : List ℕ
+generations_key = codes "generations"
+
+abbrev pub app_name_key : List ℕ
+app_name_key = codes "app_name"
+
+abbrev pub driver_info_key : List ℕ
+driver_info_key = codes "driver_info"
+
+abbrev pub server_api_key : List ℕ
+server_api_key = codes "server_api"
+
+abbrev pub os_key : List ℕ
+os_key = codes "os"
+
+abbrev pub platform_key : List ℕ
+platform_key = codes "platform"
+
+abbrev pub platform_short_key : List ℕ
+platform_short_key = codes "platform_short"
+
+abbrev pub environment_key : List ℕ
+environment_key = codes "environment"
+
+abbrev pub dockerenv_key : List ℕ
+dockerenv_key = codes "dockerenv"
+
+abbrev pub credential_key : List ℕ
+credential_key = codes "credential"
+
+abbrev pub nonces_key : List ℕ
+nonces_key = codes "nonces"
+
+abbrev pub moment_key : List ℕ
+moment_key = codes "moment"
+
+abbrev pub first_id_key : List ℕ
+first_id_key = codes "first_id"
+
+abbrev pub max_iterations_key : List ℕ
+max_iterations_key = codes "max_iterations"
+
+abbrev pub callback_key : List ℕ
+callback_key = codes "callback"
+
+abbrev pub tokens_key : List ℕ
+tokens_key = codes "tokens"
+
+abbrev pub aws_key : List ℕ
+aws_key = codes "aws"
 
 pub record Key : Type 0 where
   pub name : List ℕ
@@ -19,11 +93,10 @@ later name = key_row name Later
 -- the format's keys
 abbrev pub keys : List Key
 keys =
-    built (codes "host") ∷ built (codes "replies") ∷ built (codes "port") ∷ built (codes "unix") ∷ built (codes "id") ∷ built (codes "generation")
-    ∷ built (codes "load_balanced") ∷ built (codes "generations") ∷ built (codes "app_name") ∷ built (codes "driver_info") ∷ built (codes "server_api")
-    ∷ built (codes "os") ∷ built (codes "platform") ∷ built (codes "platform_short") ∷ built (codes "environment") ∷ built (codes "dockerenv")
-    ∷ built (codes "credential") ∷ built (codes "nonces") ∷ later (codes "moment") ∷ built (codes "first_id") ∷ built (codes "max_iterations")
-    ∷ later (codes "callback") ∷ later (codes "tokens") ∷ later (codes "aws") ∷ []
+    built host_key ∷ built replies_key ∷ built port_key ∷ built unix_key ∷ built id_key ∷ built generation_key
+    ∷ built load_balanced_key ∷ built generations_key ∷ built app_name_key ∷ built driver_info_key ∷ built server_api_key ∷ built os_key
+    ∷ built platform_key ∷ built platform_short_key ∷ built environment_key ∷ built dockerenv_key ∷ built credential_key ∷ built nonces_key
+    ∷ later moment_key ∷ built first_id_key ∷ built max_iterations_key ∷ later callback_key ∷ later tokens_key ∷ later aws_key ∷ []
 
 -- whether a key of these names is read; none where it isn't among them
 unfoldable pub reading_in : List Key → List ℕ → Option Reading
@@ -43,3 +116,60 @@ is_read (Some Built) = true
 
 abbrev pub is_built : List ℕ → Bool
 is_built name = is_read (reading_of name)
+
+-- ---- the key of a batch
+
+abbrev pub logins_key : List ℕ
+logins_key = codes "logins"
+
+abbrev pub batch_keys : List (List ℕ)
+batch_keys = logins_key ∷ []
+
+-- ---- keys of `credential`
+
+abbrev pub username_key : List ℕ
+username_key = codes "username"
+
+abbrev pub source_key : List ℕ
+source_key = codes "source"
+
+abbrev pub password_key : List ℕ
+password_key = codes "password"
+
+abbrev pub mechanism_key : List ℕ
+mechanism_key = codes "mechanism"
+
+abbrev pub properties_key : List ℕ
+properties_key = codes "properties"
+
+abbrev pub credential_keys : List (List ℕ)
+credential_keys = username_key ∷ source_key ∷ password_key ∷ mechanism_key ∷ properties_key ∷ []
+
+-- ---- keys of `driver_info`, `os` and `server_api`, of which `platform` is one of settings too
+
+abbrev pub name_key : List ℕ
+name_key = codes "name"
+
+abbrev pub version_key : List ℕ
+version_key = codes "version"
+
+abbrev pub type_key : List ℕ
+type_key = codes "type"
+
+abbrev pub architecture_key : List ℕ
+architecture_key = codes "architecture"
+
+abbrev pub strict_key : List ℕ
+strict_key = codes "strict"
+
+abbrev pub deprecation_errors_key : List ℕ
+deprecation_errors_key = codes "deprecation_errors"
+
+abbrev pub driver_info_keys : List (List ℕ)
+driver_info_keys = name_key ∷ version_key ∷ platform_key ∷ []
+
+abbrev pub os_keys : List (List ℕ)
+os_keys = type_key ∷ name_key ∷ architecture_key ∷ version_key ∷ []
+
+abbrev pub server_api_keys : List (List ℕ)
+server_api_keys = version_key ∷ strict_key ∷ deprecation_errors_key ∷ []

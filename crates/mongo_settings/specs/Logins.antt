@@ -1,7 +1,8 @@
 -- The logins of a batch: the text of one JSON object whose one key is `logins`, an array of settings.
-use Rattle.std.specs.Prelude.{ℕ, Result, Ok, List, [], ◌∷◌, codes}
+use Rattle.std.specs.Prelude.{ℕ, Result, Ok, List, [], ◌∷◌}
 use Rattle.serde_json.specs.Data.{Data, Items, no_items, item}
 use Rattle.serde_json.specs.Find.{as_array}
+use Rattle.mongo_settings.specs.Keys.{batch_keys, logins_key}
 use Rattle.mongo_settings.specs.Kinds.{object_of, required}
 use Rattle.mongo_settings.specs.Settings.{◌>>=◌, needed, value_judged, settings_of}
 use Rattle.mongo_settings.specs.declared.settings.Settings.{Settings}
@@ -18,8 +19,8 @@ each_settings (item d others) = do
 -- the logins that a value has
 unfoldable pub logins_of : Data → Result (List Settings) SettingsError
 logins_of d = do
-  keys ← needed (object_of (codes "logins" ∷ []) d)
-  values ← needed (required (codes "logins") as_array d)
+  keys ← needed (object_of batch_keys d)
+  values ← needed (required logins_key as_array d)
   each_settings values
 
 -- The logins that a text has, or why it has none, judged in this order.

@@ -1,7 +1,8 @@
 -- What the keys of settings mean together.
-use Rattle.std.specs.Prelude.{ℕ, ℤ, pos, Option, Some, unwrap_or, [], codes, replicate}
+use Rattle.std.specs.Prelude.{ℕ, ℤ, pos, Option, Some, unwrap_or, [], replicate}
 use Rattle.serde_json.specs.Data.{Data}
 use Rattle.mongo_establish.specs.declared.login_state.Nonces.{Nonces}
+use Rattle.mongo_settings.specs.Keys.{replies_key, credential_key, nonces_key, first_id_key, max_iterations_key}
 use Rattle.mongo_settings.specs.Kinds.{◌>>=◌, optional, joined_hex_in, nonces_in, int32_in, iterations_in}
 use Rattle.mongo_settings.specs.Credential.{credential_in}
 use Rattle.mongo_settings.specs.Options.{options_in}
@@ -25,12 +26,12 @@ default_iterations = 10000000
 unfoldable pub settings_in : Data → Option Settings
 settings_in d = do
   pending ← pending_in d
-  replies ← optional (codes "replies") joined_hex_in d
-  credential ← optional (codes "credential") credential_in d
-  nonces ← optional (codes "nonces") nonces_in d
-  first_id ← optional (codes "first_id") int32_in d
+  replies ← optional replies_key joined_hex_in d
+  credential ← optional credential_key credential_in d
+  nonces ← optional nonces_key nonces_in d
+  first_id ← optional first_id_key int32_in d
   options ← options_in d
-  iterations ← optional (codes "max_iterations") iterations_in d
+  iterations ← optional max_iterations_key iterations_in d
   Some (record {
     pending = pending;
     replies = unwrap_or replies [];

@@ -10,6 +10,7 @@ use Rattle.mongo_meta.specs.declared.driver_info.DriverInfo.{DriverInfo}
 use Rattle.mongo_meta.specs.declared.environment.Environment.{Environment}
 use Rattle.mongo_meta.specs.declared.environment.Variable.{Variable}
 use Rattle.mongo_meta.specs.declared.os_metadata.OsMetadata.{OsMetadata}
+use Rattle.mongo_settings.specs.Keys.{driver_info_keys, os_keys, server_api_keys, load_balanced_key, app_name_key, driver_info_key, server_api_key, os_key, platform_key, platform_short_key, environment_key, dockerenv_key, name_key, version_key, type_key, architecture_key, strict_key, deprecation_errors_key}
 use Rattle.mongo_settings.specs.Kinds.{◌>>=◌, optional, required, or_absent, object_of, two_in}
 
 -- ---- what holds where a key is absent
@@ -27,19 +28,19 @@ default_platform_short = codes "rattle"
 
 unfoldable pub driver_info_in : Data → Option DriverInfo
 driver_info_in d = do
-  object ← object_of (codes "name" ∷ codes "version" ∷ codes "platform" ∷ []) d
-  name ← required (codes "name") as_str d
-  version ← optional (codes "version") as_str d
-  platform ← optional (codes "platform") as_str d
+  object ← object_of driver_info_keys d
+  name ← required name_key as_str d
+  version ← optional version_key as_str d
+  platform ← optional platform_key as_str d
   Some (record { name = name; version = version; platform = platform })
 
 unfoldable pub os_in : Data → Option OsMetadata
 os_in d = do
-  object ← object_of (codes "type" ∷ codes "name" ∷ codes "architecture" ∷ codes "version" ∷ []) d
-  os_type ← required (codes "type") as_str d
-  name ← optional (codes "name") as_str d
-  architecture ← optional (codes "architecture") as_str d
-  version ← optional (codes "version") as_str d
+  object ← object_of os_keys d
+  os_type ← required type_key as_str d
+  name ← optional name_key as_str d
+  architecture ← optional architecture_key as_str d
+  version ← optional version_key as_str d
   Some (record { os_type = os_type; name = name; architecture = architecture; version = version })
 
 -- the one version that there is
@@ -48,10 +49,10 @@ version_in d = option_and_then (λ text. if bytes_eq text (codes "1") then Some 
 
 unfoldable pub server_api_in : Data → Option ServerApi
 server_api_in d = do
-  object ← object_of (codes "version" ∷ codes "strict" ∷ codes "deprecation_errors" ∷ []) d
-  version ← required (codes "version") version_in d
-  strict ← optional (codes "strict") as_bool d
-  deprecation_errors ← optional (codes "deprecation_errors") as_bool d
+  object ← object_of server_api_keys d
+  version ← required version_key version_in d
+  strict ← optional strict_key as_bool d
+  deprecation_errors ← optional deprecation_errors_key as_bool d
   Some (record { version = version; strict = strict; deprecation_errors = deprecation_errors })
 
 -- a variable: its name and its value
@@ -76,19 +77,19 @@ variables_in d = option_and_then variables_of (as_array d)
 
 unfoldable pub environment_in : Data → Option Environment
 environment_in d = do
-  variables ← optional (codes "environment") variables_in d
-  dockerenv ← optional (codes "dockerenv") as_bool d
+  variables ← optional environment_key variables_in d
+  dockerenv ← optional dockerenv_key as_bool d
   Some (record { variables = unwrap_or variables []; dockerenv = unwrap_or dockerenv false })
 
 unfoldable pub options_in : Data → Option ClientOptions
 options_in d = do
-  app_name ← optional (codes "app_name") as_str d
-  driver_info ← optional (codes "driver_info") driver_info_in d
-  server_api ← optional (codes "server_api") server_api_in d
-  load_balanced ← optional (codes "load_balanced") as_bool d
-  os ← or_absent default_os (optional (codes "os") os_in d)
-  platform ← or_absent default_platform (optional (codes "platform") as_str d)
-  platform_short ← or_absent default_platform_short (optional (codes "platform_short") as_str d)
+  app_name ← optional app_name_key as_str d
+  driver_info ← optional driver_info_key driver_info_in d
+  server_api ← optional server_api_key server_api_in d
+  load_balanced ← optional load_balanced_key as_bool d
+  os ← or_absent default_os (optional os_key os_in d)
+  platform ← or_absent default_platform (optional platform_key as_str d)
+  platform_short ← or_absent default_platform_short (optional platform_short_key as_str d)
   environment ← environment_in d
   Some (record {
     app_name = app_name;

@@ -1,5 +1,5 @@
 -- What settings say of the connection that is asked for.
-use Rattle.std.specs.Prelude.{ℕ, false, if◌then◌else◌, Option, None, Some, option_map, option_and_then, unwrap_or, List, [], codes}
+use Rattle.std.specs.Prelude.{ℕ, false, if◌then◌else◌, Option, None, Some, option_map, option_and_then, unwrap_or, List, []}
 use Rattle.std.specs.Result.{result_ok}
 use Rattle.hex.specs.Hex.{decode_sized}
 use Rattle.serde_json.specs.Data.{Data, Members, no_members, member}
@@ -11,6 +11,7 @@ use Rattle.mongo_establish.specs.declared.establisher.PendingConnection.{Pending
 use Rattle.mongo_establish.specs.declared.generation.PoolGeneration.{PoolGeneration}
 use Rattle.mongo_establish.specs.declared.generation.PoolGeneration.TheVariants.{Normal, LoadBalanced}
 use Rattle.mongo_establish.specs.Generation.{Numbers, with_number}
+use Rattle.mongo_settings.specs.Keys.{host_key, port_key, unix_key, id_key, generation_key, load_balanced_key, generations_key}
 use Rattle.mongo_settings.specs.Kinds.{◌>>=◌, optional, port_in, uint32_in}
 
 -- a host, perhaps with a port, or the path of a Unix socket, beside which a port says nothing; one of the two, and not both
@@ -22,9 +23,9 @@ address_of None port None = None
 
 unfoldable pub address_in : Data → Option ServerAddress
 address_in d = do
-  host ← optional (codes "host") as_str d
-  port ← optional (codes "port") port_in d
-  path ← optional (codes "unix") as_str d
+  host ← optional host_key as_str d
+  port ← optional port_key port_in d
+  path ← optional unix_key as_str d
   address_of host port path
 
 -- the id of a service, by 24 hex digits of either case
@@ -45,14 +46,14 @@ generations_in d = option_and_then (with_members []) (as_object d)
 -- the generation of the pool's connections: one number for all, or behind a load balancer a number for each service
 unfoldable pub generation_in : Data → Option PoolGeneration
 generation_in d = do
-  number ← optional (codes "generation") uint32_in d
-  load_balanced ← optional (codes "load_balanced") as_bool d
-  generations ← optional (codes "generations") generations_in d
+  number ← optional generation_key uint32_in d
+  load_balanced ← optional load_balanced_key as_bool d
+  generations ← optional generations_key generations_in d
   Some (if unwrap_or load_balanced false then LoadBalanced (unwrap_or generations []) else Normal (unwrap_or number 0))
 
 unfoldable pub pending_in : Data → Option PendingConnection
 pending_in d = do
   address ← address_in d
-  id ← optional (codes "id") uint32_in d
+  id ← optional id_key uint32_in d
   generation ← generation_in d
   Some (record { id = unwrap_or id 1; address = address; generation = generation })

@@ -1,11 +1,9 @@
-use crate::settings::SettingsError;
 use crate::settings::reading::{SettingValue, judge_object, optional};
+use crate::settings::{SettingsError, keys};
 use mongo_bson::{RawDocumentBuf, Text};
 use mongo_sasl::{AuthMechanism, Credential};
 use serde_json::Value;
 use std::alloc::Global;
-
-const KEYS: [&str; 5] = ["username", "source", "password", "mechanism", "properties"];
 
 /// An object with the parts of a credential, each of them optional.
 impl SettingValue for Credential {
@@ -15,12 +13,12 @@ impl SettingValue for Credential {
 
     #[tactic(auto, unfolding(crate::specs::Credential::credential_in))]
     fn read(alloc: Global, value: &Value) -> Result<Credential, SettingsError> {
-        judge_object(value, &KEYS)?;
-        let username = optional::<Text>(alloc, value, "username")?;
-        let source = optional::<Text>(alloc, value, "source")?;
-        let password = optional::<Text>(alloc, value, "password")?;
-        let mechanism = optional::<AuthMechanism>(alloc, value, "mechanism")?;
-        let mechanism_properties = optional::<RawDocumentBuf>(alloc, value, "properties")?;
+        judge_object(value, &keys::CREDENTIAL_KEYS)?;
+        let username = optional::<Text>(alloc, value, keys::USERNAME)?;
+        let source = optional::<Text>(alloc, value, keys::SOURCE)?;
+        let password = optional::<Text>(alloc, value, keys::PASSWORD)?;
+        let mechanism = optional::<AuthMechanism>(alloc, value, keys::MECHANISM)?;
+        let mechanism_properties = optional::<RawDocumentBuf>(alloc, value, keys::PROPERTIES)?;
         Ok(Credential {
             username,
             source,

@@ -3,8 +3,8 @@ ghost use Rattle.serde_json.specs.View.{items_view};
 ghost use Rattle.mongo_settings.specs.Kinds.{Means};
 ghost use Rattle.mongo_settings.specs.Options.{variables_of};
 
-use crate::settings::SettingsError;
 use crate::settings::reading::{SettingValue, optional, two_in};
+use crate::settings::{SettingsError, keys};
 use mongo_bson::Text;
 use mongo_meta::{Environment, Variable, Variables};
 use serde_json::Value;
@@ -18,8 +18,8 @@ impl SettingValue for Environment {
 
     #[tactic(auto, unfolding(crate::specs::Options::environment_in))]
     fn read(alloc: Global, value: &Value) -> Result<Environment, SettingsError> {
-        let variables = optional::<Variables>(alloc, value, "environment")?;
-        let dockerenv = optional::<bool>(alloc, value, "dockerenv")?;
+        let variables = optional::<Variables>(alloc, value, keys::ENVIRONMENT)?;
+        let dockerenv = optional::<bool>(alloc, value, keys::DOCKERENV)?;
         Ok(Environment {
             variables: variables.unwrap_or(Variables::new(alloc)),
             dockerenv: dockerenv.unwrap_or(false),

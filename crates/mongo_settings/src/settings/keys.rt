@@ -1,4 +1,4 @@
-//! The keys of settings.
+//! The keys of settings and of the objects in them.
 ghost use Rattle.std.specs.Prelude.{◌≡◌, map};
 ghost use Rattle.serde_json.specs.View.{view, members_view};
 ghost use Rattle.mongo_settings.specs.Settings.{keys_judged, members_judged};
@@ -6,6 +6,56 @@ ghost use Rattle.mongo_settings.specs.Keys.{key_row, reading_in, reading_of};
 
 use crate::settings::SettingsError;
 use serde_json::{Map, Value};
+
+// ---- keys of settings
+
+pub const HOST: &str = "host";
+
+pub const REPLIES: &str = "replies";
+
+pub const PORT: &str = "port";
+
+pub const UNIX: &str = "unix";
+
+pub const ID: &str = "id";
+
+pub const GENERATION: &str = "generation";
+
+pub const LOAD_BALANCED: &str = "load_balanced";
+
+pub const GENERATIONS: &str = "generations";
+
+pub const APP_NAME: &str = "app_name";
+
+pub const DRIVER_INFO: &str = "driver_info";
+
+pub const SERVER_API: &str = "server_api";
+
+pub const OS: &str = "os";
+
+pub const PLATFORM: &str = "platform";
+
+pub const PLATFORM_SHORT: &str = "platform_short";
+
+pub const ENVIRONMENT: &str = "environment";
+
+pub const DOCKERENV: &str = "dockerenv";
+
+pub const CREDENTIAL: &str = "credential";
+
+pub const NONCES: &str = "nonces";
+
+pub const MOMENT: &str = "moment";
+
+pub const FIRST_ID: &str = "first_id";
+
+pub const MAX_ITERATIONS: &str = "max_iterations";
+
+pub const CALLBACK: &str = "callback";
+
+pub const TOKENS: &str = "tokens";
+
+pub const AWS: &str = "aws";
 
 /// Whether the value of a key is read.
 #[derive(Clone, Copy, Debug, PartialEq, Eq)]
@@ -16,33 +66,80 @@ pub enum Reading {
     Later,
 }
 
-/// The keys of the format.
+// The keys of settings.
 const KEYS: [(&str, Reading); 24] = [
-    ("host", Reading::Built),
-    ("replies", Reading::Built),
-    ("port", Reading::Built),
-    ("unix", Reading::Built),
-    ("id", Reading::Built),
-    ("generation", Reading::Built),
-    ("load_balanced", Reading::Built),
-    ("generations", Reading::Built),
-    ("app_name", Reading::Built),
-    ("driver_info", Reading::Built),
-    ("server_api", Reading::Built),
-    ("os", Reading::Built),
-    ("platform", Reading::Built),
-    ("platform_short", Reading::Built),
-    ("environment", Reading::Built),
-    ("dockerenv", Reading::Built),
-    ("credential", Reading::Built),
-    ("nonces", Reading::Built),
-    ("moment", Reading::Later),
-    ("first_id", Reading::Built),
-    ("max_iterations", Reading::Built),
-    ("callback", Reading::Later),
-    ("tokens", Reading::Later),
-    ("aws", Reading::Later),
+    (HOST, Reading::Built),
+    (REPLIES, Reading::Built),
+    (PORT, Reading::Built),
+    (UNIX, Reading::Built),
+    (ID, Reading::Built),
+    (GENERATION, Reading::Built),
+    (LOAD_BALANCED, Reading::Built),
+    (GENERATIONS, Reading::Built),
+    (APP_NAME, Reading::Built),
+    (DRIVER_INFO, Reading::Built),
+    (SERVER_API, Reading::Built),
+    (OS, Reading::Built),
+    (PLATFORM, Reading::Built),
+    (PLATFORM_SHORT, Reading::Built),
+    (ENVIRONMENT, Reading::Built),
+    (DOCKERENV, Reading::Built),
+    (CREDENTIAL, Reading::Built),
+    (NONCES, Reading::Built),
+    (MOMENT, Reading::Later),
+    (FIRST_ID, Reading::Built),
+    (MAX_ITERATIONS, Reading::Built),
+    (CALLBACK, Reading::Later),
+    (TOKENS, Reading::Later),
+    (AWS, Reading::Later),
 ];
+
+// ---- the key of a batch
+
+pub const LOGINS: &str = "logins";
+
+/// The keys of a batch.
+pub const BATCH_KEYS: [&str; 1] = [LOGINS];
+
+// ---- keys of `credential`
+
+pub const USERNAME: &str = "username";
+
+pub const SOURCE: &str = "source";
+
+pub const PASSWORD: &str = "password";
+
+pub const MECHANISM: &str = "mechanism";
+
+pub const PROPERTIES: &str = "properties";
+
+/// The keys of a credential.
+pub const CREDENTIAL_KEYS: [&str; 5] = [USERNAME, SOURCE, PASSWORD, MECHANISM, PROPERTIES];
+
+// ---- keys of `driver_info`, `os` and `server_api`, of which `platform` is one of settings too
+
+pub const NAME: &str = "name";
+
+pub const VERSION: &str = "version";
+
+pub const TYPE: &str = "type";
+
+pub const ARCHITECTURE: &str = "architecture";
+
+pub const STRICT: &str = "strict";
+
+pub const DEPRECATION_ERRORS: &str = "deprecation_errors";
+
+/// The keys of what a library says of itself.
+pub const DRIVER_INFO_KEYS: [&str; 3] = [NAME, VERSION, PLATFORM];
+
+/// The keys of what there is to say of an operating system.
+pub const OS_KEYS: [&str; 4] = [TYPE, NAME, ARCHITECTURE, VERSION];
+
+/// The keys of the stable API.
+pub const SERVER_API_KEYS: [&str; 3] = [VERSION, STRICT, DEPRECATION_ERRORS];
+
+// ---- which of them settings may have
 
 /// Judges the keys of an object: `BadSettings` where the value is no object or has a key that the format hasn't, and
 /// then `NotBuilt` where it has one that isn't read yet.

@@ -7,7 +7,7 @@ ghost use Rattle.mongo_settings.specs.Batch.{IsSpoken};
 ghost use Rattle.mongo_settings.specs.declared.settings.SettingsError.TheVariants.{OutOfMemory};
 
 use crate::settings::reading::judge_object;
-use crate::settings::{Settings, SettingsError, settings_of, value_of};
+use crate::settings::{Settings, SettingsError, keys, settings_of, value_of};
 use serde_json::Value;
 use std::alloc::Global;
 
@@ -21,8 +21,8 @@ pub fn read_logins(alloc: Global, text: &[u8]) -> Result<Vec<Settings>, Settings
     ensures spoken { IfOk result (λ logins. All IsSpoken logins.items) }
 {
     let value = value_of(alloc, text)?;
-    judge_object(&value, &["logins"])?;
-    match value.get("logins") {
+    judge_object(&value, &keys::BATCH_KEYS)?;
+    match value.get(keys::LOGINS) {
         Some(logins) => match logins.as_array() {
             Some(values) => each_settings(alloc, values.as_slice()),
             None => Err(SettingsError::BadSettings),

@@ -4,8 +4,8 @@ ghost use Rattle.serde_json.specs.View.{view};
 ghost use Rattle.mongo_settings.specs.Settings.{mechanism_judged};
 ghost use Rattle.mongo_settings.specs.Credential.{mechanism_named, mechanism_in, named_mechanism, is_built};
 
-use crate::settings::SettingsError;
 use crate::settings::reading::SettingValue;
+use crate::settings::{SettingsError, keys};
 use mongo_sasl::AuthMechanism;
 use serde_json::Value;
 use std::alloc::Global;
@@ -24,8 +24,8 @@ pub fn judge_mechanism(object: &Value) -> Result<(), SettingsError>
 fn named_mechanism(object: &Value) -> Option<AuthMechanism>
     ensures { result ≡ named_mechanism (view object.now) }
 {
-    let credential = object.get("credential")?;
-    let name = credential.get("mechanism")?;
+    let credential = object.get(keys::CREDENTIAL)?;
+    let name = credential.get(keys::MECHANISM)?;
     mechanism_in(name)
 }
 

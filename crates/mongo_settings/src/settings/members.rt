@@ -3,7 +3,7 @@ ghost use Rattle.mongo_settings.specs.Meaning.{default_nonces, default_iteration
 
 use crate::settings::kinds::Iterations;
 use crate::settings::reading::{SettingValue, optional};
-use crate::settings::{Settings, SettingsError};
+use crate::settings::{Settings, SettingsError, keys};
 use mongo_bson::Bytes;
 use mongo_establish::{Nonces, PendingConnection};
 use mongo_meta::ClientOptions;
@@ -23,12 +23,12 @@ impl SettingValue for Settings {
     #[tactic(auto, unfolding(crate::specs::Meaning::settings_in))]
     fn read(alloc: Global, value: &Value) -> Result<Settings, SettingsError> {
         let pending = PendingConnection::read(alloc, value)?;
-        let replies = optional::<Bytes>(alloc, value, "replies")?;
-        let credential = optional::<Credential>(alloc, value, "credential")?;
-        let nonces = optional::<Nonces>(alloc, value, "nonces")?;
-        let first_id = optional::<i32>(alloc, value, "first_id")?;
+        let replies = optional::<Bytes>(alloc, value, keys::REPLIES)?;
+        let credential = optional::<Credential>(alloc, value, keys::CREDENTIAL)?;
+        let nonces = optional::<Nonces>(alloc, value, keys::NONCES)?;
+        let first_id = optional::<i32>(alloc, value, keys::FIRST_ID)?;
         let options = ClientOptions::read(alloc, value)?;
-        let iterations = optional::<Iterations>(alloc, value, "max_iterations")?;
+        let iterations = optional::<Iterations>(alloc, value, keys::MAX_ITERATIONS)?;
         Ok(Settings {
             pending,
             replies: replies.unwrap_or(Bytes::new(alloc)),

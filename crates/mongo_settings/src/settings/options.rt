@@ -1,12 +1,13 @@
 //! What settings say of the client.
-ghost use Rattle.std.specs.Prelude.{Some, codes};
+ghost use Rattle.std.specs.Prelude.{Some};
 ghost use Rattle.serde_json.specs.View.{view};
 ghost use Rattle.serde_json.specs.Find.{as_str};
+ghost use Rattle.mongo_settings.specs.Keys.{os_key};
 ghost use Rattle.mongo_settings.specs.Kinds.{optional, or_absent, Means};
 ghost use Rattle.mongo_settings.specs.Options.{default_os, os_in};
 
-use crate::settings::SettingsError;
 use crate::settings::reading::{SettingValue, judge_object, optional, required};
+use crate::settings::{SettingsError, keys};
 use mongo_bson::Text;
 use mongo_command::{ServerApi, ServerApiVersion};
 use mongo_meta::{ClientOptions, DriverInfo, Environment, OsMetadata};
@@ -21,13 +22,13 @@ impl SettingValue for ClientOptions {
 
     #[tactic(auto, unfolding(crate::specs::Options::options_in))]
     fn read(alloc: Global, value: &Value) -> Result<ClientOptions, SettingsError> {
-        let app_name = optional::<Text>(alloc, value, "app_name")?;
-        let driver_info = optional::<DriverInfo>(alloc, value, "driver_info")?;
-        let server_api = optional::<ServerApi>(alloc, value, "server_api")?;
-        let load_balanced = optional::<bool>(alloc, value, "load_balanced")?;
+        let app_name = optional::<Text>(alloc, value, keys::APP_NAME)?;
+        let driver_info = optional::<DriverInfo>(alloc, value, keys::DRIVER_INFO)?;
+        let server_api = optional::<ServerApi>(alloc, value, keys::SERVER_API)?;
+        let load_balanced = optional::<bool>(alloc, value, keys::LOAD_BALANCED)?;
         let os = os_or_default(alloc, value)?;
-        let platform = text_or(alloc, value, "platform", "rattle / sync")?;
-        let platform_short = text_or(alloc, value, "platform_short", "rattle")?;
+        let platform = text_or(alloc, value, keys::PLATFORM, "rattle / sync")?;
+        let platform_short = text_or(alloc, value, keys::PLATFORM_SHORT, "rattle")?;
         let environment = Environment::read(alloc, value)?;
         Ok(ClientOptions {
             app_name,
@@ -53,9 +54,9 @@ fn text_or(alloc: Global, object: &Value, key: &str, default: &str) -> Result<Te
 }
 
 fn os_or_default(alloc: Global, object: &Value) -> Result<OsMetadata, SettingsError>
-    ensures { Means (λ os. os) result (or_absent default_os (optional (codes "os") os_in (view object.now))) }
+    ensures { Means (λ os. os) result (or_absent default_os (optional os_key os_in (view object.now))) }
 {
-    match optional::<OsMetadata>(alloc, object, "os")? {
+    match optional::<OsMetadata>(alloc, object, keys::OS)? {
         Some(os) => Ok(os),
         None => default_os(alloc),
     }
@@ -81,10 +82,10 @@ impl SettingValue for DriverInfo {
 
     #[tactic(auto, unfolding(crate::specs::Options::driver_info_in))]
     fn read(alloc: Global, value: &Value) -> Result<DriverInfo, SettingsError> {
-        judge_object(value, &["name", "version", "platform"])?;
-        let name = required::<Text>(alloc, value, "name")?;
-        let version = optional::<Text>(alloc, value, "version")?;
-        let platform = optional::<Text>(alloc, value, "platform")?;
+        judge_object(value, &keys::DRIVER_INFO_KEYS)?;
+        let name = required::<Text>(alloc, value, keys::NAME)?;
+        let version = optional::<Text>(alloc, value, keys::VERSION)?;
+        let platform = optional::<Text>(alloc, value, keys::PLATFORM)?;
         Ok(DriverInfo {
             name,
             version,
@@ -102,11 +103,11 @@ impl SettingValue for OsMetadata {
 
     #[tactic(auto, unfolding(crate::specs::Options::os_in))]
     fn read(alloc: Global, value: &Value) -> Result<OsMetadata, SettingsError> {
-        judge_object(value, &["type", "name", "architecture", "version"])?;
-        let os_type = required::<Text>(alloc, value, "type")?;
-        let name = optional::<Text>(alloc, value, "name")?;
-        let architecture = optional::<Text>(alloc, value, "architecture")?;
-        let version = optional::<Text>(alloc, value, "version")?;
+        judge_object(value, &keys::OS_KEYS)?;
+        let os_type = required::<Text>(alloc, value, keys::TYPE)?;
+        let name = optional::<Text>(alloc, value, keys::NAME)?;
+        let architecture = optional::<Text>(alloc, value, keys::ARCHITECTURE)?;
+        let version = optional::<Text>(alloc, value, keys::VERSION)?;
         Ok(OsMetadata {
             os_type,
             name,
@@ -124,10 +125,10 @@ impl SettingValue for ServerApi {
 
     #[tactic(auto, unfolding(crate::specs::Options::server_api_in))]
     fn read(alloc: Global, value: &Value) -> Result<ServerApi, SettingsError> {
-        judge_object(value, &["version", "strict", "deprecation_errors"])?;
-        let version = required::<ServerApiVersion>(alloc, value, "version")?;
-        let strict = optional::<bool>(alloc, value, "strict")?;
-        let deprecation_errors = optional::<bool>(alloc, value, "deprecation_errors")?;
+        judge_object(value, &keys::SERVER_API_KEYS)?;
+        let version = required::<ServerApiVersion>(alloc, value, keys::VERSION)?;
+        let strict = optional::<bool>(alloc, value, keys::STRICT)?;
+        let deprecation_errors = optional::<bool>(alloc, value, keys::DEPRECATION_ERRORS)?;
         Ok(ServerApi {
             version,
             strict,

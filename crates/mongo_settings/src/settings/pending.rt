@@ -4,8 +4,8 @@ ghost use Rattle.serde_json.specs.View.{members_view};
 ghost use Rattle.mongo_settings.specs.Kinds.{Means};
 ghost use Rattle.mongo_settings.specs.Pending.{service_in, with_members};
 
-use crate::settings::SettingsError;
 use crate::settings::reading::{SettingValue, optional};
+use crate::settings::{SettingsError, keys};
 use hex::FromHex;
 use mongo_bson::Text;
 use mongo_establish::{Generations, ObjectId, PendingConnection, PoolGeneration, ServerAddress};
@@ -21,7 +21,7 @@ impl SettingValue for PendingConnection {
     #[tactic(auto, unfolding(crate::specs::Pending::pending_in))]
     fn read(alloc: Global, value: &Value) -> Result<PendingConnection, SettingsError> {
         let address = ServerAddress::read(alloc, value)?;
-        let id = optional::<u32>(alloc, value, "id")?;
+        let id = optional::<u32>(alloc, value, keys::ID)?;
         let generation = PoolGeneration::read(alloc, value)?;
         Ok(PendingConnection {
             id: id.unwrap_or(1),
@@ -40,9 +40,9 @@ impl SettingValue for ServerAddress {
 
     #[tactic(auto, unfolding(crate::specs::Pending::address_in))]
     fn read(alloc: Global, value: &Value) -> Result<ServerAddress, SettingsError> {
-        let host = optional::<Text>(alloc, value, "host")?;
-        let port = optional::<u16>(alloc, value, "port")?;
-        let path = optional::<Text>(alloc, value, "unix")?;
+        let host = optional::<Text>(alloc, value, keys::HOST)?;
+        let port = optional::<u16>(alloc, value, keys::PORT)?;
+        let path = optional::<Text>(alloc, value, keys::UNIX)?;
         match (host, path) {
             (Some(host), None) => Ok(ServerAddress::Tcp { host, port }),
             (None, Some(path)) => Ok(ServerAddress::Unix { path }),
@@ -60,9 +60,9 @@ impl SettingValue for PoolGeneration {
 
     #[tactic(auto, unfolding(crate::specs::Pending::generation_in))]
     fn read(alloc: Global, value: &Value) -> Result<PoolGeneration, SettingsError> {
-        let number = optional::<u32>(alloc, value, "generation")?;
-        let load_balanced = optional::<bool>(alloc, value, "load_balanced")?;
-        let generations = optional::<Generations>(alloc, value, "generations")?;
+        let number = optional::<u32>(alloc, value, keys::GENERATION)?;
+        let load_balanced = optional::<bool>(alloc, value, keys::LOAD_BALANCED)?;
+        let generations = optional::<Generations>(alloc, value, keys::GENERATIONS)?;
         if load_balanced.unwrap_or(false) {
             Ok(PoolGeneration::LoadBalanced(generations.unwrap_or(Generations::new(alloc))))
         } else {
