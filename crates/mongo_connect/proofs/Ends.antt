@@ -11,16 +11,18 @@ use Rattle.mongo_settings.specs.declared.settings.SettingsError.TheVariants.{Bad
 use Rattle.mongo_settings.specs.declared.rehearsal.Rehearsal.{Rehearsal}
 use Rattle.mongo_settings.specs.declared.rehearsal.RehearsalStatus.{RehearsalStatus}
 use Rattle.mongo_settings.specs.declared.rehearsal.RehearsalStatus.TheVariants as rehearsal
+use Rattle.mongo_settings.specs.Run.{Run}
 use Rattle.mongo_settings.specs.Settings.{limit}
+use Rattle.mongo_settings.specs.Status.{status_after, JudgementDecides}
 use Rattle.mongo_settings.specs.Outcome.{taken_by}
 use Rattle.mongo_settings.specs.Task.{one, steps_of, LoginComesOut}
 use Rattle.mongo_settings.proofs.Outcomes.{reports_status}
-use Rattle.mongo_connect.specs.declared.status.Status.{Status}
-use Rattle.mongo_connect.specs.declared.status.Status.TheVariants.{Done, Refused, BadSettings, Usage, LinkFault, SinkFault, NoMemory, NotBuilt}
+use Rattle.mongo_settings.specs.declared.status.Status.{Status}
+use Rattle.mongo_settings.specs.declared.status.Status.TheVariants.{Done, Refused, BadSettings, Usage, SourceFault, SinkFault, NoMemory, NotBuilt}
 use Rattle.mongo_connect.specs.Connecting.{IsTold, Told, Faultless, Rehearses}
 use Rattle.mongo_connect.specs.Input.{is_line_feed, line_of, after_line}
 use Rattle.mongo_connect.specs.Settings.{line_judged, with_replies}
-use Rattle.mongo_connect.specs.Run.{status_after, Connected, LineRead, Attempt, Run, Reported, IsRefusedLine, Ends, RunEnds, Unfailed, LineDecides, IsDecided}
+use Rattle.mongo_connect.specs.Run.{Connected, LineRead, Attempt, Reported, IsRefusedLine, Ends, RunEnds, Unfailed, LineComesOut, IsDecided}
 
 -- ---- after the line
 
@@ -88,7 +90,7 @@ bad_unbuilt judgement p q = cc
 module _ {L K : Type 0} (link : L → State) (sink : K → State) (run : Run L K) where
   -- ---- each end
 
-  pub ends_refused : (line : List ℕ) (error : SettingsError) → LineRead line (link run.link) (link run.link_after) → line_judged line ≡ Err error → run.sink_after ≡ run.sink → IsRefusedLine link sink error run
+  pub ends_refused : (line : List ℕ) (error : SettingsError) → LineRead line (link run.source) (link run.source_after) → line_judged line ≡ Err error → run.sink_after ≡ run.sink → IsRefusedLine link sink error run
   ends_refused line error read judged unreported = record {
     judged_so = λ input is. ap line_judged (sym (read.line_is input is)) ∙ judged;
     left = read.left;
@@ -100,7 +102,7 @@ module _ {L K : Type 0} (link : L → State) (sink : K → State) (run : Run L K
   reported_end rehearsal.Accepted r = r
   reported_end rehearsal.Refused r = r
 
-  pub ends_reported : (x : Rehearsal) → Attempt x (link run.link) (link run.link_after) → Appends (sink run.sink).written (sink run.sink_after).written x.report.items → IsFlushed (sink run.sink_after)
+  pub ends_reported : (x : Rehearsal) → Attempt x (link run.source) (link run.source_after) → Appends (sink run.sink).written (sink run.sink_after).written x.report.items → IsFlushed (sink run.sink_after)
       → Ends link sink run (status_after x.status)
   ends_reported x a written flushed = reported_end x.status (record { rehearsal = x; status_is = refl; attempt = a; written = written; flushed = flushed })
 
@@ -110,15 +112,15 @@ module _ {L K : Type 0} (link : L → State) (sink : K → State) (run : Run L K
   run_ends words Refused is e = record { none = is; ends = e }
   run_ends words BadSettings is e = record { none = is; ends = e }
   run_ends words Usage is e = absurd e
-  run_ends words LinkFault is e = record { none = is; ends = e }
+  run_ends words SourceFault is e = record { none = is; ends = e }
   run_ends words SinkFault is e = record { none = is; ends = e }
   run_ends words NoMemory is e = record { none = is; ends = e }
   run_ends words NotBuilt is e = record { none = is; ends = e }
 
   -- ---- what decides
 
-  reported_decides : (status : RehearsalStatus) (settings : Settings) (input : List ℕ) (r : Reported link sink status run) → Connected input r.rehearsal (link run.link) (link run.link_after) → line_judged (line_of input) ≡ Ok settings
-      → LineDecides (Ok settings) (after_line input) (status_after status)
+  reported_decides : (status : RehearsalStatus) (settings : Settings) (input : List ℕ) (r : Reported link sink status run) → Connected input r.rehearsal (link run.source) (link run.source_after) → line_judged (line_of input) ≡ Ok settings
+      → JudgementDecides (LineComesOut (after_line input)) (Ok settings) (status_after status)
   reported_decides status settings input r c known other out =
       let same : c.settings ≡ settings = one_settings (line_judged (line_of input)) settings c.settings known c.settings_are in
       let replied = with_replies c.settings (after_line input) in
@@ -127,7 +129,7 @@ module _ {L K : Type 0} (link : L → State) (sink : K → State) (run : Run L K
       let ends : status ≡ other = reports_status (one replied) (steps_of 0 0) status other r.rehearsal.report.items (record { report = c.report; status_is = sym r.status_is ∙ c.status_is; steps_rise = rises }) out_so in
       inl (ap status_after ends)
 
-  settle : (result : Status) (input : List ℕ) (judgement : Result Settings SettingsError) → Ends link sink run result → Unfailed link sink run → Told (link run.link) input → line_judged (line_of input) ≡ judgement → LineDecides judgement (after_line input) result
+  settle : (result : Status) (input : List ℕ) (judgement : Result Settings SettingsError) → Ends link sink run result → Unfailed link sink run → Told (link run.source) input → line_judged (line_of input) ≡ judgement → JudgementDecides (LineComesOut (after_line input)) judgement result
   settle Done input (Ok settings) e u told known = reported_decides rehearsal.Accepted settings input e (e.attempt.connected input told u.link_faultless) known
   settle Done input (Err error) e u told known = absurd (ok_error _ _ error (e.attempt.connected input told u.link_faultless).settings_are known)
   settle Refused input (Ok settings) e u told known = reported_decides rehearsal.Refused settings input e (e.attempt.connected input told u.link_faultless) known
@@ -143,7 +145,7 @@ module _ {L K : Type 0} (link : L → State) (sink : K → State) (run : Run L K
   settle NoMemory input (Err Unbuilt) e u told known = inr refl
   settle result input (Err OutOfMemory) e u told known = tt
   settle Usage input judgement e u told known = absurd e
-  settle LinkFault input judgement e u told known = absurd (u.link_faultless.reads e.rose)
+  settle SourceFault input judgement e u told known = absurd (u.link_faultless.reads e.rose)
   settle SinkFault input judgement e u told known = absurd (u.writes e.rose)
 
   pub decided : (words : ℕ) (result : Status) → Ends link sink run result → IsDecided link sink words run result

@@ -9,31 +9,17 @@ use Rattle.mongo_settings.specs.declared.settings.SettingsError.TheVariants.{Bad
 use Rattle.mongo_settings.specs.declared.rehearsal.Rehearsal.{Rehearsal}
 use Rattle.mongo_settings.specs.declared.rehearsal.RehearsalStatus.{RehearsalStatus}
 use Rattle.mongo_settings.specs.declared.rehearsal.RehearsalStatus.TheVariants as rehearsal
+use Rattle.mongo_settings.specs.declared.status.Status.{Status}
+use Rattle.mongo_settings.specs.declared.status.Status.TheVariants.{Done, Refused, BadSettings, Usage, SourceFault, SinkFault, NoMemory, NotBuilt}
+use Rattle.mongo_settings.specs.Run.{Run, GaveInput}
 use Rattle.mongo_settings.specs.Settings.{limit}
+use Rattle.mongo_settings.specs.Status.{JudgementDecides}
 use Rattle.mongo_settings.specs.Outcome.{taken_by, status_of}
 use Rattle.mongo_settings.specs.Rehearsal.{IsReport}
 use Rattle.mongo_settings.specs.Task.{LoginComesOut}
-use Rattle.mongo_connect.specs.declared.status.Status.{Status}
-use Rattle.mongo_connect.specs.declared.status.Status.TheVariants.{Done, Refused, BadSettings, Usage, LinkFault, SinkFault, NoMemory, NotBuilt}
 use Rattle.mongo_connect.specs.Connecting.{IsTold, IsUntold, Told, Faultless}
 use Rattle.mongo_connect.specs.Input.{line_of, after_line}
 use Rattle.mongo_connect.specs.Settings.{line_judged, with_replies}
-
--- the number that the process ends with
-abbrev pub code_of_status : Status → ℕ
-code_of_status Done = 0
-code_of_status Refused = 1
-code_of_status BadSettings = 2
-code_of_status Usage = 3
-code_of_status LinkFault = 4
-code_of_status SinkFault = 5
-code_of_status NoMemory = 6
-code_of_status NotBuilt = 7
-
--- the end of a report that was written whole
-abbrev pub status_after : RehearsalStatus → Status
-status_after rehearsal.Accepted = Done
-status_after rehearsal.Refused = Refused
 
 -- ---- what was done over a link
 
@@ -70,51 +56,37 @@ pub record Attempt (rehearsal : Rehearsal) (old new : State) : Type 0 where
 
 -- ---- the ends, one a status
 
--- a link and the report's sink, before a run and after it
-pub record Run (L K : Type 0) : Type 0 where
-  pub link : L
-  pub link_after : L
-  pub sink : K
-  pub sink_after : K
-
-abbrev pub run_of : {L K : Type 0} → L → L → K → K → Run L K
-run_of link link_after sink sink_after = record { link = link; link_after = link_after; sink = sink; sink_after = sink_after }
-
--- where the link tells its bytes, it had these left
-abbrev pub GaveInput : State → (List ℕ → Type 0) → Type 0
-GaveInput link P = (input : List ℕ) → link.left ≡ Some input → P input
-
 module _ {L K : Type 0} (link : L → State) (sink : K → State) where
   -- the report was written whole after what was there, and flushed
   pub record Reported (status : RehearsalStatus) (run : Run L K) : Type 0 where
     pub rehearsal : Rehearsal
     pub status_is : rehearsal.status ≡ status
-    pub attempt : Attempt rehearsal (link run.link) (link run.link_after)
+    pub attempt : Attempt rehearsal (link run.source) (link run.source_after)
     pub written : Appends (sink run.sink).written (sink run.sink_after).written rehearsal.report.items
     pub flushed : IsFlushed (sink run.sink_after)
 
   -- the line was read and judged so, and nothing was written
   pub record IsRefusedLine (error : SettingsError) (run : Run L K) : Type 0 where
-    pub judged_so : GaveInput (link run.link) (λ input. line_judged (line_of input) ≡ Err error)
-    pub left : GaveInput (link run.link) (λ input. (link run.link_after).left ≡ Some (after_line input))
-    pub unwritten : Unwritten (link run.link) (link run.link_after)
+    pub judged_so : GaveInput (link run.source) (λ input. line_judged (line_of input) ≡ Err error)
+    pub left : GaveInput (link run.source) (λ input. (link run.source_after).left ≡ Some (after_line input))
+    pub unwritten : Unwritten (link run.source) (link run.source_after)
     pub unreported : run.sink_after ≡ run.sink
 
   -- at most as many bytes were read as the longest line has, and nothing was written
   pub record IsSilent (run : Run L K) : Type 0 where
-    pub read : ConsumesAtMost (link run.link).left (link run.link_after).left (limit + 1)
-    pub unwritten : Unwritten (link run.link) (link run.link_after)
+    pub read : ConsumesAtMost (link run.source).left (link run.source_after).left (limit + 1)
+    pub unwritten : Unwritten (link run.source) (link run.source_after)
     pub unreported : run.sink_after ≡ run.sink
 
   -- the link failed before the line was read
   pub record LinkFailed (run : Run L K) : Type 0 where
-    pub rose : Rose (link run.link).read_faults (link run.link_after).read_faults
+    pub rose : Rose (link run.source).read_faults (link run.source_after).read_faults
     pub silent : IsSilent run
 
   -- a front of the report was written after what was there
   pub record ReportedFront (run : Run L K) : Type 0 where
     pub rehearsal : Rehearsal
-    pub attempt : Attempt rehearsal (link run.link) (link run.link_after)
+    pub attempt : Attempt rehearsal (link run.source) (link run.source_after)
     pub front : AppendsFront (sink run.sink).written (sink run.sink_after).written rehearsal.report.items
 
   -- the report's sink failed
@@ -124,7 +96,7 @@ module _ {L K : Type 0} (link : L → State) (sink : K → State) where
 
   -- what the settings ask for has no report, and none was begun
   pub record Unreported (run : Run L K) : Type 0 where
-    pub asked : Asked IsUntold (link run.link) (link run.link_after)
+    pub asked : Asked IsUntold (link run.source) (link run.source_after)
     pub unreported : run.sink_after ≡ run.sink
 
   -- how a run on a line ends
@@ -133,7 +105,7 @@ module _ {L K : Type 0} (link : L → State) (sink : K → State) where
   Ends run Refused = Reported rehearsal.Refused run
   Ends run BadSettings = IsRefusedLine Bad run
   Ends run Usage = ⊥
-  Ends run LinkFault = LinkFailed run
+  Ends run SourceFault = LinkFailed run
   Ends run SinkFault = SinkFailed run
   Ends run NoMemory = IsSilent run ⊎ (Unreported run ⊎ ReportedFront run)
   Ends run NotBuilt = IsRefusedLine Unbuilt run
@@ -141,7 +113,7 @@ module _ {L K : Type 0} (link : L → State) (sink : K → State) where
   -- there are words: nothing is read or written
   pub record IsUsage (words : ℕ) (run : Run L K) : Type 0 where
     pub some : 0 < words
-    pub unread : run.link_after ≡ run.link
+    pub unread : run.source_after ≡ run.source
     pub unreported : run.sink_after ≡ run.sink
 
   -- there are none, and it ends so
@@ -158,31 +130,13 @@ module _ {L K : Type 0} (link : L → State) (sink : K → State) where
 
   -- the link and the sink didn't fail
   pub record Unfailed (run : Run L K) : Type 0 where
-    pub link_faultless : Faultless (link run.link) (link run.link_after)
+    pub link_faultless : Faultless (link run.source) (link run.source_after)
     pub writes : Rose (sink run.sink).write_faults (sink run.sink_after).write_faults → ⊥
 
--- this end, or want of memory
-abbrev pub EndsAs : Status → Status → Type 0
-EndsAs status result = (result ≡ status) ⊎ (result ≡ NoMemory)
-
--- what the line is decides how it ends: settings do by how what follows them comes out as their reply bytes
-abbrev pub LineDecides : Result Settings SettingsError → List ℕ → Status → Type 0
-LineDecides (Ok settings) bytes result = (status : RehearsalStatus) → LoginComesOut (with_replies settings bytes) status → EndsAs (status_after status) result
-LineDecides (Err Bad) bytes result = EndsAs BadSettings result
-LineDecides (Err Unbuilt) bytes result = EndsAs NotBuilt result
-LineDecides (Err OutOfMemory) bytes result = ⊤
+-- how what follows the line comes out as the reply bytes of its settings
+abbrev pub LineComesOut : List ℕ → Settings → RehearsalStatus → Type 0
+LineComesOut bytes settings status = LoginComesOut (with_replies settings bytes) status
 
 -- Where nothing fails and there are no words, the link's bytes decide; want of memory may stand in its place.
 abbrev pub IsDecided : {L K : Type 0} → (L → State) → (K → State) → ℕ → Run L K → Status → Type 0
-IsDecided link sink words run result = words ≡ 0 → Unfailed link sink run → (input : List ℕ) → Told (link run.link) input → LineDecides (line_judged (line_of input)) (after_line input) result
-
--- a run counts steps only where it makes a connection
-abbrev pub StepsAfter : Status → ℕ → ℕ → Type 0
-StepsAfter BadSettings before after = after ≡ before
-StepsAfter Usage before after = after ≡ before
-StepsAfter LinkFault before after = after ≡ before
-StepsAfter NotBuilt before after = after ≡ before
-StepsAfter Done before after = before ≤ after
-StepsAfter Refused before after = before ≤ after
-StepsAfter SinkFault before after = before ≤ after
-StepsAfter NoMemory before after = before ≤ after
+IsDecided link sink words run result = words ≡ 0 → Unfailed link sink run → (input : List ℕ) → Told (link run.source) input → JudgementDecides (LineComesOut (after_line input)) (line_judged (line_of input)) result

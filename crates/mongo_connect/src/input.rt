@@ -5,18 +5,9 @@ ghost use Rattle.mongo_wire.specs.Outside.{ReadsOn, Rose, ConsumesAtMost};
 ghost use Rattle.mongo_settings.specs.Settings.{limit};
 ghost use Rattle.mongo_connect.specs.Input.{line_of, after_line};
 
-use mongo_settings::LIMIT;
+use mongo_settings::{InputError, LIMIT};
 use mongo_wire::{Failed, Source};
 use std::alloc::Global;
-
-/// Why a source wasn't read.
-#[derive(Clone, Copy, Debug, PartialEq, Eq)]
-pub enum InputError {
-    /// The source failed. Its count of read faults rose.
-    Fault,
-    /// Memory ran out.
-    OutOfMemory,
-}
 
 /// Reads the first line of a source, without its line feed, a byte at a time: nothing after the line feed is read.
 ///

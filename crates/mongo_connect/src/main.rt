@@ -8,15 +8,13 @@
 mod connecting;
 mod input;
 mod origin;
-mod output;
 mod recording;
 mod run;
 mod settings;
-mod status;
 
 use mongo_establish::{StdLink, StdSink};
+use mongo_settings::Status;
 use run::run_counted;
-use status::Status;
 use std::alloc::AllocGlobal;
 use std::marker::Brand;
 use std::process::ExitCode;

@@ -1,18 +1,18 @@
 //! The top call.
 ghost use Rattle.std.specs.Prelude.{◌≡◌, ◌<◌, ℕ, length};
-ghost use Rattle.mongo_connect.specs.Run.{run_of, Ends, RunEnds, IsDecided, StepsAfter};
+ghost use Rattle.mongo_settings.specs.Run.{run_of};
+ghost use Rattle.mongo_settings.specs.Status.{StepsAfter};
+ghost use Rattle.mongo_connect.specs.Run.{Ends, RunEnds, IsDecided};
 
 #[cfg(test)]
 mod tests;
 
 use crate::connecting::connect_over;
-use crate::input::{InputError, read_line};
-use crate::output::write_report;
+use crate::input::read_line;
 use crate::settings::read_settings;
-use crate::status::Status;
 use mongo_establish::{Link, Sink, SinkError};
 use mongo_mac::Steps;
-use mongo_settings::SettingsError;
+use mongo_settings::{InputError, SettingsError, Status, write_report};
 use std::alloc::Global;
 use std::sync::ledger::{Blank, Ledger};
 
@@ -70,7 +70,7 @@ fn run_line<L: Link, K: Sink, G: Ledger>(
 {
     let line = match read_line(alloc, &mut link) {
         Ok(line) => line,
-        Err(InputError::Fault) => return (Status::LinkFault, link),
+        Err(InputError::Fault) => return (Status::SourceFault, link),
         Err(InputError::OutOfMemory) => return (Status::NoMemory, link),
     };
     let settings = match read_settings(alloc, line.as_slice()) {

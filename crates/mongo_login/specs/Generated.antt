@@ -7,8 +7,8 @@ use Rattle.mongo_settings.specs.Line.{line}
 use Rattle.mongo_settings.specs.Task.{Steps}
 use Rattle.mongo_generate.specs.declared.logins.Generated.{Generated}
 use Rattle.mongo_generate.specs.Generated.{IsGenerated}
-use Rattle.mongo_login.specs.declared.status.Status.{Status}
-use Rattle.mongo_login.specs.declared.status.Status.TheVariants.{Done, SinkFault, NoMemory}
+use Rattle.mongo_settings.specs.declared.status.Status.{Status}
+use Rattle.mongo_settings.specs.declared.status.Status.TheVariants.{Done, SinkFault, NoMemory}
 
 -- how many there were, how many of them both sides accepted, the rounds of Hi that the client derived, and the SHA-256 of their
 -- last messages

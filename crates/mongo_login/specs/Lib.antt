@@ -1,5 +1,4 @@
 pub mod Generated
 pub mod Input
-pub mod Output
 pub mod Run
 pub mod Words

@@ -7,30 +7,16 @@ use Rattle.mongo_settings.specs.declared.settings.SettingsError.TheVariants.{Bad
 use Rattle.mongo_settings.specs.declared.task.Task.{Task}
 use Rattle.mongo_settings.specs.declared.rehearsal.RehearsalStatus.{RehearsalStatus}
 use Rattle.mongo_settings.specs.declared.rehearsal.RehearsalStatus.TheVariants as rehearsal
+use Rattle.mongo_settings.specs.declared.status.Status.{Status}
+use Rattle.mongo_settings.specs.declared.status.Status.TheVariants.{Done, Refused, BadSettings, Usage, SourceFault, SinkFault, NoMemory, NotBuilt}
+use Rattle.mongo_settings.specs.Run.{Run, GaveInput}
 use Rattle.mongo_settings.specs.Settings.{limit}
+use Rattle.mongo_settings.specs.Status.{EndsAs, JudgementDecides}
 use Rattle.mongo_settings.specs.Task.{Asks, judged_as, Steps, Reports, ComesOut}
-use Rattle.mongo_login.specs.declared.status.Status.{Status}
-use Rattle.mongo_login.specs.declared.status.Status.TheVariants.{Done, Refused, BadSettings, Usage, SourceFault, SinkFault, NoMemory, NotBuilt}
 use Rattle.mongo_login.specs.declared.words.Command.{Command}
 use Rattle.mongo_login.specs.declared.words.Command.TheVariants.{Rehearse, Generate}
 use Rattle.mongo_login.specs.Generated.{GenerateEnds}
 use Rattle.mongo_login.specs.Words.{Names, NamesNone}
-
--- the number that the process ends with
-abbrev pub code_of_status : Status → ℕ
-code_of_status Done = 0
-code_of_status Refused = 1
-code_of_status BadSettings = 2
-code_of_status Usage = 3
-code_of_status SourceFault = 4
-code_of_status SinkFault = 5
-code_of_status NoMemory = 6
-code_of_status NotBuilt = 7
-
--- the end of a report that was written whole
-abbrev pub status_after : RehearsalStatus → Status
-status_after rehearsal.Accepted = Done
-status_after rehearsal.Refused = Refused
 
 -- ---- what was printed
 
@@ -64,20 +50,6 @@ abbrev pub LeftOver : List ℕ → Option (List ℕ) → Type 0
 LeftOver input left = ((length input ≤ limit) × (left ≡ Some [])) ⊎ ((limit < length input) × (left ≡ Some (drop (limit + 1) input)))
 
 -- ---- the ends, one a status
-
--- a source and a sink, before a run and after it
-pub record Run (S K : Type 0) : Type 0 where
-  pub source : S
-  pub source_after : S
-  pub sink : K
-  pub sink_after : K
-
-abbrev pub run_of : {S K : Type 0} → S → S → K → K → Run S K
-run_of source source_after sink sink_after = record { source = source; source_after = source_after; sink = sink; sink_after = sink_after }
-
--- where the source tells its bytes, it had these
-abbrev pub GaveInput : State → (List ℕ → Type 0) → Type 0
-GaveInput source P = (input : List ℕ) → source.left ≡ Some input → P input
 
 module _ {S K : Type 0} (source : S → State) (sink : K → State) where
   -- the report was written whole; an end of the source was met
@@ -160,33 +132,11 @@ module _ {S K : Type 0} (source : S → State) (sink : K → State) where
     pub reads : Rose (source run.source).read_faults (source run.source_after).read_faults → ⊥
     pub writes : Rose (sink run.sink).write_faults (sink run.sink_after).write_faults → ⊥
 
--- this end, or want of memory
-abbrev pub EndsAs : Status → Status → Type 0
-EndsAs status result = (result ≡ status) ⊎ (result ≡ NoMemory)
-
--- what the text asks for decides how it ends: logins do by how their reply bytes come out
-abbrev pub TextDecides : Result Asks SettingsError → Status → Type 0
-TextDecides (Ok asks) result = (status : RehearsalStatus) → ComesOut asks status → EndsAs (status_after status) result
-TextDecides (Err Bad) result = EndsAs BadSettings result
-TextDecides (Err Unbuilt) result = EndsAs NotBuilt result
-TextDecides (Err OutOfMemory) result = ⊤
-
 -- a task ends as its text asks, and logins that are made are all accepted
 abbrev pub CommandDecides : {S K : Type 0} → (S → State) → (K → State) → Command → Run S K → Status → Type 0
-CommandDecides source sink (Rehearse task) run result = GaveInput (source run.source) (λ input. TextDecides (judged_as task input) result)
+CommandDecides source sink (Rehearse task) run result = GaveInput (source run.source) (λ input. JudgementDecides ComesOut (judged_as task input) result)
 CommandDecides source sink (Generate count) run result = EndsAs Done result
 
 -- Where nothing fails, the words and the text decide; want of memory may stand in its place.
 abbrev pub IsDecided : {S K : Type 0} → (S → State) → (K → State) → List (List ℕ) → Run S K → Status → Type 0
 IsDecided source sink words run result = (command : Command) → Names words command → Unfailed source sink run → CommandDecides source sink command run result
-
--- a run counts steps only where it makes a connection
-abbrev pub StepsAfter : Status → ℕ → ℕ → Type 0
-StepsAfter BadSettings before after = after ≡ before
-StepsAfter Usage before after = after ≡ before
-StepsAfter SourceFault before after = after ≡ before
-StepsAfter NotBuilt before after = after ≡ before
-StepsAfter Done before after = before ≤ after
-StepsAfter Refused before after = before ≤ after
-StepsAfter SinkFault before after = before ≤ after
-StepsAfter NoMemory before after = before ≤ after

@@ -10,31 +10,12 @@ ghost use Rattle.mongo_login.specs.Input.{ReadsInput};
 #[cfg(test)]
 mod tests;
 
-use mongo_settings::LIMIT;
+use mongo_settings::{InputError, LIMIT};
 use mongo_wire::Source;
-use std::alloc::{AllocError, Global};
+use std::alloc::Global;
 
 // How many bytes are read ahead of the memory for them at most.
 const PIECE: usize = 4096;
-
-/// Why a source wasn't read.
-#[derive(Clone, Copy, Debug, PartialEq, Eq)]
-pub enum InputError {
-    /// The source failed. Its count of read faults rose.
-    Fault,
-    /// Memory ran out.
-    OutOfMemory,
-}
-
-impl From<AllocError> for InputError {
-    ghost use Rattle.mongo_login.specs.declared.input.InputError.TheVariants.{OutOfMemory};
-
-    ghost from_gives = { λ _ e. e ≡ OutOfMemory };
-
-    fn from(_error: AllocError) -> InputError {
-        InputError::OutOfMemory
-    }
-}
 
 /// Reads a source to its end, or until it has given one byte more than settings may have, 4194305 of them.
 ///

@@ -11,14 +11,12 @@
 
 mod generated;
 mod input;
-mod output;
 mod run;
-mod status;
 mod words;
 
 use mongo_establish::{StdSink, StdSource};
+use mongo_settings::Status;
 use run::run_counted;
-use status::Status;
 use std::alloc::AllocGlobal;
 use std::marker::Brand;
 use std::process::ExitCode;

@@ -18,3 +18,5 @@ pub mod Batch
 pub mod Logins
 pub mod Takes
 pub mod Task
+pub mod Status
+pub mod Run

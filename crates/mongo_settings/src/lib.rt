@@ -5,18 +5,25 @@
 //! a batch share one cache of salted passwords. `specs/Report.antt` says which lines a report has, `specs/Rehearsal.antt` which
 //! report settings have: exactly one, and `specs/Batch.antt` which a batch has.
 //! Over another link than one in memory, [`read`] reads the settings of one login, [`prepare`] makes it ready, [`connect`] makes its
-//! connection and [`report_outcome`] writes the report. Want of memory may come in place of any answer that is a `Result`.
+//! connection and [`report_outcome`] makes the report. Want of memory may come in place of any answer that is a `Result`.
+//! [`write_report`] writes a report out, and [`Status`] is how the programs end that do so.
 #![tactic(auto)]
 
 mod batch;
+mod input_error;
+mod output;
 mod rehearsal;
 mod report;
 mod settings;
+mod status;
 mod task;
 
+pub use input_error::InputError;
+pub use output::write_report;
 pub use rehearsal::{
     Login, Rehearsal, RehearsalStatus, connect, new_state, prepare, report_outcome,
 };
 pub use report::line::{begin_line, end_line, push_hex, push_number, push_word};
 pub use settings::{LIMIT, Settings, SettingsError, read, settings_of};
+pub use status::Status;
 pub use task::{Logins, Task};

@@ -3,9 +3,9 @@ ghost use Rattle.std.specs.Prelude.{◌<◌};
 mod logins;
 
 use super::run_counted;
-use crate::status::Status;
 use logins::{Login, PLAIN, SCRAM, fault_at};
 use mongo_bson::Bytes;
+use mongo_settings::Status;
 use mongo_wire::FailingLink;
 use std::alloc::{AllocError, Global};
 use std::marker::Brand;

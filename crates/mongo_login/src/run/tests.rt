@@ -3,8 +3,8 @@ mod million;
 mod vectors;
 
 use super::run_counted;
-use crate::status::Status;
 use mongo_bson::{BsonFault, Bytes};
+use mongo_settings::Status;
 use mongo_wire::FailingLink;
 use std::alloc::{AllocError, Global};
 use std::marker::Brand;

@@ -1,5 +1,5 @@
 use Rattle.std.proofs.Common.{length}
-use Rattle.mongo_connect.specs.Run.{run_of}
+use Rattle.mongo_settings.specs.Run.{run_of}
 use Rattle.mongo_connect.proofs.Ends.{decided}
 use Rattle.mongo_connect.proofs.run.run.Goals as goal
 

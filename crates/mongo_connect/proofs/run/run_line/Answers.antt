@@ -1,8 +1,9 @@
 use Rattle.std.proofs.Common.{◌∙◌, ap, sym, subst, refl, inr}
 use Rattle.std.specs.Io.KnownBytes.{Appends}
 use Rattle.mongo_wire.specs.Outside.{AppendsFront}
+use Rattle.mongo_settings.specs.Run.{run_of}
 use Rattle.mongo_connect.specs.Settings.{line_judged}
-use Rattle.mongo_connect.specs.Run.{run_of, Ends}
+use Rattle.mongo_connect.specs.Run.{Ends}
 use Rattle.mongo_connect.proofs.Ends.{attempt, ends_reported}
 use Rattle.mongo_connect.proofs.run.run_line.Goals as goal
 

@@ -1,6 +1,6 @@
 //! Two logins, and what a fault at each call of them comes to.
 
-use crate::status::Status;
+use mongo_settings::Status;
 
 // A login: the line of its settings, the replies that follow it, and the report of it in three parts. An independent model made them.
 #[derive(Clone, Copy)]
@@ -97,7 +97,7 @@ pub(super) fn fault_at(login: Login, call: usize) -> Outcome {
     let replies = login.replies.len();
     if call < reads {
         return Outcome {
-            status: Status::LinkFault,
+            status: Status::SourceFault,
             report: ["", "", ""],
             unread: reads - call + replies,
         };

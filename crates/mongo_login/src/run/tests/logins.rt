@@ -1,7 +1,7 @@
 // Whole runs whose settings ask for a stable API, a load balancer or a login, each named after the file that an independent model
 // made of it.
 use super::run_on;
-use crate::status::Status;
+use mongo_settings::Status;
 use std::alloc::Global;
 use std::test::Fail;
 

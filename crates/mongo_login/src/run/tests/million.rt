@@ -1,7 +1,7 @@
 // A thousand logins by one key of a million iterations: one derivation serves them all. What each prints was computed by Python's
 // `hashlib` and a few lines that write BSON 1.1 and OP_MSG.
 use super::run_as;
-use crate::status::Status;
+use mongo_settings::Status;
 use std::alloc::{AllocError, Global};
 use std::test::Fail;
 

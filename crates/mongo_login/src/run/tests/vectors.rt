@@ -1,6 +1,6 @@
 // Whole runs, each named after the file that an independent model made of it.
 use super::run_on;
-use crate::status::Status;
+use mongo_settings::Status;
 use std::alloc::{AllocError, Global};
 use std::test::Fail;
 

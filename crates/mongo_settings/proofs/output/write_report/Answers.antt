@@ -2,7 +2,7 @@ use Rattle.std.proofs.Common.{ℕ, sym, subst, Option, None, Some, Result, Ok, E
 use Rattle.std.proofs.Math.Seq.{take-length}
 use Rattle.std.specs.Io.KnownBytes.{Appends, Keeps}
 use Rattle.mongo_wire.specs.Outside.{AppendsFront}
-use Rattle.mongo_connect.proofs.output.write_report.Goals as goal
+use Rattle.mongo_settings.proofs.output.write_report.Goals as goal
 
 kept : (old mid new : Option (List ℕ)) (bytes : List ℕ) → Appends old mid bytes → Keeps mid new → Appends old new bytes
 kept None mid new bytes grown still = tt
