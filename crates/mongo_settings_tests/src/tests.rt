@@ -1,2 +1,3 @@
+mod connecting;
 mod reading;
 mod reporting;
