@@ -6,10 +6,10 @@ use Rattle.std.specs.Fmt.{decimal}
 use Rattle.std.specs.Str.Parse.{ParsesUnsigned, AllDigits, digits_value}
 use Rattle.std.proofs.lemmas.Fmt.{decimal-digits_value, decimal_digit, parse-decimal, first_decimal}
 use Rattle.std.proofs.lemmas.Str.Parse.{IsNumeralModel, numerals_by_value, tells_digits, parse_plain}
-use Rattle.mongo_bench.specs.Task.{IsCount}
+use Rattle.mongo_bench.specs.Task.{IsTaskCount}
 
 -- a count begins above the digit 0
-pub above_zero : (text : List ℕ) (count : ℕ) → IsCount text count → 48 < get_or text 0 0
+pub above_zero : (text : List ℕ) (count : ℕ) → IsTaskCount text count → 48 < get_or text 0 0
 above_zero text count is = rw is.2 (first_decimal count (omega (arith, is.0)) (omega (arith, is.1)))
 
 positive : (text : List ℕ) (n : ℕ) → 48 < get_or text 0 0 → text ≡ decimal n → 1 ≤ n
@@ -24,7 +24,7 @@ own = numerals_by_value (AllDigits 10) tells_digits
 
 pub count_read : {E : Type 0} (text : List ℕ) → 48 < get_or text 0 0 →
     (r : Result ℕ E) → ParsesUnsigned 32 10 text r →
-    MatchOption (result_ok r) ((count : ℕ) → ¬ (IsCount text count)) (IsCount text)
+    MatchOption (result_ok r) ((count : ℕ) → ¬ (IsTaskCount text count)) (IsTaskCount text)
 count_read {E} text first (Ok n) parses =
     let no_plus : get_or text 0 0 ≢ 43 = omega arith in
     let plain = parse_plain own {E = E} 32 text (Ok n) parses no_plus in

@@ -15,7 +15,7 @@ use Rattle.mongo_bench.specs.declared.task.FrameSize.{FrameSize}
 use Rattle.mongo_bench.specs.declared.task.FrameSize.TheVariants.{Small, Middle, Large}
 use Rattle.mongo_bench.specs.declared.task.Task.{Task}
 use Rattle.mongo_bench.specs.declared.task.Task.TheVariants.{Derive, Walk, Document, Frames, Insert, Login}
-use Rattle.mongo_bench.specs.Task.{Asks, name_of_hash, name_of_login, name_of_pass, name_of_shape, name_of_direction, name_of_size}
+use Rattle.mongo_bench.specs.Task.{AsksTask, name_of_hash, name_of_login, name_of_pass, name_of_shape, name_of_direction, name_of_size}
 
 one_hash : (h k : Hash) → name_of_hash h ≡ name_of_hash k → h ≡ k
 one_hash Sha1 Sha1 same = refl
@@ -108,7 +108,7 @@ three_not_four a b c d e f g same = cc
 same_count : (m n : ℕ) → m < 2 ^ 32 → n < 2 ^ 32 → decimal m ≡ decimal n → m ≡ n
 same_count m n m_fits n_fits same = decimal_injective m n (omega arith) (omega arith) same
 
-pub one_task : (words : List (List ℕ)) (t u : Task) → Asks words t → Asks words u → t ≡ u
+pub one_task : (words : List (List ℕ)) (t u : Task) → AsksTask words t → AsksTask words u → t ≡ u
 one_task words (Derive h m) (Derive k n) t u =
     let both = two_same (name_of_hash h) (decimal m) (name_of_hash k) (decimal n) (sym t.0 ∙ u.0) in
     ap (λ x. Derive x m) (one_hash h k both.0) ∙ ap (Derive k) (same_count m n t.2 u.2 both.1)

@@ -31,8 +31,8 @@ salt = 0x41 ∷ 0x25 ∷ 0xC2 ∷ 0x47 ∷ 0xE4 ∷ 0x3A ∷ 0xB1 ∷ 0xE9 ∷ 0
 
 -- the text writes a count: a number from 1 to 2 ^ 32 - 1 in decimal digits with no sign and no
 -- leading zero
-abbrev pub IsCount : List ℕ → ℕ → Type 0
-IsCount text count = (1 ≤ count) × (count < 2 ^ 32) × (text ≡ decimal count)
+abbrev pub IsTaskCount : List ℕ → ℕ → Type 0
+IsTaskCount text count = (1 ≤ count) × (count < 2 ^ 32) × (text ≡ decimal count)
 
 -- the words for a hash, a pass and a shape
 abbrev pub name_of_hash : Hash → List ℕ
@@ -86,12 +86,12 @@ words_of (Frames direction size count) = codes "frames" ∷ name_of_direction di
 words_of (Insert count) = codes "insert" ∷ decimal count ∷ []
 words_of (Login hash count) = codes "login" ∷ name_of_login hash ∷ decimal count ∷ []
 
-abbrev pub Asks : List (List ℕ) → Task → Type 0
-Asks words task = (words ≡ words_of task) × (1 ≤ count_of task) × (count_of task < 2 ^ 32)
+abbrev pub AsksTask : List (List ℕ) → Task → Type 0
+AsksTask words task = (words ≡ words_of task) × (1 ≤ count_of task) × (count_of task < 2 ^ 32)
 
 -- the words ask for no task
 abbrev pub AsksNothing : List (List ℕ) → Type 0
-AsksNothing words = (task : Task) → ¬ (Asks words task)
+AsksNothing words = (task : Task) → ¬ (AsksTask words task)
 
 -- the steps that a task counts: those of a derivation; those of logins, the user's key once for the server and once for the
 -- client, however many there are
@@ -112,25 +112,25 @@ abbrev pub line_of : Hash → ℕ → List ℕ
 line_of hash count = encode_lower (derived_by hash count) ++ codes "\n"
 
 -- what a pass tells of a document: a number, or whether it is readable
-abbrev pub Tells : Pass → List ℕ → List ℕ → Type 0
-Tells Iterate document text = (elements : ℕ) × (text ≡ decimal elements ++ codes "\n")
-Tells Readable document text =
+abbrev pub PassTells : Pass → List ℕ → List ℕ → Type 0
+PassTells Iterate document text = (elements : ℕ) × (text ≡ decimal elements ++ codes "\n")
+PassTells Readable document text =
     (IsReadable maximum_depth document × (text ≡ codes "readable\n")) ⊎ (¬ (IsReadable maximum_depth document) × (text ≡ codes "not readable\n"))
 
 -- what was written grew by what the pass tells of the document
-abbrev pub Told : Pass → List ℕ → Option (List ℕ) → Option (List ℕ) → Type 0
-Told pass document old new = (text : List ℕ) × Tells pass document text × Appends old new text
+abbrev pub HasTold : Pass → List ℕ → Option (List ℕ) → Option (List ℕ) → Type 0
+HasTold pass document old new = (text : List ℕ) × PassTells pass document text × Appends old new text
 
 -- what a task prints: a derivation its line, a walk what its pass tells of a document, a document its bytes, frames
 -- and commands a number, and logins how many were accepted, all of them
 abbrev pub Prints : Task → List ℕ → Type 0
 Prints (Derive hash count) text = text ≡ line_of hash count
-Prints (Walk pass shape count) text = (document : List ℕ) × IsFramed document × Tells pass document text
+Prints (Walk pass shape count) text = (document : List ℕ) × IsFramed document × PassTells pass document text
 Prints (Document shape) text = IsFramed text
 Prints (Frames direction size count) text = (length : ℕ) × (text ≡ decimal length ++ codes "\n")
 Prints (Insert count) text = (length : ℕ) × (text ≡ decimal length ++ codes "\n")
 Prints (Login hash count) text = text ≡ decimal count ++ codes "\n"
 
 -- what was written grew by what the task prints
-abbrev pub Printed : Task → Option (List ℕ) → Option (List ℕ) → Type 0
-Printed task old new = (text : List ℕ) × Prints task text × Appends old new text
+abbrev pub HasPrinted : Task → Option (List ℕ) → Option (List ℕ) → Type 0
+HasPrinted task old new = (text : List ℕ) × Prints task text × Appends old new text

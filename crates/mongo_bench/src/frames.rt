@@ -1,5 +1,5 @@
 ghost use Rattle.std.specs.Prelude.{◌≡◌, ◌≢◌, IfOk};
-ghost use Rattle.mongo_bench.specs.Task.{Printed};
+ghost use Rattle.mongo_bench.specs.Task.{HasPrinted};
 ghost use Rattle.mongo_bench.specs.Work.{work_of_frames};
 
 use crate::run::{Ran, Status};
@@ -24,7 +24,7 @@ pub fn run_frames<W: Write>(
     count: u32,
     out: &mut W,
 ) -> Ran
-    ensures done { result.status ≡ Status.Done → Printed (Task.Frames direction size count) (W.contents out.old) (W.contents out.new) }
+    ensures done { result.status ≡ Status.Done → HasPrinted (Task.Frames direction size count) (W.contents out.old) (W.contents out.new) }
     ensures work { result.status ≡ Status.Done → result.work ≡ work_of_frames direction count }
     ensures ran { (result.status ≢ Status.Usage) × (result.status ≢ Status.NoWords) }
 {

@@ -1,6 +1,6 @@
 // An insert of many documents, with every argument that a command can carry.
 ghost use Rattle.std.specs.Prelude.{◌≡◌, ◌≢◌, IfOk};
-ghost use Rattle.mongo_bench.specs.Task.{Printed};
+ghost use Rattle.mongo_bench.specs.Task.{HasPrinted};
 ghost use Rattle.mongo_bench.specs.Work.{only_built};
 
 use crate::run::{Ran, Status};
@@ -26,7 +26,7 @@ const ONE: u64 = 0x3ff0_0000_0000_0000;
 
 /// Builds the command so often, and writes how many bytes the last one had.
 pub fn run_inserts<W: Write>(alloc: Global, count: u32, out: &mut W) -> Ran
-    ensures done { result.status ≡ Status.Done → Printed (Task.Insert count) (W.contents out.old) (W.contents out.new) }
+    ensures done { result.status ≡ Status.Done → HasPrinted (Task.Insert count) (W.contents out.old) (W.contents out.new) }
     ensures work { result.status ≡ Status.Done → result.work ≡ only_built count }
     ensures ran { (result.status ≢ Status.Usage) × (result.status ≢ Status.NoWords) }
 {

@@ -1,6 +1,6 @@
 //! Logins of one user against one server, with one cache of salted passwords.
 ghost use Rattle.std.specs.Prelude.{◌≡◌, ◌≢◌, ◌+◌, ◌≤◌, [], IfOk, OnOk};
-ghost use Rattle.mongo_bench.specs.Task.{Printed, Costs};
+ghost use Rattle.mongo_bench.specs.Task.{HasPrinted, Costs};
 ghost use Rattle.mongo_bench.specs.Work.{only_logged_in};
 
 use crate::peers::Peers;
@@ -22,7 +22,7 @@ pub fn run_logins<W: Write, G: Ledger>(
     steps: &mut Steps<G>,
 ) -> Ran
     requires { 1 ≤ count }
-    ensures done { result.status ≡ Status.Done → Printed (Task.Login hash count) (W.contents out.old) (W.contents out.new) }
+    ensures done { result.status ≡ Status.Done → HasPrinted (Task.Login hash count) (W.contents out.old) (W.contents out.new) }
     ensures work { result.status ≡ Status.Done → result.work ≡ only_logged_in count }
     ensures cost { Costs (Task.Login hash count) result.status steps.old steps.new }
     ensures ran { (result.status ≢ Status.Usage) × (result.status ≢ Status.NoWords) }

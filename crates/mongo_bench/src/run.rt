@@ -2,7 +2,7 @@ ghost use Rattle.std.specs.Prelude.{◌≡◌, ◌≢◌, ◌<◌, ◌≤◌, �
 ghost use Rattle.hex.specs.Hex.{encode_lower};
 ghost use Rattle.std.specs.Io.KnownBytes.{Appends};
 ghost use Rattle.mongo_bench.specs.Status.{code_of};
-ghost use Rattle.mongo_bench.specs.Task.{Asks, AsksNothing, Printed, Costs, derived_by};
+ghost use Rattle.mongo_bench.specs.Task.{AsksTask, AsksNothing, HasPrinted, Costs, derived_by};
 ghost use Rattle.mongo_bench.specs.Work.{nothing_done, work_of};
 
 use crate::frames::run_frames;
@@ -89,12 +89,12 @@ pub fn run<W: Write, G: Ledger>(
     out: &mut W,
     steps: &mut Steps<G>,
 ) -> Ran
-    ensures done { (task : Task) → Asks (map string_bytes words.now) task → result.status ≡ Status.Done →
-        Printed task (W.contents out.old) (W.contents out.new) }
+    ensures done { (task : Task) → AsksTask (map string_bytes words.now) task → result.status ≡ Status.Done →
+        HasPrinted task (W.contents out.old) (W.contents out.new) }
     // So many passes and frames were done, and no others.
-    ensures work { (task : Task) → Asks (map string_bytes words.now) task → result.status ≡ Status.Done →
+    ensures work { (task : Task) → AsksTask (map string_bytes words.now) task → result.status ≡ Status.Done →
         result.work ≡ work_of task }
-    ensures cost { (task : Task) → Asks (map string_bytes words.now) task →
+    ensures cost { (task : Task) → AsksTask (map string_bytes words.now) task →
         Costs task result.status steps.old steps.new }
     ensures usage { (result.status ≡ Status.Usage) ↔ AsksNothing (map string_bytes words.now) }
     ensures usage_does_nothing { result.status ≡ Status.Usage →
@@ -127,9 +127,9 @@ pub fn run_counted<W: Write, G: Ledger>(
     requires name { blank.name ≡ G.name }
     requires parts { blank.parts ≡ G.parts }
     requires has_a_part { 0 < G.parts }
-    ensures done { (task : Task) → Asks (map string_bytes words.now) task → result.status ≡ Status.Done →
-        Printed task (W.contents out.old) (W.contents out.new) }
-    ensures work { (task : Task) → Asks (map string_bytes words.now) task → result.status ≡ Status.Done →
+    ensures done { (task : Task) → AsksTask (map string_bytes words.now) task → result.status ≡ Status.Done →
+        HasPrinted task (W.contents out.old) (W.contents out.new) }
+    ensures work { (task : Task) → AsksTask (map string_bytes words.now) task → result.status ≡ Status.Done →
         result.work ≡ work_of task }
     ensures usage { (result.status ≡ Status.Usage) ↔ AsksNothing (map string_bytes words.now) }
     ensures usage_writes_nothing { result.status ≡ Status.Usage → out.new ≡ out.old }
@@ -147,7 +147,7 @@ fn run_derivation<W: Write, G: Ledger>(
     steps: &mut Steps<G>,
 ) -> Ran
     requires { 1 ≤ count }
-    ensures done { result.status ≡ Status.Done → Printed (Task.Derive hash count) (W.contents out.old) (W.contents out.new) }
+    ensures done { result.status ≡ Status.Done → HasPrinted (Task.Derive hash count) (W.contents out.old) (W.contents out.new) }
     ensures work { result.work ≡ nothing_done }
     ensures cost { steps.new ≡ steps.old + count }
     ensures ran { (result.status ≢ Status.Usage) × (result.status ≢ Status.NoWords) }

@@ -1,5 +1,5 @@
 ghost use Rattle.std.specs.Prelude.{◌≡◌, ◌≢◌, ◌∷◌, [], ℕ, MatchOption, codes, map, slice_index, string_bytes};
-ghost use Rattle.mongo_bench.specs.Task.{Asks, AsksNothing, IsCount, bytes_of, name_of_direction, name_of_hash, name_of_login, name_of_pass, name_of_shape, name_of_size};
+ghost use Rattle.mongo_bench.specs.Task.{AsksTask, AsksNothing, IsTaskCount, bytes_of, name_of_direction, name_of_hash, name_of_login, name_of_pass, name_of_shape, name_of_size};
 
 /// The password of each derivation (RFC 5802, section 5).
 pub const PASSWORD: &[u8] = b"pencil";
@@ -94,7 +94,7 @@ pub enum Task {
 /// has them, and a count from 1 to 2^32 - 1 in decimal digits with no sign and no leading zero where it has one.
 pub fn task_of(words: &[String]) -> Option<Task>
     ensures { let texts = map string_bytes words.now in
-        MatchOption result (AsksNothing texts) (Asks texts) }
+        MatchOption result (AsksNothing texts) (AsksTask texts) }
 {
     match words {
         [name, word] => task_of_two(name.as_str(), word.as_str()),
@@ -111,7 +111,7 @@ pub fn task_of(words: &[String]) -> Option<Task>
 
 // The task of two words: a derivation, a document's bytes, or the command of an insert.
 fn task_of_two(name: &str, word: &str) -> Option<Task>
-    ensures { MatchOption result (AsksNothing (name.now ∷ word.now ∷ [])) (Asks (name.now ∷ word.now ∷ [])) }
+    ensures { MatchOption result (AsksNothing (name.now ∷ word.now ∷ [])) (AsksTask (name.now ∷ word.now ∷ [])) }
 {
     if name == "document" {
         return Some(Task::Document(shape_of(word)?));
@@ -125,7 +125,7 @@ fn task_of_two(name: &str, word: &str) -> Option<Task>
 
 // The task of three words: logins, or passes over a document.
 fn task_of_three(name: &str, kind: &str, count: &str) -> Option<Task>
-    ensures { MatchOption result (AsksNothing (name.now ∷ kind.now ∷ count.now ∷ [])) (Asks (name.now ∷ kind.now ∷ count.now ∷ [])) }
+    ensures { MatchOption result (AsksNothing (name.now ∷ kind.now ∷ count.now ∷ [])) (AsksTask (name.now ∷ kind.now ∷ count.now ∷ [])) }
 {
     if name == "login" {
         return login_of(kind, count);
@@ -135,7 +135,7 @@ fn task_of_three(name: &str, kind: &str, count: &str) -> Option<Task>
 
 // Logins by the hash of that name.
 fn login_of(kind: &str, count: &str) -> Option<Task>
-    ensures { MatchOption result (AsksNothing (codes "login" ∷ kind.now ∷ count.now ∷ [])) (Asks (codes "login" ∷ kind.now ∷ count.now ∷ [])) }
+    ensures { MatchOption result (AsksNothing (codes "login" ∷ kind.now ∷ count.now ∷ [])) (AsksTask (codes "login" ∷ kind.now ∷ count.now ∷ [])) }
 {
     let hash = login_hash_of(kind)?;
     Some(Task::Login(hash, count_of(count)?))
@@ -144,7 +144,7 @@ fn login_of(kind: &str, count: &str) -> Option<Task>
 // Passes over a document.
 fn walk_of(name: &str, shape: &str, count: &str) -> Option<Task>
     requires { name.now ≢ codes "login" }
-    ensures { MatchOption result (AsksNothing (name.now ∷ shape.now ∷ count.now ∷ [])) (Asks (name.now ∷ shape.now ∷ count.now ∷ [])) }
+    ensures { MatchOption result (AsksNothing (name.now ∷ shape.now ∷ count.now ∷ [])) (AsksTask (name.now ∷ shape.now ∷ count.now ∷ [])) }
 {
     let pass = pass_of(name)?;
     let shape = shape_of(shape)?;
@@ -153,7 +153,7 @@ fn walk_of(name: &str, shape: &str, count: &str) -> Option<Task>
 
 // The task of four words: frames.
 fn frames_of(name: &str, direction: &str, size: &str, count: &str) -> Option<Task>
-    ensures { MatchOption result (AsksNothing (name.now ∷ direction.now ∷ size.now ∷ count.now ∷ [])) (Asks (name.now ∷ direction.now ∷ size.now ∷ count.now ∷ [])) }
+    ensures { MatchOption result (AsksNothing (name.now ∷ direction.now ∷ size.now ∷ count.now ∷ [])) (AsksTask (name.now ∷ direction.now ∷ size.now ∷ count.now ∷ [])) }
 {
     if name != "frames" {
         return None;
@@ -235,7 +235,7 @@ fn size_of(name: &str) -> Option<FrameSize>
 /// The count that `text` writes: from 1 to 2^32 - 1 in decimal digits with no sign and no leading
 /// zero.
 fn count_of(text: &str) -> Option<u32>
-    ensures { MatchOption result ((count : ℕ) → ¬ (IsCount text.now count)) (IsCount text.now) }
+    ensures { MatchOption result ((count : ℕ) → ¬ (IsTaskCount text.now count)) (IsTaskCount text.now) }
 {
     // No text that begins with a sign or a zero begins above b'0'.
     if first_byte(text) > b'0' {

@@ -1,7 +1,7 @@
 ghost use Rattle.std.specs.Prelude.{◌≡◌, ◌≢◌, ◌<◌, ◌++◌, if◌then◌else◌, OnOk, codes};
 ghost use Rattle.std.specs.Fmt.{decimal};
 ghost use Rattle.std.specs.Io.KnownBytes.{Appends};
-ghost use Rattle.mongo_bench.specs.Task.{Printed, Told};
+ghost use Rattle.mongo_bench.specs.Task.{HasPrinted, HasTold};
 ghost use Rattle.mongo_bench.specs.Work.{nothing_done, work_of_pass};
 
 use crate::documents::document_of;
@@ -20,7 +20,7 @@ const LEVELS: u32 = 100;
 /// Makes the document, passes over it so often, and writes what the last pass found.
 pub fn run_walk<W: Write>(alloc: Global, pass: Pass, shape: Shape, count: u32, out: &mut W) -> Ran
     requires { 0 < count }
-    ensures done { result.status ≡ Status.Done → Printed (Task.Walk pass shape count) (W.contents out.old) (W.contents out.new) }
+    ensures done { result.status ≡ Status.Done → HasPrinted (Task.Walk pass shape count) (W.contents out.old) (W.contents out.new) }
     ensures work { result.status ≡ Status.Done → result.work ≡ work_of_pass pass count }
     ensures ran { (result.status ≢ Status.Usage) × (result.status ≢ Status.NoWords) }
 {
@@ -33,7 +33,7 @@ pub fn run_walk<W: Write>(alloc: Global, pass: Pass, shape: Shape, count: u32, o
 /// Passes over the document so often, and writes what the last pass found.
 pub fn walk<W: Write>(document: RawDocument<'_>, pass: Pass, count: u32, out: &mut W) -> Ran
     requires { 0 < count }
-    ensures told { result.status ≡ Status.Done → Told pass document.entry.bytes.now (W.contents out.old) (W.contents out.new) }
+    ensures told { result.status ≡ Status.Done → HasTold pass document.entry.bytes.now (W.contents out.old) (W.contents out.new) }
     ensures work { result.work ≡ work_of_pass pass count }
     ensures ran { (result.status ≢ Status.Usage) × (result.status ≢ Status.NoWords) }
 {
@@ -51,7 +51,7 @@ pub fn walk<W: Write>(document: RawDocument<'_>, pass: Pass, count: u32, out: &m
 
 /// Makes the document and writes its bytes.
 pub fn run_document<W: Write>(alloc: Global, shape: Shape, out: &mut W) -> Ran
-    ensures done { result.status ≡ Status.Done → Printed (Task.Document shape) (W.contents out.old) (W.contents out.new) }
+    ensures done { result.status ≡ Status.Done → HasPrinted (Task.Document shape) (W.contents out.old) (W.contents out.new) }
     ensures work { result.work ≡ nothing_done }
     ensures ran { (result.status ≢ Status.Usage) × (result.status ≢ Status.NoWords) }
 {

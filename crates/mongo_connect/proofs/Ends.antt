@@ -19,7 +19,7 @@ use Rattle.mongo_settings.specs.Task.{one, steps_of, LoginComesOut}
 use Rattle.mongo_settings.proofs.Outcomes.{reports_status}
 use Rattle.mongo_settings.specs.declared.status.Status.{Status}
 use Rattle.mongo_settings.specs.declared.status.Status.TheVariants.{Done, Refused, BadSettings, Usage, SourceFault, SinkFault, NoMemory, NotBuilt}
-use Rattle.mongo_connect.specs.Connecting.{IsTold, Told, Faultless, Rehearses}
+use Rattle.mongo_connect.specs.Connecting.{IsConnectionTold, TellsBytes, Faultless, ReportsConnection}
 use Rattle.mongo_connect.specs.Input.{is_line_feed, line_of, after_line}
 use Rattle.mongo_connect.specs.Settings.{line_judged, with_replies}
 use Rattle.mongo_connect.specs.Run.{Connected, LineRead, Attempt, Reported, IsRefusedLine, Ends, RunEnds, Unfailed, LineComesOut, IsDecided}
@@ -31,7 +31,7 @@ after_line_short : (input : List ℕ) → length input < 2 ^ 64 → length (afte
 unfolding after_line
 after_line_short input fits = grind (arith, nat_tests, length-drop (position_or_len is_line_feed input + 1) input, length-drop (limit + 1) input)
 
-told_after : (input line : List ℕ) (old middle : State) → LineRead line old middle → Told old input → Told middle (after_line input)
+told_after : (input line : List ℕ) (old middle : State) → LineRead line old middle → TellsBytes old input → TellsBytes middle (after_line input)
 told_after input line old middle read told = record {
   left = read.left input told.left;
   fits = after_line_short input told.fits;
@@ -53,7 +53,7 @@ faultless_after old middle new on f = record {
 
 -- what the settings of the line asked for, over told bytes
 connected : (input line : List ℕ) (settings : Settings) (old middle new : State) (x : Rehearsal) → LineRead line old middle → line_judged line ≡ Ok settings
-    → ((bytes : List ℕ) → Told middle bytes → Faultless middle new → Rehearses settings bytes middle new x) → Told old input → Faultless old new → Connected input x old new
+    → ((bytes : List ℕ) → TellsBytes middle bytes → Faultless middle new → ReportsConnection settings bytes middle new x) → TellsBytes old input → Faultless old new → Connected input x old new
 connected input line settings old middle new x read judged rehearses told f =
     let r = rehearses (after_line input) (told_after input line old middle read told) (faultless_after old middle new read.on f) in
     record {
@@ -68,7 +68,7 @@ connected input line settings old middle new x read judged rehearses told f =
 
 pub attempt : (line : List ℕ) (settings : Settings) (old middle new : State) (x : Rehearsal)
     → ReadsOn old middle → ((input : List ℕ) → old.left ≡ Some input → line ≡ line_of input) → ((input : List ℕ) → old.left ≡ Some input → middle.left ≡ Some (after_line input))
-    → line_judged line ≡ Ok settings → IsTold settings middle new x → ((bytes : List ℕ) → Told middle bytes → Faultless middle new → Rehearses settings bytes middle new x) → Attempt x old new
+    → line_judged line ≡ Ok settings → IsConnectionTold settings middle new x → ((bytes : List ℕ) → TellsBytes middle bytes → Faultless middle new → ReportsConnection settings bytes middle new x) → Attempt x old new
 attempt line settings old middle new x on line_is left judged told rehearses =
     let read : LineRead line old middle = record { on = on; line_is = line_is; left = left } in
     record {
@@ -129,7 +129,7 @@ module _ {L K : Type 0} (link : L → State) (sink : K → State) (run : Run L K
       let ends : status ≡ other = reports_status (one replied) (steps_of 0 0) status other r.rehearsal.report.items (record { report = c.report; status_is = sym r.status_is ∙ c.status_is; steps_rise = rises }) out_so in
       inl (ap status_after ends)
 
-  settle : (result : Status) (input : List ℕ) (judgement : Result Settings SettingsError) → Ends link sink run result → Unfailed link sink run → Told (link run.source) input → line_judged (line_of input) ≡ judgement → JudgementDecides (LineComesOut (after_line input)) judgement result
+  settle : (result : Status) (input : List ℕ) (judgement : Result Settings SettingsError) → Ends link sink run result → Unfailed link sink run → TellsBytes (link run.source) input → line_judged (line_of input) ≡ judgement → JudgementDecides (LineComesOut (after_line input)) judgement result
   settle Done input (Ok settings) e u told known = reported_decides rehearsal.Accepted settings input e (e.attempt.connected input told u.link_faultless) known
   settle Done input (Err error) e u told known = absurd (ok_error _ _ error (e.attempt.connected input told u.link_faultless).settings_are known)
   settle Refused input (Ok settings) e u told known = reported_decides rehearsal.Refused settings input e (e.attempt.connected input told u.link_faultless) known

@@ -13,7 +13,7 @@ use Rattle.mongo_settings.specs.Login.{IsMade, IsStopped}
 use Rattle.mongo_settings.specs.Outcome.{asked_of}
 use Rattle.mongo_settings.specs.Telling.{IsReported, Tells}
 use Rattle.mongo_settings.proofs.Rehearsing.{Replayed, rehearsed}
-use Rattle.mongo_connect.specs.Connecting.{Attempted, IsTold, IsUntold, Told, Faultless, Rehearses}
+use Rattle.mongo_connect.specs.Connecting.{Attempted, IsConnectionTold, IsUntold, TellsBytes, Faultless, ReportsConnection}
 use Rattle.mongo_connect.specs.Recording.{IsTakenCount}
 use Rattle.mongo_connect.specs.Settings.{with_replies}
 
@@ -29,7 +29,7 @@ attempted settings asked origin start new ended begun same made stopped = record
 -- an establishment that began where its recording did is told by what that holds
 pub told_over : {E : Type 0} {asked : Asked} (settings : Settings) (origin start new : State) (ended : Result PooledConnection EstablishError) (written : List ℕ) (taken : ℕ) (r : Result Rehearsal E)
     → start ≡ origin → asked ≡ asked_of settings → IfOk ended (IsMade asked start new) → IfErr ended (IsStopped asked start new)
-    → new.written ≡ append_known origin.written written → IsTakenCount origin.left new.left taken → IfOk r (Tells written taken ended) → IfOk r (IsTold settings origin new)
+    → new.written ≡ append_known origin.written written → IsTakenCount origin.left new.left taken → IfOk r (Tells written taken ended) → IfOk r (IsConnectionTold settings origin new)
 told_over {asked = asked} settings origin start new ended written taken (Ok x) begun same made stopped appended counted tells = record {
   ended = ended;
   attempted = attempted settings asked origin start new ended begun same made stopped;
@@ -54,7 +54,7 @@ same_asked settings bytes = refl
 
 -- bytes are left
 left_over : (settings : Settings) (bytes : List ℕ) (old new : State) (ended : Result PooledConnection EstablishError) (written : List ℕ) (taken : ℕ) (x : Rehearsal)
-    → Attempted settings ended old new → Told old bytes → Faultless old new → Tells written taken ended x → (left : List ℕ) × (new.left ≡ Some left)
+    → Attempted settings ended old new → TellsBytes old bytes → Faultless old new → Tells written taken ended x → (left : List ℕ) × (new.left ≡ Some left)
 left_over settings bytes old new (Ok pooled) written taken x a t f tells =
     let rest = a.made.established.taken bytes t.left in
     (rest.rest, rest.left_is)
@@ -64,7 +64,7 @@ left_over settings bytes old new (Err refusal) written taken x a t f tells =
       | inr r ↦ (r.refusal.unread, r.left_by.left)
     ]
 
-rehearses : (settings : Settings) (bytes : List ℕ) (old new : State) (x : Rehearsal) → IsTold settings old new x → Told old bytes → Faultless old new → Rehearses settings bytes old new x
+rehearses : (settings : Settings) (bytes : List ℕ) (old new : State) (x : Rehearsal) → IsConnectionTold settings old new x → TellsBytes old bytes → Faultless old new → ReportsConnection settings bytes old new x
 rehearses settings bytes old new x told t f =
     let (left, left_is) = left_over settings bytes old new told.ended told.written told.taken x told.attempted t f told.tells in
     let fits = t.fits in
@@ -82,7 +82,7 @@ rehearses settings bytes old new x told t f =
     let replays = rehearsed {E = ℕ} (with_replies settings bytes) (asked_of settings) old new told.written left told.taken told.ended (Ok x) (same_asked settings bytes) told.attempted.made told.attempted.stopped replayed count told.tells in
     record { rehearsal_is = replays.rehearses.rehearsal_is; left_as = replays.left_as }
 
-pub rehearsed_over : {E : Type 0} (settings : Settings) (old new : State) (r : Result Rehearsal E) → IfOk r (IsTold settings old new)
-    → (bytes : List ℕ) → Told old bytes → Faultless old new → IfOk r (Rehearses settings bytes old new)
+pub rehearsed_over : {E : Type 0} (settings : Settings) (old new : State) (r : Result Rehearsal E) → IfOk r (IsConnectionTold settings old new)
+    → (bytes : List ℕ) → TellsBytes old bytes → Faultless old new → IfOk r (ReportsConnection settings bytes old new)
 rehearsed_over settings old new (Ok x) told bytes t f = rehearses settings bytes old new x told t f
 rehearsed_over settings old new (Err e) told bytes t f = tt

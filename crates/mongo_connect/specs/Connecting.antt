@@ -20,7 +20,7 @@ pub record Attempted (settings : Settings) (ended : Result PooledConnection Esta
   pub stopped : IfErr ended (IsStopped (asked_of settings) old new)
 
 -- the report tells how it ended, by all that was written and how many bytes were taken
-pub record IsTold (settings : Settings) (old new : State) (rehearsal : Rehearsal) : Type 0 where
+pub record IsConnectionTold (settings : Settings) (old new : State) (rehearsal : Rehearsal) : Type 0 where
   pub ended : Result PooledConnection EstablishError
   pub attempted : Attempted settings ended old new
   pub written : List ℕ
@@ -36,7 +36,7 @@ IsUntold settings old new = (new ≡ old) ⊎ ((ended : Result PooledConnection 
 -- ---- a link that tells its bytes
 
 -- These bytes are left, fewer of them than 64 bits count, and what was written is told too.
-pub record Told (link : State) (bytes : List ℕ) : Type 0 where
+pub record TellsBytes (link : State) (bytes : List ℕ) : Type 0 where
   pub left : link.left ≡ Some bytes
   pub fits : length bytes < 2 ^ 64
   pub before : List ℕ
@@ -48,6 +48,6 @@ pub record Faultless (old new : State) : Type 0 where
   pub writes : Rose old.write_faults new.write_faults → ⊥
 
 -- The report is the one that the settings have with these reply bytes, and the link is left as it says.
-pub record Rehearses (settings : Settings) (bytes : List ℕ) (old new : State) (rehearsal : Rehearsal) : Type 0 where
+pub record ReportsConnection (settings : Settings) (bytes : List ℕ) (old new : State) (rehearsal : Rehearsal) : Type 0 where
   pub rehearsal_is : IsRehearsal (with_replies settings bytes) rehearsal
   pub left_as : LeftAs (with_replies settings bytes) rehearsal.report.items rehearsal_is.report old new

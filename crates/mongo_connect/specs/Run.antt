@@ -17,7 +17,7 @@ use Rattle.mongo_settings.specs.Status.{JudgementDecides}
 use Rattle.mongo_settings.specs.Outcome.{taken_by, status_of}
 use Rattle.mongo_settings.specs.Rehearsal.{IsReport}
 use Rattle.mongo_settings.specs.Task.{LoginComesOut}
-use Rattle.mongo_connect.specs.Connecting.{IsTold, IsUntold, Told, Faultless}
+use Rattle.mongo_connect.specs.Connecting.{IsConnectionTold, IsUntold, TellsBytes, Faultless}
 use Rattle.mongo_connect.specs.Input.{line_of, after_line}
 use Rattle.mongo_connect.specs.Settings.{line_judged, with_replies}
 
@@ -41,7 +41,7 @@ pub record LineRead (line : List ℕ) (old new : State) : Type 0 where
   pub left : (input : List ℕ) → old.left ≡ Some input → new.left ≡ Some (after_line input)
 
 -- the first line was read and is settings, and what they ask for was done over what follows
-pub record Asked (P : Settings → State → State → Type 0) (old new : State) : Type 0 where
+pub record LineAsked (P : Settings → State → State → Type 0) (old new : State) : Type 0 where
   pub line : List ℕ
   pub middle : State
   pub line_read : LineRead line old middle
@@ -51,8 +51,8 @@ pub record Asked (P : Settings → State → State → Type 0) (old new : State)
 
 -- The report tells how the establishment ended that the first line asks for, also over a link that fails or tells nothing.
 pub record Attempt (rehearsal : Rehearsal) (old new : State) : Type 0 where
-  pub told : Asked (λ settings middle after. IsTold settings middle after rehearsal) old new
-  pub connected : (input : List ℕ) → Told old input → Faultless old new → Connected input rehearsal old new
+  pub told : LineAsked (λ settings middle after. IsConnectionTold settings middle after rehearsal) old new
+  pub connected : (input : List ℕ) → TellsBytes old input → Faultless old new → Connected input rehearsal old new
 
 -- ---- the ends, one a status
 
@@ -96,7 +96,7 @@ module _ {L K : Type 0} (link : L → State) (sink : K → State) where
 
   -- what the settings ask for has no report, and none was begun
   pub record Unreported (run : Run L K) : Type 0 where
-    pub asked : Asked IsUntold (link run.source) (link run.source_after)
+    pub asked : LineAsked IsUntold (link run.source) (link run.source_after)
     pub unreported : run.sink_after ≡ run.sink
 
   -- how a run on a line ends
@@ -139,4 +139,4 @@ LineComesOut bytes settings status = LoginComesOut (with_replies settings bytes)
 
 -- Where nothing fails and there are no words, the link's bytes decide; want of memory may stand in its place.
 abbrev pub IsDecided : {L K : Type 0} → (L → State) → (K → State) → ℕ → Run L K → Status → Type 0
-IsDecided link sink words run result = words ≡ 0 → Unfailed link sink run → (input : List ℕ) → Told (link run.source) input → JudgementDecides (LineComesOut (after_line input)) (line_judged (line_of input)) result
+IsDecided link sink words run result = words ≡ 0 → Unfailed link sink run → (input : List ℕ) → TellsBytes (link run.source) input → JudgementDecides (LineComesOut (after_line input)) (line_judged (line_of input)) result

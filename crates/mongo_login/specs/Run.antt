@@ -15,7 +15,7 @@ use Rattle.mongo_settings.specs.Task.{Asks, judged_as, Steps, Reports, ComesOut}
 use Rattle.mongo_login.specs.declared.words.Command.{Command}
 use Rattle.mongo_login.specs.declared.words.Command.TheVariants.{Rehearse, Generate}
 use Rattle.mongo_login.specs.Generated.{GenerateEnds}
-use Rattle.mongo_login.specs.Words.{Names, NamesNone}
+use Rattle.mongo_login.specs.Words.{NamesCommand, NamesNone}
 
 -- ---- what was printed
 
@@ -116,7 +116,7 @@ module _ {S K : Type 0} (source : S → State) (sink : K → State) where
   -- the words name a command that ends so
   pub record RanCommand (words : List (List ℕ)) (steps : Steps) (run : Run S K) (status : Status) : Type 0 where
     pub command : Command
-    pub named : Names words command
+    pub named : NamesCommand words command
     pub ends : CommandEnds command steps run status
 
   -- how a run ends
@@ -138,4 +138,4 @@ CommandDecides source sink (Generate count) run result = EndsAs Done result
 
 -- Where nothing fails, the words and the text decide; want of memory may stand in its place.
 abbrev pub IsDecided : {S K : Type 0} → (S → State) → (K → State) → List (List ℕ) → Run S K → Status → Type 0
-IsDecided source sink words run result = (command : Command) → Names words command → Unfailed source sink run → CommandDecides source sink command run result
+IsDecided source sink words run result = (command : Command) → NamesCommand words command → Unfailed source sink run → CommandDecides source sink command run result

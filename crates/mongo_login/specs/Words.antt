@@ -14,15 +14,15 @@ abbrev pub most_logins : ℕ
 most_logins = 1000
 
 -- the word is the number in decimal digits, without a sign or a leading zero
-pub record IsCount (word : List ℕ) (count : ℕ) : Type 0 where
+pub record IsCountWord (word : List ℕ) (count : ℕ) : Type 0 where
   pub digits : word ≡ decimal count
   pub some : 1 ≤ count
   pub within : count ≤ most_logins
 
 -- a task's name alone, or `generate` and a number
-abbrev pub Names : List (List ℕ) → Command → Type 0
-Names words (Rehearse task) = words ≡ task_name task ∷ []
-Names words (Generate count) = (number : List ℕ) × (words ≡ codes "generate" ∷ number ∷ []) × IsCount number count
+abbrev pub NamesCommand : List (List ℕ) → Command → Type 0
+NamesCommand words (Rehearse task) = words ≡ task_name task ∷ []
+NamesCommand words (Generate count) = (number : List ℕ) × (words ≡ codes "generate" ∷ number ∷ []) × IsCountWord number count
 
 abbrev pub NamesNone : List (List ℕ) → Type 0
-NamesNone words = (command : Command) → Names words command → ⊥
+NamesNone words = (command : Command) → NamesCommand words command → ⊥

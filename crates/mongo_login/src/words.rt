@@ -1,6 +1,6 @@
 //! The commands, by the words after the program's name.
 ghost use Rattle.std.specs.Prelude.{◌≡◌, ◌↔◌, ℕ, [], ◌∷◌, map, string_bytes, decimal, IsTrue, MatchOption};
-ghost use Rattle.mongo_login.specs.Words.{IsCount, Names, NamesNone};
+ghost use Rattle.mongo_login.specs.Words.{IsCountWord, NamesCommand, NamesNone};
 
 use itoa::Buffer;
 use mongo_settings::Task;
@@ -20,7 +20,7 @@ pub enum Command {
 /// What the words ask for: the name of a task alone, or `generate` and how many logins. None for other words.
 pub fn command_in(words: &[String]) -> Option<Command>
     ensures { let texts = map string_bytes words.now in
-        MatchOption result (NamesNone texts) (Names texts) }
+        MatchOption result (NamesNone texts) (NamesCommand texts) }
 {
     match words {
         [word] => command_of_one(word.as_str()),
@@ -31,7 +31,7 @@ pub fn command_in(words: &[String]) -> Option<Command>
 
 // The command of one word: the name of a task.
 fn command_of_one(word: &str) -> Option<Command>
-    ensures { MatchOption result (NamesNone (word.now ∷ [])) (Names (word.now ∷ [])) }
+    ensures { MatchOption result (NamesNone (word.now ∷ [])) (NamesCommand (word.now ∷ [])) }
 {
     match word {
         "rehearse" => Some(Command::Rehearse(Task::Rehearse)),
@@ -42,7 +42,7 @@ fn command_of_one(word: &str) -> Option<Command>
 
 // The command of two words: `generate` and how many logins.
 fn command_of_two(word: &str, number: &str) -> Option<Command>
-    ensures { MatchOption result (NamesNone (word.now ∷ number.now ∷ [])) (Names (word.now ∷ number.now ∷ [])) }
+    ensures { MatchOption result (NamesNone (word.now ∷ number.now ∷ [])) (NamesCommand (word.now ∷ number.now ∷ [])) }
 {
     if word != "generate" {
         return None;
@@ -55,7 +55,7 @@ fn command_of_two(word: &str, number: &str) -> Option<Command>
 
 // The number of logins that a word is.
 fn count_in(word: &str) -> Option<u32>
-    ensures { MatchOption result ((count : ℕ) → ¬ (IsCount word.now count)) (IsCount word.now) }
+    ensures { MatchOption result ((count : ℕ) → ¬ (IsCountWord word.now count)) (IsCountWord word.now) }
 {
     match word.parse::<u32>() {
         Ok(count) => {
@@ -71,7 +71,7 @@ fn count_in(word: &str) -> Option<u32>
 
 // Whether the word is this number, one that logins are made of.
 fn is_count(word: &str, count: u32) -> bool
-    ensures { IsTrue result ↔ IsCount word.now count }
+    ensures { IsTrue result ↔ IsCountWord word.now count }
 {
     1 <= count && count <= MOST_LOGINS && is_spelled(word, count)
 }

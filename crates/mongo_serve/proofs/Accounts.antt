@@ -2,7 +2,7 @@
 use Rattle.std.proofs.Common.{◌≡◌, ◌<◌, ◌↔◌, ℕ, zero, suc, List, [], ◌∷◌, ◌++◌, Option, length, take, drop, get_or, IsTrue, ap, sym, subst, ◌∙◌, arith}
 use Rattle.std.specs.List.{AllByRecursion}
 use Rattle.mongo_scram.specs.declared.scram_version.ScramVersion.TheVariants.{Sha1, Sha256}
-use Rattle.mongo_serve.specs.Accounts.{AreOfOneUser, IsFirst, HasAccount, is_listed, Lists}
+use Rattle.mongo_serve.specs.Accounts.{AreOfOneUser, IsFirstAccount, HasAccount, is_listed, ListsAccounts}
 use Rattle.mongo_serve.specs.declared.reply.Mechanisms.{Mechanisms}
 use Rattle.mongo_serve.specs.declared.settings.Account.{Account}
 
@@ -42,11 +42,11 @@ one_split [] (d ∷ others) after rest a b one first second same = absurd (secon
 one_split (c ∷ before) [] after rest a b one first second same = absurd (first.0 (subst (λ d. AreOfOneUser d a) (sym (heads c b (before ++ (a ∷ after)) rest same)) (sym one.0, sym one.1)))
 one_split (c ∷ before) (d ∷ others) after rest a b one first second same = one_split before others after rest a b one first.1 second.1 (tails c d (before ++ (a ∷ after)) (others ++ (b ∷ rest)) same)
 
-pub one_first_account : (accounts : List Account) (a b : Account) → IsFirst accounts a → IsFirst accounts b → AreOfOneUser a b → a ≡ b
+pub one_first_account : (accounts : List Account) (a b : Account) → IsFirstAccount accounts a → IsFirstAccount accounts b → AreOfOneUser a b → a ≡ b
 one_first_account accounts a b p q one = one_split p.before q.before p.after q.after a b one p.first q.first (sym p.split ∙ q.split)
 
 -- ---- the mechanisms that are listed
 
-pub lists : (accounts : List Account) (user : List ℕ) (listed : Option Mechanisms) → IsTrue (is_listed listed Sha1) ↔ HasAccount accounts user Sha1 → IsTrue (is_listed listed Sha256) ↔ HasAccount accounts user Sha256 → Lists accounts user listed
+pub lists : (accounts : List Account) (user : List ℕ) (listed : Option Mechanisms) → IsTrue (is_listed listed Sha1) ↔ HasAccount accounts user Sha1 → IsTrue (is_listed listed Sha256) ↔ HasAccount accounts user Sha256 → ListsAccounts accounts user listed
 lists accounts user listed one two Sha1 = one
 lists accounts user listed one two Sha256 = two

@@ -14,8 +14,8 @@ use Rattle.mongo_command.specs.Keys.{speculative_authenticate_key}
 use Rattle.mongo_scram.specs.declared.scram_version.ScramVersion.{ScramVersion}
 use Rattle.mongo_serve.specs.Settings.{version_named}
 use Rattle.mongo_serve.specs.declared.request.SaslStart.{SaslStart}
-use Rattle.mongo_serve.specs.Requests.{CarriesLogin, HasPayload, IsCommandName, IsNamed, SaysStart, SaysVersion, SkipsEmptyExchange}
-use Rattle.mongo_serve.specs.Values.{binary_of, HasInside, HasOne, HasText, HasTrue, Holds, inner_of, IsOne, IsTruth, StandsAt, string_of}
+use Rattle.mongo_serve.specs.Requests.{CarriesLogin, HasPayload, IsCommandName, IsCommandNamed, SaysStart, SaysVersion, SkipsEmptyExchange}
+use Rattle.mongo_serve.specs.Values.{binary_of, HasInside, HasOne, HasText, HasTrue, HoldsIfAny, inner_of, SaysOne, IsTruth, StandsAt, string_of}
 use Rattle.mongo_sasl.specs.Keys.{mechanism_key, options_key, payload_key, sasl_start_key}
 
 -- ---- one value
@@ -27,7 +27,7 @@ pub one_text : (document key x y : List ℕ) → HasText document key x → HasT
 one_text document key x y p q = p.text_is ∙ ap (λ e. text_of e.value) (one_found (body_of document) key p.element q.element p.first q.first) ∙ sym q.text_is
 
 -- a document of another command isn't named so
-pub named_otherwise : (document name key : List ℕ) → IsCommandName document name → (name ≡ key → ⊥) → IsNamed document key → ⊥
+pub named_otherwise : (document name key : List ℕ) → IsCommandName document name → (name ≡ key → ⊥) → IsCommandNamed document key → ⊥
 named_otherwise document name key (inl named) other is = other (one_key (body_of document) name key named is)
 named_otherwise document name key (inr (unnamed, empty)) other is = unnamed key is
 
@@ -74,11 +74,11 @@ other_kind : (document key : List ℕ) (v : RawValue) (wanted : ℕ) → FindsVa
     → (e : Element) → IsFirstOf (body_of document) key e → e.kind ≡ wanted → ⊥
 other_kind document key v wanted (f, first, is) test known e found same = not_kind v f.kind wanted f.value is test known (ap (λ x. x.kind) (one_found (body_of document) key f e first found) ∙ same)
 
-pub string_held : (document key : List ℕ) (v : RawValue) → FindsValue (body_of document) key (Some v) → Holds (HasText document key) (string_of v)
+pub string_held : (document key : List ℕ) (v : RawValue) → FindsValue (body_of document) key (Some v) → HoldsIfAny (HasText document key) (string_of v)
 string_held document key (Str text) (e, first, is) = record { element = e; first = first; string = is.0; text_is = is.1 }
 string_held document key other finds = λ text has. other_kind document key other 0x02 finds refl refl has.element has.first has.string
 
-pub binary_held : (document : List ℕ) (v : RawValue) → FindsValue (body_of document) payload_key (Some v) → Holds (HasPayload document) (binary_of v)
+pub binary_held : (document : List ℕ) (v : RawValue) → FindsValue (body_of document) payload_key (Some v) → HoldsIfAny (HasPayload document) (binary_of v)
 binary_held document (Binary subtype bytes) (e, first, is) = record { element = e; first = first; binary = is.0; payload_is = is.2 }
 binary_held document other finds = λ payload has. other_kind document payload_key other 0x05 finds refl refl has.element has.first has.binary
 
@@ -95,7 +95,7 @@ truth_held document key (Boolean false) (e, first, is) =
     zero_or_one bytes zero one = cc
 truth_held document key other finds = (λ never. absurd never, λ has. absurd (other_kind document key other 0x08 finds refl refl has.element has.first has.boolean))
 
-pub one_held : (document key : List ℕ) (v : RawValue) → FindsValue (body_of document) key (Some v) → IsOne v ↔ HasOne document key
+pub one_held : (document key : List ℕ) (v : RawValue) → FindsValue (body_of document) key (Some v) → SaysOne v ↔ HasOne document key
 one_held document key (Int32 n) (e, first, is) =
     (λ one. record { element = e; first = first; int32 = is.0; one = sym is.1 ∙ one }, λ has. is.1 ∙ ap (λ x. cast_signed w32 (from_le_bytes w32 x.value)) (one_found (body_of document) key e has.element first has.first) ∙ has.one)
 one_held document key other finds = (λ never. absurd never, λ has. absurd (other_kind document key other 0x10 finds refl refl has.element has.first has.int32))
@@ -118,6 +118,6 @@ skips_unsaid document none = (λ never. absurd (false≢true never), λ (options
 
 -- ---- the login that a hello carries
 
-pub carried : (document inner : List ℕ) → HasInside document speculative_authenticate_key inner → (start : Option SaslStart) → MatchOption start (IsNamed inner sasl_start_key → ⊥) (SaysStart inner) → CarriesLogin document start
-carried document inner inside None none = λ other other_inside named. none (subst (λ i. IsNamed i sasl_start_key) (one_inside document speculative_authenticate_key other inner other_inside inside) named)
+pub carried : (document inner : List ℕ) → HasInside document speculative_authenticate_key inner → (start : Option SaslStart) → MatchOption start (IsCommandNamed inner sasl_start_key → ⊥) (SaysStart inner) → CarriesLogin document start
+carried document inner inside None none = λ other other_inside named. none (subst (λ i. IsCommandNamed i sasl_start_key) (one_inside document speculative_authenticate_key other inner other_inside inside) named)
 carried document inner inside (Some start) says = record { inner = inner; inside = inside; says = says }

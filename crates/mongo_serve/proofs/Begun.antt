@@ -18,9 +18,9 @@ use Rattle.mongo_server.specs.declared.user.ServerUser.{ServerUser}
 use Rattle.mongo_server.proofs.ClientFirsts.{opens, bares}
 use Rattle.mongo_server.proofs.UserNames.{escaped_same, escaped-no_comma}
 use Rattle.mongo_wire.specs.declared.error.ErrorKind.{ErrorKind}
-use Rattle.mongo_serve.specs.Accounts.{AreOfOneUser, IsFirst}
+use Rattle.mongo_serve.specs.Accounts.{AreOfOneUser, IsFirstAccount}
 use Rattle.mongo_serve.specs.Login.{exchange_of, IsExchange}
-use Rattle.mongo_serve.specs.Opened.{Names, Suits, IsFound, IsOpening, BeginsExchange, OpensFor, OpensBy}
+use Rattle.mongo_serve.specs.Opened.{NamesUser, Suits, IsFound, IsOpening, BeginsExchange, OpensFor, OpensBy}
 use Rattle.mongo_serve.specs.Sasl.{AsksFor}
 use Rattle.mongo_serve.specs.declared.fault.ServeFault.{ServeFault}
 use Rattle.mongo_serve.specs.declared.open.Opened.{Opened}
@@ -51,7 +51,7 @@ one_name name other nonce more same =
     escaped_same name other (one_cut (escaped name) (escaped other) (codes "r=" ++ nonce) (codes "r=" ++ more) (escaped-no_comma name) (escaped-no_comma other) rest).0
 
 -- the front that is compared
-pub names_front : (message front name : List ℕ) (rest : List ℕ) (is : Bool) → front ≡ front_of name → (is ≡ true → message ≡ front ++ rest) × ((more : List ℕ) → message ≡ front ++ more → is ≡ true) → IsTrue is ↔ Names message name
+pub names_front : (message front name : List ℕ) (rest : List ℕ) (is : Bool) → front ≡ front_of name → (is ≡ true → message ≡ front ++ rest) × ((more : List ℕ) → message ≡ front ++ more → is ≡ true) → IsTrue is ↔ NamesUser message name
 names_front message front name rest is front_is (says, said) = (
   λ yes. (rest, says yes ∙ ap (λ f. f ++ rest) front_is ∙ first_message name rest),
   λ named. said named.0 (named.1 ∙ sym (first_message name named.0) ∙ ap (λ f. f ++ named.0) (sym front_is)),
@@ -123,7 +123,7 @@ module _ (settings : Settings) (start : SaslStart) (version : ScramVersion) (mes
   suits_too a b q one = (one.0 ∙ q.0, (q.1.0, q.1.1 ∙ ap (λ n. open_message n q.1.0) (sym one.1)))
 
   -- so what was found is the first of its user
-  is_first : (account : Account) → IsFound settings.accounts.items version message.now account → IsFirst settings.accounts.items account
+  is_first : (account : Account) → IsFound settings.accounts.items version message.now account → IsFirstAccount settings.accounts.items account
   is_first account found = record {
     before = found.before;
     after = found.after;

@@ -3,30 +3,30 @@ use Rattle.mongo_serve.specs.declared.request.SaslStart.{SaslStart}
 use Rattle.std.specs.Borrow.{Bor}
 use Rattle.mongo_command.specs.Keys.{speculative_authenticate_key}
 use Rattle.mongo_serve.specs.declared.request.SaslContinue.{SaslContinue}
-use Rattle.mongo_serve.specs.Requests.{HasPayload, IsNamed, IsGreeting, SaysStart, SaysContinue, CarriesStart, Opens, Continues}
-use Rattle.mongo_serve.specs.Values.{HasInside, Holds}
+use Rattle.mongo_serve.specs.Requests.{HasPayload, IsCommandNamed, IsGreeting, SaysStart, SaysContinue, CarriesStart, OpensLogin, SaysSaslContinue}
+use Rattle.mongo_serve.specs.Values.{HasInside, HoldsIfAny}
 use Rattle.mongo_sasl.specs.Keys.{sasl_continue_key, sasl_start_key}
 
 -- What a request begins, or goes on with.
 
-greets_with : (document inner : List ℕ) (payload : Option (Bor (List ℕ))) → IsGreeting document → HasInside document speculative_authenticate_key inner → IsNamed inner sasl_start_key
-    → Holds (HasPayload inner) payload → IfSome payload (λ p. Opens document p.now)
+greets_with : (document inner : List ℕ) (payload : Option (Bor (List ℕ))) → IsGreeting document → HasInside document speculative_authenticate_key inner → IsCommandNamed inner sasl_start_key
+    → HoldsIfAny (HasPayload inner) payload → IfSome payload (λ p. OpensLogin document p.now)
 greets_with document inner None greeting inside named message = tt
 greets_with document inner (Some p) greeting inside named message = inr (record { greeting = greeting; inner = inner; inside = inside; start = record { named = named; message = message } })
 
-pub greeting_opens : (document : List ℕ) (start : SaslStart) → IsGreeting document → CarriesStart document start → IfSome start.payload (λ p. Opens document p.now)
+pub greeting_opens : (document : List ℕ) (start : SaslStart) → IsGreeting document → CarriesStart document start → IfSome start.payload (λ p. OpensLogin document p.now)
 greeting_opens document start greeting carries = greets_with document carries.inner start.payload greeting carries.inside carries.says.named carries.says.message
 
-starts_with : (document : List ℕ) (payload : Option (Bor (List ℕ))) → IsNamed document sasl_start_key → Holds (HasPayload document) payload → IfSome payload (λ p. Opens document p.now)
+starts_with : (document : List ℕ) (payload : Option (Bor (List ℕ))) → IsCommandNamed document sasl_start_key → HoldsIfAny (HasPayload document) payload → IfSome payload (λ p. OpensLogin document p.now)
 starts_with document None named message = tt
 starts_with document (Some p) named message = inl (record { named = named; message = message })
 
-pub start_opens : (document : List ℕ) (start : SaslStart) → SaysStart document start → IfSome start.payload (λ p. Opens document p.now)
+pub start_opens : (document : List ℕ) (start : SaslStart) → SaysStart document start → IfSome start.payload (λ p. OpensLogin document p.now)
 start_opens document start says = starts_with document start.payload says.named says.message
 
-goes_on_with : (document : List ℕ) (payload : Option (Bor (List ℕ))) → IsNamed document sasl_continue_key → Holds (HasPayload document) payload → IfSome payload (λ p. Continues document p.now)
+goes_on_with : (document : List ℕ) (payload : Option (Bor (List ℕ))) → IsCommandNamed document sasl_continue_key → HoldsIfAny (HasPayload document) payload → IfSome payload (λ p. SaysSaslContinue document p.now)
 goes_on_with document None named message = tt
 goes_on_with document (Some p) named message = record { named = named; message = message }
 
-pub next_continues : (document : List ℕ) (next : SaslContinue) → SaysContinue document next → IfSome next.payload (λ p. Continues document p.now)
+pub next_continues : (document : List ℕ) (next : SaslContinue) → SaysContinue document next → IfSome next.payload (λ p. SaysSaslContinue document p.now)
 next_continues document next says = goes_on_with document next.payload says.named says.message

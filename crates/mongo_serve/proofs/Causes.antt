@@ -21,7 +21,7 @@ use Rattle.mongo_serve.specs.Sent.{WriteCause}
 use Rattle.mongo_serve.specs.Requests.{IsGreeting}
 use Rattle.mongo_serve.specs.Served.{HasCauseAfter, Lasts}
 use Rattle.mongo_serve.specs.Taken.{IsQuery}
-use Rattle.mongo_serve.specs.Turns.{Turn}
+use Rattle.mongo_serve.specs.Turns.{ServerTurn}
 
 -- ---- reading was refused
 
@@ -151,7 +151,7 @@ document_cause NoFrame old new is = absurd is
 document_cause NoHello old new is = absurd is
 document_cause TooManyRequests old new is = absurd is
 
-pub write_cause : (fault : ServeFault) (old mid new : State) (cut : List Turn) → length cut ≡ 1 → Lasts old mid → WriteCause fault mid new → HasCause fault old new cut []
+pub write_cause : (fault : ServeFault) (old mid new : State) (cut : List ServerTurn) → length cut ≡ 1 → Lasts old mid → WriteCause fault mid new → HasCause fault old new cut []
 write_cause WriteFault old mid new cut one lasts w = (rose_after old.write_faults mid.write_faults new.write_faults lasts.writes w, (one, refl))
 write_cause ReplyTooLong old mid new cut one lasts w = (one, refl)
 write_cause OutOfMemory old mid new cut one lasts w = tt
@@ -163,7 +163,7 @@ write_cause TooManyRequests old mid new cut one lasts w = absurd w
 
 -- ---- after the turns before
 
-pub cause_after : (fault : ServeFault) (count : ℕ) (old mid new : State) (taken : List ℕ) (cut : List Turn) (more : List ℕ) → Lasts old mid → Consumes old.left mid.left taken → HasCause fault mid new cut more → HasCauseAfter fault count old new cut more
+pub cause_after : (fault : ServeFault) (count : ℕ) (old mid new : State) (taken : List ℕ) (cut : List ServerTurn) (more : List ℕ) → Lasts old mid → Consumes old.left mid.left taken → HasCause fault mid new cut more → HasCauseAfter fault count old new cut more
 cause_after ReadFault count old mid new taken cut more lasts before c = (rose_after old.read_faults mid.read_faults new.read_faults lasts.reads c.0, c.1)
 cause_after WriteFault count old mid new taken cut more lasts before c = (rose_after old.write_faults mid.write_faults new.write_faults lasts.writes c.0, c.1)
 cause_after CutFrame count old mid new taken cut more lasts before c = (rose_after old.ends mid.ends new.ends lasts.ends c.0, c.1, c.2, told_some old.left mid.left taken more before c.3)

@@ -15,9 +15,9 @@ use Rattle.mongo_serve.specs.Login.{HasLoggedIn, Remembers}
 use Rattle.mongo_serve.specs.Replies.{reply_document}
 use Rattle.mongo_serve.specs.Requests.{IsGreeting}
 use Rattle.mongo_serve.specs.Cut.{HasCause, IsCut, IsPart}
-use Rattle.mongo_serve.specs.Sent.{IsAnswerTo, IsSent, IsSentInPart, IsSentToQuery, message_reply, query_reply, WantsNone, WriteCause}
-use Rattle.mongo_serve.specs.Served.{Follows, IsBackAt, Lasts, PartEnds}
-use Rattle.mongo_serve.specs.Turns.{IsAnswered}
+use Rattle.mongo_serve.specs.Sent.{IsAnswerTo, IsReplySent, IsSentInPart, IsSentToQuery, message_reply, query_reply, WantsNone, WriteCause}
+use Rattle.mongo_serve.specs.Served.{FollowsHead, IsBackAt, Lasts, PartEnds}
+use Rattle.mongo_serve.specs.Turns.{IsDocumentAnswered}
 use Rattle.mongo_serve.proofs.Lasts.{sent_flushed}
 use Rattle.mongo_serve.specs.Taken.{IsQuery, IsQueryBody}
 use Rattle.mongo_serve.proofs.Prepended.{put_back_left}
@@ -25,8 +25,8 @@ use Rattle.mongo_serve.proofs.Turns.{turn_taken, turn_cut, none_taken}
 
 -- an OP_MSG was taken and answered, and the answer sent or cut
 pub message_part : (settings : Settings) (requests : List (List ℕ)) (old mid new : State) (before : Session) (id : ℤ) (after : Session) (later : ℤ) (frame : List ℕ) (parts : Frame) (document : List ℕ) → IsFrame frame parts → parts.body ≡ document
-    → Consumes old.left mid.left frame → mid.written ≡ old.written → Lasts old mid → WritesOn mid new → (reply : Reply) → IsAnswered settings before document after reply → Remembers settings (requests ++ document ∷ []) after
-    → (to : ℤ) → to ≡ parts.request_id → (flags : ℕ) → flags ≡ parts.flags → (r : Result ⊤ ServeFault) → OnOk r (IsSent mid new to flags reply id later) → OnErr r (IsSentInPart mid new to flags reply id) → IfErr r (λ fault. WriteCause fault mid new)
+    → Consumes old.left mid.left frame → mid.written ≡ old.written → Lasts old mid → WritesOn mid new → (reply : Reply) → IsDocumentAnswered settings before document after reply → Remembers settings (requests ++ document ∷ []) after
+    → (to : ℤ) → to ≡ parts.request_id → (flags : ℕ) → flags ≡ parts.flags → (r : Result ⊤ ServeFault) → OnOk r (IsReplySent mid new to flags reply id later) → OnErr r (IsSentInPart mid new to flags reply id) → IfErr r (λ fault. WriteCause fault mid new)
     → PartEnds settings requests old new before id after later r
 message_part settings requests old mid new before id after later frame parts document is_frame body_is consumed unwritten lasts on reply answered remembers to to_is flags flags_are (Ok done) h cut cause =
     let answer : IsAnswerTo parts.request_id parts.flags reply id later h.sent = subst (λ f. IsAnswerTo parts.request_id f reply id later h.sent) flags_are (subst (λ t. IsAnswerTo t flags reply id later h.sent) to_is h.is_answer) in
@@ -57,7 +57,7 @@ message_part settings requests old mid new before id after later frame parts doc
 
 -- an OP_QUERY was taken and answered, and the answer sent or cut
 pub query_part : (settings : Settings) (requests : List (List ℕ)) (old mid new : State) (before : Session) (id : ℤ) (after : Session) (later : ℤ) (head body command : List ℕ) → IsQuery (head ++ body) command → length head ≡ 16
-    → Consumes old.left mid.left (head ++ body) → mid.written ≡ old.written → Lasts old mid → WritesOn mid new → (reply : Reply) → IsAnswered settings before command after reply → IsGreeting command
+    → Consumes old.left mid.left (head ++ body) → mid.written ≡ old.written → Lasts old mid → WritesOn mid new → (reply : Reply) → IsDocumentAnswered settings before command after reply → IsGreeting command
     → Remembers settings (requests ++ command ∷ []) after → (to : ℤ) → to ≡ signed_at 4 head → (r : Result ⊤ ServeFault) → OnOk r (IsSentToQuery mid new to reply id later)
     → OnErr r (AppendsFront mid.written new.written (query_reply id to (reply_document reply))) → IfErr r (λ fault. WriteCause fault mid new) → PartEnds settings requests old new before id after later r
 query_part settings requests old mid new before id after later head body command is_query sixteen consumed unwritten lasts on reply answered greeting remembers to to_is (Ok done) h front cause =
@@ -99,7 +99,7 @@ has_some (Some xs) None head sixteen p = absurd p
 has_some (Some xs) (Some ys) head sixteen p = omega (arith, sixteen, ap length p, length-append head ys)
 
 -- a header was put back
-pub back_at : (before now back : State) (head : List ℕ) → length head ≡ 16 → Follows before now head → back ≡ record now { left = prepend_known head now.left } → IsBackAt before back
+pub back_at : (before now back : State) (head : List ℕ) → length head ≡ 16 → FollowsHead before now head → back ≡ record now { left = prepend_known head now.left } → IsBackAt before back
 back_at before now back head sixteen f e = record {
   left = ap (λ s. s.left) e ∙ put_back_left before.left now.left head f.tells f.taken;
   some = has_some before.left now.left head sixteen f.taken;
@@ -109,7 +109,7 @@ back_at before now back head sixteen f e = record {
 
 -- more was taken after a header, and nothing answered
 pub none_after : (settings : Settings) (requests : List (List ℕ)) (before now new : State) (session : Session) (id : ℤ) (user : Option (List ℕ)) (fault : ServeFault) (head more : List ℕ) → user ≡ session.user → IsPart (head ++ more)
-    → Follows before now head → Consumes now.left new.left more → new.written ≡ now.written → IfSome session.user (λ name. HasLoggedIn settings name requests) → HasCause fault before new [] (head ++ more) → Lasts before new
+    → FollowsHead before now head → Consumes now.left new.left more → new.written ≡ now.written → IfSome session.user (λ name. HasLoggedIn settings name requests) → HasCause fault before new [] (head ++ more) → Lasts before new
     → IsCut settings requests before new session id user fault
 none_after settings requests before now new session id user fault head more same part f consumed unwritten logged_in cause lasts =
     none_taken settings requests before new session id user fault (head ++ more) same part (Consumes-trans before.left now.left new.left head more f.taken consumed) (unwritten ∙ f.unwritten) logged_in cause lasts

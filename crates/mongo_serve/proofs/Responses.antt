@@ -16,7 +16,7 @@ use Rattle.mongo_serve.specs.declared.fault.ServeFault.{ServeFault}
 use Rattle.mongo_serve.specs.declared.reply.Reply.{Reply}
 use Rattle.mongo_serve.specs.Faults.{fault_of_kind}
 use Rattle.mongo_serve.specs.Replies.{reply_document}
-use Rattle.mongo_serve.specs.Sent.{message_reply, IsReplyFrame, IsSent, IsSentInPart, SendsReply, WantsNone, WriteCause}
+use Rattle.mongo_serve.specs.Sent.{message_reply, IsReplyFrame, IsReplySent, IsSentInPart, SendsReply, WantsNone, WriteCause}
 use Rattle.mongo_serve.proofs.Lasts.{sent_flushed}
 
 pub message_framed : (document : List ℕ) (sequences : List DocumentSequence) (id to : ℤ) (flags : MessageFlags) (frame : List ℕ) → sequences ≡ [] → flags.0 ≡ 0
@@ -90,7 +90,7 @@ refused_cause PasswordNotAscii most m old new before after h = absurd h
 -- ---- an OP_MSG was answered
 
 pub reply_sent : (old new : State) (to : ℤ) (flags : ℕ) (reply : Reply) (id later : ℤ) (document : List ℕ) (r : Result ⊤ ServeFault) → document ≡ reply_document reply → (WantsNone flags → ⊥) → OnOk r (SendsReply old new id later to document)
-    → OnOk r (IsSent old new to flags reply id later)
+    → OnOk r (IsReplySent old new to flags reply id later)
 reply_sent old new to flags reply id later document (Err fault) is wanted h = tt
 reply_sent old new to flags reply id later document (Ok done) is wanted h = record {
   sent = h.sent;

@@ -7,8 +7,8 @@ use Rattle.mongo_serve.specs.declared.request.SaslStart.{SaslStart}
 use Rattle.mongo_serve.specs.declared.session.Login.{Login}
 use Rattle.mongo_serve.specs.declared.session.Session.{Session}
 use Rattle.mongo_serve.specs.declared.settings.Settings.{Settings}
-use Rattle.mongo_serve.specs.Requests.{Opens, Continues}
-use Rattle.mongo_serve.specs.Login.{HasOpened, HasProved, HasLoggedIn, IsLoginOf, Remembers}
+use Rattle.mongo_serve.specs.Requests.{OpensLogin, SaysSaslContinue}
+use Rattle.mongo_serve.specs.Login.{HasOpened, HasProved, HasLoggedIn, IsOpenLogin, Remembers}
 use Rattle.mongo_serve.specs.Opened.{OpensBy}
 
 -- ---- one request more
@@ -22,7 +22,7 @@ opened_later x requests d h = record {
   opens = h.opens;
 }
 
-pub opened_now : (x : Exchange) (requests : List (List ℕ)) (d : List ℕ) → Opens d (open_of x) → HasOpened x (requests ++ d ∷ [])
+pub opened_now : (x : Exchange) (requests : List (List ℕ)) (d : List ℕ) → OpensLogin d (open_of x) → HasOpened x (requests ++ d ∷ [])
 opened_now x requests d h = record { before = requests; request = d; after = []; split = refl; opens = h }
 
 pub proved_later : (x : Exchange) (requests : List (List ℕ)) (d : List ℕ) → HasProved x requests → HasProved x (requests ++ d ∷ [])
@@ -35,7 +35,7 @@ proved_later x requests d h = record {
   closes = h.closes;
 }
 
-pub proved_now : (x : Exchange) (requests : List (List ℕ)) (d : List ℕ) → HasOpened x requests → Continues d (close_of x) → HasProved x (requests ++ d ∷ [])
+pub proved_now : (x : Exchange) (requests : List (List ℕ)) (d : List ℕ) → HasOpened x requests → SaysSaslContinue d (close_of x) → HasProved x (requests ++ d ∷ [])
 proved_now x requests d h c = record { before = requests; request = d; after = []; split = refl; opened = h; closes = c }
 
 logged_in_later : (settings : Settings) (name : List ℕ) (requests : List (List ℕ)) (d : List ℕ) → HasLoggedIn settings name requests → HasLoggedIn settings name (requests ++ d ∷ [])
@@ -46,8 +46,8 @@ pub user_later : (settings : Settings) (user : Option (List ℕ)) (requests : Li
 user_later settings None requests d h = tt
 user_later settings (Some name) requests d h = logged_in_later settings name requests d h
 
-pub login_later : (settings : Settings) (login : Option Login) (requests : List (List ℕ)) (d : List ℕ) → IfSome login (IsLoginOf settings requests)
-    → IfSome login (IsLoginOf settings (requests ++ d ∷ []))
+pub login_later : (settings : Settings) (login : Option Login) (requests : List (List ℕ)) (d : List ℕ) → IfSome login (IsOpenLogin settings requests)
+    → IfSome login (IsOpenLogin settings (requests ++ d ∷ []))
 login_later settings None requests d h = tt
 login_later settings (Some login) requests d h = record {
   x = h.x;
@@ -64,7 +64,7 @@ remembers_later settings requests d session h = record { user = user_later setti
 -- no login goes on
 pub remembers_alone : (settings : Settings) (requests : List (List ℕ)) (d : List ℕ) (session : Session) → session.login ≡ None → IfSome session.user (λ name. HasLoggedIn settings name requests)
     → Remembers settings (requests ++ d ∷ []) session
-remembers_alone settings requests d session none h = record { user = user_later settings session.user requests d h; login = subst (λ o. IfSome o (IsLoginOf settings (requests ++ d ∷ []))) (sym none) tt }
+remembers_alone settings requests d session none h = record { user = user_later settings session.user requests d h; login = subst (λ o. IfSome o (IsOpenLogin settings (requests ++ d ∷ []))) (sym none) tt }
 
 -- ---- a login that begins
 
@@ -73,14 +73,14 @@ said_is : (P : List ℕ → Type 0) (message : Option (Bor (List ℕ))) (text : 
 said_is P None text is h = let never : None ≡ Some text = is in absurd (cc never)
 said_is P (Some m) text is h = let same : Some m.now ≡ Some text = is in let one : m.now ≡ text = cc in subst P one h
 
-pub opens_with : (settings : Settings) (requests : List (List ℕ)) (d : List ℕ) (start : SaslStart) (opened : Opened) → OpensBy settings start (Some opened) → IfSome start.payload (λ p. Opens d p.now)
-    → IsLoginOf settings (requests ++ d ∷ []) opened.login
+pub opens_with : (settings : Settings) (requests : List (List ℕ)) (d : List ℕ) (start : SaslStart) (opened : Opened) → OpensBy settings start (Some opened) → IfSome start.payload (λ p. OpensLogin d p.now)
+    → IsOpenLogin settings (requests ++ d ∷ []) opened.login
 opens_with settings requests d start opened (x, asked, begins) said = record {
   x = x;
   of_settings = asked.of_settings;
   name_is = begins.begun.name_is;
   begun = begins.begun.begun;
-  opened = opened_now x requests d (said_is (Opens d) start.payload (open_of x) asked.said said);
+  opened = opened_now x requests d (said_is (OpensLogin d) start.payload (open_of x) asked.said said);
   proved = λ is. absurd (differ begins.begun.unproved is);
 }
   where
@@ -90,9 +90,9 @@ opens_with settings requests d start opened (x, asked, begins) said = record {
 -- ---- a login that ends
 
 -- the client's last message proves the key, and the user is logged in
-pub logged_in_now : (settings : Settings) (requests : List (List ℕ)) (d : List ℕ) (login : Login) → (h : IsLoginOf settings requests login) → Continues d (close_of h.x) → HasLoggedIn settings login.name (requests ++ d ∷ [])
+pub logged_in_now : (settings : Settings) (requests : List (List ℕ)) (d : List ℕ) (login : Login) → (h : IsOpenLogin settings requests login) → SaysSaslContinue d (close_of h.x) → HasLoggedIn settings login.name (requests ++ d ∷ [])
 logged_in_now settings requests d login h c = record { x = h.x; of_settings = h.of_settings; name_is = h.name_is; proved = proved_now h.x requests d h.opened c }
 
 -- the key was proved before
-pub logged_in_before : (settings : Settings) (requests : List (List ℕ)) (d : List ℕ) (login : Login) → IsLoginOf settings requests login → login.is_proved ≡ true → HasLoggedIn settings login.name (requests ++ d ∷ [])
+pub logged_in_before : (settings : Settings) (requests : List (List ℕ)) (d : List ℕ) (login : Login) → IsOpenLogin settings requests login → login.is_proved ≡ true → HasLoggedIn settings login.name (requests ++ d ∷ [])
 logged_in_before settings requests d login h is = record { x = h.x; of_settings = h.of_settings; name_is = h.name_is; proved = proved_later h.x requests d (h.proved is) }

@@ -13,31 +13,31 @@ use Rattle.mongo_serve.specs.Cut.{HasCause, IsCut, IsCutTurn, IsPart}
 use Rattle.mongo_serve.specs.Login.{HasLoggedIn, Remembers}
 use Rattle.mongo_serve.specs.Sent.{HasFlushed, WriteCause}
 use Rattle.mongo_serve.specs.Served.{Lasts, TakesTurn}
-use Rattle.mongo_serve.specs.Turns.{Turn, IsTaken, IsTurn, AreTurns, joined, documents, sent_for}
+use Rattle.mongo_serve.specs.Turns.{ServerTurn, IsTurnTaken, IsTurn, AreTurns, joined, documents, sent_for}
 use Rattle.mongo_serve.proofs.Causes.{write_cause}
 use Rattle.mongo_serve.proofs.Lasts.{flushed_from, lasts_on, lasts_write}
 
-pub each_joined : (xs ys : List Turn) → AllByRecursion IsTaken xs → AllByRecursion IsTaken ys → AllByRecursion IsTaken (xs ++ ys)
+pub each_joined : (xs ys : List ServerTurn) → AllByRecursion IsTurnTaken xs → AllByRecursion IsTurnTaken ys → AllByRecursion IsTurnTaken (xs ++ ys)
 each_joined [] ys all others = others
 each_joined (x ∷ xs) ys all others = (all.0, each_joined xs ys all.1 others)
 
-pub joined_append : (xs ys : List Turn) → joined (xs ++ ys) ≡ joined xs ++ joined ys
+pub joined_append : (xs ys : List ServerTurn) → joined (xs ++ ys) ≡ joined xs ++ joined ys
 joined_append xs ys = flat_map-append (λ t. t.frame) xs ys
 
-pub sent_append : (xs ys : List Turn) → sent_for (xs ++ ys) ≡ sent_for xs ++ sent_for ys
+pub sent_append : (xs ys : List ServerTurn) → sent_for (xs ++ ys) ≡ sent_for xs ++ sent_for ys
 sent_append xs ys = flat_map-append (λ t. t.sent) xs ys
 
-pub documents_append : (xs ys : List Turn) → documents (xs ++ ys) ≡ documents xs ++ documents ys
+pub documents_append : (xs ys : List ServerTurn) → documents (xs ++ ys) ≡ documents xs ++ documents ys
 documents_append xs ys = map-append (λ t. t.document) xs ys
 
 -- ---- one turn
 
 -- the bytes of one frame
-one_joined : (f : Turn → List ℕ) (turn : Turn) → flat_map f (turn ∷ []) ≡ f turn
+one_joined : (f : ServerTurn → List ℕ) (turn : ServerTurn) → flat_map f (turn ∷ []) ≡ f turn
 one_joined f turn = append-nil (f turn)
 
 -- a request was taken, answered, and the answer sent
-pub turn_taken : (settings : Settings) (requests : List (List ℕ)) (old mid new : State) (before : Session) (id : ℤ) (after : Session) (later : ℤ) (turn : Turn) → IsTaken turn → Consumes old.left mid.left turn.frame → mid.written ≡ old.written
+pub turn_taken : (settings : Settings) (requests : List (List ℕ)) (old mid new : State) (before : Session) (id : ℤ) (after : Session) (later : ℤ) (turn : ServerTurn) → IsTurnTaken turn → Consumes old.left mid.left turn.frame → mid.written ≡ old.written
     → Lasts old mid → WritesOn mid new → Appends mid.written new.written turn.sent → HasFlushed mid new turn.sent → IsTurn settings before id turn after later → Remembers settings (requests ++ turn.document ∷ []) after
     → TakesTurn settings requests old new before id after later
 turn_taken settings requests old mid new before id after later turn is_taken consumed unwritten lasts on appended flushed is_turn remembers = record {
@@ -52,7 +52,7 @@ turn_taken settings requests old mid new before id after later turn is_taken con
 }
 
 -- a request was taken, and its answer cut
-pub turn_cut : (settings : Settings) (requests : List (List ℕ)) (old mid new : State) (before : Session) (id : ℤ) (user : Option (List ℕ)) (fault : ServeFault) (turn : Turn) → IsCutTurn settings before id user turn
+pub turn_cut : (settings : Settings) (requests : List (List ℕ)) (old mid new : State) (before : Session) (id : ℤ) (user : Option (List ℕ)) (fault : ServeFault) (turn : ServerTurn) → IsCutTurn settings before id user turn
     → Consumes old.left mid.left turn.frame → mid.written ≡ old.written → Lasts old mid → WritesOn mid new → Appends mid.written new.written turn.sent → WriteCause fault mid new
     → IfSome user (λ name. HasLoggedIn settings name (requests ++ turn.document ∷ [])) → IsCut settings requests old new before id user fault
 turn_cut settings requests old mid new before id user fault turn is_cut consumed unwritten lasts on appended cause logged_in = record {
@@ -92,7 +92,7 @@ none_taken settings requests old new before id user fault more same part consume
 
 -- ---- turns after turns
 
-pub turns_more : (settings : Settings) (before : Session) (id : ℤ) (between : Session) (next : ℤ) (after : Session) (later : ℤ) (turns : List Turn) (turn : Turn)
+pub turns_more : (settings : Settings) (before : Session) (id : ℤ) (between : Session) (next : ℤ) (after : Session) (later : ℤ) (turns : List ServerTurn) (turn : ServerTurn)
     → AreTurns settings before id turns between next → IsTurn settings between next turn after later → AreTurns settings before id (turns ++ turn ∷ []) after later
 turns_more settings before id between next after later [] turn same is_turn =
     (after, later, subst (λ i. IsTurn settings before i turn after later) same.1 (subst (λ s. IsTurn settings s next turn after later) same.0 is_turn), (refl, refl))

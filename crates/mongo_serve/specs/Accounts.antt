@@ -13,7 +13,7 @@ abbrev pub AreOfOneUser : Account → Account → Type 0
 AreOfOneUser a b = (a.version ≡ b.version) × (a.name ≡ b.name)
 
 -- An account counts: it is the first of its user by its mechanism.
-pub record IsFirst (accounts : List Account) (account : Account) : Type 0 where
+pub record IsFirstAccount (accounts : List Account) (account : Account) : Type 0 where
   pub before : List Account
   pub after : List Account
   pub split : accounts ≡ before ++ (account ∷ after)
@@ -38,10 +38,10 @@ is_listed (Some Sha256) version.Sha1 = false
 is_listed (Some Sha256) version.Sha256 = true
 
 -- those by which the user has an account are listed, and no other
-abbrev pub Lists : List Account → List ℕ → Option Mechanisms → Type 0
-Lists accounts user listed = (version : ScramVersion) → IsTrue (is_listed listed version) ↔ HasAccount accounts user version
+abbrev pub ListsAccounts : List Account → List ℕ → Option Mechanisms → Type 0
+ListsAccounts accounts user listed = (version : ScramVersion) → IsTrue (is_listed listed version) ↔ HasAccount accounts user version
 
 -- those of the user that is asked for; none where no user is
 abbrev pub AreMechanismsOf : List Account → Option (Bor (List ℕ)) → Option Mechanisms → Type 0
 AreMechanismsOf accounts None listed = listed ≡ None
-AreMechanismsOf accounts (Some user) listed = Lists accounts user.now listed
+AreMechanismsOf accounts (Some user) listed = ListsAccounts accounts user.now listed

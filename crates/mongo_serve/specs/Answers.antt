@@ -31,14 +31,14 @@ AnswersCarried settings old None new answer = (answer ≡ None) × (new ≡ old)
 AnswersCarried settings old (Some start) new answer = AnswersStart settings start new answer
 
 -- A hello is answered by the mechanisms of the user that it asks for, and by what the login comes to that it carries.
-pub record Greets (settings : Settings) (old : Session) (hello : Greeting) (new : Session) (reply : HelloReply) : Type 0 where
+pub record AnswersHello (settings : Settings) (old : Session) (hello : Greeting) (new : Session) (reply : HelloReply) : Type 0 where
   pub user : new.user ≡ old.user
   pub legacy : reply.is_legacy ≡ hello.is_legacy
   pub mechanisms : AreMechanismsOf settings.accounts.items hello.mechanisms_of reply.mechanisms
   pub speculation : AnswersCarried settings old hello.speculation new reply.speculation
 
 abbrev pub IsDescription : Settings → Session → Greeting → Session → Reply → Type 0
-IsDescription settings old hello new (Described reply) = Greets settings old hello new reply
+IsDescription settings old hello new (Described reply) = AnswersHello settings old hello new reply
 IsDescription settings old hello new reply = ⊥
 
 -- Only a hello and the commands of a login are answered before somebody is logged in.

@@ -13,22 +13,22 @@ use Rattle.mongo_serve.specs.declared.settings.Settings.{Settings}
 use Rattle.mongo_serve.specs.Login.{HasLoggedIn}
 use Rattle.mongo_serve.specs.Requests.{IsGreeting}
 use Rattle.mongo_serve.specs.Sent.{CutsMessage, CutsQuery}
-use Rattle.mongo_serve.specs.Taken.{Carries, IsQuery}
-use Rattle.mongo_serve.specs.Turns.{Turn, IsTaken, IsAnswered, joined, documents, sent_for}
+use Rattle.mongo_serve.specs.Taken.{CarriesRequest, IsQuery}
+use Rattle.mongo_serve.specs.Turns.{ServerTurn, IsTurnTaken, IsDocumentAnswered, joined, documents, sent_for}
 
 -- ---- a frame whose answer was cut
 
 -- what was sent is a front of what answers the frame with a reply
-abbrev pub CutsIn : Turn → Reply → ℤ → Type 0
+abbrev pub CutsIn : ServerTurn → Reply → ℤ → Type 0
 CutsIn turn reply id =
     CutsMessage turn.frame turn.document reply id turn.sent ⊎ (IsQuery turn.frame turn.document × IsGreeting turn.document × CutsQuery turn.frame reply id turn.sent)
 
 -- the request was answered by the session, which has this user then, and the reply sent in part
-pub record IsCutTurn (settings : Settings) (before : Session) (id : ℤ) (user : Option (List ℕ)) (turn : Turn) : Type 0 where
-  pub is_taken : IsTaken turn
+pub record IsCutTurn (settings : Settings) (before : Session) (id : ℤ) (user : Option (List ℕ)) (turn : ServerTurn) : Type 0 where
+  pub is_taken : IsTurnTaken turn
   pub after : Session
   pub reply : Reply
-  pub answered : IsAnswered settings before turn.document after reply
+  pub answered : IsDocumentAnswered settings before turn.document after reply
   pub user_is : user ≡ after.user
   pub sent : CutsIn turn reply id
 
@@ -46,7 +46,7 @@ pub record IsQueryFront (bytes : List ℕ) : Type 0 where
 
 -- a front of a header or of a frame that is read, or one frame
 abbrev pub IsPart : List ℕ → Type 0
-IsPart bytes = IsStarted (pos 48000000) bytes ⊎ (IsQueryFront bytes ⊎ ((document : List ℕ) × Carries bytes document))
+IsPart bytes = IsStarted (pos 48000000) bytes ⊎ (IsQueryFront bytes ⊎ ((document : List ℕ) × CarriesRequest bytes document))
 
 -- ---- why
 
@@ -55,7 +55,7 @@ abbrev pub AsksOtherwise : List ℕ → Type 0
 AsksOtherwise bytes = (document : List ℕ) × IsQuery bytes document × (IsGreeting document → ⊥)
 
 -- the answer to one frame was cut, and nothing was taken after it
-abbrev pub CutsOne : List Turn → List ℕ → Type 0
+abbrev pub CutsOne : List ServerTurn → List ℕ → Type 0
 CutsOne cut more = (length cut ≡ 1) × (more ≡ [])
 
 -- some bytes were taken, where the link tells them
@@ -63,7 +63,7 @@ abbrev pub TookSome : State → List ℕ → Type 0
 TookSome old more = IfSome old.left (λ _. 0 < length more)
 
 -- What a fault says of the bytes that weren't answered, and of the link before and after.
-abbrev pub HasCause : ServeFault → State → State → List Turn → List ℕ → Type 0
+abbrev pub HasCause : ServeFault → State → State → List ServerTurn → List ℕ → Type 0
 HasCause ReadFault old new cut more = Rose old.read_faults new.read_faults × (cut ≡ [])
 HasCause WriteFault old new cut more = Rose old.write_faults new.write_faults × CutsOne cut more
 HasCause CutFrame old new cut more = Rose old.ends new.ends × IsEmptied new.left × (cut ≡ []) × TookSome old more
@@ -76,7 +76,7 @@ HasCause OutOfMemory old new cut more = ⊤
 -- A turn was cut: a frame was taken and its answer cut, or some bytes were taken and nothing answered. Who is logged in has sent what a
 -- login takes.
 pub record IsCut (settings : Settings) (requests : List (List ℕ)) (old new : State) (before : Session) (id : ℤ) (user : Option (List ℕ)) (fault : ServeFault) : Type 0 where
-  pub turns : List Turn
+  pub turns : List ServerTurn
   pub one : length turns ≤ 1
   pub each : AllByRecursion (IsCutTurn settings before id user) turns
   pub none : turns ≡ [] → user ≡ before.user

@@ -5,12 +5,12 @@ use Rattle.mongo_server.specs.ClientMessages.{IsNonce}
 use Rattle.mongo_server.specs.Exchange.{Exchange, open_of, close_of}
 use Rattle.mongo_server.specs.Server.{HasBegun}
 use Rattle.mongo_wire.specs.declared.error.ErrorKind.{ErrorKind}
-use Rattle.mongo_serve.specs.Accounts.{IsFirst}
+use Rattle.mongo_serve.specs.Accounts.{IsFirstAccount}
 use Rattle.mongo_serve.specs.declared.session.Login.{Login}
 use Rattle.mongo_serve.specs.declared.session.Session.{Session}
 use Rattle.mongo_serve.specs.declared.settings.Account.{Account}
 use Rattle.mongo_serve.specs.declared.settings.Settings.{Settings}
-use Rattle.mongo_serve.specs.Requests.{Opens, Continues}
+use Rattle.mongo_serve.specs.Requests.{OpensLogin, SaysSaslContinue}
 
 -- the exchange of an account (RFC 5802, section 3) with this suffix and the client's nonce
 abbrev pub exchange_of : Account → List ℕ → List ℕ → Exchange
@@ -19,7 +19,7 @@ exchange_of account suffix nonce = record { version = account.version; username 
 -- An exchange of the settings: of an account that counts, whose password its mechanism takes.
 pub record IsExchange (settings : Settings) (x : Exchange) : Type 0 where
   pub account : Account
-  pub counts : IsFirst settings.accounts.items account
+  pub counts : IsFirstAccount settings.accounts.items account
   pub usable : (kind : ErrorKind) → PasswordRow account.version account.password kind → ⊥
   pub printable : IsNonce x.nonce
   pub exchange_is : x ≡ exchange_of account settings.suffix x.nonce
@@ -32,7 +32,7 @@ pub record HasOpened (x : Exchange) (requests : List (List ℕ)) : Type 0 where
   pub request : List ℕ
   pub after : List (List ℕ)
   pub split : requests ≡ before ++ (request ∷ after)
-  pub opens : Opens request (open_of x)
+  pub opens : OpensLogin request (open_of x)
 
 -- and a later one proves the key: its message is the client's last, byte for byte
 pub record HasProved (x : Exchange) (requests : List (List ℕ)) : Type 0 where
@@ -41,7 +41,7 @@ pub record HasProved (x : Exchange) (requests : List (List ℕ)) : Type 0 where
   pub after : List (List ℕ)
   pub split : requests ≡ before ++ (request ∷ after)
   pub opened : HasOpened x before
-  pub closes : Continues request (close_of x)
+  pub closes : SaysSaslContinue request (close_of x)
 
 -- the client's messages of an exchange of this user were sent
 pub record HasLoggedIn (settings : Settings) (name : List ℕ) (requests : List (List ℕ)) : Type 0 where
@@ -53,7 +53,7 @@ pub record HasLoggedIn (settings : Settings) (name : List ℕ) (requests : List 
 -- ---- what a session holds after these requests
 
 -- a login that goes on
-pub record IsLoginOf (settings : Settings) (requests : List (List ℕ)) (login : Login) : Type 0 where
+pub record IsOpenLogin (settings : Settings) (requests : List (List ℕ)) (login : Login) : Type 0 where
   pub x : Exchange
   pub of_settings : IsExchange settings x
   pub name_is : login.name ≡ x.username
@@ -63,4 +63,4 @@ pub record IsLoginOf (settings : Settings) (requests : List (List ℕ)) (login :
 
 pub record Remembers (settings : Settings) (requests : List (List ℕ)) (session : Session) : Type 0 where
   pub user : IfSome session.user (λ name. HasLoggedIn settings name requests)
-  pub login : IfSome session.login (IsLoginOf settings requests)
+  pub login : IfSome session.login (IsOpenLogin settings requests)

@@ -18,12 +18,12 @@ use Rattle.mongo_serve.specs.Sasl.{AsksFor, IsBegun}
 -- ---- the account
 
 -- the message is a client's first of this user, whatever follows as its nonce
-abbrev pub Names : List ℕ → List ℕ → Type 0
-Names message user = (nonce : List ℕ) × (message ≡ open_message user nonce)
+abbrev pub NamesUser : List ℕ → List ℕ → Type 0
+NamesUser message user = (nonce : List ℕ) × (message ≡ open_message user nonce)
 
 -- the account is of the mechanism, and of the user that the message names
 abbrev pub Suits : ScramVersion → List ℕ → Account → Type 0
-Suits version message account = (account.version ≡ version) × Names message account.name
+Suits version message account = (account.version ≡ version) × NamesUser message account.name
 
 -- the first account that suits
 pub record IsFound (accounts : List Account) (version : ScramVersion) (message : List ℕ) (account : Account) : Type 0 where
@@ -33,9 +33,9 @@ pub record IsFound (accounts : List Account) (version : ScramVersion) (message :
   pub others : AllByRecursion (λ other. Suits version message other → ⊥) before
   pub suits : Suits version message account
 
-abbrev pub Finds : List Account → ScramVersion → List ℕ → Option (Bor Account) → Type 0
-Finds accounts version message None = AllByRecursion (λ other. Suits version message other → ⊥) accounts
-Finds accounts version message (Some account) = IsFound accounts version message account.now
+abbrev pub FindsAccount : List Account → ScramVersion → List ℕ → Option (Bor Account) → Type 0
+FindsAccount accounts version message None = AllByRecursion (λ other. Suits version message other → ⊥) accounts
+FindsAccount accounts version message (Some account) = IsFound accounts version message account.now
 
 -- ---- the login
 

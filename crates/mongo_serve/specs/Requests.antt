@@ -7,7 +7,7 @@ use Rattle.mongo_bson.specs.Find.{IsFirstOf, BeginsWithKey}
 use Rattle.mongo_command.specs.Keys.{sasl_supported_mechs_key, speculative_authenticate_key}
 use Rattle.mongo_scram.specs.declared.scram_version.ScramVersion.{ScramVersion}
 use Rattle.mongo_serve.specs.Settings.{version_named}
-use Rattle.mongo_serve.specs.Values.{HasInside, HasText, HasTrue, HasOne, Holds}
+use Rattle.mongo_serve.specs.Values.{HasInside, HasText, HasTrue, HasOne, HoldsIfAny}
 use Rattle.mongo_serve.specs.declared.request.Request.{Request}
 use Rattle.mongo_serve.specs.declared.request.Request.TheVariants.{Hello as Greeting, SaslStart as Starting, SaslContinue as Continuing, Ping, BuildInfo, EndSessions, Other}
 use Rattle.mongo_serve.specs.declared.request.Hello.{Hello}
@@ -16,8 +16,8 @@ use Rattle.mongo_serve.specs.declared.request.SaslContinue.{SaslContinue}
 use Rattle.mongo_sasl.specs.Keys.{conversation_id_key, mechanism_key, options_key, payload_key, sasl_continue_key, sasl_start_key}
 
 -- the document's command
-abbrev pub IsNamed : List ℕ → List ℕ → Type 0
-IsNamed document name = BeginsWithKey (body_of document) name
+abbrev pub IsCommandNamed : List ℕ → List ℕ → Type 0
+IsCommandNamed document name = BeginsWithKey (body_of document) name
 
 -- ---- the parts of a login's command
 
@@ -30,12 +30,12 @@ pub record HasPayload (document payload : List ℕ) : Type 0 where
 
 -- a `saslStart` with this message
 pub record IsStart (document payload : List ℕ) : Type 0 where
-  pub named : IsNamed document sasl_start_key
+  pub named : IsCommandNamed document sasl_start_key
   pub message : HasPayload document payload
 
 -- hello, by its name or a legacy one
 abbrev pub IsGreeting : List ℕ → Type 0
-IsGreeting document = IsNamed document (codes "hello") ⊎ (IsNamed document (codes "isMaster") ⊎ IsNamed document (codes "ismaster"))
+IsGreeting document = IsCommandNamed document (codes "hello") ⊎ (IsCommandNamed document (codes "isMaster") ⊎ IsCommandNamed document (codes "ismaster"))
 
 -- a hello that carries a `saslStart` with this message
 pub record IsGreetingStart (document payload : List ℕ) : Type 0 where
@@ -45,12 +45,12 @@ pub record IsGreetingStart (document payload : List ℕ) : Type 0 where
   pub start : IsStart inner payload
 
 -- a login begins with this message
-abbrev pub Opens : List ℕ → List ℕ → Type 0
-Opens document payload = IsStart document payload ⊎ IsGreetingStart document payload
+abbrev pub OpensLogin : List ℕ → List ℕ → Type 0
+OpensLogin document payload = IsStart document payload ⊎ IsGreetingStart document payload
 
 -- a `saslContinue` with this message
-pub record Continues (document payload : List ℕ) : Type 0 where
-  pub named : IsNamed document sasl_continue_key
+pub record SaysSaslContinue (document payload : List ℕ) : Type 0 where
+  pub named : IsCommandNamed document sasl_continue_key
   pub message : HasPayload document payload
 
 -- ---- what a request is to its document
@@ -66,9 +66,9 @@ SkipsEmptyExchange document = (options : List ℕ) × HasInside document options
 
 -- a `saslStart`
 pub record SaysStart (document : List ℕ) (start : SaslStart) : Type 0 where
-  pub named : IsNamed document sasl_start_key
+  pub named : IsCommandNamed document sasl_start_key
   pub version : SaysVersion document start.version
-  pub message : Holds (HasPayload document) start.payload
+  pub message : HoldsIfAny (HasPayload document) start.payload
   pub skips : IsTrue start.skips_empty_exchange ↔ SkipsEmptyExchange document
 
 -- a login that a hello carries
@@ -79,13 +79,13 @@ pub record CarriesStart (document : List ℕ) (start : SaslStart) : Type 0 where
 
 -- the login that a hello carries; none where what it carries is no `saslStart`
 abbrev pub CarriesLogin : List ℕ → Option SaslStart → Type 0
-CarriesLogin document None = (inner : List ℕ) → HasInside document speculative_authenticate_key inner → IsNamed inner sasl_start_key → ⊥
+CarriesLogin document None = (inner : List ℕ) → HasInside document speculative_authenticate_key inner → IsCommandNamed inner sasl_start_key → ⊥
 CarriesLogin document (Some start) = CarriesStart document start
 
 -- hello by its name, or by a legacy one
 abbrev pub IsGreetingBy : List ℕ → Bool → Type 0
-IsGreetingBy document false = IsNamed document (codes "hello")
-IsGreetingBy document true = IsNamed document (codes "isMaster") ⊎ IsNamed document (codes "ismaster")
+IsGreetingBy document false = IsCommandNamed document (codes "hello")
+IsGreetingBy document true = IsCommandNamed document (codes "isMaster") ⊎ IsCommandNamed document (codes "ismaster")
 
 -- a user's name without its database: what stands behind the first dot, or all of it where there is none
 abbrev pub name_without_database : List ℕ → List ℕ
@@ -98,14 +98,14 @@ AsksMechanismsOf document user = (text : List ℕ) × HasText document sasl_supp
 pub record SaysHello (document : List ℕ) (hello : Hello) : Type 0 where
   pub greeting : IsGreeting document
   pub name : IsGreetingBy document hello.is_legacy
-  pub mechanisms : Holds (AsksMechanismsOf document) hello.mechanisms_of
+  pub mechanisms : HoldsIfAny (AsksMechanismsOf document) hello.mechanisms_of
   pub speculation : CarriesLogin document hello.speculation
 
 -- a `saslContinue`
 pub record SaysContinue (document : List ℕ) (next : SaslContinue) : Type 0 where
-  pub named : IsNamed document sasl_continue_key
+  pub named : IsCommandNamed document sasl_continue_key
   pub conversation : IsTrue next.is_of_conversation ↔ HasOne document conversation_id_key
-  pub message : Holds (HasPayload document) next.payload
+  pub message : HoldsIfAny (HasPayload document) next.payload
 
 -- the names that are known
 abbrev pub is_known : List ℕ → Bool
@@ -116,11 +116,11 @@ is_known name =
 
 -- the document has no first key
 abbrev pub IsUnnamed : List ℕ → Type 0
-IsUnnamed document = (name : List ℕ) → IsNamed document name → ⊥
+IsUnnamed document = (name : List ℕ) → IsCommandNamed document name → ⊥
 
 -- the document's first key, or the empty text where it has none
 abbrev pub IsCommandName : List ℕ → List ℕ → Type 0
-IsCommandName document name = IsNamed document name ⊎ (IsUnnamed document × (name ≡ []))
+IsCommandName document name = IsCommandNamed document name ⊎ (IsUnnamed document × (name ≡ []))
 
 -- another command, or no first key
 pub record SaysOther (document name : List ℕ) : Type 0 where
@@ -128,11 +128,11 @@ pub record SaysOther (document name : List ℕ) : Type 0 where
   pub unknown : is_known name ≡ false
 
 -- the document asks for this
-abbrev pub Says : List ℕ → Request → Type 0
-Says document (Greeting hello) = SaysHello document hello
-Says document (Starting start) = SaysStart document start
-Says document (Continuing next) = SaysContinue document next
-Says document Ping = IsNamed document (codes "ping")
-Says document BuildInfo = IsNamed document (codes "buildInfo") ⊎ IsNamed document (codes "buildinfo")
-Says document EndSessions = IsNamed document (codes "endSessions")
-Says document (Other name) = SaysOther document name.now
+abbrev pub SaysRequest : List ℕ → Request → Type 0
+SaysRequest document (Greeting hello) = SaysHello document hello
+SaysRequest document (Starting start) = SaysStart document start
+SaysRequest document (Continuing next) = SaysContinue document next
+SaysRequest document Ping = IsCommandNamed document (codes "ping")
+SaysRequest document BuildInfo = IsCommandNamed document (codes "buildInfo") ⊎ IsCommandNamed document (codes "buildinfo")
+SaysRequest document EndSessions = IsCommandNamed document (codes "endSessions")
+SaysRequest document (Other name) = SaysOther document name.now

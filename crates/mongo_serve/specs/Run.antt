@@ -51,8 +51,8 @@ pub record Run : Type 0 where
   pub report_new : State
 
 -- a front of the text, or all of it, was written to the report
-abbrev pub Says : Run → List ℕ → Type 0
-Says run text = AppendsFront run.report_old.written run.report_new.written text
+abbrev pub WritesReport : Run → List ℕ → Type 0
+WritesReport run text = AppendsFront run.report_old.written run.report_new.written text
 
 -- The first line was read as these settings, what follows it was served, and status and report say how that ended.
 pub record Ran (run : Run) (status : Status) : Type 0 where
@@ -62,7 +62,7 @@ pub record Ran (run : Run) (status : Status) : Type 0 where
   pub served : Served
   pub is_served : IsServed settings between run.new served
   pub status_is : status ≡ status_of served.fault
-  pub said : Says run (report_text served)
+  pub said : WritesReport run (report_text served)
 
 -- nothing was written to the link
 abbrev pub IsSilent : Run → Type 0
@@ -72,6 +72,6 @@ IsSilent run = run.new.written ≡ run.old.written
 abbrev pub RunEnds : Run → Status → Type 0
 RunEnds run Ended = Ran run Ended
 RunEnds run Broken = Ran run Broken ⊎ (Rose run.old.read_faults run.new.read_faults × IsSilent run)
-RunEnds run BadSettings = IsSilent run × Says run no_settings
+RunEnds run BadSettings = IsSilent run × WritesReport run no_settings
 RunEnds run NoMemory = Ran run NoMemory ⊎ IsSilent run
 RunEnds run Usage = ⊥

@@ -76,7 +76,7 @@ pub record ProvesKey (old : Session) (next : SaslContinue) (new : Session) (answ
   pub new_is : new ≡ after_proof old login
 
 -- the login has ended, which an empty message answers
-pub record EndsLogin (old : Session) (next : SaslContinue) (new : Session) (answer : SaslReply) : Type 0 where
+pub record ClosesLogin (old : Session) (next : SaslContinue) (new : Session) (answer : SaslReply) : Type 0 where
   pub login : Login
   pub ends : Ends old next login
   pub answer_is : answer ≡ record { is_done = true; payload = [] }
@@ -84,5 +84,5 @@ pub record EndsLogin (old : Session) (next : SaslContinue) (new : Session) (answ
 
 -- What a `saslContinue` comes to. It is refused exactly where it neither closes an exchange nor ends a login; then no login goes on.
 abbrev pub AnswersContinue : Session → SaslContinue → Session → Option SaslReply → Type 0
-AnswersContinue old next new (Some answer) = ProvesKey old next new answer ⊎ EndsLogin old next new answer
+AnswersContinue old next new (Some answer) = ProvesKey old next new answer ⊎ ClosesLogin old next new answer
 AnswersContinue old next new None = ((x : Exchange) (login : Login) → Closes old next x login → ⊥) × ((login : Login) → Ends old next login → ⊥) × (new ≡ record old { login = None })

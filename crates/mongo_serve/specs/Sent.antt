@@ -78,7 +78,7 @@ pub record SendsReply (old new : State) (id later to : ℤ) (document : List ℕ
   pub drawn : later ≡ next_id id
 
 -- an OP_MSG was answered, and the reply flushed
-pub record IsSent (old new : State) (to : ℤ) (flags : ℕ) (reply : Reply) (id later : ℤ) : Type 0 where
+pub record IsReplySent (old new : State) (to : ℤ) (flags : ℕ) (reply : Reply) (id later : ℤ) : Type 0 where
   pub sent : List ℕ
   pub is_answer : IsAnswerTo to flags reply id later sent
   pub appended : Appends old.written new.written sent

@@ -11,7 +11,7 @@ use Rattle.mongo_serve.specs.declared.settings.Settings.{Settings}
 use Rattle.mongo_serve.specs.Cut.{HasCause, IsCut, IsCutTurn, IsPart}
 use Rattle.mongo_serve.specs.Login.{HasLoggedIn, Remembers}
 use Rattle.mongo_serve.specs.Sent.{HasFlushed}
-use Rattle.mongo_serve.specs.Turns.{Turn, IsTaken, IsTurn, AreTurns, fresh, joined, documents, sent_for}
+use Rattle.mongo_serve.specs.Turns.{ServerTurn, IsTurnTaken, IsTurn, AreTurns, fresh, joined, documents, sent_for}
 
 -- the counts of faults and ends, and what is flushed, don't fall
 pub record Lasts (old new : State) : Type 0 where
@@ -23,8 +23,8 @@ pub record Lasts (old new : State) : Type 0 where
 -- ---- one turn
 
 pub record TakesTurn (settings : Settings) (requests : List (List ℕ)) (old new : State) (before : Session) (id : ℤ) (after : Session) (later : ℤ) : Type 0 where
-  pub turn : Turn
-  pub is_taken : IsTaken turn
+  pub turn : ServerTurn
+  pub is_taken : IsTurnTaken turn
   pub is_turn : IsTurn settings before id turn after later
   pub consumed : Consumes old.left new.left turn.frame
   pub appended : Appends old.written new.written turn.sent
@@ -53,7 +53,7 @@ PartEnds settings requests old new before id after later (Err fault) = IsCut set
 -- ---- within a turn
 
 -- a header was taken, and nothing was written
-pub record Follows (before now : State) (head : List ℕ) : Type 0 where
+pub record FollowsHead (before now : State) (head : List ℕ) : Type 0 where
   pub taken : Consumes before.left now.left head
   pub tells : is_some now.left ≡ is_some before.left
   pub unwritten : now.written ≡ before.written
@@ -70,10 +70,10 @@ pub record IsBackAt (before now : State) : Type 0 where
 
 -- so many turns so far, each answered, and what the session remembers of them
 pub record HasServed (settings : Settings) (old new : State) (session : Session) (id : ℤ) (count : ℕ) : Type 0 where
-  pub turns : List Turn
+  pub turns : List ServerTurn
   pub counted : length turns ≡ count
   pub answered : AreTurns settings fresh (pos 1) turns session id
-  pub each : AllByRecursion IsTaken turns
+  pub each : AllByRecursion IsTurnTaken turns
   pub consumed : Consumes old.left new.left (joined turns)
   pub appended : Appends old.written new.written (sent_for turns)
   pub flushed : HasFlushed old new (sent_for turns)
@@ -81,7 +81,7 @@ pub record HasServed (settings : Settings) (old new : State) (session : Session)
   pub remembers : Remembers settings (documents turns) session
 
 -- why a stream was left after so many turns
-abbrev pub HasCauseAfter : ServeFault → ℕ → State → State → List Turn → List ℕ → Type 0
+abbrev pub HasCauseAfter : ServeFault → ℕ → State → State → List ServerTurn → List ℕ → Type 0
 HasCauseAfter TooManyRequests count old new cut more = (count ≡ 2 ^ 64 - 1) × (cut ≡ []) × (more ≡ [])
 HasCauseAfter fault count old new cut more = HasCause fault old new cut more
 
@@ -89,13 +89,13 @@ HasCauseAfter fault count old new cut more = HasCause fault old new cut more
 -- the last may have been cut, and so the answer to it. Where the client ended its stream, nothing was cut, and nothing was taken after
 -- the last frame. Who is logged in has sent, among just these requests, the messages of a login.
 pub record IsServed (settings : Settings) (old new : State) (served : Served) : Type 0 where
-  pub turns : List Turn
+  pub turns : List ServerTurn
   pub session : Session
   pub id : ℤ
   pub answered : AreTurns settings fresh (pos 1) turns session id
-  pub each : AllByRecursion IsTaken turns
+  pub each : AllByRecursion IsTurnTaken turns
   pub flushed : HasFlushed old new (sent_for turns)
-  pub cut : List Turn
+  pub cut : List ServerTurn
   pub one : length cut ≤ 1
   pub each_cut : AllByRecursion (IsCutTurn settings session id served.user) cut
   pub user_is : cut ≡ [] → served.user ≡ session.user

@@ -4,12 +4,12 @@ use Rattle.mongo_bson.specs.Document.{IsCstring}
 use Rattle.mongo_bson.specs.Framed.{IsFramed}
 use Rattle.mongo_wire.specs.Frame.{Frame, IsFrame}
 use Rattle.mongo_wire.specs.Header.{signed_at}
-use Rattle.mongo_serve.specs.Requests.{IsNamed}
+use Rattle.mongo_serve.specs.Requests.{IsCommandNamed}
 use Rattle.mongo_serve.specs.Values.{HasInside}
 
 -- the command of a query's document: what it wraps as `$query`, or the document itself where that isn't its first key
 abbrev pub IsCommandOf : List ℕ → List ℕ → Type 0
-IsCommandOf document command = ((IsNamed document (codes "$query") → ⊥) × (command ≡ document)) ⊎ (IsNamed document (codes "$query") × HasInside document (codes "$query") command)
+IsCommandOf document command = ((IsCommandNamed document (codes "$query") → ⊥) × (command ≡ document)) ⊎ (IsCommandNamed document (codes "$query") × HasInside document (codes "$query") command)
 
 -- what follows the header of an OP_QUERY on `admin.$cmd`: int32 flags, the collection's name, two int32, a document, and what may
 -- follow it
@@ -43,5 +43,5 @@ abbrev pub IsMessage : List ℕ → List ℕ → Type 0
 IsMessage frame document = (parts : Frame) × IsFrame frame parts × (parts.body ≡ document)
 
 -- a frame that carries a request, and the request's document
-abbrev pub Carries : List ℕ → List ℕ → Type 0
-Carries frame document = IsMessage frame document ⊎ IsQuery frame document
+abbrev pub CarriesRequest : List ℕ → List ℕ → Type 0
+CarriesRequest frame document = IsMessage frame document ⊎ IsQuery frame document

@@ -5,53 +5,53 @@ use Rattle.mongo_serve.specs.declared.request.Request.{Request}
 use Rattle.mongo_serve.specs.declared.session.Session.{Session}
 use Rattle.mongo_serve.specs.declared.settings.Settings.{Settings}
 use Rattle.mongo_serve.specs.Answers.{IsAnswer}
-use Rattle.mongo_serve.specs.Requests.{Says, IsGreeting}
+use Rattle.mongo_serve.specs.Requests.{SaysRequest, IsGreeting}
 use Rattle.mongo_serve.specs.Sent.{AnswersMessage, AnswersQuery}
-use Rattle.mongo_serve.specs.Taken.{Carries, IsQuery}
+use Rattle.mongo_serve.specs.Taken.{CarriesRequest, IsQuery}
 
 -- a frame that was taken, the document that it asks with, and the bytes that were sent for it
-pub record Turn : Type 0 where
+pub record ServerTurn : Type 0 where
   pub frame : List ℕ
   pub document : List ℕ
   pub sent : List ℕ
 
-abbrev pub IsTaken : Turn → Type 0
-IsTaken turn = Carries turn.frame turn.document
+abbrev pub IsTurnTaken : ServerTurn → Type 0
+IsTurnTaken turn = CarriesRequest turn.frame turn.document
 
 -- ---- turns, one after another
 
 -- the bytes of their frames, joined
-abbrev pub joined : List Turn → List ℕ
+abbrev pub joined : List ServerTurn → List ℕ
 joined turns = flat_map (λ t. t.frame) turns
 
 -- what they ask with, in their order
-abbrev pub documents : List Turn → List (List ℕ)
+abbrev pub documents : List ServerTurn → List (List ℕ)
 documents turns = map (λ t. t.document) turns
 
 -- what was sent for them
-abbrev pub sent_for : List Turn → List ℕ
+abbrev pub sent_for : List ServerTurn → List ℕ
 sent_for turns = flat_map (λ t. t.sent) turns
 
 -- what was sent answers the frame with a reply: an OP_MSG, or an OP_QUERY, which asks for a hello. The next reply has this id, and the
 -- one after it that.
-abbrev pub AnswersIn : Turn → Reply → ℤ → ℤ → Type 0
+abbrev pub AnswersIn : ServerTurn → Reply → ℤ → ℤ → Type 0
 AnswersIn turn reply id later =
     AnswersMessage turn.frame turn.document reply id later turn.sent ⊎ (IsQuery turn.frame turn.document × IsGreeting turn.document × AnswersQuery turn.frame reply id later turn.sent)
 
 -- what a session answers to a document
-pub record IsAnswered (settings : Settings) (before : Session) (document : List ℕ) (after : Session) (reply : Reply) : Type 0 where
+pub record IsDocumentAnswered (settings : Settings) (before : Session) (document : List ℕ) (after : Session) (reply : Reply) : Type 0 where
   pub request : Request
-  pub says : Says document request
+  pub says : SaysRequest document request
   pub is_answer : IsAnswer settings before request after reply
 
 -- a turn: the request was answered by the session, and the reply sent
-pub record IsTurn (settings : Settings) (before : Session) (id : ℤ) (turn : Turn) (after : Session) (later : ℤ) : Type 0 where
+pub record IsTurn (settings : Settings) (before : Session) (id : ℤ) (turn : ServerTurn) (after : Session) (later : ℤ) : Type 0 where
   pub reply : Reply
-  pub answered : IsAnswered settings before turn.document after reply
+  pub answered : IsDocumentAnswered settings before turn.document after reply
   pub sent : AnswersIn turn reply id later
 
 -- Each turn begins with the session that the one before it left, and the ids of the replies are counted on.
-abbrev pub AreTurns : Settings → Session → ℤ → List Turn → Session → ℤ → Type 0
+abbrev pub AreTurns : Settings → Session → ℤ → List ServerTurn → Session → ℤ → Type 0
 AreTurns settings before id [] after later = (after ≡ before) × (later ≡ id)
 AreTurns settings before id (turn ∷ turns) after later =
     (between : Session) × (next : ℤ) × IsTurn settings before id turn between next × AreTurns settings between next turns after later

@@ -38,9 +38,9 @@ pub record HasOne (document key : List ℕ) : Type 0 where
   pub one : cast_signed w32 (from_le_bytes w32 element.value) ≡ pos 1
 
 -- the option has what is so, and is none only where nothing is
-abbrev pub Holds : (List ℕ → Type 0) → Option (Bor (List ℕ)) → Type 0
-Holds P None = (value : List ℕ) → P value → ⊥
-Holds P (Some value) = P value.now
+abbrev pub HoldsIfAny : (List ℕ → Type 0) → Option (Bor (List ℕ)) → Type 0
+HoldsIfAny P None = (value : List ℕ) → P value → ⊥
+HoldsIfAny P (Some value) = P value.now
 
 -- ---- by the value that was found
 
@@ -67,6 +67,6 @@ abbrev pub IsTruth : RawValue → Type 0
 IsTruth (Boolean truth) = truth ≡ true
 IsTruth other = ⊥
 
-abbrev pub IsOne : RawValue → Type 0
-IsOne (Int32 number) = number ≡ pos 1
-IsOne other = ⊥
+abbrev pub SaysOne : RawValue → Type 0
+SaysOne (Int32 number) = number ≡ pos 1
+SaysOne other = ⊥

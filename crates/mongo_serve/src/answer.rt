@@ -1,10 +1,10 @@
 //! One step of a session: a request, and the reply to it.
 
 ghost use Rattle.std.specs.Prelude.{◌≡◌, ◌↔◌, ℕ, List, [], ◌∷◌, ◌++◌, IsTrue, IfOk, IfErr, OnOk, OnErr};
-ghost use Rattle.mongo_serve.specs.Accounts.{AreMechanismsOf, Lists, HasAccount, IsOf};
-ghost use Rattle.mongo_serve.specs.Answers.{guarded_by, AnswersCarried, Greets, IsAnswer, login_reply};
+ghost use Rattle.mongo_serve.specs.Accounts.{AreMechanismsOf, ListsAccounts, HasAccount, IsOf};
+ghost use Rattle.mongo_serve.specs.Answers.{guarded_by, AnswersCarried, AnswersHello, IsAnswer, login_reply};
 ghost use Rattle.mongo_serve.specs.Login.{Remembers};
-ghost use Rattle.mongo_serve.specs.Requests.{CarriesLogin, IsGreeting, Says, SaysHello};
+ghost use Rattle.mongo_serve.specs.Requests.{CarriesLogin, IsGreeting, SaysRequest, SaysHello};
 ghost use Rattle.mongo_serve.specs.declared.fault.ServeFault.TheVariants.{OutOfMemory};
 
 use crate::fault::ServeFault;
@@ -27,7 +27,7 @@ pub fn answer<G: Ledger>(
     steps: &mut Steps<G>,
 ) -> Result<Reply, ServeFault>
     // Who is logged in afterwards has sent the messages of a login, this request among them.
-    ensures remembers { (requests : List (List ℕ)) (document : List ℕ) → Remembers settings.now requests session.old → Says document request.entry → OnOk result (Remembers settings.now (requests ++ document ∷ []) session.new) }
+    ensures remembers { (requests : List (List ℕ)) (document : List ℕ) → Remembers settings.now requests session.old → SaysRequest document request.entry → OnOk result (Remembers settings.now (requests ++ document ∷ []) session.new) }
     // How it is answered, and which commands of a login are refused.
     ensures answered { IfOk result (IsAnswer settings.now session.old request.entry session.new) }
     ensures kept { OnErr result (session.new.user ≡ session.old.user) }
@@ -56,7 +56,7 @@ pub fn greet<G: Ledger>(
     steps: &mut Steps<G>,
 ) -> Result<HelloReply, ServeFault>
     ensures remembers { (requests : List (List ℕ)) (document : List ℕ) → Remembers settings.now requests session.old → SaysHello document hello.entry → Remembers settings.now (requests ++ document ∷ []) session.new }
-    ensures answered { IfOk result (Greets settings.now session.old hello.entry session.new) }
+    ensures answered { IfOk result (AnswersHello settings.now session.old hello.entry session.new) }
     ensures user { session.new.user ≡ session.old.user }
     ensures refused { IfErr result (λ fault. fault ≡ OutOfMemory) }
 {
@@ -99,7 +99,7 @@ fn mechanisms_of(accounts: &[Account], user: Option<&str>) -> Option<Mechanisms>
 }
 
 fn mechanisms_of_user(accounts: &[Account], user: &str) -> Option<Mechanisms>
-    ensures { Lists accounts.now user.now result }
+    ensures { ListsAccounts accounts.now user.now result }
 {
     let by_sha1 = has_account(accounts, user, ScramVersion::Sha1);
     let by_sha256 = has_account(accounts, user, ScramVersion::Sha256);

@@ -2,7 +2,7 @@
 
 ghost use Rattle.std.specs.Prelude.{◌≡◌, ◌↔◌, IsTrue, IfOk, IfErr};
 ghost use Rattle.mongo_server.specs.ClientMessages.{IsNonce};
-ghost use Rattle.mongo_serve.specs.Opened.{Names, Suits, Finds, OpensFor, OpensBy};
+ghost use Rattle.mongo_serve.specs.Opened.{NamesUser, Suits, FindsAccount, OpensFor, OpensBy};
 ghost use Rattle.mongo_serve.specs.declared.fault.ServeFault.TheVariants.{OutOfMemory};
 
 use crate::fault::ServeFault;
@@ -60,7 +60,7 @@ fn account_of<'a>(
     version: ScramVersion,
     payload: &[u8],
 ) -> Result<Option<&'a Account>, AllocError>
-    ensures { IfOk result (Finds accounts.now version payload.now) }
+    ensures { IfOk result (FindsAccount accounts.now version payload.now) }
 {
     'looking: for account in accounts {
         if suits(alloc, account, version, payload)? {
@@ -87,7 +87,7 @@ fn suits(
 
 // Whether a client's first message begins as one of that user does (RFC 5802, section 7).
 fn names(alloc: Global, name: &str, payload: &[u8]) -> Result<bool, AllocError>
-    ensures { IfOk result (λ is. IsTrue is ↔ Names payload.now name.now) }
+    ensures { IfOk result (λ is. IsTrue is ↔ NamesUser payload.now name.now) }
 {
     let mut front = String::from_str(alloc, "n,,n=")?;
     push_user_name(&mut front, name)?;

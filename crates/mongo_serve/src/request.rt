@@ -3,8 +3,8 @@
 ghost use Rattle.std.specs.Prelude.{◌≡◌, ◌↔◌, ℕ, List, MatchOption, IsTrue};
 ghost use Rattle.mongo_sasl.specs.Keys.{conversation_id_key, sasl_start_key};
 ghost use Rattle.mongo_serve.specs.Settings.{version_named};
-ghost use Rattle.mongo_serve.specs.Requests.{AsksMechanismsOf, CarriesLogin, HasPayload, IsCommandName, IsNamed, name_without_database, Says, SaysStart, SaysVersion, SkipsEmptyExchange};
-ghost use Rattle.mongo_serve.specs.Values.{binary_of, HasInside, HasOne, HasText, HasTrue, Holds, inner_of, IsOne, IsTruth, StandsAt, string_of};
+ghost use Rattle.mongo_serve.specs.Requests.{AsksMechanismsOf, CarriesLogin, HasPayload, IsCommandName, IsCommandNamed, name_without_database, SaysRequest, SaysStart, SaysVersion, SkipsEmptyExchange};
+ghost use Rattle.mongo_serve.specs.Values.{binary_of, HasInside, HasOne, HasText, HasTrue, HoldsIfAny, inner_of, SaysOne, IsTruth, StandsAt, string_of};
 
 use mongo_bson::{RawDocument, RawValue, first_key};
 use mongo_command::keys::{SASL_SUPPORTED_MECHS, SPECULATIVE_AUTHENTICATE};
@@ -63,7 +63,7 @@ pub struct SaslContinue<'a> {
 
 /// What a document asks for. It takes no memory.
 pub fn request_of<'a>(document: RawDocument<'a>) -> Request<'a>
-    ensures { Says document.entry.bytes.now result }
+    ensures { SaysRequest document.entry.bytes.now result }
 {
     match command_name(document) {
         "hello" => Request::Hello(hello_of(document, false)),
@@ -91,7 +91,7 @@ pub fn command_name<'a>(document: RawDocument<'a>) -> &'a str
 
 fn hello_of<'a>(document: RawDocument<'a>, is_legacy: bool) -> Hello<'a>
     ensures legacy { result.is_legacy ≡ is_legacy }
-    ensures mechanisms { Holds (AsksMechanismsOf document.entry.bytes.now) result.mechanisms_of }
+    ensures mechanisms { HoldsIfAny (AsksMechanismsOf document.entry.bytes.now) result.mechanisms_of }
     ensures speculation { CarriesLogin document.entry.bytes.now result.speculation }
 {
     Hello {
@@ -103,7 +103,7 @@ fn hello_of<'a>(document: RawDocument<'a>, is_legacy: bool) -> Hello<'a>
 
 // The user whose mechanisms are asked for.
 fn user_asked_of<'a>(document: RawDocument<'a>) -> Option<&'a str>
-    ensures { Holds (AsksMechanismsOf document.entry.bytes.now) result }
+    ensures { HoldsIfAny (AsksMechanismsOf document.entry.bytes.now) result }
 {
     match text_in(document, SASL_SUPPORTED_MECHS) {
         Some(user) => Some(name_without_database(user)),
@@ -123,7 +123,7 @@ fn carried_start<'a>(document: RawDocument<'a>) -> Option<SaslStart<'a>>
 
 // The login that a document begins, where it is a `saslStart`.
 fn speculation_of<'a>(document: RawDocument<'a>) -> Option<SaslStart<'a>>
-    ensures { MatchOption result (IsNamed document.entry.bytes.now sasl_start_key → ⊥) (SaysStart document.entry.bytes.now) }
+    ensures { MatchOption result (IsCommandNamed document.entry.bytes.now sasl_start_key → ⊥) (SaysStart document.entry.bytes.now) }
 {
     match command_name(document) {
         "saslStart" => Some(start_of(document)),
@@ -143,7 +143,7 @@ fn name_without_database(user: &str) -> &str
 
 fn start_of<'a>(document: RawDocument<'a>) -> SaslStart<'a>
     ensures version { SaysVersion document.entry.bytes.now result.version }
-    ensures message { Holds (HasPayload document.entry.bytes.now) result.payload }
+    ensures message { HoldsIfAny (HasPayload document.entry.bytes.now) result.payload }
     ensures skips { IsTrue result.skips_empty_exchange ↔ SkipsEmptyExchange document.entry.bytes.now }
 {
     SaslStart {
@@ -175,7 +175,7 @@ fn skips_empty_exchange(document: RawDocument<'_>) -> bool
 
 fn continue_of<'a>(document: RawDocument<'a>) -> SaslContinue<'a>
     ensures conversation { IsTrue result.is_of_conversation ↔ HasOne document.entry.bytes.now conversation_id_key }
-    ensures message { Holds (HasPayload document.entry.bytes.now) result.payload }
+    ensures message { HoldsIfAny (HasPayload document.entry.bytes.now) result.payload }
 {
     SaslContinue {
         is_of_conversation: is_one_in(document, CONVERSATION_ID),
@@ -196,7 +196,7 @@ pub fn version_named(name: &str) -> Option<ScramVersion>
 
 // The bytes of the binary that is the document's `payload`.
 fn payload_of<'a>(document: RawDocument<'a>) -> Option<&'a [u8]>
-    ensures { Holds (HasPayload document.entry.bytes.now) result }
+    ensures { HoldsIfAny (HasPayload document.entry.bytes.now) result }
 {
     match value_in(document, PAYLOAD) {
         Some(value) => binary_of(value),
@@ -215,7 +215,7 @@ pub fn document_in<'a>(document: RawDocument<'a>, key: &str) -> Option<RawDocume
 }
 
 fn text_in<'a>(document: RawDocument<'a>, key: &str) -> Option<&'a str>
-    ensures { Holds (HasText document.entry.bytes.now key.now) result }
+    ensures { HoldsIfAny (HasText document.entry.bytes.now key.now) result }
 {
     match value_in(document, key) {
         Some(value) => string_of(value),
@@ -289,7 +289,7 @@ fn is_truth(value: RawValue<'_>) -> bool
 }
 
 fn is_one(value: RawValue<'_>) -> bool
-    ensures { IsTrue result ↔ IsOne value.entry }
+    ensures { IsTrue result ↔ SaysOne value.entry }
 {
     match value {
         RawValue::Int32(number) => number == 1,

@@ -4,7 +4,7 @@ ghost use Rattle.std.specs.Prelude.{◌≡◌, ◌+◌, ◌^◌, ◌<◌, length
 ghost use Rattle.std.specs.Io.KnownBytes.{Appends};
 ghost use Rattle.mongo_wire.specs.Outside.{AppendsFront, IsFlushed, WritesOn};
 ghost use Rattle.mongo_serve.specs.Replies.{reply_document};
-ghost use Rattle.mongo_serve.specs.Sent.{message_reply, query_reply, IsSent, IsSentInPart, IsSentToQuery, SendsReply, WriteCause};
+ghost use Rattle.mongo_serve.specs.Sent.{message_reply, query_reply, IsReplySent, IsSentInPart, IsSentToQuery, SendsReply, WriteCause};
 ghost use Rattle.mongo_serve.specs.declared.fault.ServeFault.TheVariants.{OutOfMemory};
 
 use crate::fault::ServeFault;
@@ -25,7 +25,7 @@ pub fn respond<K: Sink>(
     reply: &Reply,
     ids: &mut RequestIds,
 ) -> Result<(), ServeFault>
-    ensures sent { OnOk result (IsSent (K.state sink.old) (K.state sink.new) request_id flags.0 reply.now ids.old ids.new) }
+    ensures sent { OnOk result (IsReplySent (K.state sink.old) (K.state sink.new) request_id flags.0 reply.now ids.old ids.new) }
     ensures cut { OnErr result (IsSentInPart (K.state sink.old) (K.state sink.new) request_id flags.0 reply.now ids.old) }
     ensures on { WritesOn (K.state sink.old) (K.state sink.new) }
     ensures refused { IfErr result (λ fault. WriteCause fault (K.state sink.old) (K.state sink.new)) }

@@ -6,8 +6,8 @@ ghost use Rattle.mongo_wire.specs.Outside.{State};
 ghost use Rattle.mongo_serve.specs.Login.{Remembers};
 ghost use Rattle.mongo_serve.specs.PutBack.{state_of};
 ghost use Rattle.mongo_serve.specs.Requests.{IsGreeting};
-ghost use Rattle.mongo_serve.specs.Served.{Follows, IsBackAt, TurnEnds, PartEnds, IsServed};
-ghost use Rattle.mongo_serve.specs.Turns.{IsAnswered};
+ghost use Rattle.mongo_serve.specs.Served.{FollowsHead, IsBackAt, TurnEnds, PartEnds, IsServed};
+ghost use Rattle.mongo_serve.specs.Turns.{IsDocumentAnswered};
 ghost use Rattle.mongo_serve.specs.declared.fault.ServeFault.TheVariants.{NoHello, OutOfMemory};
 ghost use Rattle.mongo_wire.specs.declared.op_code.OpCode.TheVariants.{Query};
 
@@ -115,7 +115,7 @@ fn take_after<L: Link, G: Ledger>(
     head: &[u8; 16],
     steps: &mut Steps<G>,
 ) -> Result<(), ServeFault>
-    ensures { (requests : List (List ℕ)) (before : State) → Remembers settings.now requests serving.old.session → Follows before (state_of L.state link.old) head.now →
+    ensures { (requests : List (List ℕ)) (before : State) → Remembers settings.now requests serving.old.session → FollowsHead before (state_of L.state link.old) head.now →
         PartEnds settings.now requests before (state_of L.state link.new) serving.old.session serving.old.ids serving.new.session serving.new.ids result }
 {
     match Header::decode(head) {
@@ -168,7 +168,7 @@ fn answer_document<G: Ledger>(
     steps: &mut Steps<G>,
 ) -> Result<Reply, ServeFault>
     ensures remembers { (requests : List (List ℕ)) → Remembers settings.now requests session.old → OnOk result (Remembers settings.now (requests ++ document.entry.bytes.now ∷ []) session.new) }
-    ensures answered { IfOk result (IsAnswered settings.now session.old document.entry.bytes.now session.new) }
+    ensures answered { IfOk result (IsDocumentAnswered settings.now session.old document.entry.bytes.now session.new) }
     ensures kept { OnErr result (session.new.user ≡ session.old.user) }
     ensures refused { IfErr result (λ fault. fault ≡ OutOfMemory) }
 {
@@ -187,7 +187,7 @@ fn take_query<L: Link, G: Ledger>(
 ) -> Result<(), ServeFault>
     requires header { header ≡ header_with head.now Query }
     requires code { signed_at 12 head.now ≡ pos 2004 }
-    ensures { (requests : List (List ℕ)) (before : State) → Remembers settings.now requests serving.old.session → Follows before (state_of L.state link.old) head.now →
+    ensures { (requests : List (List ℕ)) (before : State) → Remembers settings.now requests serving.old.session → FollowsHead before (state_of L.state link.old) head.now →
         PartEnds settings.now requests before (state_of L.state link.new) serving.old.session serving.old.ids serving.new.session serving.new.ids result }
 {
     let Some(rest) = length_after(header.length) else {
@@ -227,7 +227,7 @@ fn greet_query<G: Ledger>(
     steps: &mut Steps<G>,
 ) -> Result<Reply, ServeFault>
     ensures remembers { (requests : List (List ℕ)) → Remembers settings.now requests session.old → OnOk result (Remembers settings.now (requests ++ document.entry.bytes.now ∷ []) session.new) }
-    ensures answered { IfOk result (IsAnswered settings.now session.old document.entry.bytes.now session.new) }
+    ensures answered { IfOk result (IsDocumentAnswered settings.now session.old document.entry.bytes.now session.new) }
     ensures greeting { OnOk result (IsGreeting document.entry.bytes.now) }
     ensures kept { OnErr result (session.new.user ≡ session.old.user) }
     ensures refused { IfErr result (λ fault. (fault ≡ OutOfMemory) ⊎ ((fault ≡ NoHello) × (IsGreeting document.entry.bytes.now → ⊥))) }

@@ -36,8 +36,8 @@ pub struct Session {
 impl Session {
     ghost use Rattle.std.specs.Prelude.{◌≡◌, ℕ, true, List, [], ◌∷◌, ◌++◌, None, IfSome, IfOk, IfErr, OnErr};
     ghost use Rattle.mongo_serve.specs.Last.{AnswersLast, AnswersEmpty};
-    ghost use Rattle.mongo_serve.specs.Login.{HasLoggedIn, IsLoginOf, Remembers};
-    ghost use Rattle.mongo_serve.specs.Requests.{Opens, Continues};
+    ghost use Rattle.mongo_serve.specs.Login.{HasLoggedIn, IsOpenLogin, Remembers};
+    ghost use Rattle.mongo_serve.specs.Requests.{OpensLogin, SaysSaslContinue};
     ghost use Rattle.mongo_serve.specs.Sasl.{AnswersStart, AnswersContinue};
     ghost use Rattle.mongo_serve.specs.declared.settings.Settings.{Settings as SettingsValue};
     ghost use Rattle.mongo_serve.specs.declared.fault.ServeFault.TheVariants.{OutOfMemory};
@@ -63,7 +63,7 @@ impl Session {
         steps: &mut Steps<G>,
     ) -> Result<Option<SaslReply>, ServeFault>
         // Of all that the client sent, the session knows a login that this request begins, and who is logged in already.
-        ensures remembers { (requests : List (List ℕ)) (document : List ℕ) → Remembers settings.now requests self.old → IfSome start.entry.payload (λ payload. Opens document payload.now) →
+        ensures remembers { (requests : List (List ℕ)) (document : List ℕ) → Remembers settings.now requests self.old → IfSome start.entry.payload (λ payload. OpensLogin document payload.now) →
             Remembers settings.now (requests ++ document ∷ []) self.new }
         ensures answered { IfOk result (AnswersStart settings.now start.entry self.new) }
         ensures user { self.new.user ≡ self.old.user }
@@ -90,7 +90,7 @@ impl Session {
         alloc: Global,
         next: SaslContinue<'_>,
     ) -> Result<Option<SaslReply>, ServeFault>
-        ensures remembers { (settings : SettingsValue) (requests : List (List ℕ)) (document : List ℕ) → Remembers settings requests self.old → IfSome next.entry.payload (λ payload. Continues document payload.now) →
+        ensures remembers { (settings : SettingsValue) (requests : List (List ℕ)) (document : List ℕ) → Remembers settings requests self.old → IfSome next.entry.payload (λ payload. SaysSaslContinue document payload.now) →
             Remembers settings (requests ++ document ∷ []) self.new }
         ensures answered { IfOk result (AnswersContinue self.old next.entry self.new) }
         ensures kept { OnErr result (self.new.user ≡ self.old.user) }
@@ -116,7 +116,7 @@ impl Session {
         payload: &[u8],
     ) -> Result<Option<SaslReply>, ServeFault>
         requires { self.old.login ≡ None }
-        ensures remembers { (settings : SettingsValue) (requests : List (List ℕ)) (document : List ℕ) → IfSome self.old.user (λ name. HasLoggedIn settings name requests) → IsLoginOf settings requests login → Continues document payload.now →
+        ensures remembers { (settings : SettingsValue) (requests : List (List ℕ)) (document : List ℕ) → IfSome self.old.user (λ name. HasLoggedIn settings name requests) → IsOpenLogin settings requests login → SaysSaslContinue document payload.now →
             Remembers settings (requests ++ document ∷ []) self.new }
         ensures answered { IfOk result (AnswersLast self.old login payload.now self.new) }
         ensures kept { OnErr result (self.new.user ≡ self.old.user) }
@@ -164,7 +164,7 @@ impl Session {
     ) -> Result<Option<SaslReply>, ServeFault>
         requires none { self.old.login ≡ None }
         requires proved { login.is_proved ≡ true }
-        ensures remembers { (settings : SettingsValue) (requests : List (List ℕ)) (document : List ℕ) → IfSome self.old.user (λ name. HasLoggedIn settings name requests) → IsLoginOf settings requests login →
+        ensures remembers { (settings : SettingsValue) (requests : List (List ℕ)) (document : List ℕ) → IfSome self.old.user (λ name. HasLoggedIn settings name requests) → IsOpenLogin settings requests login →
             Remembers settings (requests ++ document ∷ []) self.new }
         ensures answered { IfOk result (AnswersEmpty self.old login payload.now self.new) }
         ensures kept { OnErr result (self.new.user ≡ self.old.user) }

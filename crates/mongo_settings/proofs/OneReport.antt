@@ -11,7 +11,7 @@ use Rattle.mongo_settings.specs.declared.settings.Settings.{Settings}
 use Rattle.mongo_settings.specs.declared.rehearsal.Rehearsal.{Rehearsal}
 use Rattle.mongo_settings.specs.declared.rehearsal.RehearsalStatus.TheVariants.{Accepted, Refused}
 use Rattle.mongo_settings.specs.Report.{CountsItself, front_length, sent_lines, read_line, accepted_lines, refused_lines}
-use Rattle.mongo_settings.specs.Outcome.{asked_of, Acceptance, IsAcceptance, Outcome, accepted, refused, IsOutcome, Writes, taken_by, status_of, IsAccepted, IsRefused}
+use Rattle.mongo_settings.specs.Outcome.{asked_of, Acceptance, IsAcceptance, Outcome, accepted, refused, IsOutcome, WritesOutcome, taken_by, status_of, LeadsToAcceptance, IsRefused}
 use Rattle.mongo_settings.specs.Rehearsal.{outcome_lines, IsReport, IsRehearsal}
 use Rattle.mongo_settings.proofs.Frames.{no_frames, next_frame, front_length-front}
 
@@ -31,10 +31,10 @@ record SameOutcome (settings : Settings) (outcome other : Outcome) (bytes more :
   count : length (taken_by outcome) ≡ length (taken_by other)
   sent : bytes ≡ more
 
-abbrev script_of : (settings : Settings) (acceptance : Acceptance) (bytes : List ℕ) → IsAcceptance settings acceptance → IsWritten (asked_of settings) acceptance.script bytes → IsAccepted settings
+abbrev script_of : (settings : Settings) (acceptance : Acceptance) (bytes : List ℕ) → IsAcceptance settings acceptance → IsWritten (asked_of settings) acceptance.script bytes → LeadsToAcceptance settings
 script_of settings acceptance bytes is written = record { script = acceptance.script; is_script = is.is_script; sent = bytes; is_written = written; taken = acceptance.taken; rest = acceptance.unread; joined = is.joined; is_taken = is.is_taken }
 
-same_outcome : (settings : Settings) (outcome other : Outcome) (bytes more : List ℕ) → IsOutcome settings outcome → IsOutcome settings other → Writes settings outcome bytes → Writes settings other more → SameOutcome settings outcome other bytes more
+same_outcome : (settings : Settings) (outcome other : Outcome) (bytes more : List ℕ) → IsOutcome settings outcome → IsOutcome settings other → WritesOutcome settings outcome bytes → WritesOutcome settings other more → SameOutcome settings outcome other bytes more
 same_outcome settings (accepted a) (accepted b) bytes more p q w v =
     let same = one_script (asked_of settings) settings.replies (script_of settings a bytes p w) (script_of settings b more q v) in
     record {
@@ -67,10 +67,10 @@ only_report settings (Ok x) h = λ text is. one_report settings text x.report.it
 only_report settings (Err e) h = tt
 
 -- reply bytes that begin with a script's come out accepted, and those that lead to a refusal refused
-pub accepted_status : (settings : Settings) (outcome : Outcome) → IsAccepted settings → IsOutcome settings outcome → status_of outcome ≡ Accepted
+pub accepted_status : (settings : Settings) (outcome : Outcome) → LeadsToAcceptance settings → IsOutcome settings outcome → status_of outcome ≡ Accepted
 accepted_status settings (accepted a) script is = refl
 accepted_status settings (refused r) script is = absurd (script_unrefused (asked_of settings) settings.replies r.phase r script is)
 
-pub refused_status : (settings : Settings) (outcome : Outcome) (bytes : List ℕ) → IsRefused settings → IsOutcome settings outcome → Writes settings outcome bytes → status_of outcome ≡ Refused
+pub refused_status : (settings : Settings) (outcome : Outcome) (bytes : List ℕ) → IsRefused settings → IsOutcome settings outcome → WritesOutcome settings outcome bytes → status_of outcome ≡ Refused
 refused_status settings (accepted a) bytes r is w = absurd (script_unrefused (asked_of settings) settings.replies r.refusal.phase r.refusal (script_of settings a bytes is w) r.is_refusal)
 refused_status settings (refused s) bytes r is w = refl

@@ -15,8 +15,8 @@ use Rattle.mongo_settings.specs.declared.rehearsal.Rehearsal.{Rehearsal}
 use Rattle.mongo_settings.specs.declared.rehearsal.RehearsalStatus.{RehearsalStatus}
 use Rattle.mongo_settings.specs.declared.rehearsal.RehearsalStatus.TheVariants.{Accepted, Refused}
 use Rattle.mongo_settings.specs.Rounds.{Derived, logs_in, keys_after}
-use Rattle.mongo_settings.specs.Batch.{Login, IsLogin, keys_with, AreLogins, both, status_of_all, rounds_of_all, counted, rounds_line}
-use Rattle.mongo_settings.specs.Takes.{TakesBy, IsJoined}
+use Rattle.mongo_settings.specs.Batch.{Login, IsBatchLogin, keys_with, AreLogins, both, status_of_all, rounds_of_all, counted, rounds_line}
+use Rattle.mongo_settings.specs.Takes.{TakesBy, JoinsReport}
 use Rattle.mongo_settings.specs.Task.{ReportsMany, steps_of}
 
 -- ---- one login more
@@ -30,7 +30,7 @@ all_keys-more : (keys : List SaltedKey) (logins : List Login) (login : Login) �
 all_keys-more keys [] login = refl
 all_keys-more keys (first ∷ others) login = all_keys-more (keys_with keys first) others login
 
-AreLogins-more : (keys : List SaltedKey) (logins : List Login) (login : Login) → AreLogins keys logins → IsLogin (all_keys keys logins) login → AreLogins keys (logins ++ login ∷ [])
+AreLogins-more : (keys : List SaltedKey) (logins : List Login) (login : Login) → AreLogins keys logins → IsBatchLogin (all_keys keys logins) login → AreLogins keys (logins ++ login ∷ [])
 unfolding AreLogins
 AreLogins-more keys [] login are is = (is, tt)
 AreLogins-more keys (first ∷ others) login are is = (are.0, AreLogins-more (keys_with keys first) others login are.1 is)
@@ -149,14 +149,14 @@ shared_none start batch now status report steps entries rounds = record {
   held = holds_none now.cache entries;
 }
 
-pub shared_more : (start : ℕ) (front : List Settings) (settings : Settings) (old new : Rehearsal) (now later : Ledgers) → Shared start front old now → IsJoined settings now later old new → Shared start (front ++ settings ∷ []) new later
+pub shared_more : (start : ℕ) (front : List Settings) (settings : Settings) (old new : Rehearsal) (now later : Ledgers) → Shared start front old now → JoinsReport settings now later old new → Shared start (front ++ settings ∷ []) new later
 shared_more start front settings old new now later s j =
     let t = j.taking.takes in
     let report = j.taking.rehearsal_is.report in
     let keys = all_keys [] s.logins in
     let taken = taken_by (logs_in report.outcome) keys t.key now later t.taken s.held in
     let login : Login = record { settings = settings; text = j.rehearsal.report.items; status = j.rehearsal.status; key = t.key; accepted = logs_in report.outcome; rounds = taken.rounds } in
-    let is : IsLogin keys login = record { report = report; status_is = j.taking.rehearsal_is.status_is; accepted_is = refl; key_is = t.key_is; derived = taken.derived } in
+    let is : IsBatchLogin keys login = record { report = report; status_is = j.taking.rehearsal_is.status_is; accepted_is = refl; key_is = t.key_is; derived = taken.derived } in
     let sums = sums-more s.logins login in
     record {
       logins = s.logins ++ login ∷ [];

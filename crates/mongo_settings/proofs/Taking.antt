@@ -13,7 +13,7 @@ use Rattle.mongo_settings.specs.declared.rehearsal.Rehearsal.{Rehearsal}
 use Rattle.mongo_settings.specs.Outcome.{asked_of}
 use Rattle.mongo_settings.specs.Rehearsal.{IsRehearsal}
 use Rattle.mongo_settings.specs.Rounds.{is_after_login}
-use Rattle.mongo_settings.specs.Takes.{TakesBy, logged_in, Takes, IsTaking}
+use Rattle.mongo_settings.specs.Takes.{TakesBy, logged_in, TakesLedgers, IsTaking}
 use Rattle.mongo_settings.specs.Telling.{IsReported, Tells}
 use Rattle.mongo_settings.proofs.Rehearsing.{Replayed, Replays}
 
@@ -21,14 +21,14 @@ before_login : (kind : ErrorKind) → (kind ≡ IncompatibleServer → ⊥) → 
 before_login IncompatibleServer other = absurd (other refl)
 before_login kind other = refl
 
-took : (settings : Settings) (accepted : Bool) (first last : Ledgers) → TakesAsLed (asked_of settings) settings.replies (λ key. TakesBy accepted key first last) → Takes settings accepted first last
+took : (settings : Settings) (accepted : Bool) (first last : Ledgers) → TakesAsLed (asked_of settings) settings.replies (λ key. TakesBy accepted key first last) → TakesLedgers settings accepted first last
 took settings accepted first last t = record { key = t.key; key_is = t.leads; taken = t.taken }
 
-pub takes_over : (settings : Settings) (first last : Ledgers) (ended : Result PooledConnection EstablishError) → CostsOver ended (asked_of settings) settings.replies first last → ((e : EstablishError) → ended ≡ Err e → IsReported e.cause.kind) → Takes settings (logged_in ended) first last
+pub takes_over : (settings : Settings) (first last : Ledgers) (ended : Result PooledConnection EstablishError) → CostsOver ended (asked_of settings) settings.replies first last → ((e : EstablishError) → ended ≡ Err e → IsReported e.cause.kind) → TakesLedgers settings (logged_in ended) first last
 takes_over settings first last (Ok pooled) costs reported = took settings true first last costs
 takes_over settings first last (Err e) (inl memory) reported = absurd (subst IsReported memory (reported e refl))
-takes_over settings first last (Err e) (inr (inl unnamed)) reported = subst (λ b. Takes settings b first last) (sym (ap is_after_login unnamed.kind_is)) (took settings true first last unnamed.led)
-takes_over settings first last (Err e) (inr (inr refused)) reported = subst (λ b. Takes settings b first last) (sym (before_login e.cause.kind refused.other)) (took settings false first last refused.led)
+takes_over settings first last (Err e) (inr (inl unnamed)) reported = subst (λ b. TakesLedgers settings b first last) (sym (ap is_after_login unnamed.kind_is)) (took settings true first last unnamed.led)
+takes_over settings first last (Err e) (inr (inr refused)) reported = subst (λ b. TakesLedgers settings b first last) (sym (before_login e.cause.kind refused.other)) (took settings false first last refused.led)
 
 told_cause : (written : List ℕ) (count : ℕ) (ended : Result PooledConnection EstablishError) (x : Rehearsal) → Tells written count ended x → (e : EstablishError) → ended ≡ Err e → IsReported e.cause.kind
 told_cause written count (Ok pooled) x tells e is = cc
@@ -45,7 +45,7 @@ taking settings asked old new first last output left count ended (Ok x) same cos
     let over = (subst (λ a. CostsAsLed ended a old new first last) same costs).over settings.replies p.given p.unfailed p.unwritten in
     record {
       rehearsal_is = is.rehearses.rehearsal_is;
-      takes = subst (λ b. Takes settings b first last) (sym is.rehearses.logs_in_is) (takes_over settings first last ended over (told_cause output count ended x tells));
+      takes = subst (λ b. TakesLedgers settings b first last) (sym is.rehearses.logs_in_is) (takes_over settings first last ended over (told_cause output count ended x tells));
     }
 taking settings asked old new first last output left count ended (Err error) same costs p tells is = tt
 

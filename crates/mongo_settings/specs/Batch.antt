@@ -8,11 +8,11 @@ use Rattle.mongo_settings.specs.declared.rehearsal.RehearsalStatus.TheVariants.{
 use Rattle.mongo_settings.specs.Line.{line}
 use Rattle.mongo_settings.specs.Outcome.{status_of}
 use Rattle.mongo_settings.specs.Rehearsal.{IsReport}
-use Rattle.mongo_settings.specs.Rounds.{IsKeyOf, Derived, logs_in, keys_after}
+use Rattle.mongo_settings.specs.Rounds.{DerivesFrom, Derived, logs_in, keys_after}
 
 -- the login is by a mechanism that is spoken
-abbrev pub IsSpoken : Settings → Type 0
-IsSpoken settings = SpeaksFor settings.credential
+abbrev pub IsLoginSpoken : Settings → Type 0
+IsLoginSpoken settings = SpeaksFor settings.credential
 
 -- one login: its settings, its report alone, how it came out, the key that it derives from, whether that was accepted, and
 -- the rounds that it derived
@@ -25,11 +25,11 @@ pub record Login : Type 0 where
   pub rounds : ℕ
 
 -- after logins with these accepted keys; the report knows nothing of them
-pub record IsLogin (keys : List SaltedKey) (login : Login) : Type 0 where
+pub record IsBatchLogin (keys : List SaltedKey) (login : Login) : Type 0 where
   pub report : IsReport login.settings login.text
   pub status_is : login.status ≡ status_of report.outcome
   pub accepted_is : login.accepted ≡ logs_in report.outcome
-  pub key_is : IsKeyOf login.settings login.key
+  pub key_is : DerivesFrom login.settings login.key
   pub derived : Derived keys login.key login.rounds
 
 abbrev pub keys_with : List SaltedKey → Login → List SaltedKey
@@ -37,7 +37,7 @@ keys_with keys login = keys_after login.accepted login.key keys
 
 unfoldable pub AreLogins : List SaltedKey → List Login → Type 0
 AreLogins keys [] = ⊤
-AreLogins keys (login ∷ others) = IsLogin keys login × AreLogins (keys_with keys login) others
+AreLogins keys (login ∷ others) = IsBatchLogin keys login × AreLogins (keys_with keys login) others
 
 -- a batch is accepted where each of its logins is
 abbrev pub both : RehearsalStatus → RehearsalStatus → RehearsalStatus

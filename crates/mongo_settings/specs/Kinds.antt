@@ -105,9 +105,9 @@ abbrev pub joined_hex_in : Data → Option (List ℕ)
 joined_hex_in d = option_and_then joined_hex (as_array d)
 
 -- bytes that have those that are meant at their end
-abbrev pub IsJoined : Option (List ℕ) → List ℕ → List ℕ → Type 0
-IsJoined None old new = ⊥
-IsJoined (Some bytes) old new = new ≡ old ++ bytes
+abbrev pub IsHexJoined : Option (List ℕ) → List ℕ → List ℕ → Type 0
+IsHexJoined None old new = ⊥
+IsHexJoined (Some bytes) old new = new ≡ old ++ bytes
 
 -- the 32 bytes of a nonce, by 64 hex digits
 abbrev pub nonce_in : Data → Option (List ℕ)

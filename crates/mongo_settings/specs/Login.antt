@@ -16,7 +16,7 @@ unfoldable pub asked_by : Login → Asked
 asked_by login = asked_for login.pending (options_of_establisher login.establisher) login.credential login.inputs.nonces login.ids
 
 -- the login asks for what the settings ask for
-pub record IsReady (settings : Settings) (login : Login) : Type 0 where
+pub record AsksForSettings (settings : Settings) (login : Login) : Type 0 where
   pub asked : asked_by login ≡ asked_of settings
   pub credential : login.credential ≡ settings.credential
 

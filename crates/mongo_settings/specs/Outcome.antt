@@ -41,9 +41,9 @@ IsOutcome settings (accepted acceptance) = IsAcceptance settings acceptance
 IsOutcome settings (refused refusal) = IsRefusal (asked_of settings) settings.replies refusal
 
 -- the frames of its commands, joined
-abbrev pub Writes : Settings → Outcome → List ℕ → Type 0
-Writes settings (accepted acceptance) bytes = IsWritten (asked_of settings) acceptance.script bytes
-Writes settings (refused refusal) bytes = IsSaid refusal.commands (asked_of settings).first_id bytes
+abbrev pub WritesOutcome : Settings → Outcome → List ℕ → Type 0
+WritesOutcome settings (accepted acceptance) bytes = IsWritten (asked_of settings) acceptance.script bytes
+WritesOutcome settings (refused refusal) bytes = IsSaid refusal.commands (asked_of settings).first_id bytes
 
 -- the reply bytes that it takes
 abbrev pub taken_by : Outcome → List ℕ
@@ -55,8 +55,8 @@ status_of (accepted acceptance) = Accepted
 status_of (refused refusal) = Refused
 
 -- the reply bytes begin with a script's
-abbrev pub IsAccepted : Settings → Type 0
-IsAccepted settings = HasScript (asked_of settings) settings.replies
+abbrev pub LeadsToAcceptance : Settings → Type 0
+LeadsToAcceptance settings = HasScript (asked_of settings) settings.replies
 
 -- the reply bytes lead to a refusal
 pub record IsRefused (settings : Settings) : Type 0 where

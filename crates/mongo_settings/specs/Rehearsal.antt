@@ -7,7 +7,7 @@ use Rattle.mongo_establish.specs.Generation.{generation_of}
 use Rattle.mongo_settings.specs.declared.settings.Settings.{Settings}
 use Rattle.mongo_settings.specs.declared.rehearsal.Rehearsal.{Rehearsal}
 use Rattle.mongo_settings.specs.Report.{CountsItself, sent_lines, read_line, accepted_lines, refused_lines}
-use Rattle.mongo_settings.specs.Outcome.{asked_of, Outcome, accepted, refused, IsOutcome, Writes, taken_by, status_of}
+use Rattle.mongo_settings.specs.Outcome.{asked_of, Outcome, accepted, refused, IsOutcome, WritesOutcome, taken_by, status_of}
 
 -- the lines that say how it came out
 abbrev pub outcome_lines : Settings → Outcome → List ℕ
@@ -26,7 +26,7 @@ pub record IsReport (settings : Settings) (text : List ℕ) : Type 0 where
   pub is_outcome : IsOutcome settings outcome
   pub frames : List (List ℕ)
   pub each_frame : AllByRecursion CountsItself frames
-  pub sent : Writes settings outcome (concat frames)
+  pub sent : WritesOutcome settings outcome (concat frames)
   pub text_is : text ≡ report_of settings outcome frames
 
 -- the rehearsal has the report of settings, and says how it came out

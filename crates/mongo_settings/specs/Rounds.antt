@@ -9,8 +9,8 @@ use Rattle.mongo_settings.specs.declared.settings.Settings.{Settings}
 use Rattle.mongo_settings.specs.Outcome.{asked_of, Outcome, accepted, refused}
 
 -- the key that the reply bytes lead the login to derive from, or that it comes to none
-abbrev pub IsKeyOf : Settings → Option SaltedKey → Type 0
-IsKeyOf settings key = LeadsToKey (asked_of settings) settings.replies key
+abbrev pub DerivesFrom : Settings → Option SaltedKey → Type 0
+DerivesFrom settings key = LeadsToKey (asked_of settings) settings.replies key
 
 -- the rounds that a login with this key derives, where these keys were accepted before
 abbrev pub Derived : List SaltedKey → Option SaltedKey → ℕ → Type 0

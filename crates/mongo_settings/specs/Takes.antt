@@ -8,7 +8,7 @@ use Rattle.mongo_establish.specs.KeyCosts.{AcceptedTakes, RefusedTakes}
 use Rattle.mongo_settings.specs.declared.settings.Settings.{Settings}
 use Rattle.mongo_settings.specs.declared.rehearsal.Rehearsal.{Rehearsal}
 use Rattle.mongo_settings.specs.Rehearsal.{IsRehearsal}
-use Rattle.mongo_settings.specs.Rounds.{IsKeyOf, is_after_login, logs_in}
+use Rattle.mongo_settings.specs.Rounds.{DerivesFrom, is_after_login, logs_in}
 use Rattle.mongo_settings.specs.Batch.{both}
 
 -- by whether the login was accepted
@@ -26,18 +26,18 @@ pub record Rehearses (settings : Settings) (ended : Result PooledConnection Esta
   pub rehearsal_is : IsRehearsal settings rehearsal
   pub logs_in_is : logs_in rehearsal_is.report.outcome ≡ logged_in ended
 
-pub record Takes (settings : Settings) (accepted : Bool) (first last : Ledgers) : Type 0 where
+pub record TakesLedgers (settings : Settings) (accepted : Bool) (first last : Ledgers) : Type 0 where
   pub key : Option SaltedKey
-  pub key_is : IsKeyOf settings key
+  pub key_is : DerivesFrom settings key
   pub taken : TakesBy accepted key first last
 
 -- the rehearsal has the report of settings, whatever the cache held, and took so much
 pub record IsTaking (settings : Settings) (first last : Ledgers) (rehearsal : Rehearsal) : Type 0 where
   pub rehearsal_is : IsRehearsal settings rehearsal
-  pub takes : Takes settings (logs_in rehearsal_is.report.outcome) first last
+  pub takes : TakesLedgers settings (logs_in rehearsal_is.report.outcome) first last
 
 -- the batch has one report more, and says how it came out with that
-pub record IsJoined (settings : Settings) (first last : Ledgers) (old new : Rehearsal) : Type 0 where
+pub record JoinsReport (settings : Settings) (first last : Ledgers) (old new : Rehearsal) : Type 0 where
   pub rehearsal : Rehearsal
   pub taking : IsTaking settings first last rehearsal
   pub report : new.report.items ≡ old.report.items ++ rehearsal.report.items

@@ -10,9 +10,9 @@ use Rattle.mongo_settings.specs.declared.rehearsal.RehearsalStatus.{RehearsalSta
 use Rattle.mongo_settings.specs.declared.rehearsal.RehearsalStatus.TheVariants.{Accepted, Refused}
 use Rattle.mongo_settings.specs.Settings.{◌>>=◌, judged}
 use Rattle.mongo_settings.specs.Logins.{logins_judged}
-use Rattle.mongo_settings.specs.Outcome.{status_of, IsAccepted, IsRefused}
+use Rattle.mongo_settings.specs.Outcome.{status_of, LeadsToAcceptance, IsRefused}
 use Rattle.mongo_settings.specs.Rehearsal.{IsReport}
-use Rattle.mongo_settings.specs.Batch.{IsSpoken, IsBatch, both, status_of_all, rounds_of_all}
+use Rattle.mongo_settings.specs.Batch.{IsLoginSpoken, IsBatch, both, status_of_all, rounds_of_all}
 
 -- what is asked for: one login, or many
 pub data Asks : Type 0 where
@@ -30,8 +30,8 @@ judged_as Batch text = logins_judged text >>= (λ logins. Ok (many logins))
 
 -- each login is by a mechanism that is spoken
 abbrev pub AreSpoken : Asks → Type 0
-AreSpoken (one settings) = IsSpoken settings
-AreSpoken (many logins) = All IsSpoken logins
+AreSpoken (one settings) = IsLoginSpoken settings
+AreSpoken (many logins) = All IsLoginSpoken logins
 
 -- ---- the report
 
@@ -63,7 +63,7 @@ Reports (many logins) steps status text = ReportsMany logins steps status text
 
 -- reply bytes come out so: those of settings by a script or a refusal, those of a batch each for itself
 abbrev pub LoginComesOut : Settings → RehearsalStatus → Type 0
-LoginComesOut settings Accepted = IsAccepted settings
+LoginComesOut settings Accepted = LeadsToAcceptance settings
 LoginComesOut settings Refused = IsRefused settings
 
 abbrev pub AllComeOut : List Settings → RehearsalStatus → Type 0

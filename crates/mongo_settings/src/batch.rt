@@ -2,8 +2,8 @@
 ghost use Rattle.std.specs.Prelude.{◌≡◌, ◌++◌, ◌≤◌, All, IfOk, OnOk};
 ghost use Rattle.mongo_scram.specs.Costs.{ledgers};
 ghost use Rattle.mongo_establish.specs.Speculation.{SpeaksFor};
-ghost use Rattle.mongo_settings.specs.Batch.{IsSpoken, rounds_line};
-ghost use Rattle.mongo_settings.specs.Takes.{IsJoined};
+ghost use Rattle.mongo_settings.specs.Batch.{IsLoginSpoken, rounds_line};
+ghost use Rattle.mongo_settings.specs.Takes.{JoinsReport};
 ghost use Rattle.mongo_settings.specs.Task.{ReportsMany, steps_of};
 
 use crate::rehearsal::{Rehearsal, RehearsalStatus, new_state, rehearse_with};
@@ -21,7 +21,7 @@ pub fn rehearse_all<G: Ledger>(
     logins: Vec<Settings>,
     steps: &mut Steps<G>,
 ) -> Result<Rehearsal, AllocError>
-    requires spoken { All IsSpoken logins.items }
+    requires spoken { All IsLoginSpoken logins.items }
     // The reports are those of the logins alone, and each key was derived once until a login with it was accepted.
     ensures batch { IfOk result (λ rehearsal. ReportsMany logins.items (steps_of steps.old steps.new) rehearsal.status rehearsal.report.items) }
     ensures steps { steps.old ≤ steps.new }
@@ -47,7 +47,7 @@ fn rehearse_next<G: Ledger>(
     steps: &mut Steps<G>,
 ) -> Result<(), AllocError>
     requires spoken { SpeaksFor settings.credential }
-    ensures joined { OnOk result (IsJoined settings (ledgers steps.old state.old.salted) (ledgers steps.new state.new.salted) batch.old batch.new) }
+    ensures joined { OnOk result (JoinsReport settings (ledgers steps.old state.old.salted) (ledgers steps.new state.new.salted) batch.old batch.new) }
     ensures steps { steps.old ≤ steps.new }
 {
     let rehearsal = rehearse_with(alloc, settings, state, steps)?;

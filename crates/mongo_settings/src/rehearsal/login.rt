@@ -7,7 +7,7 @@ ghost use Rattle.mongo_establish.specs.Establisher.{options_of_establisher};
 ghost use Rattle.mongo_establish.specs.KeyCosts.{CostsAsLed};
 ghost use Rattle.mongo_establish.specs.Options.{options_of};
 ghost use Rattle.mongo_establish.specs.Speculation.{SpeaksFor};
-ghost use Rattle.mongo_settings.specs.Login.{asked_by, IsReady, IsMade, IsStopped};
+ghost use Rattle.mongo_settings.specs.Login.{asked_by, AsksForSettings, IsMade, IsStopped};
 
 use crate::settings::Settings;
 use mongo_bson::Bytes;
@@ -37,7 +37,7 @@ pub struct Login {
 
 /// Makes the login of the settings ready, and hands on their reply bytes.
 pub fn prepare(alloc: Global, settings: Settings) -> Result<(Login, Bytes), AllocError>
-    ensures login { IfOk result (λ ready. IsReady settings ready.0) }
+    ensures login { IfOk result (λ ready. AsksForSettings settings ready.0) }
     ensures replies { IfOk result (λ ready. ready.1 ≡ settings.replies) }
 {
     let Settings {

@@ -1,7 +1,7 @@
 //! The plain kinds of values.
 ghost use Rattle.std.specs.Prelude.{◌≡◌, ◌≤◌, ◌-◌, ◌/◌, ◌^◌, ℕ, List, length, take, IfSome, IfErr, OnOk};
 ghost use Rattle.serde_json.specs.View.{view, items_view};
-ghost use Rattle.mongo_settings.specs.Kinds.{number_from, hex_of, hex_bytes, joined_hex, nonce_in, IsJoined, Means, MeansNothing};
+ghost use Rattle.mongo_settings.specs.Kinds.{number_from, hex_of, hex_bytes, joined_hex, nonce_in, IsHexJoined, Means, MeansNothing};
 
 use crate::settings::SettingsError;
 use crate::settings::reading::{SettingValue, two_in};
@@ -166,7 +166,7 @@ fn joined_hex(alloc: Global, items: &[Value]) -> Result<Bytes, SettingsError>
 
 // Appends the bytes of a hex text, whose digits are an even number of either case. A refusal may leave other bytes at the end.
 fn push_hex_bytes(joined: &mut Vec<u8>, value: &Value) -> Result<(), SettingsError>
-    ensures pushed { OnOk result (IsJoined (hex_bytes (view value.now)) joined.old.items joined.new.items) }
+    ensures pushed { OnOk result (IsHexJoined (hex_bytes (view value.now)) joined.old.items joined.new.items) }
     ensures refused { IfErr result (λ e. MeansNothing e (hex_bytes (view value.now))) }
 {
     let Some(text) = value.as_str() else {
@@ -181,7 +181,7 @@ fn push_hex_bytes(joined: &mut Vec<u8>, value: &Value) -> Result<(), SettingsErr
 fn decode_at(bytes: &mut [u8], at: usize, text: &str) -> Result<(), SettingsError>
     requires place { at ≤ length bytes.old }
     requires room { length bytes.old - at ≡ length text.now / 2 }
-    ensures decoded { OnOk result (IsJoined (hex_of text.now) (take at bytes.old) bytes.new) }
+    ensures decoded { OnOk result (IsHexJoined (hex_of text.now) (take at bytes.old) bytes.new) }
     ensures refused { IfErr result (λ e. MeansNothing e (hex_of text.now)) }
 {
     match hex::decode_to_slice(text, &mut bytes[at..]) {

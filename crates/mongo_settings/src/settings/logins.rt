@@ -3,7 +3,7 @@ ghost use Rattle.std.specs.Prelude.{◌≡◌, ◌++◌, [], ◌∷◌, All, IfO
 ghost use Rattle.serde_json.specs.View.{view, items_view};
 ghost use Rattle.mongo_settings.specs.Settings.{needed, Gives};
 ghost use Rattle.mongo_settings.specs.Logins.{each_settings, logins_of, logins_judged};
-ghost use Rattle.mongo_settings.specs.Batch.{IsSpoken};
+ghost use Rattle.mongo_settings.specs.Batch.{IsLoginSpoken};
 ghost use Rattle.mongo_settings.specs.declared.settings.SettingsError.TheVariants.{OutOfMemory};
 
 use crate::settings::reading::judge_object;
@@ -18,7 +18,7 @@ use std::alloc::Global;
 #[tactic(auto, unfolding(crate::specs::Logins::logins_judged, crate::specs::Logins::logins_of))]
 pub fn read_logins(alloc: Global, text: &[u8]) -> Result<Vec<Settings>, SettingsError>
     ensures logins { Gives (λ logins. logins.items) result (logins_judged text.now) }
-    ensures spoken { IfOk result (λ logins. All IsSpoken logins.items) }
+    ensures spoken { IfOk result (λ logins. All IsLoginSpoken logins.items) }
 {
     let value = value_of(alloc, text)?;
     judge_object(&value, &keys::BATCH_KEYS)?;
@@ -34,7 +34,7 @@ pub fn read_logins(alloc: Global, text: &[u8]) -> Result<Vec<Settings>, Settings
 // The settings that the values are, one after another.
 fn each_settings(alloc: Global, values: &[Value]) -> Result<Vec<Settings>, SettingsError>
     ensures settings { Gives (λ logins. logins.items) result (each_settings (items_view values.now)) }
-    ensures spoken { IfOk result (λ logins. All IsSpoken logins.items) }
+    ensures spoken { IfOk result (λ logins. All IsLoginSpoken logins.items) }
 {
     let mut logins = Vec::new(alloc);
     for value in values {

@@ -1,5 +1,5 @@
 use Rattle.std.proofs.Common.{Global, MatchOption, ◌∷◌, [], map, string_bytes, sym, subst}
-use Rattle.mongo_bench.specs.Task.{Asks, AsksNothing}
+use Rattle.mongo_bench.specs.Task.{AsksTask, AsksNothing}
 use Rattle.mongo_bench.proofs.FourWords.{four_words}
 use Rattle.mongo_bench.proofs.task.task_of.Goals as goal
 
@@ -9,4 +9,4 @@ returns-in-len4 c =
     c.as_str-in-len4.result.now c.as_str-in-len4-2.result.now c.as_str-in-len4-3.result.now c.as_str-in-len4-4.result.now
     c.in-len4.len_at_least c.in-len4.len_below c.name-item-then-words-lt5.is c.direction-item.is c.size-item.is c.count-item-then-words-lt5.is
     c.as_str-in-len4.ensures.value c.as_str-in-len4-2.ensures.value c.as_str-in-len4-3.ensures.value c.as_str-in-len4-4.ensures.value in
-    subst (λ texts. MatchOption c.frames_of.result (AsksNothing texts) (Asks texts)) (sym words) c.frames_of.ensures
+    subst (λ texts. MatchOption c.frames_of.result (AsksNothing texts) (AsksTask texts)) (sym words) c.frames_of.ensures

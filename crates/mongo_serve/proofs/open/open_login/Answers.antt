@@ -1,6 +1,6 @@
 use Rattle.std.proofs.Common.{Option, None, Some, subst, ap, sym, ◌∙◌}
 use Rattle.std.specs.Borrow.{Bor}
-use Rattle.mongo_serve.specs.Opened.{Finds}
+use Rattle.mongo_serve.specs.Opened.{FindsAccount}
 use Rattle.mongo_serve.specs.declared.settings.Account.{Account}
 use Rattle.mongo_serve.proofs.Begun.{none_suits, opens_all}
 use Rattle.mongo_serve.proofs.open.open_login.Goals as goal
@@ -12,8 +12,8 @@ returns-in-Some-clause-opened g c =
     let version = c.in-Some-Some.version in
     let message = c.in-Some-Some.payload in
     let account = c.in-Some.account in
-    let found : Finds settings.accounts.items version message.now (Some account) =
-    subst (λ accounts. Finds accounts version message.now (Some account)) c.as_slice.ensures.value (rw c.in-Some.is at c.in_ok-account.ensures) in
+    let found : FindsAccount settings.accounts.items version message.now (Some account) =
+    subst (λ accounts. FindsAccount accounts version message.now (Some account)) c.as_slice.ensures.value (rw c.in-Some.is at c.in_ok-account.ensures) in
     opens_all settings start version message c.in-Some-Some.is-0 c.in-Some-Some.is-1 account.now c.as_str.result.now found c.as_str.ensures c.open.result c.open.ensures.opened
 
 pub returns-in-None-clause-opened : goal.returns-in-None-clause-opened
@@ -22,6 +22,6 @@ returns-in-None-clause-opened g c =
     let version = c.in-Some-Some.version in
     let message = c.in-Some-Some.payload in
     let none : Option (Bor Account) = None in
-    let found : Finds settings.accounts.items version message.now none =
-    subst (λ accounts. Finds accounts version message.now none) c.as_slice.ensures.value (rw c.in-None.is at c.in_ok-account.ensures) in
+    let found : FindsAccount settings.accounts.items version message.now none =
+    subst (λ accounts. FindsAccount accounts version message.now none) c.as_slice.ensures.value (rw c.in-None.is at c.in_ok-account.ensures) in
     none_suits settings c.args.start version message c.in-Some-Some.is-0 c.in-Some-Some.is-1 found

@@ -3,7 +3,7 @@ use Rattle.std.proofs.lemmas.List.{map-id}
 use Rattle.std.proofs.lemmas.Iterator.Adapters.{YieldsList-from_vec}
 use Rattle.std.proofs.lemmas.Iterator.Consumers.{YieldsList-turn, YieldsList-end}
 use Rattle.mongo_scram.specs.Costs.{ledgers}
-use Rattle.mongo_settings.specs.Batch.{IsSpoken, rounds_line}
+use Rattle.mongo_settings.specs.Batch.{IsLoginSpoken, rounds_line}
 use Rattle.mongo_settings.proofs.Sharing.{Shared, shared_none, shared_more, shared_report}
 use Rattle.mongo_settings.proofs.batch.rehearse_all.Goals as goal
 
@@ -18,7 +18,7 @@ rehearse_next-requires g c =
     let b = c.into_iter-settings-iterator.ensures.into_iter_gives in
     let all = YieldsList-from_vec {s = c.into_iter-settings-iterator.result} c.args.logins.items b.0 (b.1 ∙ c.args.logins.ok.0) in
     let turn = YieldsList-turn all c.loop-settings.yielded c.loop-settings.settings-iterator c.loop-settings.yielded_by c.next.result c.next.new.self c.in-Some.settings c.in-Some.is c.next.ensures.steps in
-    record { spoken = subst IsSpoken (sym turn.1) (c.requires.spoken (length c.loop-settings.yielded) c.in-Some.settings turn.0) }
+    record { spoken = subst IsLoginSpoken (sym turn.1) (c.requires.spoken (length c.loop-settings.yielded) c.in-Some.settings turn.0) }
 
 pub loop-settings-preserved : goal.loop-settings-preserved
 loop-settings-preserved g c = record {

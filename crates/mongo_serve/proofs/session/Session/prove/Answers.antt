@@ -1,6 +1,6 @@
 use Rattle.std.proofs.Common.{refl, sym, subst}
 use Rattle.mongo_server.specs.Server.{HasBegun}
-use Rattle.mongo_serve.specs.Requests.{Continues}
+use Rattle.mongo_serve.specs.Requests.{SaysSaslContinue}
 use Rattle.mongo_serve.proofs.Sent.{remembers_alone, user_later, opened_later, proved_now}
 use Rattle.mongo_serve.proofs.session.Session.prove.Goals as goal
 
@@ -15,7 +15,7 @@ returns-in-Ok-clause-remembers c = λ settings requests document user login clos
         name_is = login.name_is;
         begun = subst (λ core. HasBegun core login.x) (sym c.in-Ok.ensures.unchanged) login.begun;
         opened = opened_later login.x requests document login.opened;
-        proved = λ _. proved_now login.x requests document login.opened (subst (Continues document) only closes);
+        proved = λ _. proved_now login.x requests document login.opened (subst (SaysSaslContinue document) only closes);
       };
     }
 

@@ -1,7 +1,7 @@
 use Rattle.std.proofs.Common.{◌+◌, All, subst, sym, drop_of_length-le}
 use Rattle.std.proofs.lemmas.Result.{err_from_is_err_and}
 use Rattle.std.proofs.lemmas.List.Elements.{All-push}
-use Rattle.mongo_settings.specs.Batch.{IsSpoken}
+use Rattle.mongo_settings.specs.Batch.{IsLoginSpoken}
 use Rattle.mongo_settings.proofs.LoginsRead.{ReadTo, read_more, read_stopped, read_all}
 use Rattle.mongo_settings.proofs.settings.logins.each_settings.Goals as goal
 
@@ -13,7 +13,7 @@ returns-in_err-settings-clause-settings c =
 pub loop-value-preserved : goal.loop-value-preserved
 loop-value-preserved c = record {
   read = subst (ReadTo c.args.values.now (c.loop-value.value-index + 1)) (sym c.in_ok-push.ensures.pushed) (read_more c.args.values.now c.loop-value.value-index c.loop-value.logins.items c.value-item.result c.in_ok-settings.settings c.loop-value-test.true c.value-item.is c.loop-value.invariant.read c.in_ok-settings.ensures.settings);
-  spoken = subst (All IsSpoken) (sym c.in_ok-push.ensures.pushed) (All-push IsSpoken c.loop-value.logins.items c.in_ok-settings.settings c.loop-value.invariant.spoken c.in_ok-settings.ensures.spoken);
+  spoken = subst (All IsLoginSpoken) (sym c.in_ok-push.ensures.pushed) (All-push IsLoginSpoken c.loop-value.logins.items c.in_ok-settings.settings c.loop-value.invariant.spoken c.in_ok-settings.ensures.spoken);
 }
 
 pub returns-clause-settings : goal.returns-clause-settings

@@ -1,10 +1,10 @@
 use Rattle.std.proofs.Common.{All}
-use Rattle.mongo_settings.specs.Batch.{IsSpoken}
+use Rattle.mongo_settings.specs.Batch.{IsLoginSpoken}
 use Rattle.mongo_settings.proofs.LoginsRead.{ReadTo}
 use Rattle.mongo_settings.proofs.settings.logins.each_settings.Given as goal
 
 abbrev pub invariant-loop-value : goal.invariant-loop-value
 invariant-loop-value l = record {
   read : ReadTo l.values l.value-index l.logins.items;
-  spoken : All IsSpoken l.logins.items;
+  spoken : All IsLoginSpoken l.logins.items;
 }
