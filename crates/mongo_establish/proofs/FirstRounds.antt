@@ -14,7 +14,7 @@ use Rattle.mongo_establish.specs.declared.client_first.ClientFirst.{ClientFirst}
 use Rattle.mongo_establish.specs.declared.client_first.ClientFirst.TheVariants.{Scram, X509}
 use Rattle.mongo_establish.specs.declared.first_round.FirstRound.{FirstRound}
 use Rattle.mongo_establish.specs.Asked.{Asked}
-use Rattle.mongo_establish.specs.First.{first_document, IsScramFirst, IsX509First, IsFirstOf, IsFirst, IsUnmade, IsRoundOf, scram_round, round_with}
+use Rattle.mongo_establish.specs.First.{first_document, IsScramFirst, IsX509First, IsFirstMessageBy, IsFirstMessage, IsUnmade, IsRoundOf, scram_round, round_with}
 use Rattle.mongo_establish.specs.Greeting.{Greeting}
 use Rattle.mongo_establish.specs.Login.{IsScram}
 use Rattle.mongo_establish.specs.Speculation.{mechanism_before, speculation, speculation_by, scram_speculation, speculative_message, speculative_nonce, answer_to}
@@ -36,13 +36,13 @@ x509_document credential None is = absurd is
 x509_document credential (Some (Scram also first)) is = absurd is
 x509_document credential (Some (X509 command)) is = ap Some is
 
-document_by : (mechanism : AuthMechanism) (credential : Credential) (nonce : List ℕ) (first : Option ClientFirst) → IsFirstOf mechanism credential nonce first → option_map first_document first ≡ speculation_by mechanism credential nonce
+document_by : (mechanism : AuthMechanism) (credential : Credential) (nonce : List ℕ) (first : Option ClientFirst) → IsFirstMessageBy mechanism credential nonce first → option_map first_document first ≡ speculation_by mechanism credential nonce
 document_by ScramSha1 credential nonce first is = scram_document Sha1 credential nonce first is
 document_by ScramSha256 credential nonce first is = scram_document Sha256 credential nonce first is
 document_by MongoDbX509 credential nonce first is = x509_document credential first is
 document_by mechanism credential nonce first is = ap (option_map first_document) is
 
-pub first_speculation : (who : Option Credential) (nonce : List ℕ) (first : Option ClientFirst) → IsFirst who nonce first → option_map first_document first ≡ speculation who nonce
+pub first_speculation : (who : Option Credential) (nonce : List ℕ) (first : Option ClientFirst) → IsFirstMessage who nonce first → option_map first_document first ≡ speculation who nonce
 first_speculation None nonce first is = ap (option_map first_document) is
 first_speculation (Some credential) nonce first is = document_by (mechanism_before credential.mechanism) credential nonce first is
 
@@ -61,12 +61,12 @@ scram_made version credential nonce (Some (Scram also first)) (Some reply) is =
     let own = is.nonce_is in
     λ i. let s : Speculated = record { message = message i; nonce = own i; reply = reply } in Some s
 
-round_by : (mechanism : AuthMechanism) (credential : Credential) (nonce : List ℕ) (first : Option ClientFirst) (answer : Option (List ℕ)) → IsScram mechanism → IsFirstOf mechanism credential nonce first → round_with first answer ≡ option_map (round_made credential nonce) (answer_to (speculation_by mechanism credential nonce) answer)
+round_by : (mechanism : AuthMechanism) (credential : Credential) (nonce : List ℕ) (first : Option ClientFirst) (answer : Option (List ℕ)) → IsScram mechanism → IsFirstMessageBy mechanism credential nonce first → round_with first answer ≡ option_map (round_made credential nonce) (answer_to (speculation_by mechanism credential nonce) answer)
 round_by ScramSha1 credential nonce first answer scram is = scram_made Sha1 credential nonce first answer is
 round_by ScramSha256 credential nonce first answer scram is = scram_made Sha256 credential nonce first answer is
 round_by mechanism credential nonce first answer scram is = absurd scram
 
-pub round_of : (who : Option Credential) (asked : Asked) (greeting : Greeting) (first : Option ClientFirst) (round : Option FirstRound) → asked.credential ≡ who → IsFirst who asked.nonces.first first
+pub round_of : (who : Option Credential) (asked : Asked) (greeting : Greeting) (first : Option ClientFirst) (round : Option FirstRound) → asked.credential ≡ who → IsFirstMessage who asked.nonces.first first
     → is_some round ≡ is_some (answer_to (option_map first_document first) greeting.speculative) → speculated_of (scram_round round) ≡ round_with first greeting.speculative → IsRoundOf who asked greeting round
 round_of None asked greeting first round same is there by = tt
 round_of (Some credential) asked greeting first round same is there by =

@@ -28,11 +28,11 @@ use Rattle.mongo_command.proofs.Steps.{reached_ending, reached_unless, reached_r
 use Rattle.mongo_sasl.specs.declared.credential.Credential.{Credential}
 use Rattle.mongo_establish.specs.declared.options.HandshakerOptions.{HandshakerOptions}
 use Rattle.mongo_establish.specs.Client.{hello_with}
-use Rattle.mongo_establish.specs.Established.{Holds, GreetedBy, UngreetedBy}
+use Rattle.mongo_establish.specs.Established.{HoldsGreeting, GreetedBy, UngreetedBy}
 use Rattle.mongo_establish.specs.Greeting.{Greeting, Greets, greeting_in}
-use Rattle.mongo_establish.specs.HelloBody.{BodyRefused}
+use Rattle.mongo_establish.specs.HelloBody.{HelloBodyRefused}
 use Rattle.mongo_establish.specs.Plan.{hello_said_with, after_hello, hello_exchange}
-use Rattle.mongo_establish.specs.Reply.{HoldsReply}
+use Rattle.mongo_establish.specs.Reply.{IsDescribedBy}
 use Rattle.mongo_establish.proofs.HelloBody.{length_body}
 use Rattle.mongo_establish.proofs.HelloPlan.{no_row}
 
@@ -89,7 +89,7 @@ module _ (options : HandshakerOptions) (credential : Option Credential) (login :
   ungreeted connection kind old new before after rest stopped = record { stopped = stopped; undescribed = rest.description ∙ fresh; rest = rest }
 
   -- its body would be too long, or memory ran out
-  unbuilt : (kind : ErrorKind) (old : State) (before : ℤ) → BodyRefused (hello_with options credential login).body kind → Stopped plan kind old old before before
+  unbuilt : (kind : ErrorKind) (old : State) (before : ℤ) → HelloBodyRefused (hello_with options credential login).body kind → Stopped plan kind old old before before
   unbuilt (InvalidArgument (Bson TooLong)) old before r =
       let hello = hello_with options credential login in
       let longer = document_longer hello (omega (arith, r)) in
@@ -101,10 +101,10 @@ module _ (options : HandshakerOptions) (credential : Option Credential) (login :
   same_rest : KeepsRest opened opened
   same_rest = record { address = refl; id = refl; description = refl; server_id = refl; token = refl }
 
-  pub unbuilt_stopped : (kind : ErrorKind) (old : State) (before : ℤ) → BodyRefused (hello_with options credential login).body kind → UngreetedBy options credential login opened opened kind old old before before
+  pub unbuilt_stopped : (kind : ErrorKind) (old : State) (before : ℤ) → HelloBodyRefused (hello_with options credential login).body kind → UngreetedBy options credential login opened opened kind old old before before
   unbuilt_stopped kind old before r = ungreeted opened kind old old before before same_rest (unbuilt kind old before r)
 
-  pub unbuilt_greeting : {T : Type 0} (r : Result T Error) (old : State) (before : ℤ) → IfErr r (λ e. BodyRefused (hello_with options credential login).body e.kind) → IfErr r (λ e. UngreetedBy options credential login opened opened e.kind old old before before)
+  pub unbuilt_greeting : {T : Type 0} (r : Result T Error) (old : State) (before : ℤ) → IfErr r (λ e. HelloBodyRefused (hello_with options credential login).body e.kind) → IfErr r (λ e. UngreetedBy options credential login opened opened e.kind old old before before)
   unbuilt_greeting (Ok x) old before h = tt
   unbuilt_greeting (Err e) old before h = unbuilt_stopped e.kind old before h
 
@@ -142,7 +142,7 @@ module _ (options : HandshakerOptions) (credential : Option Credential) (login :
           ungreeted connection e.kind old new before after (subst (KeepsRest opened) (sym same) rest)
           (stopped_later (hello_said_with options credential login) (after_hello opened.address) reply.raw_command_response e.kind old new new before after after runs_so.exchanges counts (no_description opened.address e.kind reply new after runs.reads h))
 
-      holds : (connection : Connection) → reply.server_address ≡ opened.address → HoldsReply ran connection reply → Holds opened connection (greeting_in opened.address reply)
+      holds : (connection : Connection) → reply.server_address ≡ opened.address → IsDescribedBy ran connection reply → HoldsGreeting opened connection (greeting_in opened.address reply)
       unfolding greeting_in
       holds connection at h = record {
         address = h.address ∙ rest.address;
@@ -153,7 +153,7 @@ module _ (options : HandshakerOptions) (credential : Option Credential) (login :
       }
 
       -- it does
-      pub greeted : (connection : Connection) → reply.server_address ≡ opened.address → kept_fault ran ≡ None → HoldsReply ran connection reply → GreetedBy options credential login opened connection old new before after reply
+      pub greeted : (connection : Connection) → reply.server_address ≡ opened.address → kept_fault ran ≡ None → IsDescribedBy ran connection reply → GreetedBy options credential login opened connection old new before after reply
       greeted connection at faultless h = record {
         address = at;
         reads = runs.reads;

@@ -22,7 +22,7 @@ use Rattle.mongo_sasl.specs.Validation.{IsValidated, scram_rules, x509_rules, pl
 use Rattle.mongo_sasl.proofs.KeptAfter.{IsOwn, own_keeps, unbuilt_own, kept_after}
 use Rattle.mongo_scram.specs.User.{CredentialRow}
 use Rattle.mongo_establish.specs.First.{IsUnmade}
-use Rattle.mongo_establish.specs.HelloBody.{BodyRefused}
+use Rattle.mongo_establish.specs.HelloBody.{HelloBodyRefused}
 use Rattle.mongo_establish.specs.Login.{HasConversation, InvalidRow}
 use Rattle.mongo_establish.specs.Speculation.{mechanism_before, MechanismRow, HelloRow}
 
@@ -52,7 +52,7 @@ first_own credential document kind (inl row) = hello_row_own credential kind row
 first_own credential document kind (inr none) = unmade_own document kind none.1
 
 -- a hello that wasn't
-pub body_own : (body : List ℕ) (kind : ErrorKind) → BodyRefused body kind → IsOwn kind
+pub body_own : (body : List ℕ) (kind : ErrorKind) → HelloBodyRefused body kind → IsOwn kind
 body_own body (InvalidArgument (Bson TooLong)) row = inl refl
 body_own body OutOfMemory row = inr refl
 body_own body kind row = absurd row

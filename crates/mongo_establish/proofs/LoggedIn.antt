@@ -18,7 +18,7 @@ use Rattle.mongo_establish.specs.Asked.{Asked}
 use Rattle.mongo_establish.specs.Costs.{LoginCostsOf, LoginCosts, StoppedLoginCostsOf, StoppedLoginCosts}
 use Rattle.mongo_establish.specs.First.{IsRoundBy}
 use Rattle.mongo_establish.specs.Greeting.{Greeting}
-use Rattle.mongo_establish.specs.LoggingIn.{IsTaken, Conversed, ConversationStopped}
+use Rattle.mongo_establish.specs.LoggingIn.{IsCredentialTaken, Conversed, ConversationStopped}
 use Rattle.mongo_establish.specs.Login.{holds_users, logging_in, speculative_reply, IsMechanism, IsScram, HasConversation, InvalidRow, TakesCredential}
 use Rattle.mongo_establish.specs.Plan.{conversation, mechanism_plan, login_by, login_plan}
 use Rattle.mongo_establish.specs.Speculation.{mechanism_before, MechanismRow, IsSpoken, SpeaksFor, HelloRow}
@@ -87,8 +87,8 @@ none_is : (reply : Option (List ℕ)) → is_some reply ≡ false → reply ≡ 
 none_is None is = refl
 none_is (Some reply) is = let no : ⊥ = cc in absurd no
 
-takes_it : (reply : Option (List ℕ)) (speculated : Bool) (mechanism : AuthMechanism) (credential : Credential) → speculated ≡ is_some reply → IsTaken speculated mechanism credential → TakesCredential reply mechanism credential
-takes_it None speculated mechanism credential is taken = subst (λ b. IsTaken b mechanism credential) is taken
+takes_it : (reply : Option (List ℕ)) (speculated : Bool) (mechanism : AuthMechanism) (credential : Credential) → speculated ≡ is_some reply → IsCredentialTaken speculated mechanism credential → TakesCredential reply mechanism credential
+takes_it None speculated mechanism credential is taken = subst (λ b. IsCredentialTaken b mechanism credential) is taken
 takes_it (Some reply) speculated mechanism credential is taken = tt
 
 -- ---- a mechanism's plan
@@ -151,7 +151,7 @@ module _ (asked : Asked) (greeting : Greeting) (credential : Credential) (round 
   invalid_costs kind old before ledgers none row nothing =
       subst (λ w. StoppedLoginCostsOf w asked greeting kind old old before before ledgers ledgers) (sym (a_user asked greeting credential holds who)) (record { mechanism = mechanism; is_mechanism = by_mechanism; costs = inl (invalid_row kind none row, nothing) })
 
-  module _ (taken : IsTaken (is_some round) mechanism credential) where
+  module _ (taken : IsCredentialTaken (is_some round) mechanism credential) where
     no_row : HasNone (InvalidRow (speculative_reply asked greeting) mechanism credential)
     no_row = taken_no_row (speculative_reply asked greeting) mechanism credential has (takes_it (speculative_reply asked greeting) (is_some round) mechanism credential went.there taken)
 

@@ -18,7 +18,7 @@ use Rattle.mongo_establish.specs.Asked.{Asked, asked_over}
 use Rattle.mongo_establish.specs.First.{IsRoundBy, IsRoundOf}
 use Rattle.mongo_establish.specs.Greeting.{Greeting}
 use Rattle.mongo_establish.specs.Login.{holds_users, IsMechanism, HasConversation, InvalidRow}
-use Rattle.mongo_establish.specs.LoggingIn.{IsTaken, Converses, LogsIn, LoginStops}
+use Rattle.mongo_establish.specs.LoggingIn.{IsCredentialTaken, Converses, LogsIn, LoginStops}
 use Rattle.mongo_establish.specs.Speculation.{mechanism_before, SpeaksFor, HelloRow}
 use Rattle.mongo_establish.proofs.Keeping.{invalid_own}
 use Rattle.mongo_establish.proofs.LoggedIn.{nobody, nobody_costs, no_credential, no_users, converses, went_by, invalid_stopped, invalid_costs, conversed_reached, conversed_costs, stopped_stopped, stopped_costs}
@@ -87,7 +87,7 @@ module _ (opened : Connection) (options : HandshakerOptions) (given : Option Cre
   invalid_keeps (Ok x) kept h none = tt
   invalid_keeps (Err e) kept h none = own_keeps e.kind kept (invalid_own mechanism credential e.kind has_conversation h.1) none
 
-  module _ (taken : IsTaken (is_some round) mechanism credential) where
+  module _ (taken : IsCredentialTaken (is_some round) mechanism credential) where
     -- its round is the conversation's
     abbrev by_it : (greeting : Greeting) → held ≡ Some greeting.description → IsRoundOf asked.credential asked greeting round → IsRoundBy mechanism credential asked greeting round
     by_it greeting described r = went_by asked greeting credential round mechanism who (users greeting described) (went greeting r) (mechanisms greeting described) has_conversation

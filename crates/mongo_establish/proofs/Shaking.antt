@@ -18,8 +18,8 @@ use Rattle.mongo_establish.specs.declared.login_state.Nonces.{Nonces}
 use Rattle.mongo_establish.specs.declared.options.HandshakerOptions.{HandshakerOptions}
 use Rattle.mongo_establish.specs.Asked.{Asked, asked_over}
 use Rattle.mongo_establish.specs.Costs.{HandshakeCosts, StoppedHandshakeCosts, CostsOf}
-use Rattle.mongo_establish.specs.Established.{Holds, GreetedBy, UngreetedBy, IsReplyOf, ShookHands, StoppedHandshake}
-use Rattle.mongo_establish.specs.First.{IsFirst, IsUnmade, IsRoundOf, first_document, scram_round, round_with}
+use Rattle.mongo_establish.specs.Established.{HoldsGreeting, GreetedBy, UngreetedBy, IsReplyOf, ShookHands, StoppedHandshake}
+use Rattle.mongo_establish.specs.First.{IsFirstMessage, IsUnmade, IsRoundOf, first_document, scram_round, round_with}
 use Rattle.mongo_establish.specs.Greeting.{Greeting, greeting_in}
 use Rattle.mongo_establish.specs.LoggingIn.{LogsIn, LoginStops}
 use Rattle.mongo_establish.specs.Plan.{hello_exchange, hello_plan}
@@ -77,7 +77,7 @@ module _ (opened : Connection) (options : HandshakerOptions) (credential : Optio
 
   -- ---- the hello
 
-  module _ (made : HasNone (HelloRow credential)) (first : Option ClientFirst) (is_first : IsFirst credential nonces.first first) where
+  module _ (made : HasNone (HelloRow credential)) (first : Option ClientFirst) (is_first : IsFirstMessage credential nonces.first first) where
     abbrev sent : Option (List ℕ)
     sent = option_map first_document first
 
@@ -116,7 +116,7 @@ module _ (opened : Connection) (options : HandshakerOptions) (credential : Optio
       unfolding greeting_in
       held_round = round_of credential anew (greeting_in opened.address reply) first round refl is_first there scram
 
-      held : (connection : Connection) → KeepsRest described connection → Holds opened connection greeting
+      held : (connection : Connection) → KeepsRest described connection → HoldsGreeting opened connection greeting
       held connection later =
           let holds = greeted.described.holds in
           record {

@@ -47,15 +47,15 @@ IsX509First credential (Some (X509 command)) = command.body ≡ x509_body creden
 IsX509First credential first = ⊥
 
 -- the first message that goes with a hello, or none
-abbrev pub IsFirstOf : AuthMechanism → Credential → List ℕ → Option ClientFirst → Type 0
-IsFirstOf ScramSha1 credential nonce first = IsScramFirst Sha1 credential nonce first
-IsFirstOf ScramSha256 credential nonce first = IsScramFirst Sha256 credential nonce first
-IsFirstOf MongoDbX509 credential nonce first = IsX509First credential first
-IsFirstOf mechanism credential nonce first = first ≡ None
+abbrev pub IsFirstMessageBy : AuthMechanism → Credential → List ℕ → Option ClientFirst → Type 0
+IsFirstMessageBy ScramSha1 credential nonce first = IsScramFirst Sha1 credential nonce first
+IsFirstMessageBy ScramSha256 credential nonce first = IsScramFirst Sha256 credential nonce first
+IsFirstMessageBy MongoDbX509 credential nonce first = IsX509First credential first
+IsFirstMessageBy mechanism credential nonce first = first ≡ None
 
-abbrev pub IsFirst : Option Credential → List ℕ → Option ClientFirst → Type 0
-IsFirst None nonce first = first ≡ None
-IsFirst (Some credential) nonce first = IsFirstOf (mechanism_before credential.mechanism) credential nonce first
+abbrev pub IsFirstMessage : Option Credential → List ℕ → Option ClientFirst → Type 0
+IsFirstMessage None nonce first = first ≡ None
+IsFirstMessage (Some credential) nonce first = IsFirstMessageBy (mechanism_before credential.mechanism) credential nonce first
 
 -- why a first message can't be made for a credential that has one: its document would be too long, or memory ran out
 abbrev pub IsUnmade : Option (List ℕ) → ErrorKind → Type 0

@@ -6,7 +6,7 @@ use Rattle.mongo_wire.specs.declared.fault.ArgumentFault.TheVariants.{Bson}
 use Rattle.mongo_bson.specs.declared.fault.BsonFault.TheVariants.{TooLong}
 
 -- why a body wasn't made: it would be longer than an int32 can say, or memory ran out
-abbrev pub BodyRefused : List ℕ → ErrorKind → Type 0
-BodyRefused body (InvalidArgument (Bson TooLong)) = 2 ^ 31 - 1 < length body
-BodyRefused body OutOfMemory = ⊤
-BodyRefused body kind = ⊥
+abbrev pub HelloBodyRefused : List ℕ → ErrorKind → Type 0
+HelloBodyRefused body (InvalidArgument (Bson TooLong)) = 2 ^ 31 - 1 < length body
+HelloBodyRefused body OutOfMemory = ⊤
+HelloBodyRefused body kind = ⊥

@@ -36,9 +36,9 @@ pub record Converses (result : Result (Unit {0}) Error) (mechanism : AuthMechani
 -- ---- a login
 
 -- the mechanism takes the credential, where it is asked
-abbrev pub IsTaken : Bool → AuthMechanism → Credential → Type 0
-IsTaken true mechanism credential = ⊤
-IsTaken false mechanism credential = IsValidated mechanism credential false (Ok tt)
+abbrev pub IsCredentialTaken : Bool → AuthMechanism → Credential → Type 0
+IsCredentialTaken true mechanism credential = ⊤
+IsCredentialTaken false mechanism credential = IsValidated mechanism credential false (Ok tt)
 
 -- the login of each greeting that says so was followed to its end
 pub record LogsIn (asked : Asked) (held : Option StreamDescription) (round : Option FirstRound) (old new : State) (before after : ℤ) (first last : Ledgers) : Type 0 where

@@ -6,7 +6,7 @@ use Rattle.mongo_command.specs.Connection.{kept_fault}
 use Rattle.mongo_command.specs.Hello.{TimeoutFits, description_of}
 
 -- the description and the server's number; nothing else changes
-pub record HoldsReply (old new : Connection) (reply : HelloReply) : Type 0 where
+pub record IsDescribedBy (old new : Connection) (reply : HelloReply) : Type 0 where
   pub fits : TimeoutFits reply.command_response
   pub description_is : new.stream_description ≡ Some (description_of reply.server_address reply.command_response)
   pub server_id : new.server_id ≡ reply.command_response.connection_id

@@ -4,7 +4,7 @@ ghost use Rattle.mongo_wire.specs.declared.error.ErrorKind.TheVariants.{OutOfMem
 ghost use Rattle.mongo_command.specs.Conversation.{or_else};
 ghost use Rattle.mongo_establish.specs.Speculation.{MechanismRow, speculation_by};
 ghost use Rattle.mongo_scram.specs.User.{CredentialRow};
-ghost use Rattle.mongo_establish.specs.First.{IsFirstOf, IsScramFirst, IsUnmade};
+ghost use Rattle.mongo_establish.specs.First.{IsFirstMessageBy, IsScramFirst, IsUnmade};
 
 use mongo_bson::RawDocumentBuf;
 use mongo_command::{Command, ServerAddress};
@@ -53,7 +53,7 @@ pub fn build_speculative_client_first(
     _address: &ServerAddress,
     nonce: &[u8; 32],
 ) -> Result<Option<ClientFirst>, Error>
-    ensures first { IfOk result (IsFirstOf mechanism.now credential.now nonce.now) }
+    ensures first { IfOk result (IsFirstMessageBy mechanism.now credential.now nonce.now) }
     ensures made { OnOk result ((kind : ErrorKind) → MechanismRow mechanism.now credential.now kind → ⊥) }
     ensures refused { IfErr result (λ e. or_else (MechanismRow mechanism.now credential.now) (IsUnmade (speculation_by mechanism.now credential.now nonce.now)) e.kind) }
 {

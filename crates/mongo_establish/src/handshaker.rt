@@ -3,8 +3,8 @@ ghost use Rattle.mongo_wire.specs.declared.error.ErrorKind.{ErrorKind};
 ghost use Rattle.mongo_command.specs.Conversation.{or_else};
 ghost use Rattle.mongo_command.specs.Hello.{DescriptionRefused};
 ghost use Rattle.mongo_establish.specs.Client.{common_hello};
-ghost use Rattle.mongo_establish.specs.First.{IsFirst, IsUnmade};
-ghost use Rattle.mongo_establish.specs.Reply.{HoldsReply};
+ghost use Rattle.mongo_establish.specs.First.{IsFirstMessage, IsUnmade};
+ghost use Rattle.mongo_establish.specs.Reply.{IsDescribedBy};
 ghost use Rattle.mongo_establish.specs.Speculation.{HelloRow, speculation};
 
 use crate::first_round::answered_round;
@@ -45,7 +45,7 @@ impl Handshaker {
     ghost use Rattle.mongo_establish.specs.Established.{GreetedBy, UngreetedBy, ShookHands, StoppedHandshake};
     ghost use Rattle.mongo_establish.specs.First.{first_document};
     ghost use Rattle.mongo_establish.specs.Handshaker.{options_in};
-    ghost use Rattle.mongo_establish.specs.HelloBody.{BodyRefused};
+    ghost use Rattle.mongo_establish.specs.HelloBody.{HelloBodyRefused};
     ghost use Rattle.mongo_establish.specs.Speculation.{SpeaksFor};
 
     /// A handshaker with these options. What the hellos of all logins have in common is built once.
@@ -141,7 +141,7 @@ impl Handshaker {
         first: &Option<ClientFirst>,
     ) -> Result<Command, Error>
         ensures hello { IfOk result (λ hello. hello ≡ hello_with (options_in self.now) (option_copied credential.entry) (option_map first_document first.now)) }
-        ensures refused { IfErr result (λ e. BodyRefused (hello_with (options_in self.now) (option_copied credential.entry) (option_map first_document first.now)).body e.kind) }
+        ensures refused { IfErr result (λ e. HelloBodyRefused (hello_with (options_in self.now) (option_copied credential.entry) (option_map first_document first.now)).body e.kind) }
     {
         let mut hello = self.hello.try_clone_with_room(alloc, LOGIN_ROOM)?;
         ask_mechanisms(alloc, credential, &mut hello.body)?;
@@ -158,7 +158,7 @@ fn speculative_first(
     address: &ServerAddress,
     nonces: &Nonces,
 ) -> Result<Option<ClientFirst>, Error>
-    ensures first { IfOk result (IsFirst (option_copied credential.entry) nonces.now.first) }
+    ensures first { IfOk result (IsFirstMessage (option_copied credential.entry) nonces.now.first) }
     ensures made { OnOk result ((kind : ErrorKind) → HelloRow (option_copied credential.entry) kind → ⊥) }
     ensures refused { IfErr result (λ e. or_else (HelloRow (option_copied credential.entry)) (IsUnmade (speculation (option_copied credential.entry) nonces.now.first)) e.kind) }
 {
@@ -171,7 +171,7 @@ fn speculative_first(
 
 // Has the connection hold what the reply to its hello says.
 fn describe(alloc: Global, connection: &mut Connection, reply: &HelloReply) -> Result<(), Error>
-    ensures described { OnOk result (HoldsReply connection.old connection.new reply.now) }
+    ensures described { OnOk result (IsDescribedBy connection.old connection.new reply.now) }
     ensures undescribed { OnErr result (connection.new ≡ connection.old) }
     ensures refused { IfErr result (λ e. DescriptionRefused e.kind reply.now.command_response) }
 {

@@ -10,7 +10,7 @@ ghost use Rattle.mongo_scram.specs.Commands.{mechanism_of};
 ghost use Rattle.mongo_scram.specs.Costs.{ledgers};
 ghost use Rattle.mongo_establish.specs.Asked.{asked_over};
 ghost use Rattle.mongo_establish.specs.Login.{holds_users, HasConversation, IsMechanism, InvalidRow};
-ghost use Rattle.mongo_establish.specs.LoggingIn.{Converses, IsTaken, LogsIn, LoginStops};
+ghost use Rattle.mongo_establish.specs.LoggingIn.{Converses, IsCredentialTaken, LogsIn, LoginStops};
 ghost use Rattle.mongo_establish.specs.Speculation.{HelloRow, SpeaksFor};
 
 use crate::first_round::{FirstRound, scram_round};
@@ -203,7 +203,7 @@ fn validate(
     speculated: bool,
 ) -> Result<(), Error>
     ensures refused { IfErr result (λ e. (speculated ≡ false) × InvalidRow None mechanism credential.now e.kind) }
-    ensures taken { OnOk result (IsTaken speculated mechanism credential.now) }
+    ensures taken { OnOk result (IsCredentialTaken speculated mechanism credential.now) }
 {
     if speculated {
         return Ok(());

@@ -41,12 +41,12 @@ use Rattle.mongo_establish.specs.Speculation.{MechanismRow, HelloRow, speculativ
 use Rattle.mongo_establish.proofs.HelloPlan.{greeting_ends}
 use Rattle.mongo_server.specs.Acceptance.{IsClientOf, IsAccepted, challenge_of}
 use Rattle.mongo_server.specs.Exchange.{Exchange, joined_of, first_of, close_of, final_of}
-use Rattle.mongo_generate.specs.Acceptance.{IsHeard}
+use Rattle.mongo_generate.specs.Acceptance.{AreExchangeReplies}
 use Rattle.mongo_generate.specs.Login.{IsPossible, credential_by, key_of}
 use Rattle.mongo_generate.specs.Options.{handshaker_options}
 use Rattle.mongo_generate.specs.Replies.{speculative_elements, hello_elements, final_elements, hello_reply, final_reply}
 use Rattle.mongo_command.specs.Literal.{document_of}
-use Rattle.mongo_generate.specs.Written.{Carries}
+use Rattle.mongo_generate.specs.Written.{CarriesPayloadLast}
 use Rattle.mongo_generate.proofs.Documents.{length-document_of}
 use Rattle.mongo_generate.proofs.ServerReplies.{conversation, standalone, speculative_says, hello_says, final_says}
 use Rattle.mongo_generate.proofs.Sizes.{asked_by, speculation_is, length_hello, framed_hello, close_document, length_close_document, close_carries, framed_close, frame_of, frame_within, body_within}
@@ -74,7 +74,7 @@ never_invalid reply given mechanism credential is = subst (λ r. HasNone (Invali
 
 -- ---- the login of an exchange
 
-module _ (pending : PendingConnection) (x : Exchange) (nonces : Nonces) (bytes : List ℕ) (possible : IsPossible x) (nonce_is : base64_of nonces.first ≡ x.nonce) (pool : pending.generation ≡ Normal 0) (heard : IsHeard x bytes) where
+module _ (pending : PendingConnection) (x : Exchange) (nonces : Nonces) (bytes : List ℕ) (possible : IsPossible x) (nonce_is : base64_of nonces.first ≡ x.nonce) (pool : pending.generation ≡ Normal 0) (heard : AreExchangeReplies x bytes) where
   abbrev asked : Asked
   asked = asked_by pending x nonces
 
@@ -244,7 +244,7 @@ module _ (pending : PendingConnection) (x : Exchange) (nonces : Nonces) (bytes :
 
   -- ---- what it wrote
 
-  pub carries : (written : List ℕ) → written ≡ first_frame ++ last_frame → Carries (close_of x) written
+  pub carries : (written : List ℕ) → written ≡ first_frame ++ last_frame → CarriesPayloadLast (close_of x) written
   carries written is = record {
     first = first_frame;
     second = last_frame;

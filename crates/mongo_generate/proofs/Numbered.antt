@@ -12,7 +12,7 @@ use Rattle.mongo_scram.specs.Key.{PasswordRow}
 use Rattle.mongo_scram.specs.Messages.{open_message}
 use Rattle.mongo_generate.specs.declared.user_login.Login.{Login}
 use Rattle.mongo_generate.specs.Generated.{version_at, exchange_at}
-use Rattle.mongo_generate.specs.Login.{credential_by, IsLogin, IsPossible, LogsIn}
+use Rattle.mongo_generate.specs.Login.{credential_by, IsUserLogin, IsPossible, IsExchangeClient}
 use Rattle.mongo_generate.proofs.Texts.{length_base64, alike_nonce}
 
 -- ---- its password
@@ -55,7 +55,7 @@ possible_at k = record {
 }
 
 pub login_at : {E : Type 0} (k : ℕ) (r : Result Login E) (version : ScramVersion) (username password nonce : List ℕ) → version ≡ version_at k → username ≡ codes "u" ++ decimal (k % 7) → password ≡ codes "p" ++ decimal (k % 3) → nonce ≡ replicate 32 (k % 256)
-    → IfOk r (IsLogin version username password nonce) → IfOk r (LogsIn (exchange_at k))
+    → IfOk r (IsUserLogin version username password nonce) → IfOk r (IsExchangeClient (exchange_at k))
 login_at k (Ok login) version username password nonce v u p n is = record {
   possible = possible_at k;
   credential_is = is.credential_is ∙ (λ i. credential_by (v i) (u i) (p i));

@@ -18,10 +18,10 @@ use Rattle.mongo_establish.proofs.Counting.{taken_as_led}
 use Rattle.mongo_establish.proofs.Establishment.{one_script}
 use Rattle.mongo_server.specs.Exchange.{Exchange, close_of}
 use Rattle.mongo_generate.specs.declared.user_login.Login.{Login}
-use Rattle.mongo_generate.specs.Acceptance.{IsAcceptedAs, IsHeard}
-use Rattle.mongo_generate.specs.Login.{LogsIn, key_of}
+use Rattle.mongo_generate.specs.Acceptance.{IsAcceptedAs, AreExchangeReplies}
+use Rattle.mongo_generate.specs.Login.{IsExchangeClient, key_of}
 use Rattle.mongo_generate.specs.Options.{handshaker_options}
-use Rattle.mongo_generate.specs.Written.{Carries}
+use Rattle.mongo_generate.specs.Written.{CarriesPayloadLast}
 use Rattle.mongo_generate.proofs.Sizes.{asked_by}
 use Rattle.mongo_generate.proofs.Meeting.{has_script, carries, sent_is, leads_to_key}
 
@@ -41,7 +41,7 @@ sent_by asked bytes old new after pooled h e is =
     let k : HasScript asked bytes = record { script = e.script; is_script = e.is_script; sent = e.sent; is_written = e.is_written; taken = t.taken; rest = t.rest; joined = t.joined; is_taken = t.is_taken } in
     subst (Appends old.written new.written) (one_script asked bytes k h).sent e.written
 
-module _ (pending : PendingConnection) (options : HandshakerOptions) (first_id : ℤ) (x : Exchange) (login : Login) (bytes : List ℕ) (logs : LogsIn x login) (heard : IsHeard x bytes) (pool : pending.generation ≡ Normal 0) (usual : options ≡ handshaker_options) (first : first_id ≡ pos 0) where
+module _ (pending : PendingConnection) (options : HandshakerOptions) (first_id : ℤ) (x : Exchange) (login : Login) (bytes : List ℕ) (logs : IsExchangeClient x login) (heard : AreExchangeReplies x bytes) (pool : pending.generation ≡ Normal 0) (usual : options ≡ handshaker_options) (first : first_id ≡ pos 0) where
   abbrev asked : Asked
   asked = asked_for pending options (Some login.credential) login.inputs.nonces first_id
 
@@ -56,14 +56,14 @@ module _ (pending : PendingConnection) (options : HandshakerOptions) (first_id :
   has_its_script = subst (λ a. HasScript a bytes) (sym same) script_for
 
   -- what was written carries the client's last message
-  pub writes_close : (old new : State) (after : ℤ) (pooled : PooledConnection) (written : List ℕ) → Established asked old new after pooled → old.left ≡ Some bytes → old.written ≡ Some [] → new.written ≡ Some written → Carries (close_of x) written
+  pub writes_close : (old new : State) (after : ℤ) (pooled : PooledConnection) (written : List ℕ) → Established asked old new after pooled → old.left ≡ Some bytes → old.written ≡ Some [] → new.written ≡ Some written → CarriesPayloadLast (close_of x) written
   writes_close old new after pooled written e is nothing all =
       let there = subst (λ a. Established a old new after pooled) same e in
       let sent = sent_by (asked_by pending x login.inputs.nonces) bytes old new after pooled script_for there is in
       let grown : Appends (Some []) (Some written) script_for.sent = subst (λ w. Appends w (Some written) script_for.sent) nothing (subst (λ w. Appends old.written w script_for.sent) all sent) in
       carries pending x login.inputs.nonces bytes logs.possible logs.nonce_is pool heard written (grown ∙ sent_is pending x login.inputs.nonces bytes logs.possible logs.nonce_is pool heard)
 
-  pub accepted_writes : (ended : Result PooledConnection EstablishError) (old new : State) (after : ℤ) (written : List ℕ) → IsAcceptedAs ended true → IfOk ended (Established asked old new after) → old.left ≡ Some bytes → old.written ≡ Some [] → new.written ≡ Some written → Carries (close_of x) written
+  pub accepted_writes : (ended : Result PooledConnection EstablishError) (old new : State) (after : ℤ) (written : List ℕ) → IsAcceptedAs ended true → IfOk ended (Established asked old new after) → old.left ≡ Some bytes → old.written ≡ Some [] → new.written ≡ Some written → CarriesPayloadLast (close_of x) written
   accepted_writes (Ok pooled) old new after written is e told nothing all = writes_close old new after pooled written e told nothing all
   accepted_writes (Err e) old new after written is none told nothing all = absurd is
 

@@ -19,7 +19,7 @@ use Rattle.mongo_wire.specs.Outside.{State}
 use Rattle.mongo_command.specs.Field.{field_of, Required}
 use Rattle.mongo_sasl.specs.Reply.{ReadsGeneric}
 use Rattle.mongo_sasl.specs.Keys.{payload_key}
-use Rattle.mongo_generate.specs.Written.{IsContent, CarriesPayload}
+use Rattle.mongo_generate.specs.Written.{IsBinaryOf, CarriesPayload}
 
 -- ---- the field
 
@@ -48,7 +48,7 @@ five : (kind : ℕ) → kind ≡ 5 → has_variant kind ≡ true
 five kind is = ap has_variant is
 
 -- a generic binary is read as one
-content_read : (e : Element) (value : RawValue) (payload : List ℕ) → ReadsGeneric e payload → IsValue e.kind e.value value → IsContent payload value
+content_read : (e : Element) (value : RawValue) (payload : List ℕ) → ReadsGeneric e payload → IsValue e.kind e.value value → IsBinaryOf payload value
 content_read e (Binary subtype content) payload reads is = is.2 ∙ sym reads.2
 content_read e (Double bits) payload reads is = let k = sym reads.0 ∙ is.0 in absurd (omega (arith, k))
 content_read e (Str text) payload reads is = let k = sym reads.0 ∙ is.0 in absurd (omega (arith, k))
@@ -70,7 +70,7 @@ absent : (found : Option Element) (payload : List ℕ) → found ≡ None → Re
 unfolding Required
 absent found payload is reads = subst (λ f. Required ReadsGeneric f payload) is reads
 
-pub payload_found : (document payload : List ℕ) (value : RawValue) → CarriesPayload payload document → FindsValue (body_of document) payload_key (Some value) → IsContent payload value
+pub payload_found : (document payload : List ℕ) (value : RawValue) → CarriesPayload payload document → FindsValue (body_of document) payload_key (Some value) → IsBinaryOf payload value
 payload_found document payload value carries found =
     let e = found.0 in
     let first = first_in_document document payload_key e carries.elements carries.is_document found.1 in

@@ -25,7 +25,7 @@ IsAcceptedAs (Err refusal) false = refusal.cause.kind ≢ OutOfMemory
 IsAcceptedAs ended accepted = ⊥
 
 -- the bytes are the replies of the exchange, which its client accepts
-pub record IsHeard (x : Exchange) (bytes : List ℕ) : Type 0 where
+pub record AreExchangeReplies (x : Exchange) (bytes : List ℕ) : Type 0 where
   pub replies : AreReplies (first_of x) (final_of x) bytes
   pub reads : IsReadAs (first_of x) x
   pub accepts : Accepts x (final_of x)

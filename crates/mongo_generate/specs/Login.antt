@@ -19,7 +19,7 @@ abbrev pub credential_by : ScramVersion → List ℕ → List ℕ → Credential
 credential_by version username password = record { username = Some username; source = None; password = Some password; mechanism = Some (mechanism_of version); mechanism_properties = None }
 
 -- the user logs in by this first nonce
-pub record IsLogin (version : ScramVersion) (username password nonce : List ℕ) (login : Login) : Type 0 where
+pub record IsUserLogin (version : ScramVersion) (username password nonce : List ℕ) (login : Login) : Type 0 where
   pub credential_is : login.credential ≡ credential_by version username password
   pub nonce_is : login.inputs.nonces.first ≡ nonce
   pub first_is : login.client_first ≡ open_message username (base64_of nonce)
@@ -34,7 +34,7 @@ pub record IsPossible (x : Exchange) : Type 0 where
   pub short : length x.username + length x.salt + length x.nonce + length x.suffix ≤ 2 ^ 20
 
 -- the login is the client's side of a possible exchange
-pub record LogsIn (x : Exchange) (login : Login) : Type 0 where
+pub record IsExchangeClient (x : Exchange) (login : Login) : Type 0 where
   pub possible : IsPossible x
   pub credential_is : login.credential ≡ credential_by x.version x.username x.password
   pub nonce_is : base64_of login.inputs.nonces.first ≡ x.nonce

@@ -10,9 +10,9 @@ use Rattle.mongo_sasl.specs.Reply.{ReadsGeneric}
 use Rattle.mongo_sasl.specs.Keys.{payload_key}
 
 -- the value is a binary with these bytes
-abbrev pub IsContent : List ℕ → RawValue → Type 0
-IsContent content (Binary subtype bytes) = bytes.now ≡ content
-IsContent content value = ⊥
+abbrev pub IsBinaryOf : List ℕ → RawValue → Type 0
+IsBinaryOf content (Binary subtype bytes) = bytes.now ≡ content
+IsBinaryOf content value = ⊥
 
 -- the document's field `payload` is a binary with these bytes
 pub record CarriesPayload (payload document : List ℕ) : Type 0 where
@@ -21,7 +21,7 @@ pub record CarriesPayload (payload document : List ℕ) : Type 0 where
   pub payload_is : Required ReadsGeneric (field_of payload_key elements) payload
 
 -- the bytes are two frames, and the second one's document carries the payload
-pub record Carries (payload bytes : List ℕ) : Type 0 where
+pub record CarriesPayloadLast (payload bytes : List ℕ) : Type 0 where
   pub first : List ℕ
   pub second : List ℕ
   pub joined : bytes ≡ first ++ second

@@ -3,8 +3,8 @@ ghost use Rattle.std.specs.Prelude.{◌≡◌, IfOk, OnOk, MatchOption};
 ghost use Rattle.mongo_establish.specs.declared.generation.PoolGeneration.TheVariants.{Normal};
 ghost use Rattle.mongo_server.specs.Exchange.{Exchange};
 ghost use Rattle.mongo_server.specs.Server.{Serves, HasBegun};
-ghost use Rattle.mongo_generate.specs.Acceptance.{IsAcceptedAs, IsHeard};
-ghost use Rattle.mongo_generate.specs.Login.{LogsIn};
+ghost use Rattle.mongo_generate.specs.Acceptance.{IsAcceptedAs, AreExchangeReplies};
+ghost use Rattle.mongo_generate.specs.Login.{IsExchangeClient};
 
 use crate::replies::replies_of;
 use crate::written::client_final;
@@ -25,9 +25,9 @@ impl Client {
     ghost use Rattle.mongo_establish.specs.KeyCosts.{TakesKey};
     ghost use Rattle.mongo_server.specs.Exchange.{Exchange, close_of};
     ghost use Rattle.mongo_server.specs.Server.{Serves};
-    ghost use Rattle.mongo_generate.specs.Acceptance.{acceptance_of, IsTakenBy, IsHeard};
-    ghost use Rattle.mongo_generate.specs.Login.{LogsIn, key_of};
-    ghost use Rattle.mongo_generate.specs.Written.{Carries};
+    ghost use Rattle.mongo_generate.specs.Acceptance.{acceptance_of, IsTakenBy, AreExchangeReplies};
+    ghost use Rattle.mongo_generate.specs.Login.{IsExchangeClient, key_of};
+    ghost use Rattle.mongo_generate.specs.Written.{CarriesPayloadLast};
 
     /// Establishes a connection over a link in memory whose replies carry the server's messages: hello with the login that
     /// goes with it, and the last round. The client's last message, as it was written, is then the server's to judge. None
@@ -43,9 +43,9 @@ impl Client {
         steps: &mut Steps<G>,
     ) -> Result<Option<Acceptance>, AllocError>
         // Where both are of one exchange, both accept.
-        ensures accepted { (x : Exchange) → LogsIn x login.now → Serves server.old x → IfOk result (λ met. met ≡ Some (acceptance_of x)) }
+        ensures accepted { (x : Exchange) → IsExchangeClient x login.now → Serves server.old x → IfOk result (λ met. met ≡ Some (acceptance_of x)) }
         // Its key is derived where it has no entry, and has one then.
-        ensures takes { (x : Exchange) → LogsIn x login.now → Serves server.old x → OnOk result (TakesKey (key_of x) (ledgers steps.old state.old.salted) (ledgers steps.new state.new.salted)) }
+        ensures takes { (x : Exchange) → IsExchangeClient x login.now → Serves server.old x → OnOk result (TakesKey (key_of x) (ledgers steps.old state.old.salted) (ledgers steps.new state.new.salted)) }
         // Whatever the server, what is answered it has taken, and owes.
         ensures taken { IfOk result (λ met. IfSome met (IsTakenBy server.new)) }
         ensures serves { (x : Exchange) → Serves server.old x → Serves server.new x }
@@ -79,8 +79,8 @@ impl Client {
         state: &mut LoginState,
         steps: &mut Steps<G>,
     ) -> Result<Option<Bytes>, AllocError>
-        ensures written { (x : Exchange) → LogsIn x login.now → IsHeard x replies → IfOk result (λ written. MatchOption written ⊥ (Carries (close_of x))) }
-        ensures takes { (x : Exchange) → LogsIn x login.now → IsHeard x replies → OnOk result (TakesKey (key_of x) (ledgers steps.old state.old.salted) (ledgers steps.new state.new.salted)) }
+        ensures written { (x : Exchange) → IsExchangeClient x login.now → AreExchangeReplies x replies → IfOk result (λ written. MatchOption written ⊥ (CarriesPayloadLast (close_of x))) }
+        ensures takes { (x : Exchange) → IsExchangeClient x login.now → AreExchangeReplies x replies → OnOk result (TakesKey (key_of x) (ledgers steps.old state.old.salted) (ledgers steps.new state.new.salted)) }
         ensures steps { steps.old ≤ steps.new }
     {
         let pending = pending(alloc)?;
@@ -117,8 +117,8 @@ fn is_accepted(ended: Result<PooledConnection, EstablishError>) -> Result<bool, 
 
 // The replies of a server that heard the client's first message, or None where it refuses that.
 fn heard(alloc: Global, login: &Login, server: &mut ServerCore) -> Result<Option<Bytes>, AllocError>
-    ensures heard { (x : Exchange) → LogsIn x login.now → Serves server.old x → IfOk result (λ replies. MatchOption replies ⊥ (IsHeard x)) }
-    ensures begun { (x : Exchange) → LogsIn x login.now → Serves server.old x → OnOk result (HasBegun server.new x) }
+    ensures heard { (x : Exchange) → IsExchangeClient x login.now → Serves server.old x → IfOk result (λ replies. MatchOption replies ⊥ (AreExchangeReplies x)) }
+    ensures begun { (x : Exchange) → IsExchangeClient x login.now → Serves server.old x → OnOk result (HasBegun server.new x) }
     ensures serves { (x : Exchange) → Serves server.old x → Serves server.new x }
 {
     let first = match server.first(alloc, login.client_first.as_bytes()) {

@@ -18,13 +18,13 @@ const COUNT: u32 = 4096;
 impl Login {
     ghost use Rattle.std.specs.Prelude.{IfOk};
     ghost use Rattle.mongo_generate.specs.Generated.{exchange_at};
-    ghost use Rattle.mongo_generate.specs.Login.{LogsIn};
+    ghost use Rattle.mongo_generate.specs.Login.{IsExchangeClient};
 
     /// The login of this number: by SCRAM-SHA-1 where it is even, else by SCRAM-SHA-256; user `u` and the number modulo 7,
     /// password `p` and the number modulo 3; the first nonce is 32 bytes of the number modulo 256, and the second of the
     /// next number.
     pub fn generated(alloc: Global, number: u32) -> Result<Login, AllocError>
-        ensures login { IfOk result (LogsIn (exchange_at number)) }
+        ensures login { IfOk result (IsExchangeClient (exchange_at number)) }
     {
         let (Ok(username), Ok(password)) = (
             lettered(alloc, "u", number % 7),

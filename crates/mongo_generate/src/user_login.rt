@@ -21,7 +21,7 @@ pub struct Login {
 
 impl Login {
     ghost use Rattle.std.specs.Prelude.{◌≡◌, IfOk};
-    ghost use Rattle.mongo_generate.specs.Login.{IsLogin, credential_by};
+    ghost use Rattle.mongo_generate.specs.Login.{IsUserLogin, credential_by};
 
     /// The login of a user of the database `admin`, by this version of SCRAM and these nonces.
     pub fn new(
@@ -31,7 +31,7 @@ impl Login {
         password: &str,
         nonces: Nonces,
     ) -> Result<Login, AllocError>
-        ensures login { IfOk result (IsLogin version username.now password.now nonces.first) }
+        ensures login { IfOk result (IsUserLogin version username.now password.now nonces.first) }
     {
         match Login::of_user(alloc, version, username, password, nonces) {
             Ok(login) => Ok(login),
@@ -46,7 +46,7 @@ impl Login {
         password: &str,
         nonces: Nonces,
     ) -> Result<Login, Error>
-        ensures login { IfOk result (IsLogin version username.now password.now nonces.first) }
+        ensures login { IfOk result (IsUserLogin version username.now password.now nonces.first) }
     {
         let first = ClientFirst::new(alloc, "admin", username, true, None, &nonces.first)?;
         let client_first = Text::from_slice(alloc, first.message())?;

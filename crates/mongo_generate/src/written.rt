@@ -5,7 +5,7 @@ ghost use Rattle.mongo_wire.specs.Buffer.{HoldsFrame};
 ghost use Rattle.mongo_wire.specs.Bytes.{first_maximum};
 ghost use Rattle.mongo_wire.specs.Frame.{Frame, IsFrame};
 ghost use Rattle.mongo_wire.specs.Memory.{bytes_left};
-ghost use Rattle.mongo_generate.specs.Written.{IsContent, CarriesPayload, Carries};
+ghost use Rattle.mongo_generate.specs.Written.{IsBinaryOf, CarriesPayload, CarriesPayloadLast};
 
 use mongo_bson::{Bytes, RawDocument, RawValue};
 use mongo_sasl::keys::PAYLOAD;
@@ -14,7 +14,7 @@ use std::alloc::{AllocError, Global};
 
 /// The client's last message: the payload of the command in the second frame. None where it has none.
 pub fn client_final(alloc: Global, written: Bytes) -> Result<Option<Bytes>, AllocError>
-    ensures found { (payload : List ℕ) → Carries payload written → IfOk result (λ found. found ≡ Some payload) }
+    ensures found { (payload : List ℕ) → CarriesPayloadLast payload written → IfOk result (λ found. found ≡ Some payload) }
 {
     let mut link = MemoryLink::new(alloc, written);
     let mut buffer = FrameBuffer::new(alloc);
@@ -29,7 +29,7 @@ pub fn client_final(alloc: Global, written: Bytes) -> Result<Option<Bytes>, Allo
 
 // Takes two frames, and holds the second.
 fn take_second(link: &mut MemoryLink, buffer: &mut FrameBuffer) -> Result<(), FrameFault>
-    ensures second { (payload : List ℕ) (carries : Carries payload (bytes_left link.old)) →
+    ensures second { (payload : List ℕ) (carries : CarriesPayloadLast payload (bytes_left link.old)) →
         MatchResult result (λ _. HoldsFrame carries.second carries.second_parts buffer.new) (λ fault. fault ≡ OutOfMemory) }
 {
     match take_next(link, buffer) {
@@ -72,7 +72,7 @@ fn payload_of(alloc: Global, document: RawDocument<'_>) -> Result<Option<Bytes>,
 
 // The bytes of a binary value.
 fn content_of(alloc: Global, value: RawValue<'_>) -> Result<Option<Bytes>, AllocError>
-    ensures found { (content : List ℕ) → IsContent content value.entry → IfOk result (λ found. found ≡ Some content) }
+    ensures found { (content : List ℕ) → IsBinaryOf content value.entry → IfOk result (λ found. found ≡ Some content) }
 {
     let RawValue::Binary(_, content) = value else {
         return Ok(None);

@@ -4,7 +4,7 @@ use Rattle.mongo_command.specs.Conversation.{IsSaid}
 use Rattle.mongo_establish.specs.declared.options.TopologySpec.{TopologySpec}
 use Rattle.mongo_establish.specs.Asked.{Asked, asked_for}
 use Rattle.mongo_establish.specs.Options.{options_of}
-use Rattle.mongo_establish.specs.Script.{Script, IsScript, IsWritten, IsTaken, HasScript}
+use Rattle.mongo_establish.specs.Script.{Script, IsScript, IsWritten, AreRepliesTaken, HasScript}
 use Rattle.mongo_establish.specs.Stopped.{Refusal, IsRefusal}
 use Rattle.mongo_meta.specs.Options.{metadata_of}
 use Rattle.mongo_settings.specs.declared.settings.Settings.{Settings}
@@ -33,7 +33,7 @@ pub data Outcome : Type 0 where
 pub record IsAcceptance (settings : Settings) (acceptance : Acceptance) : Type 0 where
   pub is_script : IsScript (asked_of settings) acceptance.script
   pub joined : settings.replies ≡ acceptance.taken ++ acceptance.unread
-  pub is_taken : IsTaken acceptance.script acceptance.taken
+  pub is_taken : AreRepliesTaken acceptance.script acceptance.taken
 
 -- the outcome of settings: a script, or the first refusal that applies
 abbrev pub IsOutcome : Settings → Outcome → Type 0

@@ -1,6 +1,6 @@
 use Rattle.std.proofs.Common.{◌≡◌, ◌∙◌, ap, drop, subst, sym}
 use Rattle.mongo_wire.specs.Memory.{bytes_left}
-use Rattle.mongo_generate.specs.Written.{Carries}
+use Rattle.mongo_generate.specs.Written.{CarriesPayloadLast}
 use Rattle.mongo_generate.proofs.written.client_final.Goals as goal
 
 pub returns-in-Ok : goal.returns-in-Ok
@@ -8,7 +8,7 @@ returns-in-Ok c = record {
   found = λ payload carries.
       let link = c.new-link in
       let left : bytes_left link.result ≡ c.args.written = ap (λ n. drop n link.result.input.items) link.ensures.at ∙ link.ensures.input in
-      let here = subst (Carries payload) (sym left) carries in
+      let here = subst (CarriesPayloadLast payload) (sym left) carries in
       c.payload_held.ensures.found here.second payload here.second_parts (c.in-Ok.ensures.second payload here) here.carried;
 }
 
@@ -17,6 +17,6 @@ returns c = record {
   found = λ payload carries.
       let link = c.new-link in
       let left : bytes_left link.result ≡ c.args.written = ap (λ n. drop n link.result.input.items) link.ensures.at ∙ link.ensures.input in
-      let here = subst (Carries payload) (sym left) carries in
+      let here = subst (CarriesPayloadLast payload) (sym left) carries in
       absurd (c.in_default.not-OutOfMemory (c.in-Err.ensures.second payload here));
 }

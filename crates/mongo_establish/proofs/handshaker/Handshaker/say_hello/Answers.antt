@@ -5,7 +5,7 @@ use Rattle.mongo_sasl.proofs.KeptAfter.{own_keeps, row_keeps}
 use Rattle.mongo_establish.specs.Client.{hello_with}
 use Rattle.mongo_establish.specs.First.{first_document}
 use Rattle.mongo_establish.specs.Handshaker.{options_in}
-use Rattle.mongo_establish.specs.HelloBody.{BodyRefused}
+use Rattle.mongo_establish.specs.HelloBody.{HelloBodyRefused}
 use Rattle.mongo_establish.proofs.HelloExchange.{unbuilt_greeting, unrun_greeting, undescribed_greeting, greeted}
 use Rattle.mongo_establish.proofs.Keeping.{body_own, run_keeps, description_own}
 use Rattle.mongo_establish.proofs.Shaking.{err_of}
@@ -37,7 +37,7 @@ returns-clause-greeted g c =
 
 pub returns-in_err-hello-clause-keeps : goal.returns-in_err-hello-clause-keeps
 returns-in_err-hello-clause-keeps g c =
-    row_keeps c.from_residual.result (BodyRefused (hello_with (options_in c.args.self.now) (option_copied c.args.credential) (option_map first_document c.args.first.now)).body) _
+    row_keeps c.from_residual.result (HelloBodyRefused (hello_with (options_in c.args.self.now) (option_copied c.args.credential) (option_map first_document c.args.first.now)).body) _
     (body_own (hello_with (options_in c.args.self.now) (option_copied c.args.credential) (option_map first_document c.args.first.now)).body) (search rules) c.requires.faultless
 
 pub returns-in_err-reply-clause-keeps : goal.returns-in_err-reply-clause-keeps
