@@ -1,61 +1,30 @@
 -- No handshake is refused for a server that names no service: that comes once it is over.
-use Rattle.std.proofs.Common.{◌≡◌, ℕ, ℤ, ap, sym, subst, inl, inr, Bool, true, false, Option, None, Some, List, [], ◌∷◌}
+use Rattle.std.proofs.Common.{◌≡◌, ℕ, ℤ, subst, inl, inr, Option, None, Some, List}
 use Rattle.mongo_wire.specs.declared.error.ErrorKind.{ErrorKind}
-use Rattle.mongo_wire.specs.declared.error.ErrorKind.TheVariants.{Authentication, IncompatibleServer}
-use Rattle.mongo_wire.specs.declared.auth_fault.AuthFault.TheVariants.{Malformed, NotCompleted}
+use Rattle.mongo_wire.specs.declared.error.ErrorKind.TheVariants.{IncompatibleServer}
 use Rattle.mongo_wire.specs.declared.message.Message.{Message}
 use Rattle.mongo_wire.specs.Outside.{State}
 use Rattle.mongo_command.specs.Exchange.{ExchangeRefused}
 use Rattle.mongo_command.specs.declared.connection.Connection.{Connection}
-use Rattle.mongo_command.specs.Conversation.{Turn, says, asks, refuses, ends, Plan, later, passed_on, passed_later, followed_by, ending, reading, unless, saying, plain_message, Stopped}
-use Rattle.mongo_command.proofs.Leads.{Never, never_ending, never_unless, never_reading, never_saying}
+use Rattle.mongo_command.specs.Conversation.{Plan, ending, reading, saying, plain_message, Stopped}
+use Rattle.mongo_command.proofs.Leads.{never_ending, never_unless, never_reading, never_saying}
 use Rattle.mongo_sasl.specs.declared.credential.Credential.{Credential}
 use Rattle.mongo_sasl.specs.declared.mechanism.AuthMechanism.{AuthMechanism}
-use Rattle.mongo_sasl.specs.declared.mechanism.AuthMechanism.TheVariants.{MongoDbCr, ScramSha1, ScramSha256, MongoDbX509, Plain}
-use Rattle.mongo_sasl.specs.Plain.{PlainHanded, PlainRow, IsPlainUser, UnfinishedRow, plain_said, plain_heard, plain_plan}
-use Rattle.mongo_sasl.specs.Reply.{IsSaslReply, SaslRow}
-use Rattle.mongo_sasl.specs.X509.{X509Handed, X509Row, Takes, x509_said, x509_heard, x509_plan_from, x509_plan}
-use Rattle.mongo_scram.specs.declared.scram_version.ScramVersion.{ScramVersion}
-use Rattle.mongo_scram.specs.declared.scram_version.ScramVersion.TheVariants.{Sha1, Sha256}
-use Rattle.mongo_scram.specs.declared.server_first.ServerFirst.{ServerFirst}
-use Rattle.mongo_scram.specs.declared.server_final.ServerFinal.{ServerFinal}
-use Rattle.mongo_scram.specs.User.{User, IsUser, CredentialRow}
-use Rattle.mongo_scram.specs.Key.{PasswordRow}
-use Rattle.mongo_scram.specs.Plan.{Speculated, Handed, Challenge, start_said, close_said, ChallengeRow, challenged, opened, opening, LastRow, closed, closing, scram_plan}
-use Rattle.mongo_scram.specs.Replies.{CarriesFirst, FirstReplyRow, CarriesFinal, FinalReplyRow}
-use Rattle.mongo_scram.proofs.ScramPlan.{challenge_of}
+use Rattle.mongo_sasl.specs.declared.mechanism.AuthMechanism.TheVariants.{MongoDbCr}
+use Rattle.mongo_establish.specs.declared.conversation.Conversation.{Conversation}
+use Rattle.mongo_establish.specs.declared.conversation.Conversation.TheVariants.{Scram}
 use Rattle.mongo_establish.specs.Asked.{Asked}
 use Rattle.mongo_establish.specs.Established.{StoppedHandshake}
 use Rattle.mongo_establish.specs.Greeting.{Greeting, Greets}
-use Rattle.mongo_establish.specs.Login.{logging_in, speculative_reply, IsMechanism, InvalidRow, handed_by, plain_by, x509_by}
-use Rattle.mongo_establish.specs.Plan.{hello_said, after_hello, hello_plan, conversation, validated, mechanism_plan, login_by, login_plan}
+use Rattle.mongo_establish.specs.Login.{logging_in, speculative_reply, IsMechanism, InvalidRow}
+use Rattle.mongo_establish.specs.Plan.{hello_said, after_hello, hello_plan, conversation_plan, validated, mechanism_plan, login_by, login_plan}
 use Rattle.mongo_establish.specs.Refusal.{DocumentRow}
-use Rattle.mongo_establish.specs.Speculation.{mechanism_before, MechanismRow, HelloRow}
+use Rattle.mongo_establish.specs.Speculation.{mechanism_before, ConversationRow, MechanismRow, HelloRow}
+use Rattle.mongo_establish.specs.Spoken.{conversation_of, HasConversation}
+use Rattle.mongo_establish.proofs.Conversations.{joins}
+use Rattle.mongo_establish.proofs.Fitting.{Fits}
 
 -- ---- a plan that never refuses so
-
-abbrev Fits : {A : Type 0} → Plan A → Type 0
-Fits plan = Never IncompatibleServer plan
-
-same_kind : {A : Type 0} (a b : ErrorKind) → ◌≡◌ {A = Turn A} (refuses a) (refuses b) → a ≡ b
-same_kind a b e = cc
-
-fits_passed : {A B : Type 0} (next : A → Turn B → Type 0) (first : Turn A) → (first ≡ refuses IncompatibleServer → ⊥) → ((answer : A) → next answer (refuses IncompatibleServer) → ⊥) → passed_on next first (refuses IncompatibleServer) → ⊥
-fits_passed next (says s) early late h = cc
-fits_passed next (asks question answer) early late h = cc
-fits_passed next (refuses kind) early late h = early (ap refuses (same_kind kind IncompatibleServer (sym h)))
-fits_passed next (ends answer) early late h = late answer h
-
-fits_later : {A B : Type 0} (next : A → Turn B → Type 0) (rest : Turn B → Type 0) (first : Turn A) → (rest (refuses IncompatibleServer) → ⊥) → ((answer : A) → next answer (refuses IncompatibleServer) → ⊥) → passed_later next rest first (refuses IncompatibleServer) → ⊥
-fits_later next rest (says s) on late h = on h
-fits_later next rest (asks question answer) on late h = on h
-fits_later next rest (refuses kind) on late h = h
-fits_later next rest (ends answer) on late h = late answer h
-
-fits_followed : {A B : Type 0} (plan : Plan A) (next : A → Plan B) → Fits plan → ((answer : A) → Fits (next answer)) → Fits (followed_by plan next)
-fits_followed plan next p q [] h = fits_passed (λ answer. next answer []) h.0 (λ is. p [] (subst (plan []) is h.1)) (λ answer. q answer []) h.2
-fits_followed plan next p q (event ∷ events) h =
-    fits_later (λ answer. next answer (event ∷ events)) (followed_by (later plan event) next events) h.0 (fits_followed (later plan event) next (λ past. p (event ∷ past)) q events) (λ answer. q answer (event ∷ events)) h.2
 
 no_exchange : (maximum : ℤ) (m : Message) (old new : State) (before after : ℤ) (kept : Option ErrorKind) → ExchangeRefused IncompatibleServer maximum m old new before after kept → ⊥
 no_exchange maximum m old new before after kept r = elim r [ inl x ↦ x | inr u ↦ u.refused.refused ]
@@ -69,11 +38,13 @@ no_stop plan old new before after fits r =
 
 -- ---- the hello
 
+no_conversation_row : (conversation : Option Conversation) (credential : Credential) → ConversationRow conversation credential IncompatibleServer → ⊥
+no_conversation_row (Some (Scram version)) credential row = row
+no_conversation_row conversation credential row = row
+
 no_mechanism_row : (mechanism : AuthMechanism) (credential : Credential) → MechanismRow mechanism credential IncompatibleServer → ⊥
-no_mechanism_row ScramSha1 credential row = row
-no_mechanism_row ScramSha256 credential row = row
 no_mechanism_row MongoDbCr credential row = cc
-no_mechanism_row mechanism credential row = row
+no_mechanism_row mechanism credential row = no_conversation_row (conversation_of mechanism) credential row
 
 no_hello_row : (credential : Option Credential) → HelloRow credential IncompatibleServer → ⊥
 no_hello_row None row = row
@@ -85,103 +56,19 @@ fits_hello asked =
     never_unless IncompatibleServer (HelloRow asked.credential) (saying (hello_said asked) (after_hello asked.pending.address)) (no_hello_row asked.credential) (never_saying IncompatibleServer (hello_said asked) (after_hello asked.pending.address) (λ reply.
     never_unless IncompatibleServer (DocumentRow reply) (reading (Greets asked.pending.address reply) ending) (λ row. row) (never_reading IncompatibleServer (Greets asked.pending.address reply) ending (λ greeting. never_ending IncompatibleServer greeting))))
 
--- ---- SCRAM
-
-no_first_reply : (reply : List ℕ) → FirstReplyRow reply IncompatibleServer → ⊥
-no_first_reply reply row = elim row [ inl x ↦ x | inr x ↦ x.1 ]
-
-no_password : (version : ScramVersion) (password : List ℕ) → PasswordRow version password IncompatibleServer → ⊥
-no_password Sha1 password row = row
-no_password Sha256 password row = row
-
-no_challenge : (handed : Handed) (c : Challenge) → ChallengeRow handed c IncompatibleServer → ⊥
-no_challenge handed c row = elim row [ inl x ↦ x | inr x ↦ no_password handed.version c.user.password x.1 ]
-
--- after the server's first message and its last
-abbrev judged : Handed → User → ServerFirst → Plan Challenge
-judged handed user first = unless (ChallengeRow handed (challenge_of user first)) (ending (challenge_of user first))
-
-abbrev proved : Handed → Challenge → ServerFinal → Plan Challenge
-proved handed c last = unless (LastRow handed c last) (ending c)
-
-fits_challenged : (handed : Handed) (user : User) (reply : List ℕ) → Fits (challenged handed user reply)
-fits_challenged handed user reply =
-    never_unless IncompatibleServer (FirstReplyRow reply) (reading (CarriesFirst reply) (judged handed user)) (no_first_reply reply) (never_reading IncompatibleServer (CarriesFirst reply) (judged handed user) (λ first.
-    never_unless IncompatibleServer (ChallengeRow handed (challenge_of user first)) (ending (challenge_of user first)) (no_challenge handed (challenge_of user first)) (never_ending IncompatibleServer (challenge_of user first))))
-
-fits_opened : (speculated : Option Speculated) (handed : Handed) (user : User) → Fits (opened speculated handed user)
-fits_opened None handed user = never_saying IncompatibleServer (start_said handed user) (challenged handed user) (fits_challenged handed user)
-fits_opened (Some speculated) handed user = fits_challenged handed user speculated.reply
-
-fits_opening : (handed : Handed) → Fits (opening handed)
-fits_opening handed = never_unless IncompatibleServer (CredentialRow handed.credential) (reading (IsUser handed.credential) (opened handed.speculated handed)) (λ row. row) (never_reading IncompatibleServer (IsUser handed.credential) (opened handed.speculated handed) (fits_opened handed.speculated handed))
-
-malformed : IncompatibleServer ≡ Authentication Malformed → ⊥
-malformed is = cc
-
-undone : IncompatibleServer ≡ Authentication NotCompleted → ⊥
-undone is = cc
-
-no_final_reply : (reply : List ℕ) → FinalReplyRow reply IncompatibleServer → ⊥
-no_final_reply reply row = elim row [ inl x ↦ x | inr x ↦ malformed x.1.0 ]
-
-no_last : (handed : Handed) (c : Challenge) (last : ServerFinal) → LastRow handed c last IncompatibleServer → ⊥
-no_last handed c last row = elim row [ inl x ↦ x | inr x ↦ undone x.1.0 ]
-
-fits_closed : (handed : Handed) (c : Challenge) (reply : List ℕ) → Fits (closed handed c reply)
-fits_closed handed c reply =
-    never_unless IncompatibleServer (FinalReplyRow reply) (reading (CarriesFinal reply) (proved handed c)) (no_final_reply reply) (never_reading IncompatibleServer (CarriesFinal reply) (proved handed c) (λ last.
-    never_unless IncompatibleServer (LastRow handed c last) (ending c) (no_last handed c last) (never_ending IncompatibleServer c)))
-
-fits_scram : (handed : Handed) → Fits (scram_plan handed)
-fits_scram handed = fits_followed (opening handed) (closing handed) (fits_opening handed) (λ c. never_saying IncompatibleServer (close_said handed c) (closed handed c) (fits_closed handed c))
-
--- ---- PLAIN and X.509
-
-fits_plain_heard : (reply : List ℕ) → Fits (plain_heard reply)
-fits_plain_heard reply =
-    never_unless IncompatibleServer (SaslRow reply) (reading (IsSaslReply reply) (λ sasl. unless (UnfinishedRow sasl) (ending tt))) (λ row. row) (never_reading IncompatibleServer (IsSaslReply reply) (λ sasl. unless (UnfinishedRow sasl) (ending tt)) (λ sasl.
-    never_unless IncompatibleServer (UnfinishedRow sasl) (ending tt) (λ row. malformed row.0) (never_ending IncompatibleServer tt)))
-
-fits_plain : (handed : PlainHanded) → Fits (plain_plan handed)
-fits_plain handed =
-    never_unless IncompatibleServer (PlainRow handed.credential) (reading (IsPlainUser handed.credential) (λ user. saying (plain_said handed user) plain_heard)) (λ row. row)
-    (never_reading IncompatibleServer (IsPlainUser handed.credential) (λ user. saying (plain_said handed user) plain_heard) (λ user. never_saying IncompatibleServer (plain_said handed user) plain_heard fits_plain_heard))
-
-fits_x509 : (speculated : Bool) (handed : X509Handed) → Fits (x509_plan_from speculated handed)
-fits_x509 true handed = never_ending IncompatibleServer tt
-fits_x509 false handed =
-    never_saying IncompatibleServer (x509_said handed) x509_heard (λ reply.
-    never_unless IncompatibleServer (X509Row reply) (reading (Takes reply) (λ elements. ending tt)) (λ row. row) (never_reading IncompatibleServer (Takes reply) (λ elements. ending tt) (λ elements. never_ending IncompatibleServer tt)))
-
 -- ---- the login
 
 no_invalid : (reply : Option (List ℕ)) (mechanism : AuthMechanism) (credential : Credential) → InvalidRow reply mechanism credential IncompatibleServer → ⊥
 no_invalid None mechanism credential row = row
 no_invalid (Some reply) mechanism credential row = row
 
-fits_then : {A : Type 0} (plan : Plan A) (greeting : Greeting) → Fits plan → Fits (followed_by plan (λ done. ending greeting))
-fits_then plan greeting fits = fits_followed plan (λ done. ending greeting) fits (λ done. never_ending IncompatibleServer greeting)
-
-fits_conversation : (mechanism : AuthMechanism) (asked : Asked) (credential : Credential) (greeting : Greeting) → Fits (conversation mechanism asked credential greeting)
-unfolding conversation
-fits_conversation ScramSha1 asked credential greeting = fits_then (scram_plan (handed_by Sha1 asked credential greeting)) greeting (fits_scram (handed_by Sha1 asked credential greeting))
-fits_conversation ScramSha256 asked credential greeting = fits_then (scram_plan (handed_by Sha256 asked credential greeting)) greeting (fits_scram (handed_by Sha256 asked credential greeting))
-fits_conversation Plain asked credential greeting = fits_then (plain_plan (plain_by asked credential greeting)) greeting (fits_plain (plain_by asked credential greeting))
-fits_conversation MongoDbX509 asked credential greeting = fits_then (x509_plan (x509_by asked credential greeting)) greeting (fits_x509 (x509_by asked credential greeting).speculated (x509_by asked credential greeting))
-fits_conversation mechanism asked credential greeting = λ events is. is
-
-fits_validated : (mechanism : AuthMechanism) (asked : Asked) (credential : Credential) (greeting : Greeting) → Fits (validated mechanism asked credential greeting)
-fits_validated mechanism asked credential greeting =
-    never_unless IncompatibleServer (InvalidRow (speculative_reply asked greeting) mechanism credential) (conversation mechanism asked credential greeting) (no_invalid (speculative_reply asked greeting) mechanism credential) (fits_conversation mechanism asked credential greeting)
+fits_validated : (mechanism : AuthMechanism) (asked : Asked) (credential : Credential) (greeting : Greeting) (conversation : Conversation) → Fits (validated mechanism asked credential greeting conversation)
+fits_validated mechanism asked credential greeting conversation =
+    never_unless IncompatibleServer (InvalidRow (speculative_reply asked greeting) mechanism credential) (conversation_plan conversation asked credential greeting) (no_invalid (speculative_reply asked greeting) mechanism credential) (joins conversation asked credential greeting).fits
 
 fits_mechanism : (mechanism : AuthMechanism) (asked : Asked) (credential : Credential) (greeting : Greeting) → Fits (mechanism_plan mechanism asked credential greeting)
 unfolding mechanism_plan
-fits_mechanism ScramSha1 asked credential greeting = fits_validated ScramSha1 asked credential greeting
-fits_mechanism ScramSha256 asked credential greeting = fits_validated ScramSha256 asked credential greeting
-fits_mechanism Plain asked credential greeting = fits_validated Plain asked credential greeting
-fits_mechanism MongoDbX509 asked credential greeting = fits_validated MongoDbX509 asked credential greeting
-fits_mechanism mechanism asked credential greeting = λ events is. is
+fits_mechanism mechanism asked credential greeting = never_reading IncompatibleServer (HasConversation mechanism) (validated mechanism asked credential greeting) (fits_validated mechanism asked credential greeting)
 
 fits_login_by : (who : Option Credential) (asked : Asked) (greeting : Greeting) → Fits (login_by who asked greeting)
 fits_login_by None asked greeting = never_ending IncompatibleServer greeting

@@ -10,26 +10,24 @@ use Rattle.mongo_command.specs.Exchange.{frame_maximum}
 use Rattle.mongo_command.proofs.Steps.{reached_ending}
 use Rattle.mongo_command.proofs.FollowedBy.{reached_both, stopped_first}
 use Rattle.mongo_sasl.specs.declared.credential.Credential.{Credential}
-use Rattle.mongo_sasl.specs.declared.mechanism.AuthMechanism.{AuthMechanism}
-use Rattle.mongo_sasl.specs.declared.mechanism.AuthMechanism.TheVariants.{MongoDbX509, Plain}
 use Rattle.mongo_sasl.specs.Plain.{plain_handed, plain_plan}
 use Rattle.mongo_sasl.specs.X509.{x509_handed, x509_plan}
 use Rattle.mongo_scram.specs.declared.conversation.FirstRound.{FirstRound as ScramRound}
 use Rattle.mongo_scram.specs.declared.scram_version.ScramVersion.{ScramVersion}
-use Rattle.mongo_scram.specs.declared.scram_version.ScramVersion.TheVariants.{Sha1, Sha256}
 use Rattle.mongo_scram.specs.Base64.{base64_of}
 use Rattle.mongo_scram.specs.Client.{speculated_of, handed_to}
-use Rattle.mongo_scram.specs.Commands.{mechanism_of}
 use Rattle.mongo_scram.specs.Costs.{Ledgers, CostsNothing, Accepted, StoppedScram}
 use Rattle.mongo_scram.specs.Plan.{Handed, scram_plan}
 use Rattle.mongo_scram.proofs.ScramCosts.{accepted_reached, stopped_whole}
+use Rattle.mongo_establish.specs.declared.conversation.Conversation.{Conversation}
+use Rattle.mongo_establish.specs.declared.conversation.Conversation.TheVariants.{Scram, Plain as PlainText, X509}
 use Rattle.mongo_establish.specs.declared.first_round.FirstRound.{FirstRound}
 use Rattle.mongo_establish.specs.Asked.{Asked}
 use Rattle.mongo_establish.specs.First.{IsRoundBy, scram_round}
 use Rattle.mongo_establish.specs.Greeting.{Greeting}
 use Rattle.mongo_establish.specs.LoggingIn.{Conversed, ConversationStopped, Converses}
-use Rattle.mongo_establish.specs.Login.{IsScram, handed_by, plain_by, x509_by}
-use Rattle.mongo_establish.specs.Plan.{conversation}
+use Rattle.mongo_establish.specs.Login.{handed_by, plain_by, x509_by}
+use Rattle.mongo_establish.specs.Plan.{conversation_plan}
 
 abbrev followed : {A : Type 0} → Plan A → Greeting → Plan Greeting
 followed plan greeting = followed_by plan (λ done. ending greeting)
@@ -43,36 +41,24 @@ then_stopped plan greeting kind old new before after s = stopped_first plan (λ 
 
 -- ---- SCRAM
 
-scram_version : (version : ScramVersion) → IsScram (mechanism_of version)
-scram_version Sha1 = tt
-scram_version Sha256 = tt
-
 -- what it was handed is what the plan says
-handed_same : (version : ScramVersion) (asked : Asked) (credential : Credential) (greeting : Greeting) (api : Option ServerApi) (round : Option FirstRound) (begun : Option ScramRound) (held : Option StreamDescription) → api ≡ asked.options.auth_options.server_api → begun ≡ scram_round round → IsRoundBy (mechanism_of version) credential asked greeting round → held ≡ Some greeting.description
+handed_same : (version : ScramVersion) (asked : Asked) (credential : Credential) (greeting : Greeting) (api : Option ServerApi) (round : Option FirstRound) (begun : Option ScramRound) (held : Option StreamDescription) → api ≡ asked.options.auth_options.server_api → begun ≡ scram_round round → IsRoundBy (Some (Scram version)) credential asked greeting round → held ≡ Some greeting.description
     → handed_to version credential api begun (base64_of asked.nonces.second) asked.options.max_iterations (frame_maximum held) ≡ handed_by version asked credential greeting
 handed_same version asked credential greeting api round begun held p b went d =
-    let q = ap speculated_of b ∙ went.scram (scram_version version) in
+    let q = ap speculated_of b ∙ went.scram tt in
     λ i. let h : Handed = record { version = version; credential = credential; server_api = p i; speculated = q i; nonce = base64_of asked.nonces.second; most = asked.options.max_iterations; maximum = frame_maximum (d i) } in h
 
-scram_accepted : (version : ScramVersion) (asked : Asked) (credential : Credential) (greeting : Greeting) (document : List ℕ) (old new : State) (before after : ℤ) (early late : Ledgers) → Accepted (handed_by version asked credential greeting) document old new before after early late → Conversed (mechanism_of version) asked credential greeting old new before after early late
-unfolding conversation
-scram_accepted Sha1 asked credential greeting document old new before after early late is = record {
-  reached = then_reached (scram_plan (handed_by Sha1 asked credential greeting)) is.challenge greeting old new before after (accepted_reached (handed_by Sha1 asked credential greeting) document old new before after early late is);
-  costs = record { document = document; accepted = is };
-}
-scram_accepted Sha256 asked credential greeting document old new before after early late is = record {
-  reached = then_reached (scram_plan (handed_by Sha256 asked credential greeting)) is.challenge greeting old new before after (accepted_reached (handed_by Sha256 asked credential greeting) document old new before after early late is);
+scram_accepted : (version : ScramVersion) (asked : Asked) (credential : Credential) (greeting : Greeting) (document : List ℕ) (old new : State) (before after : ℤ) (early late : Ledgers) → Accepted (handed_by version asked credential greeting) document old new before after early late → Conversed (Scram version) asked credential greeting old new before after early late
+unfolding conversation_plan
+scram_accepted version asked credential greeting document old new before after early late is = record {
+  reached = then_reached (scram_plan (handed_by version asked credential greeting)) is.challenge greeting old new before after (accepted_reached (handed_by version asked credential greeting) document old new before after early late is);
   costs = record { document = document; accepted = is };
 }
 
-scram_stopped : (version : ScramVersion) (asked : Asked) (credential : Credential) (greeting : Greeting) (kind : ErrorKind) (old new : State) (before after : ℤ) (early late : Ledgers) → StoppedScram (handed_by version asked credential greeting) kind old new before after early late → ConversationStopped (mechanism_of version) asked credential greeting kind old new before after early late
-unfolding conversation
-scram_stopped Sha1 asked credential greeting kind old new before after early late is = record {
-  stopped = then_stopped (scram_plan (handed_by Sha1 asked credential greeting)) greeting kind old new before after (stopped_whole (handed_by Sha1 asked credential greeting) kind old new before after early late is);
-  costs = is;
-}
-scram_stopped Sha256 asked credential greeting kind old new before after early late is = record {
-  stopped = then_stopped (scram_plan (handed_by Sha256 asked credential greeting)) greeting kind old new before after (stopped_whole (handed_by Sha256 asked credential greeting) kind old new before after early late is);
+scram_stopped : (version : ScramVersion) (asked : Asked) (credential : Credential) (greeting : Greeting) (kind : ErrorKind) (old new : State) (before after : ℤ) (early late : Ledgers) → StoppedScram (handed_by version asked credential greeting) kind old new before after early late → ConversationStopped (Scram version) asked credential greeting kind old new before after early late
+unfolding conversation_plan
+scram_stopped version asked credential greeting kind old new before after early late is = record {
+  stopped = then_stopped (scram_plan (handed_by version asked credential greeting)) greeting kind old new before after (stopped_whole (handed_by version asked credential greeting) kind old new before after early late is);
   costs = is;
 }
 
@@ -81,7 +67,7 @@ module _ (version : ScramVersion) (asked : Asked) (credential : Credential) (hel
   handed = handed_to version credential api begun (base64_of asked.nonces.second) asked.options.max_iterations (frame_maximum held)
 
   pub scram_converses : (r : Result (Unit {0}) Error) (document : List ℕ) (old new : State) (before after : ℤ) (early late : Ledgers) → OnOk r (Accepted handed document old new before after early late) → IfErr r (λ e. StoppedScram handed e.kind old new before after early late)
-      → Converses r (mechanism_of version) asked credential held round old new before after early late
+      → Converses r (Scram version) asked credential held round old new before after early late
   scram_converses (Ok done) document old new before after early late accepted stopped = record {
     accepted = λ greeting described went.
         let is = handed_same version asked credential greeting api round begun held same begins went described in
@@ -102,8 +88,8 @@ module _ (asked : Asked) (credential : Credential) (held : Option StreamDescript
   plain_same greeting d = λ i. plain_handed credential (same i) (frame_maximum (d i))
 
   plain_answered : (r : Result (Unit {0}) Error) (old new : State) (before after : ℤ) (ledgers : Ledgers) → CostsNothing ledgers ledgers → OnOk r (Reached (plain_plan (plain_handed credential api (frame_maximum held))) tt old new before after) → IfErr r (λ e. Stopped (plain_plan (plain_handed credential api (frame_maximum held))) e.kind old new before after)
-      → Converses r Plain asked credential held round old new before after ledgers ledgers
-  unfolding conversation
+      → Converses r PlainText asked credential held round old new before after ledgers ledgers
+  unfolding conversation_plan
   plain_answered (Ok done) old new before after ledgers nothing reached stopped = record {
     accepted = λ greeting described went. record {
       reached = then_reached (plain_plan (plain_by asked credential greeting)) tt greeting old new before after (subst (λ h. Reached (plain_plan h) tt old new before after) (plain_same greeting described) reached);
@@ -119,20 +105,20 @@ module _ (asked : Asked) (credential : Credential) (held : Option StreamDescript
     };
   }
 
-  pub plain_converses : (mechanism : AuthMechanism) (r : Result (Unit {0}) Error) (old new : State) (before after : ℤ) (ledgers : Ledgers) → mechanism ≡ Plain → CostsNothing ledgers ledgers → OnOk r (Reached (plain_plan (plain_handed credential api (frame_maximum held))) tt old new before after) → IfErr r (λ e. Stopped (plain_plan (plain_handed credential api (frame_maximum held))) e.kind old new before after)
-      → Converses r mechanism asked credential held round old new before after ledgers ledgers
-  plain_converses mechanism r old new before after ledgers is nothing reached stopped = subst (λ m. Converses r m asked credential held round old new before after ledgers ledgers) (sym is) (plain_answered r old new before after ledgers nothing reached stopped)
+  pub plain_converses : (conversation : Conversation) (r : Result (Unit {0}) Error) (old new : State) (before after : ℤ) (ledgers : Ledgers) → conversation ≡ PlainText → CostsNothing ledgers ledgers → OnOk r (Reached (plain_plan (plain_handed credential api (frame_maximum held))) tt old new before after) → IfErr r (λ e. Stopped (plain_plan (plain_handed credential api (frame_maximum held))) e.kind old new before after)
+      → Converses r conversation asked credential held round old new before after ledgers ledgers
+  plain_converses conversation r old new before after ledgers is nothing reached stopped = subst (λ c. Converses r c asked credential held round old new before after ledgers ledgers) (sym is) (plain_answered r old new before after ledgers nothing reached stopped)
 
   -- ---- X.509
 
-  x509_same : (greeting : Greeting) (speculated : Bool) → held ≡ Some greeting.description → speculated ≡ is_some round → IsRoundBy MongoDbX509 credential asked greeting round → x509_handed credential api speculated (frame_maximum held) ≡ x509_by asked credential greeting
+  x509_same : (greeting : Greeting) (speculated : Bool) → held ≡ Some greeting.description → speculated ≡ is_some round → IsRoundBy (Some X509) credential asked greeting round → x509_handed credential api speculated (frame_maximum held) ≡ x509_by asked credential greeting
   x509_same greeting speculated d is went =
       let there = is ∙ went.there in
       λ i. x509_handed credential (same i) (there i) (frame_maximum (d i))
 
   x509_answered : (r : Result (Unit {0}) Error) (speculated : Bool) (old new : State) (before after : ℤ) (ledgers : Ledgers) → speculated ≡ is_some round → CostsNothing ledgers ledgers → OnOk r (Reached (x509_plan (x509_handed credential api speculated (frame_maximum held))) tt old new before after) → IfErr r (λ e. Stopped (x509_plan (x509_handed credential api speculated (frame_maximum held))) e.kind old new before after)
-      → Converses r MongoDbX509 asked credential held round old new before after ledgers ledgers
-  unfolding conversation
+      → Converses r X509 asked credential held round old new before after ledgers ledgers
+  unfolding conversation_plan
   x509_answered (Ok done) speculated old new before after ledgers is nothing reached stopped = record {
     accepted = λ greeting described went. record {
       reached = then_reached (x509_plan (x509_by asked credential greeting)) tt greeting old new before after (subst (λ h. Reached (x509_plan h) tt old new before after) (x509_same greeting speculated described is went) reached);
@@ -148,6 +134,6 @@ module _ (asked : Asked) (credential : Credential) (held : Option StreamDescript
     };
   }
 
-  pub x509_converses : (mechanism : AuthMechanism) (r : Result (Unit {0}) Error) (speculated : Bool) (old new : State) (before after : ℤ) (ledgers : Ledgers) → mechanism ≡ MongoDbX509 → speculated ≡ is_some round → CostsNothing ledgers ledgers
-      → OnOk r (Reached (x509_plan (x509_handed credential api speculated (frame_maximum held))) tt old new before after) → IfErr r (λ e. Stopped (x509_plan (x509_handed credential api speculated (frame_maximum held))) e.kind old new before after) → Converses r mechanism asked credential held round old new before after ledgers ledgers
-  x509_converses mechanism r speculated old new before after ledgers is there nothing reached stopped = subst (λ m. Converses r m asked credential held round old new before after ledgers ledgers) (sym is) (x509_answered r speculated old new before after ledgers there nothing reached stopped)
+  pub x509_converses : (conversation : Conversation) (r : Result (Unit {0}) Error) (speculated : Bool) (old new : State) (before after : ℤ) (ledgers : Ledgers) → conversation ≡ X509 → speculated ≡ is_some round → CostsNothing ledgers ledgers
+      → OnOk r (Reached (x509_plan (x509_handed credential api speculated (frame_maximum held))) tt old new before after) → IfErr r (λ e. Stopped (x509_plan (x509_handed credential api speculated (frame_maximum held))) e.kind old new before after) → Converses r conversation asked credential held round old new before after ledgers ledgers
+  x509_converses conversation r speculated old new before after ledgers is there nothing reached stopped = subst (λ c. Converses r c asked credential held round old new before after ledgers ledgers) (sym is) (x509_answered r speculated old new before after ledgers there nothing reached stopped)

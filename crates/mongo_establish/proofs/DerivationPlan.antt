@@ -1,22 +1,23 @@
 -- The plan of a login's key has one turn, so that reply bytes lead to one key.
-use Rattle.std.proofs.Common.{◌≡◌, ℕ, ◌∙◌, ap, sym, Option, None, Some, List}
+use Rattle.std.proofs.Common.{◌≡◌, ℕ, ◌∙◌, refl, ap, sym, Option, None, Some, List}
 use Rattle.mongo_command.specs.Conversation.{HasOneTurn, ending}
 use Rattle.mongo_command.proofs.Plans.{one_ending, one_unless, one_reading, one_followed}
 use Rattle.mongo_command.proofs.Leads.{one_way}
 use Rattle.mongo_sasl.specs.declared.credential.Credential.{Credential}
 use Rattle.mongo_sasl.specs.declared.mechanism.AuthMechanism.{AuthMechanism}
-use Rattle.mongo_sasl.specs.declared.mechanism.AuthMechanism.TheVariants.{ScramSha1, ScramSha256}
 use Rattle.mongo_scram.specs.declared.cache.SaltedKey.{SaltedKey}
 use Rattle.mongo_scram.specs.declared.scram_version.ScramVersion.{ScramVersion}
-use Rattle.mongo_scram.specs.declared.scram_version.ScramVersion.TheVariants.{Sha1, Sha256}
 use Rattle.mongo_scram.specs.Costs.{key_by}
 use Rattle.mongo_scram.specs.Plan.{opening}
 use Rattle.mongo_scram.proofs.ScramPlan.{one_opening}
+use Rattle.mongo_establish.specs.declared.conversation.Conversation.{Conversation}
+use Rattle.mongo_establish.specs.declared.conversation.Conversation.TheVariants.{Scram}
 use Rattle.mongo_establish.specs.Asked.{Asked}
 use Rattle.mongo_establish.specs.Derivation.{scram_derivation, derivation_by, derivation_of, login_derivation, derivation_plan, key_in, LeadsToKey}
 use Rattle.mongo_establish.specs.Greeting.{Greeting}
 use Rattle.mongo_establish.specs.Login.{logging_in, speculative_reply, handed_by}
 use Rattle.mongo_establish.specs.Plan.{hello_plan}
+use Rattle.mongo_establish.specs.Spoken.{conversation_of}
 use Rattle.mongo_establish.proofs.HelloPlan.{one_hello}
 use Rattle.mongo_establish.proofs.LoginPlan.{one_mechanism}
 use Rattle.mongo_establish.proofs.Validated.{one_invalid_row}
@@ -28,16 +29,15 @@ one_scram_derivation version asked credential greeting =
     let handed = handed_by version asked credential greeting in
     one_followed (opening handed) (λ challenge. ending (Some (key_by handed challenge))) (one_opening handed) (λ challenge. one_ending (Some (key_by handed challenge)))
 
-one_derivation_by : (mechanism : AuthMechanism) (asked : Asked) (credential : Credential) (greeting : Greeting) → HasOneTurn (derivation_by mechanism asked credential greeting)
+one_derivation_by : (conversation : Option Conversation) (mechanism : AuthMechanism) (asked : Asked) (credential : Credential) (greeting : Greeting) → conversation_of mechanism ≡ conversation → HasOneTurn (derivation_by conversation mechanism asked credential greeting)
 unfolding derivation_by
-one_derivation_by ScramSha1 asked credential greeting = one_unless _ _ (one_invalid_row (speculative_reply asked greeting) ScramSha1 credential tt) (one_scram_derivation Sha1 asked credential greeting)
-one_derivation_by ScramSha256 asked credential greeting = one_unless _ _ (one_invalid_row (speculative_reply asked greeting) ScramSha256 credential tt) (one_scram_derivation Sha256 asked credential greeting)
-one_derivation_by mechanism asked credential greeting = one_ending None
+one_derivation_by (Some (Scram version)) mechanism asked credential greeting has = one_unless _ _ (one_invalid_row (speculative_reply asked greeting) mechanism (Scram version) credential has) (one_scram_derivation version asked credential greeting)
+one_derivation_by conversation mechanism asked credential greeting has = one_ending None
 
 one_derivation_of : (who : Option Credential) (asked : Asked) (greeting : Greeting) → HasOneTurn (derivation_of who asked greeting)
 one_derivation_of None asked greeting = one_ending None
 one_derivation_of (Some credential) asked greeting =
-    one_reading _ _ (one_mechanism credential.mechanism (speculative_reply asked greeting) greeting.description) (λ mechanism. one_derivation_by mechanism asked credential greeting)
+    one_reading _ _ (one_mechanism credential.mechanism (speculative_reply asked greeting) greeting.description) (λ mechanism. one_derivation_by (conversation_of mechanism) mechanism asked credential greeting refl)
 
 pub one_derivation : (asked : Asked) → HasOneTurn (derivation_plan asked)
 unfolding derivation_plan login_derivation

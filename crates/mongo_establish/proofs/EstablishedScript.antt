@@ -16,7 +16,7 @@ use Rattle.mongo_establish.specs.Greeting.{Greeting}
 use Rattle.mongo_establish.specs.Plan.{hello_said, hello_plan, establishment_plan}
 use Rattle.mongo_establish.specs.Script.{Script, IsScript, HasScript}
 use Rattle.mongo_establish.proofs.LoginBytes.{within_ids}
-use Rattle.mongo_establish.proofs.LoginEnds.{maximum_of}
+use Rattle.mongo_establish.proofs.Conversations.{maximum_of}
 use Rattle.mongo_establish.proofs.EstablishmentPlan.{IsEstablished, establishment_ended, script_ends}
 
 -- ---- what was made

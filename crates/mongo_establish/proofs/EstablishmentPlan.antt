@@ -17,7 +17,8 @@ use Rattle.mongo_establish.specs.Script.{Script, IsScript, IsLogin}
 use Rattle.mongo_establish.specs.Speculation.{HelloRow}
 use Rattle.mongo_establish.proofs.HelloPlan.{one_hello, greeted, greeting_ends}
 use Rattle.mongo_establish.proofs.LoginPlan.{one_login}
-use Rattle.mongo_establish.proofs.LoginEnds.{maximum_of, login_ended, login_ends}
+use Rattle.mongo_establish.proofs.Conversations.{maximum_of}
+use Rattle.mongo_establish.proofs.LoginEnds.{login_ended, login_ends}
 
 -- ---- one turn
 

@@ -13,13 +13,16 @@ use Rattle.mongo_command.proofs.Ends.{Ends, ends_ending, ends_unless, ends_readi
 use Rattle.mongo_command.proofs.Plans.{one_is, one_ending, one_unless, one_reading, one_saying}
 use Rattle.mongo_sasl.specs.declared.credential.Credential.{Credential}
 use Rattle.mongo_sasl.specs.declared.mechanism.AuthMechanism.{AuthMechanism}
-use Rattle.mongo_sasl.specs.declared.mechanism.AuthMechanism.TheVariants.{MongoDbCr, ScramSha1, ScramSha256}
+use Rattle.mongo_sasl.specs.declared.mechanism.AuthMechanism.TheVariants.{MongoDbCr}
 use Rattle.mongo_scram.proofs.OneRow.{one_credential_row}
+use Rattle.mongo_establish.specs.declared.conversation.Conversation.{Conversation}
+use Rattle.mongo_establish.specs.declared.conversation.Conversation.TheVariants.{Scram}
 use Rattle.mongo_establish.specs.Asked.{Asked}
 use Rattle.mongo_establish.specs.Greeting.{Greeting, Greets}
 use Rattle.mongo_establish.specs.Plan.{hello_said, after_hello, hello_plan}
 use Rattle.mongo_establish.specs.Refusal.{DocumentRow}
-use Rattle.mongo_establish.specs.Speculation.{mechanism_before, MechanismRow, HelloRow}
+use Rattle.mongo_establish.specs.Speculation.{mechanism_before, ConversationRow, MechanismRow, HelloRow}
+use Rattle.mongo_establish.specs.Spoken.{conversation_of}
 
 -- ---- the reply
 
@@ -63,11 +66,13 @@ one_greeting address reply a b p q =
 -- ---- the hello
 
 -- a credential has one reason why no hello is made for it
+one_conversation_row : (conversation : Option Conversation) (credential : Credential) → IsOne (ConversationRow conversation credential)
+one_conversation_row (Some (Scram version)) credential = one_credential_row credential
+one_conversation_row conversation credential = λ a b p q. absurd p
+
 one_mechanism_row : (mechanism : AuthMechanism) (credential : Credential) → IsOne (MechanismRow mechanism credential)
-one_mechanism_row ScramSha1 credential = one_credential_row credential
-one_mechanism_row ScramSha256 credential = one_credential_row credential
 one_mechanism_row MongoDbCr credential = one_is _
-one_mechanism_row mechanism credential = λ a b p q. absurd p
+one_mechanism_row mechanism credential = one_conversation_row (conversation_of mechanism) credential
 
 pub one_hello_row : (credential : Option Credential) → IsOne (HelloRow credential)
 one_hello_row None = λ a b p q. absurd p

@@ -15,16 +15,20 @@ use Rattle.mongo_command.specs.Hello.{HelloRefused, DescriptionRefused}
 use Rattle.mongo_command.specs.HelloExchange.{RunHelloRefused}
 use Rattle.mongo_sasl.specs.declared.credential.Credential.{Credential}
 use Rattle.mongo_sasl.specs.declared.mechanism.AuthMechanism.{AuthMechanism}
-use Rattle.mongo_sasl.specs.declared.mechanism.AuthMechanism.TheVariants.{MongoDbCr, ScramSha1, ScramSha256, MongoDbX509, Plain}
+use Rattle.mongo_sasl.specs.declared.mechanism.AuthMechanism.TheVariants.{MongoDbCr}
 use Rattle.mongo_sasl.specs.Kept.{KeepsAfter}
 use Rattle.mongo_sasl.specs.Rules.{first_broken, is_other_than, is_text}
-use Rattle.mongo_sasl.specs.Validation.{IsValidated, scram_rules, x509_rules, plain_rules}
+use Rattle.mongo_sasl.specs.Validation.{scram_rules, x509_rules, plain_rules}
 use Rattle.mongo_sasl.proofs.KeptAfter.{IsOwn, own_keeps, unbuilt_own, kept_after}
 use Rattle.mongo_scram.specs.User.{CredentialRow}
+use Rattle.mongo_establish.specs.declared.conversation.Conversation.{Conversation}
+use Rattle.mongo_establish.specs.declared.conversation.Conversation.TheVariants.{Scram, Plain as PlainText, X509}
 use Rattle.mongo_establish.specs.First.{IsUnmade}
 use Rattle.mongo_establish.specs.HelloBody.{HelloBodyRefused}
-use Rattle.mongo_establish.specs.Login.{HasConversation, InvalidRow}
-use Rattle.mongo_establish.specs.Speculation.{mechanism_before, MechanismRow, HelloRow}
+use Rattle.mongo_establish.specs.Login.{InvalidRow}
+use Rattle.mongo_establish.specs.Speculation.{mechanism_before, ConversationRow, MechanismRow, HelloRow}
+use Rattle.mongo_establish.specs.Spoken.{conversation_of, HasConversation}
+use Rattle.mongo_establish.proofs.Validated.{answer_of, by_rules}
 
 -- ---- before the hello was said
 
@@ -32,11 +36,13 @@ credential_own : (credential : Credential) (kind : ErrorKind) → CredentialRow 
 credential_own credential (Authentication fault) row = inl refl
 credential_own credential kind row = absurd row
 
+conversation_own : (conversation : Option Conversation) (credential : Credential) (kind : ErrorKind) → ConversationRow conversation credential kind → IsOwn kind
+conversation_own (Some (Scram version)) credential kind row = credential_own credential kind row
+conversation_own conversation credential kind row = absurd row
+
 mechanism_own : (mechanism : AuthMechanism) (credential : Credential) (kind : ErrorKind) → MechanismRow mechanism credential kind → IsOwn kind
-mechanism_own ScramSha1 credential kind row = credential_own credential kind row
-mechanism_own ScramSha256 credential kind row = credential_own credential kind row
 mechanism_own MongoDbCr credential kind row = inl (ap is_kept row)
-mechanism_own mechanism credential kind row = absurd row
+mechanism_own mechanism credential kind row = conversation_own (conversation_of mechanism) credential kind row
 
 hello_row_own : (credential : Option Credential) (kind : ErrorKind) → HelloRow credential kind → IsOwn kind
 hello_row_own None kind row = absurd row
@@ -106,13 +112,11 @@ plain_fault credential fault is =
     by_rule (is_text (codes "") credential.username) PlainUsernameEmpty fault _ refl (λ later.
     by_rule (is_none credential.password) PlainPassword fault (Ok tt) refl (unbroken fault) later) named) is
 
-validated_own : (mechanism : AuthMechanism) (credential : Credential) (fault : ArgumentFault) → HasConversation mechanism → IsValidated mechanism credential false (Err fault) → EndsNone fault
-validated_own ScramSha1 credential fault spoken row = scram_fault credential fault row
-validated_own ScramSha256 credential fault spoken row = scram_fault credential fault row
-validated_own MongoDbX509 credential fault spoken row = x509_fault credential fault row
-validated_own Plain credential fault spoken row = plain_fault credential fault row
-validated_own mechanism credential fault spoken row = absurd spoken
+answer_fault : (conversation : Conversation) (credential : Credential) (fault : ArgumentFault) → Err fault ≡ answer_of conversation credential → EndsNone fault
+answer_fault (Scram version) credential fault is = scram_fault credential fault is
+answer_fault PlainText credential fault is = plain_fault credential fault is
+answer_fault X509 credential fault is = x509_fault credential fault is
 
-pub invalid_own : (mechanism : AuthMechanism) (credential : Credential) (kind : ErrorKind) → HasConversation mechanism → InvalidRow None mechanism credential kind → IsOwn kind
-invalid_own mechanism credential (InvalidArgument fault) spoken row = inl (validated_own mechanism credential fault spoken row)
-invalid_own mechanism credential kind spoken row = absurd row
+pub invalid_own : (mechanism : AuthMechanism) (conversation : Conversation) (credential : Credential) (kind : ErrorKind) → HasConversation mechanism conversation → InvalidRow None mechanism credential kind → IsOwn kind
+invalid_own mechanism conversation credential (InvalidArgument fault) has row = inl (answer_fault conversation credential fault (by_rules mechanism conversation credential (Err fault) has row))
+invalid_own mechanism conversation credential kind has row = absurd row

@@ -13,16 +13,16 @@ use Rattle.mongo_command.proofs.Leads.{reached_led, stopped_led}
 use Rattle.mongo_command.proofs.Steps.{reached_ending, reached_unless, stopped_unless}
 use Rattle.mongo_sasl.specs.declared.credential.Credential.{Credential}
 use Rattle.mongo_sasl.specs.declared.mechanism.AuthMechanism.{AuthMechanism}
-use Rattle.mongo_sasl.specs.declared.mechanism.AuthMechanism.TheVariants.{ScramSha1, ScramSha256}
+use Rattle.mongo_sasl.specs.declared.mechanism.AuthMechanism.TheVariants.{MongoDbCr}
 use Rattle.mongo_scram.specs.declared.cache.SaltedKey.{SaltedKey}
 use Rattle.mongo_scram.specs.declared.scram_version.ScramVersion.{ScramVersion}
-use Rattle.mongo_scram.specs.declared.scram_version.ScramVersion.TheVariants.{Sha1, Sha256}
 use Rattle.mongo_scram.specs.Cache.{entries_of, Adds}
-use Rattle.mongo_scram.specs.Commands.{mechanism_of}
 use Rattle.mongo_scram.specs.Costs.{Ledgers, key_by, HasEntry, SameEntries, CostsNothing, Accepted, StoppedClosing, StoppedScram}
 use Rattle.mongo_scram.specs.Entry.{salted_of}
 use Rattle.mongo_scram.specs.Plan.{Handed, Challenge, opening}
 use Rattle.mongo_scram.specs.User.{User, IsUser, CredentialRow}
+use Rattle.mongo_establish.specs.declared.conversation.Conversation.{Conversation}
+use Rattle.mongo_establish.specs.declared.conversation.Conversation.TheVariants.{Scram}
 use Rattle.mongo_establish.specs.declared.establisher.EstablishError.{EstablishError}
 use Rattle.mongo_establish.specs.declared.establisher.PooledConnection.{PooledConnection}
 use Rattle.mongo_establish.specs.declared.generation.PoolGeneration.{PoolGeneration}
@@ -32,10 +32,11 @@ use Rattle.mongo_establish.specs.Derivation.{derivation_by, derivation_of, login
 use Rattle.mongo_establish.specs.Established.{StoppedHandshake}
 use Rattle.mongo_establish.specs.Greeting.{Greeting}
 use Rattle.mongo_establish.specs.KeyCosts.{TakesKey, AcceptedTakes, RefusedTakes, TakesAsLed, CostsAsLed}
-use Rattle.mongo_establish.specs.Login.{holds_users, logging_in, speculative_reply, IsMechanism, IsScram, InvalidRow, handed_by}
+use Rattle.mongo_establish.specs.Login.{holds_users, logging_in, speculative_reply, IsMechanism, InvalidRow, handed_by}
 use Rattle.mongo_establish.specs.Plan.{hello_plan}
 use Rattle.mongo_establish.specs.Pooled.{UnnamedService}
-use Rattle.mongo_establish.specs.Speculation.{mechanism_before, MechanismRow, HelloRow}
+use Rattle.mongo_establish.specs.Speculation.{mechanism_before, ConversationRow, MechanismRow, HelloRow}
+use Rattle.mongo_establish.specs.Spoken.{conversation_of, IsScram}
 use Rattle.mongo_establish.proofs.Compatible.{compatible}
 use Rattle.mongo_establish.proofs.DerivationSteps.{KeyTaken, KeySpent, taken_more, spent_more, taken_after, spent_after}
 use Rattle.mongo_establish.proofs.HelloPlan.{greeted}
@@ -66,48 +67,42 @@ closing_takes handed kind old new before after first last is =
       | inr memory ↦ inr (memory.0, record { counts = memory.1; entries = is.entries })
     ]
 
-opening_reached : (version : ScramVersion) (asked : Asked) (credential : Credential) (greeting : Greeting) (c : Challenge) (old middle : State) (before between : ℤ) → HasNone (InvalidRow (speculative_reply asked greeting) (mechanism_of version) credential)
-    → Reached (opening (handed_by version asked credential greeting)) c old middle before between → Reached (derivation_by (mechanism_of version) asked credential greeting) (Some (key_by (handed_by version asked credential greeting) c)) old middle before between
+opening_reached : (version : ScramVersion) (mechanism : AuthMechanism) (asked : Asked) (credential : Credential) (greeting : Greeting) (c : Challenge) (old middle : State) (before between : ℤ) → HasNone (InvalidRow (speculative_reply asked greeting) mechanism credential)
+    → Reached (opening (handed_by version asked credential greeting)) c old middle before between → Reached (derivation_by (Some (Scram version)) mechanism asked credential greeting) (Some (key_by (handed_by version asked credential greeting) c)) old middle before between
 unfolding derivation_by
-opening_reached Sha1 asked credential greeting c old middle before between none r =
-    let handed = handed_by Sha1 asked credential greeting in
-    reached_unless _ _ (Some (key_by handed c)) old middle before between none (reached_both (opening handed) (λ challenge. ending (Some (key_by handed challenge))) c (Some (key_by handed c)) old middle middle before between between r (reached_ending (Some (key_by handed c)) middle between))
-opening_reached Sha256 asked credential greeting c old middle before between none r =
-    let handed = handed_by Sha256 asked credential greeting in
+opening_reached version mechanism asked credential greeting c old middle before between none r =
+    let handed = handed_by version asked credential greeting in
     reached_unless _ _ (Some (key_by handed c)) old middle before between none (reached_both (opening handed) (λ challenge. ending (Some (key_by handed challenge))) c (Some (key_by handed c)) old middle middle before between between r (reached_ending (Some (key_by handed c)) middle between))
 
-opening_stopped : (version : ScramVersion) (asked : Asked) (credential : Credential) (greeting : Greeting) (kind : ErrorKind) (old new : State) (before after : ℤ) → HasNone (InvalidRow (speculative_reply asked greeting) (mechanism_of version) credential)
-    → Stopped (opening (handed_by version asked credential greeting)) kind old new before after → Stopped (derivation_by (mechanism_of version) asked credential greeting) kind old new before after
+opening_stopped : (version : ScramVersion) (mechanism : AuthMechanism) (asked : Asked) (credential : Credential) (greeting : Greeting) (kind : ErrorKind) (old new : State) (before after : ℤ) → HasNone (InvalidRow (speculative_reply asked greeting) mechanism credential)
+    → Stopped (opening (handed_by version asked credential greeting)) kind old new before after → Stopped (derivation_by (Some (Scram version)) mechanism asked credential greeting) kind old new before after
 unfolding derivation_by
-opening_stopped Sha1 asked credential greeting kind old new before after none s =
-    let handed = handed_by Sha1 asked credential greeting in
-    stopped_unless _ _ kind old new before after none (stopped_first (opening handed) (λ challenge. ending (Some (key_by handed challenge))) kind old new before after s)
-opening_stopped Sha256 asked credential greeting kind old new before after none s =
-    let handed = handed_by Sha256 asked credential greeting in
+opening_stopped version mechanism asked credential greeting kind old new before after none s =
+    let handed = handed_by version asked credential greeting in
     stopped_unless _ _ kind old new before after none (stopped_first (opening handed) (λ challenge. ending (Some (key_by handed challenge))) kind old new before after s)
 
-module _ (version : ScramVersion) (asked : Asked) (credential : Credential) (greeting : Greeting) (none : HasNone (InvalidRow (speculative_reply asked greeting) (mechanism_of version) credential)) where
+module _ (version : ScramVersion) (mechanism : AuthMechanism) (asked : Asked) (credential : Credential) (greeting : Greeting) (none : HasNone (InvalidRow (speculative_reply asked greeting) mechanism credential)) where
   abbrev handed : Handed
   handed = handed_by version asked credential greeting
 
-  scram_takes : (document : List ℕ) (old new : State) (before after : ℤ) (first last : Ledgers) → Accepted handed document old new before after first last → KeyTaken (derivation_by (mechanism_of version) asked credential greeting) old before first last
+  scram_takes : (document : List ℕ) (old new : State) (before after : ℤ) (first last : Ledgers) → Accepted handed document old new before after first last → KeyTaken (derivation_by (Some (Scram version)) mechanism asked credential greeting) old before first last
   scram_takes document old new before after first last is = record {
     key = Some (key_by handed is.challenge);
     middle = is.middle;
     between = is.between;
-    reached = opening_reached version asked credential greeting is.challenge old is.middle before is.between none is.opened;
+    reached = opening_reached version mechanism asked credential greeting is.challenge old is.middle before is.between none is.opened;
     takes = accepted_takes handed document old new before after first last is;
   }
 
-  scram_spends : (kind : ErrorKind) (old new : State) (before after : ℤ) (first last : Ledgers) → StoppedScram handed kind old new before after first last → KeySpent (derivation_by (mechanism_of version) asked credential greeting) kind old new before after first last
+  scram_spends : (kind : ErrorKind) (old new : State) (before after : ℤ) (first last : Ledgers) → StoppedScram handed kind old new before after first last → KeySpent (derivation_by (Some (Scram version)) mechanism asked credential greeting) kind old new before after first last
   scram_spends kind old new before after first last is =
       elim is [
-        | inl early ↦ inl (record { stopped = opening_stopped version asked credential greeting kind old new before after none early.0; nothing = early.1 })
+        | inl early ↦ inl (record { stopped = opening_stopped version mechanism asked credential greeting kind old new before after none early.0; nothing = early.1 })
         | inr late ↦ inr (record {
           key = Some (key_by handed late.challenge);
           middle = late.middle;
           between = late.between;
-          reached = opening_reached version asked credential greeting late.challenge old late.middle before late.between none late.opened;
+          reached = opening_reached version mechanism asked credential greeting late.challenge old late.middle before late.between none late.opened;
           takes = closing_takes handed kind old new before after first last late;
         })
       ]
@@ -136,19 +131,26 @@ user_in credential none =
     let user : User = record { username = username.0; password = password.0; source = unwrap_or credential.source (codes "admin") } in
     (user, record { username = username.1; password = password.1; properties = properties; source = refl })
 
-scram_row : (mechanism : AuthMechanism) (credential : Credential) → IsScram mechanism → HasNone (MechanismRow mechanism credential) → HasNone (CredentialRow credential)
-scram_row ScramSha1 credential scram none = none
-scram_row ScramSha256 credential scram none = none
-scram_row mechanism credential scram none = absurd scram
+conversation_row : (conversation : Option Conversation) (credential : Credential) → IsScram conversation → HasNone (ConversationRow conversation credential) → HasNone (CredentialRow credential)
+conversation_row (Some (Scram version)) credential scram none = none
+conversation_row conversation credential scram none = absurd scram
 
-made_row : (given : Option AuthMechanism) (reply : Option (List ℕ)) (description : StreamDescription) (mechanism : AuthMechanism) (credential : Credential) → IsMechanism given reply description mechanism → IsScram mechanism → HasNone (MechanismRow (mechanism_before given) credential) → HasNone (CredentialRow credential)
-made_row (Some given) reply description mechanism credential is scram none = scram_row given credential (subst IsScram is scram) none
+scram_row : (mechanism : AuthMechanism) (credential : Credential) → IsScram (conversation_of mechanism) → HasNone (MechanismRow mechanism credential) → HasNone (CredentialRow credential)
+scram_row MongoDbCr credential scram none = absurd scram
+scram_row mechanism credential scram none = conversation_row (conversation_of mechanism) credential scram none
+
+made_row : (given : Option AuthMechanism) (reply : Option (List ℕ)) (description : StreamDescription) (mechanism : AuthMechanism) (credential : Credential) → IsMechanism given reply description mechanism → IsScram (conversation_of mechanism) → HasNone (MechanismRow (mechanism_before given) credential) → HasNone (CredentialRow credential)
+made_row (Some given) reply description mechanism credential is scram none = scram_row given credential (subst (λ m. IsScram (conversation_of m)) is scram) none
 made_row None reply description mechanism credential is scram none = none
 
-taken : (credential : Credential) (reply : Option (List ℕ)) (description : StreamDescription) (mechanism : AuthMechanism) → IsMechanism credential.mechanism reply description mechanism → HasNone (HelloRow (Some credential)) → IsScram mechanism → HasNone (InvalidRow reply mechanism credential)
+scram_user : (mechanism : AuthMechanism) (conversation : Option Conversation) (reply : Option (List ℕ)) (credential : Credential) (user : User) → conversation_of mechanism ≡ conversation → IsScram conversation → IsUser credential user → HasNone (InvalidRow reply mechanism credential)
+scram_user mechanism (Some (Scram version)) reply credential user has scram is = user_no_row reply mechanism version credential user has is
+scram_user mechanism conversation reply credential user has scram is = absurd scram
+
+taken : (credential : Credential) (reply : Option (List ℕ)) (description : StreamDescription) (mechanism : AuthMechanism) → IsMechanism credential.mechanism reply description mechanism → HasNone (HelloRow (Some credential)) → IsScram (conversation_of mechanism) → HasNone (InvalidRow reply mechanism credential)
 taken credential reply description mechanism is made scram =
     let user = user_in credential (made_row credential.mechanism reply description mechanism credential is scram made) in
-    user_no_row reply mechanism credential user.0 scram user.1
+    scram_user mechanism (conversation_of mechanism) reply credential user.0 refl scram user.1
 
 -- ---- by its mechanism
 
@@ -159,27 +161,24 @@ nothing_taken old before first last nothing = record { key = None; middle = old;
 nothing_spent : (kind : ErrorKind) (old new : State) (before after : ℤ) (first last : Ledgers) → CostsNothing first last → KeySpent (ending None) kind old new before after first last
 nothing_spent kind old new before after first last nothing = inr (record { key = None; middle = old; between = before; reached = reached_ending None old before; takes = inl nothing })
 
-taken_by : (mechanism : AuthMechanism) (asked : Asked) (credential : Credential) (greeting : Greeting) (old new : State) (before after : ℤ) (first last : Ledgers) → (IsScram mechanism → HasNone (InvalidRow (speculative_reply asked greeting) mechanism credential))
-    → AcceptedCosts mechanism asked credential greeting old new before after first last → KeyTaken (derivation_by mechanism asked credential greeting) old before first last
+taken_by : (conversation : Option Conversation) (mechanism : AuthMechanism) (asked : Asked) (credential : Credential) (greeting : Greeting) (old new : State) (before after : ℤ) (first last : Ledgers) → (IsScram conversation → HasNone (InvalidRow (speculative_reply asked greeting) mechanism credential))
+    → AcceptedCosts conversation asked credential greeting old new before after first last → KeyTaken (derivation_by conversation mechanism asked credential greeting) old before first last
 unfolding derivation_by
-taken_by ScramSha1 asked credential greeting old new before after first last none c = scram_takes Sha1 asked credential greeting (none tt) c.document old new before after first last c.accepted
-taken_by ScramSha256 asked credential greeting old new before after first last none c = scram_takes Sha256 asked credential greeting (none tt) c.document old new before after first last c.accepted
-taken_by mechanism asked credential greeting old new before after first last none c = nothing_taken old before first last c
+taken_by (Some (Scram version)) mechanism asked credential greeting old new before after first last none c = scram_takes version mechanism asked credential greeting (none tt) c.document old new before after first last c.accepted
+taken_by conversation mechanism asked credential greeting old new before after first last none c = nothing_taken old before first last c
 
-spent_by : (mechanism : AuthMechanism) (asked : Asked) (credential : Credential) (greeting : Greeting) (kind : ErrorKind) (old new : State) (before after : ℤ) (first last : Ledgers) → (IsScram mechanism → HasNone (InvalidRow (speculative_reply asked greeting) mechanism credential))
-    → StoppedCosts mechanism asked credential greeting kind old new before after first last → KeySpent (derivation_by mechanism asked credential greeting) kind old new before after first last
+spent_by : (conversation : Option Conversation) (mechanism : AuthMechanism) (asked : Asked) (credential : Credential) (greeting : Greeting) (kind : ErrorKind) (old new : State) (before after : ℤ) (first last : Ledgers) → (IsScram conversation → HasNone (InvalidRow (speculative_reply asked greeting) mechanism credential))
+    → StoppedCosts conversation asked credential greeting kind old new before after first last → KeySpent (derivation_by conversation mechanism asked credential greeting) kind old new before after first last
 unfolding derivation_by
-spent_by ScramSha1 asked credential greeting kind old new before after first last none c = scram_spends Sha1 asked credential greeting (none tt) kind old new before after first last c
-spent_by ScramSha256 asked credential greeting kind old new before after first last none c = scram_spends Sha256 asked credential greeting (none tt) kind old new before after first last c
-spent_by mechanism asked credential greeting kind old new before after first last none c = nothing_spent kind old new before after first last c
+spent_by (Some (Scram version)) mechanism asked credential greeting kind old new before after first last none c = scram_spends version mechanism asked credential greeting (none tt) kind old new before after first last c
+spent_by conversation mechanism asked credential greeting kind old new before after first last none c = nothing_spent kind old new before after first last c
 
 -- the mechanism doesn't take the credential
-row_spent : (mechanism : AuthMechanism) (asked : Asked) (credential : Credential) (greeting : Greeting) (kind : ErrorKind) (old new : State) (before after : ℤ) (first last : Ledgers) → (IsScram mechanism → HasNone (InvalidRow (speculative_reply asked greeting) mechanism credential))
-    → InvalidRow (speculative_reply asked greeting) mechanism credential kind → CostsNothing first last → KeySpent (derivation_by mechanism asked credential greeting) kind old new before after first last
+row_spent : (conversation : Option Conversation) (mechanism : AuthMechanism) (asked : Asked) (credential : Credential) (greeting : Greeting) (kind : ErrorKind) (old new : State) (before after : ℤ) (first last : Ledgers) → (IsScram conversation → HasNone (InvalidRow (speculative_reply asked greeting) mechanism credential))
+    → InvalidRow (speculative_reply asked greeting) mechanism credential kind → CostsNothing first last → KeySpent (derivation_by conversation mechanism asked credential greeting) kind old new before after first last
 unfolding derivation_by
-row_spent ScramSha1 asked credential greeting kind old new before after first last none row nothing = absurd (none tt kind row)
-row_spent ScramSha256 asked credential greeting kind old new before after first last none row nothing = absurd (none tt kind row)
-row_spent mechanism asked credential greeting kind old new before after first last none row nothing = nothing_spent kind old new before after first last nothing
+row_spent (Some (Scram version)) mechanism asked credential greeting kind old new before after first last none row nothing = absurd (none tt kind row)
+row_spent conversation mechanism asked credential greeting kind old new before after first last none row nothing = nothing_spent kind old new before after first last nothing
 
 -- ---- a login
 
@@ -187,17 +186,17 @@ login_taken : (who : Option Credential) (asked : Asked) (greeting : Greeting) (o
 login_taken None asked greeting old new before after first last made c = nothing_taken old before first last c
 login_taken (Some credential) asked greeting old new before after first last made c =
     let none = taken credential (speculative_reply asked greeting) greeting.description c.mechanism c.is_mechanism made in
-    taken_more (derivation_by c.mechanism asked credential greeting) (derivation_of (Some credential) asked greeting) old before first last (λ past turn h. (c.mechanism, c.is_mechanism, h))
-    (taken_by c.mechanism asked credential greeting old new before after first last none c.costs)
+    taken_more (derivation_by (conversation_of c.mechanism) c.mechanism asked credential greeting) (derivation_of (Some credential) asked greeting) old before first last (λ past turn h. (c.mechanism, c.is_mechanism, h))
+    (taken_by (conversation_of c.mechanism) c.mechanism asked credential greeting old new before after first last none c.costs)
 
 login_spent : (who : Option Credential) (asked : Asked) (greeting : Greeting) (kind : ErrorKind) (old new : State) (before after : ℤ) (first last : Ledgers) → HasNone (HelloRow who) → StoppedLoginCostsOf who asked greeting kind old new before after first last → KeySpent (derivation_of who asked greeting) kind old new before after first last
 login_spent None asked greeting kind old new before after first last made c = nothing_spent kind old new before after first last c
 login_spent (Some credential) asked greeting kind old new before after first last made c =
     let none = taken credential (speculative_reply asked greeting) greeting.description c.mechanism c.is_mechanism made in
-    spent_more (derivation_by c.mechanism asked credential greeting) (derivation_of (Some credential) asked greeting) kind old new before after first last (λ past turn h. (c.mechanism, c.is_mechanism, h))
+    spent_more (derivation_by (conversation_of c.mechanism) c.mechanism asked credential greeting) (derivation_of (Some credential) asked greeting) kind old new before after first last (λ past turn h. (c.mechanism, c.is_mechanism, h))
     (elim c.costs [
-      | inl row ↦ row_spent c.mechanism asked credential greeting kind old new before after first last none row.0 row.1
-      | inr stopped ↦ spent_by c.mechanism asked credential greeting kind old new before after first last none stopped
+      | inl row ↦ row_spent (conversation_of c.mechanism) c.mechanism asked credential greeting kind old new before after first last none row.0 row.1
+      | inr stopped ↦ spent_by (conversation_of c.mechanism) c.mechanism asked credential greeting kind old new before after first last none stopped
     ])
 
 -- ---- a handshake

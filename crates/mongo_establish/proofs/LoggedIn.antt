@@ -1,6 +1,6 @@
 -- What a login over a described connection shows of its plan: nobody logs in, the mechanism refuses the credential, or its
 -- conversation follows.
-use Rattle.std.proofs.Common.{◌≡◌, ℕ, ℤ, ◌∙◌, refl, ap, subst, sym, inl, inr, true, false, Bool, Option, None, Some, List, is_some, if◌then◌else◌}
+use Rattle.std.proofs.Common.{◌≡◌, ℕ, ℤ, ◌∙◌, refl, ap, subst, sym, inl, inr, true, false, Bool, Option, None, Some, IsSome, List, is_some, if◌then◌else◌}
 use Rattle.mongo_wire.specs.declared.error.ErrorKind.{ErrorKind}
 use Rattle.mongo_wire.specs.declared.error.ErrorKind.TheVariants.{Authentication}
 use Rattle.mongo_wire.specs.declared.auth_fault.AuthFault.TheVariants.{MongoDbCr as MongoDbCrFault}
@@ -10,18 +10,20 @@ use Rattle.mongo_command.specs.Conversation.{HasNone, Reached, Stopped}
 use Rattle.mongo_command.proofs.Steps.{reached_ending, reached_unless, reached_reading, stopped_row, stopped_unless, stopped_reading}
 use Rattle.mongo_sasl.specs.declared.credential.Credential.{Credential}
 use Rattle.mongo_sasl.specs.declared.mechanism.AuthMechanism.{AuthMechanism}
-use Rattle.mongo_sasl.specs.declared.mechanism.AuthMechanism.TheVariants.{ScramSha1, ScramSha256, MongoDbX509, MongoDbCr, Plain}
+use Rattle.mongo_sasl.specs.declared.mechanism.AuthMechanism.TheVariants.{MongoDbCr, ScramSha1, ScramSha256}
 use Rattle.mongo_sasl.specs.Mechanism.{IsNegotiated}
 use Rattle.mongo_scram.specs.Costs.{Ledgers, CostsNothing}
+use Rattle.mongo_establish.specs.declared.conversation.Conversation.{Conversation}
 use Rattle.mongo_establish.specs.declared.first_round.FirstRound.{FirstRound}
 use Rattle.mongo_establish.specs.Asked.{Asked}
-use Rattle.mongo_establish.specs.Costs.{LoginCostsOf, LoginCosts, StoppedLoginCostsOf, StoppedLoginCosts}
+use Rattle.mongo_establish.specs.Costs.{AcceptedCosts, StoppedCosts, LoginCostsOf, LoginCosts, StoppedLoginCostsOf, StoppedLoginCosts}
 use Rattle.mongo_establish.specs.First.{IsRoundBy}
 use Rattle.mongo_establish.specs.Greeting.{Greeting}
 use Rattle.mongo_establish.specs.LoggingIn.{IsCredentialTaken, Conversed, ConversationStopped}
-use Rattle.mongo_establish.specs.Login.{holds_users, logging_in, speculative_reply, IsMechanism, IsScram, HasConversation, InvalidRow, TakesCredential}
-use Rattle.mongo_establish.specs.Plan.{conversation, mechanism_plan, login_by, login_plan}
-use Rattle.mongo_establish.specs.Speculation.{mechanism_before, MechanismRow, IsSpoken, SpeaksFor, HelloRow}
+use Rattle.mongo_establish.specs.Login.{holds_users, logging_in, speculative_reply, IsMechanism, InvalidRow, TakesCredential}
+use Rattle.mongo_establish.specs.Plan.{conversation_plan, validated, mechanism_plan, login_by, login_plan}
+use Rattle.mongo_establish.specs.Speculation.{mechanism_before, MechanismRow, SpeaksFor, HelloRow}
+use Rattle.mongo_establish.specs.Spoken.{conversation_of, HasConversation, IsScram, IsSpoken}
 use Rattle.mongo_establish.proofs.Validated.{taken_no_row}
 
 -- ---- who logs in
@@ -49,36 +51,31 @@ a_user asked greeting credential holds is = ap (λ (b : Bool). let who : Option 
 
 -- ---- by which mechanism
 
-spoken_converses : (mechanism : AuthMechanism) (credential : Credential) → IsSpoken mechanism → HasNone (MechanismRow mechanism credential) → HasConversation mechanism
-spoken_converses ScramSha1 credential spoken made = tt
-spoken_converses ScramSha256 credential spoken made = tt
-spoken_converses Plain credential spoken made = tt
-spoken_converses MongoDbX509 credential spoken made = tt
-spoken_converses MongoDbCr credential spoken made = made (Authentication MongoDbCrFault) refl
+spoken_converses : (mechanism : AuthMechanism) (credential : Credential) → IsSpoken mechanism → HasNone (MechanismRow mechanism credential) → IsSome (conversation_of mechanism)
+spoken_converses MongoDbCr credential spoken made = absurd (made (Authentication MongoDbCrFault) refl)
 spoken_converses mechanism credential spoken made = spoken
 
-negotiated_scram : (names : Option (List (List ℕ))) (mechanism : AuthMechanism) → IsNegotiated names mechanism → IsScram mechanism
-negotiated_scram names ScramSha1 is = tt
-negotiated_scram names ScramSha256 is = tt
-negotiated_scram names mechanism is = absurd is
-
-negotiated_converses : (names : Option (List (List ℕ))) (mechanism : AuthMechanism) → IsNegotiated names mechanism → HasConversation mechanism
-negotiated_converses names ScramSha1 is = tt
-negotiated_converses names ScramSha256 is = tt
+negotiated_converses : (names : Option (List (List ℕ))) (mechanism : AuthMechanism) → IsNegotiated names mechanism → IsSome (conversation_of mechanism)
+negotiated_converses names ScramSha1 is = refl
+negotiated_converses names ScramSha256 is = refl
 negotiated_converses names mechanism is = absurd is
 
-mechanism_converses : (given : Option AuthMechanism) (reply : Option (List ℕ)) (description : StreamDescription) (mechanism : AuthMechanism) (credential : Credential) → IsMechanism given reply description mechanism → IsSpoken (mechanism_before given) → HasNone (MechanismRow (mechanism_before given) credential) → HasConversation mechanism
-mechanism_converses (Some given) reply description mechanism credential is spoken made = subst HasConversation (sym is) (spoken_converses given credential spoken made)
-mechanism_converses None (Some reply) description mechanism credential is spoken made = subst HasConversation (sym is) tt
+mechanism_converses : (given : Option AuthMechanism) (reply : Option (List ℕ)) (description : StreamDescription) (mechanism : AuthMechanism) (credential : Credential) → IsMechanism given reply description mechanism → IsSpoken (mechanism_before given) → HasNone (MechanismRow (mechanism_before given) credential) → IsSome (conversation_of mechanism)
+mechanism_converses (Some given) reply description mechanism credential is spoken made = subst (λ m. IsSome (conversation_of m)) (sym is) (spoken_converses given credential spoken made)
+mechanism_converses None (Some reply) description mechanism credential is spoken made = subst (λ m. IsSome (conversation_of m)) (sym is) refl
 mechanism_converses None None description mechanism credential is spoken made = negotiated_converses description.sasl_supported_mechs mechanism is
 
+its : (found : Option Conversation) → IsSome found → (conversation : Conversation) × (found ≡ Some conversation)
+its None is = let no : ⊥ = cc in absurd no
+its (Some conversation) is = (conversation, refl)
+
 -- the mechanism of a login whose hello could be made has a conversation
-pub converses : (reply : Option (List ℕ)) (description : StreamDescription) (mechanism : AuthMechanism) (credential : Credential) → IsMechanism credential.mechanism reply description mechanism → SpeaksFor (Some credential) → HasNone (HelloRow (Some credential)) → HasConversation mechanism
-converses reply description mechanism credential is spoken made = mechanism_converses credential.mechanism reply description mechanism credential is spoken made
+pub converses : (reply : Option (List ℕ)) (description : StreamDescription) (mechanism : AuthMechanism) (credential : Credential) → IsMechanism credential.mechanism reply description mechanism → SpeaksFor (Some credential) → HasNone (HelloRow (Some credential)) → (conversation : Conversation) × HasConversation mechanism conversation
+converses reply description mechanism credential is spoken made = its (conversation_of mechanism) (mechanism_converses credential.mechanism reply description mechanism credential is spoken made)
 
 -- where it is one of SCRAM, so was the one that the hello began with
-begun_by_scram : (given : Option AuthMechanism) (reply : Option (List ℕ)) (description : StreamDescription) (mechanism : AuthMechanism) → IsMechanism given reply description mechanism → IsScram mechanism → IsScram (mechanism_before given)
-begun_by_scram (Some given) reply description mechanism is scram = subst IsScram is scram
+begun_by_scram : (given : Option AuthMechanism) (reply : Option (List ℕ)) (description : StreamDescription) (mechanism : AuthMechanism) → IsMechanism given reply description mechanism → IsScram (conversation_of mechanism) → IsScram (conversation_of (mechanism_before given))
+begun_by_scram (Some given) reply description mechanism is scram = subst (λ m. IsScram (conversation_of m)) is scram
 begun_by_scram None reply description mechanism is scram = tt
 
 -- ---- what the mechanism says of the credential
@@ -93,42 +90,33 @@ takes_it (Some reply) speculated mechanism credential is taken = tt
 
 -- ---- a mechanism's plan
 
-validated_reached : (mechanism : AuthMechanism) (asked : Asked) (credential : Credential) (greeting : Greeting) (old new : State) (before after : ℤ) → HasConversation mechanism → HasNone (InvalidRow (speculative_reply asked greeting) mechanism credential) → Reached (conversation mechanism asked credential greeting) greeting old new before after
-    → Reached (mechanism_plan mechanism asked credential greeting) greeting old new before after
+validated_reached : (mechanism : AuthMechanism) (conversation : Conversation) (asked : Asked) (credential : Credential) (greeting : Greeting) (old new : State) (before after : ℤ) → HasConversation mechanism conversation → HasNone (InvalidRow (speculative_reply asked greeting) mechanism credential)
+    → Reached (conversation_plan conversation asked credential greeting) greeting old new before after → Reached (mechanism_plan mechanism asked credential greeting) greeting old new before after
 unfolding mechanism_plan
-validated_reached ScramSha1 asked credential greeting old new before after has none r = reached_unless _ _ greeting old new before after none r
-validated_reached ScramSha256 asked credential greeting old new before after has none r = reached_unless _ _ greeting old new before after none r
-validated_reached Plain asked credential greeting old new before after has none r = reached_unless _ _ greeting old new before after none r
-validated_reached MongoDbX509 asked credential greeting old new before after has none r = reached_unless _ _ greeting old new before after none r
-validated_reached mechanism asked credential greeting old new before after has none r = absurd has
+validated_reached mechanism conversation asked credential greeting old new before after has none r =
+    reached_reading (HasConversation mechanism) (validated mechanism asked credential greeting) conversation greeting old new before after has (reached_unless _ _ greeting old new before after none r)
 
-validated_stopped : (mechanism : AuthMechanism) (asked : Asked) (credential : Credential) (greeting : Greeting) (kind : ErrorKind) (old new : State) (before after : ℤ) → HasConversation mechanism → HasNone (InvalidRow (speculative_reply asked greeting) mechanism credential) → Stopped (conversation mechanism asked credential greeting) kind old new before after
-    → Stopped (mechanism_plan mechanism asked credential greeting) kind old new before after
+validated_stopped : (mechanism : AuthMechanism) (conversation : Conversation) (asked : Asked) (credential : Credential) (greeting : Greeting) (kind : ErrorKind) (old new : State) (before after : ℤ) → HasConversation mechanism conversation → HasNone (InvalidRow (speculative_reply asked greeting) mechanism credential)
+    → Stopped (conversation_plan conversation asked credential greeting) kind old new before after → Stopped (mechanism_plan mechanism asked credential greeting) kind old new before after
 unfolding mechanism_plan
-validated_stopped ScramSha1 asked credential greeting kind old new before after has none s = stopped_unless _ _ kind old new before after none s
-validated_stopped ScramSha256 asked credential greeting kind old new before after has none s = stopped_unless _ _ kind old new before after none s
-validated_stopped Plain asked credential greeting kind old new before after has none s = stopped_unless _ _ kind old new before after none s
-validated_stopped MongoDbX509 asked credential greeting kind old new before after has none s = stopped_unless _ _ kind old new before after none s
-validated_stopped mechanism asked credential greeting kind old new before after has none s = absurd has
+validated_stopped mechanism conversation asked credential greeting kind old new before after has none s =
+    stopped_reading (HasConversation mechanism) (validated mechanism asked credential greeting) conversation kind old new before after has (stopped_unless _ _ kind old new before after none s)
 
-row_stopped : (mechanism : AuthMechanism) (asked : Asked) (credential : Credential) (greeting : Greeting) (kind : ErrorKind) (old : State) (before : ℤ) → HasConversation mechanism → InvalidRow (speculative_reply asked greeting) mechanism credential kind → Stopped (mechanism_plan mechanism asked credential greeting) kind old old before before
+row_stopped : (mechanism : AuthMechanism) (conversation : Conversation) (asked : Asked) (credential : Credential) (greeting : Greeting) (kind : ErrorKind) (old : State) (before : ℤ) → HasConversation mechanism conversation → InvalidRow (speculative_reply asked greeting) mechanism credential kind → Stopped (mechanism_plan mechanism asked credential greeting) kind old old before before
 unfolding mechanism_plan
-row_stopped ScramSha1 asked credential greeting kind old before has row = stopped_row _ _ kind old before row
-row_stopped ScramSha256 asked credential greeting kind old before has row = stopped_row _ _ kind old before row
-row_stopped Plain asked credential greeting kind old before has row = stopped_row _ _ kind old before row
-row_stopped MongoDbX509 asked credential greeting kind old before has row = stopped_row _ _ kind old before row
-row_stopped mechanism asked credential greeting kind old before has row = absurd has
+row_stopped mechanism conversation asked credential greeting kind old before has row =
+    stopped_reading (HasConversation mechanism) (validated mechanism asked credential greeting) conversation kind old old before before has (stopped_row _ _ kind old before row)
 
 -- ---- a login
 
-module _ (asked : Asked) (greeting : Greeting) (credential : Credential) (round : Option FirstRound) (mechanism : AuthMechanism) (who : asked.credential ≡ Some credential) (holds : holds_users greeting.description.initial_server_type ≡ true) (went : IsRoundBy (mechanism_before credential.mechanism) credential asked greeting round)
-    (negotiated : (reply : Option (List ℕ)) → is_some reply ≡ is_some round → IsMechanism credential.mechanism reply greeting.description mechanism) (has : HasConversation mechanism) where
+module _ (asked : Asked) (greeting : Greeting) (credential : Credential) (round : Option FirstRound) (mechanism : AuthMechanism) (who : asked.credential ≡ Some credential) (holds : holds_users greeting.description.initial_server_type ≡ true) (went : IsRoundBy (conversation_of (mechanism_before credential.mechanism)) credential asked greeting round)
+    (negotiated : (reply : Option (List ℕ)) → is_some reply ≡ is_some round → IsMechanism credential.mechanism reply greeting.description mechanism) (conversation : Conversation) (has : HasConversation mechanism conversation) where
   by_mechanism : IsMechanism credential.mechanism (speculative_reply asked greeting) greeting.description mechanism
   by_mechanism = negotiated (speculative_reply asked greeting) (sym went.there)
 
-  -- the round is one by the mechanism
-  pub went_by : IsRoundBy mechanism credential asked greeting round
-  went_by = record { there = went.there; scram = λ scram. went.scram (begun_by_scram credential.mechanism (speculative_reply asked greeting) greeting.description mechanism by_mechanism scram) }
+  -- the round is one of its conversation
+  pub went_by : IsRoundBy (Some conversation) credential asked greeting round
+  went_by = record { there = went.there; scram = λ scram. went.scram (begun_by_scram credential.mechanism (speculative_reply asked greeting) greeting.description mechanism by_mechanism (subst IsScram (sym has) scram)) }
 
   login_reached : (old new : State) (before after : ℤ) → Reached (mechanism_plan mechanism asked credential greeting) greeting old new before after → Reached (login_plan asked greeting) greeting old new before after
   unfolding login_plan
@@ -145,7 +133,7 @@ module _ (asked : Asked) (greeting : Greeting) (credential : Credential) (round 
   invalid_row kind none row = subst (λ reply. InvalidRow reply mechanism credential kind) (sym (none_is (speculative_reply asked greeting) (sym went.there ∙ none))) row
 
   pub invalid_stopped : (kind : ErrorKind) (old : State) (before : ℤ) → is_some round ≡ false → InvalidRow None mechanism credential kind → Stopped (login_plan asked greeting) kind old old before before
-  invalid_stopped kind old before none row = login_stopped kind old old before before (row_stopped mechanism asked credential greeting kind old before has (invalid_row kind none row))
+  invalid_stopped kind old before none row = login_stopped kind old old before before (row_stopped mechanism conversation asked credential greeting kind old before has (invalid_row kind none row))
 
   pub invalid_costs : (kind : ErrorKind) (old : State) (before : ℤ) (ledgers : Ledgers) → is_some round ≡ false → InvalidRow None mechanism credential kind → CostsNothing ledgers ledgers → StoppedLoginCosts asked greeting kind old old before before ledgers ledgers
   invalid_costs kind old before ledgers none row nothing =
@@ -153,18 +141,26 @@ module _ (asked : Asked) (greeting : Greeting) (credential : Credential) (round 
 
   module _ (taken : IsCredentialTaken (is_some round) mechanism credential) where
     no_row : HasNone (InvalidRow (speculative_reply asked greeting) mechanism credential)
-    no_row = taken_no_row (speculative_reply asked greeting) mechanism credential has (takes_it (speculative_reply asked greeting) (is_some round) mechanism credential went.there taken)
+    no_row = taken_no_row (speculative_reply asked greeting) mechanism conversation credential has (takes_it (speculative_reply asked greeting) (is_some round) mechanism credential went.there taken)
 
-    pub conversed_reached : (old new : State) (before after : ℤ) (early late : Ledgers) → Conversed mechanism asked credential greeting old new before after early late → Reached (login_plan asked greeting) greeting old new before after
-    conversed_reached old new before after early late h = login_reached old new before after (validated_reached mechanism asked credential greeting old new before after has no_row h.reached)
+    pub conversed_reached : (old new : State) (before after : ℤ) (early late : Ledgers) → Conversed conversation asked credential greeting old new before after early late → Reached (login_plan asked greeting) greeting old new before after
+    conversed_reached old new before after early late h = login_reached old new before after (validated_reached mechanism conversation asked credential greeting old new before after has no_row h.reached)
 
-    pub conversed_costs : (old new : State) (before after : ℤ) (early late : Ledgers) → Conversed mechanism asked credential greeting old new before after early late → LoginCosts asked greeting old new before after early late
+    pub conversed_costs : (old new : State) (before after : ℤ) (early late : Ledgers) → Conversed conversation asked credential greeting old new before after early late → LoginCosts asked greeting old new before after early late
     conversed_costs old new before after early late h =
-        subst (λ w. LoginCostsOf w asked greeting old new before after early late) (sym (a_user asked greeting credential holds who)) (record { mechanism = mechanism; is_mechanism = by_mechanism; costs = h.costs })
+        subst (λ w. LoginCostsOf w asked greeting old new before after early late) (sym (a_user asked greeting credential holds who)) (record {
+          mechanism = mechanism;
+          is_mechanism = by_mechanism;
+          costs = subst (λ o. AcceptedCosts o asked credential greeting old new before after early late) (sym has) h.costs;
+        })
 
-    pub stopped_stopped : (kind : ErrorKind) (old new : State) (before after : ℤ) (early late : Ledgers) → ConversationStopped mechanism asked credential greeting kind old new before after early late → Stopped (login_plan asked greeting) kind old new before after
-    stopped_stopped kind old new before after early late h = login_stopped kind old new before after (validated_stopped mechanism asked credential greeting kind old new before after has no_row h.stopped)
+    pub stopped_stopped : (kind : ErrorKind) (old new : State) (before after : ℤ) (early late : Ledgers) → ConversationStopped conversation asked credential greeting kind old new before after early late → Stopped (login_plan asked greeting) kind old new before after
+    stopped_stopped kind old new before after early late h = login_stopped kind old new before after (validated_stopped mechanism conversation asked credential greeting kind old new before after has no_row h.stopped)
 
-    pub stopped_costs : (kind : ErrorKind) (old new : State) (before after : ℤ) (early late : Ledgers) → ConversationStopped mechanism asked credential greeting kind old new before after early late → StoppedLoginCosts asked greeting kind old new before after early late
+    pub stopped_costs : (kind : ErrorKind) (old new : State) (before after : ℤ) (early late : Ledgers) → ConversationStopped conversation asked credential greeting kind old new before after early late → StoppedLoginCosts asked greeting kind old new before after early late
     stopped_costs kind old new before after early late h =
-        subst (λ w. StoppedLoginCostsOf w asked greeting kind old new before after early late) (sym (a_user asked greeting credential holds who)) (record { mechanism = mechanism; is_mechanism = by_mechanism; costs = inr h.costs })
+        subst (λ w. StoppedLoginCostsOf w asked greeting kind old new before after early late) (sym (a_user asked greeting credential holds who)) (record {
+          mechanism = mechanism;
+          is_mechanism = by_mechanism;
+          costs = inr (subst (λ o. StoppedCosts o asked credential greeting kind old new before after early late) (sym has) h.costs);
+        })

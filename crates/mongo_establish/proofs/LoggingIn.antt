@@ -11,20 +11,25 @@ use Rattle.mongo_sasl.specs.declared.mechanism.AuthMechanism.{AuthMechanism}
 use Rattle.mongo_sasl.specs.Kept.{KeepsAfter}
 use Rattle.mongo_sasl.proofs.KeptAfter.{own_keeps}
 use Rattle.mongo_scram.specs.Costs.{Ledgers, CostsNothing}
+use Rattle.mongo_establish.specs.declared.conversation.Conversation.{Conversation}
 use Rattle.mongo_establish.specs.declared.first_round.FirstRound.{FirstRound}
 use Rattle.mongo_establish.specs.declared.login_state.Nonces.{Nonces}
 use Rattle.mongo_establish.specs.declared.options.HandshakerOptions.{HandshakerOptions}
 use Rattle.mongo_establish.specs.Asked.{Asked, asked_over}
 use Rattle.mongo_establish.specs.First.{IsRoundBy, IsRoundOf}
 use Rattle.mongo_establish.specs.Greeting.{Greeting}
-use Rattle.mongo_establish.specs.Login.{holds_users, IsMechanism, HasConversation, InvalidRow}
+use Rattle.mongo_establish.specs.Login.{holds_users, IsMechanism, InvalidRow}
 use Rattle.mongo_establish.specs.LoggingIn.{IsCredentialTaken, Converses, LogsIn, LoginStops}
 use Rattle.mongo_establish.specs.Speculation.{mechanism_before, SpeaksFor, HelloRow}
+use Rattle.mongo_establish.specs.Spoken.{conversation_of, HasConversation}
 use Rattle.mongo_establish.proofs.Keeping.{invalid_own}
 use Rattle.mongo_establish.proofs.LoggedIn.{nobody, nobody_costs, no_credential, no_users, converses, went_by, invalid_stopped, invalid_costs, conversed_reached, conversed_costs, stopped_stopped, stopped_costs}
 
 same_description : (a b : StreamDescription) → Some a ≡ Some b → a ≡ b
 same_description a b e = cc
+
+no_row : (conversation : Conversation) → Some conversation ≡ None → ⊥
+no_row conversation is = cc
 
 -- the server holds no users
 pub empty_server : (asked : Asked) (description : StreamDescription) (held : Option StreamDescription) (round : Option FirstRound) (old : State) (before : ℤ) (ledgers : Ledgers) → held ≡ Some description → holds_users description.initial_server_type ≡ false → CostsNothing ledgers ledgers → LogsIn asked held round old old before before ledgers ledgers
@@ -56,10 +61,14 @@ module _ (opened : Connection) (options : HandshakerOptions) (given : Option Cre
   abbrev held : Option StreamDescription
   held = opened.stream_description
 
-  pub has_conversation : HasConversation mechanism
-  has_conversation =
+  -- the mechanism has a conversation
+  found : (conversation : Conversation) × HasConversation mechanism conversation
+  found =
       let reply = reply_like round in
       converses reply.0 description mechanism credential (at.1 reply.0 reply.1) (subst SpeaksFor who spoken) (subst (λ c. HasNone (HelloRow c)) who made)
+
+  pub has_row : conversation_of mechanism ≡ None → ⊥
+  has_row none = no_row found.0 (sym found.1 ∙ none)
 
   described_same : (greeting : Greeting) → held ≡ Some greeting.description → description ≡ greeting.description
   described_same greeting described = same_description description greeting.description (sym is ∙ described)
@@ -70,7 +79,7 @@ module _ (opened : Connection) (options : HandshakerOptions) (given : Option Cre
   mechanisms : (greeting : Greeting) → held ≡ Some greeting.description → (reply : Option (List ℕ)) → is_some reply ≡ is_some round → IsMechanism credential.mechanism reply greeting.description mechanism
   mechanisms greeting described reply like = subst (λ d. IsMechanism credential.mechanism reply d mechanism) (described_same greeting described) (at.1 reply like)
 
-  went : (greeting : Greeting) → IsRoundOf asked.credential asked greeting round → IsRoundBy (mechanism_before credential.mechanism) credential asked greeting round
+  went : (greeting : Greeting) → IsRoundOf asked.credential asked greeting round → IsRoundBy (conversation_of (mechanism_before credential.mechanism)) credential asked greeting round
   went greeting r = subst (λ c. IsRoundOf c asked greeting round) who r
 
   -- the mechanism doesn't take the credential
@@ -78,42 +87,42 @@ module _ (opened : Connection) (options : HandshakerOptions) (given : Option Cre
       → IfErr r (λ e. LoginStops asked held round e.kind old old before before ledgers ledgers)
   log_in_invalid (Ok x) old before ledgers nothing h = tt
   log_in_invalid (Err e) old before ledgers nothing h = record {
-    stopped = λ greeting described r. invalid_stopped asked greeting credential round mechanism who (users greeting described) (went greeting r) (mechanisms greeting described) has_conversation e.kind old before h.0 h.1;
-    costs = λ greeting described r. invalid_costs asked greeting credential round mechanism who (users greeting described) (went greeting r) (mechanisms greeting described) has_conversation e.kind old before ledgers h.0 h.1 nothing;
+    stopped = λ greeting described r. invalid_stopped asked greeting credential round mechanism who (users greeting described) (went greeting r) (mechanisms greeting described) found.0 found.1 e.kind old before h.0 h.1;
+    costs = λ greeting described r. invalid_costs asked greeting credential round mechanism who (users greeting described) (went greeting r) (mechanisms greeting described) found.0 found.1 e.kind old before ledgers h.0 h.1 nothing;
   }
 
   -- and leaves a connection without a fault
   pub invalid_keeps : {T : Type 0} (r : Result T Error) (kept : Option ErrorKind) → IfErr r (λ e. (is_some round ≡ false) × InvalidRow None mechanism credential e.kind) → kept ≡ None → IfErr r (λ e. KeepsAfter e.kind kept)
   invalid_keeps (Ok x) kept h none = tt
-  invalid_keeps (Err e) kept h none = own_keeps e.kind kept (invalid_own mechanism credential e.kind has_conversation h.1) none
+  invalid_keeps (Err e) kept h none = own_keeps e.kind kept (invalid_own mechanism found.0 credential e.kind found.1 h.1) none
 
-  module _ (taken : IsCredentialTaken (is_some round) mechanism credential) where
+  module _ (taken : IsCredentialTaken (is_some round) mechanism credential) (conversation : Conversation) (has : HasConversation mechanism conversation) where
     -- its round is the conversation's
-    abbrev by_it : (greeting : Greeting) → held ≡ Some greeting.description → IsRoundOf asked.credential asked greeting round → IsRoundBy mechanism credential asked greeting round
-    by_it greeting described r = went_by asked greeting credential round mechanism who (users greeting described) (went greeting r) (mechanisms greeting described) has_conversation
+    abbrev by_it : (greeting : Greeting) → held ≡ Some greeting.description → IsRoundOf asked.credential asked greeting round → IsRoundBy (Some conversation) credential asked greeting round
+    by_it greeting described r = went_by asked greeting credential round mechanism who (users greeting described) (went greeting r) (mechanisms greeting described) conversation has
 
     abbrev this : Option Credential → Asked
     this c = asked_over opened options c nonces id
 
-    here : (r : Result (Unit {0}) Error) (old new : State) (before after : ℤ) (early late : Ledgers) → Converses r mechanism (this (Some credential)) credential held round old new before after early late → Converses r mechanism asked credential held round old new before after early late
-    here r old new before after early late h = subst (λ c. Converses r mechanism (this c) credential held round old new before after early late) (sym who) h
+    here : (r : Result (Unit {0}) Error) (old new : State) (before after : ℤ) (early late : Ledgers) → Converses r conversation (this (Some credential)) credential held round old new before after early late → Converses r conversation asked credential held round old new before after early late
+    here r old new before after early late h = subst (λ c. Converses r conversation (this c) credential held round old new before after early late) (sym who) h
 
     -- its conversation was followed to its end
-    pub log_in_accepted : (r : Result (Unit {0}) Error) (old new : State) (before after : ℤ) (early late : Ledgers) → Converses r mechanism (this (Some credential)) credential held round old new before after early late → OnOk r (LogsIn asked held round old new before after early late)
+    pub log_in_accepted : (r : Result (Unit {0}) Error) (old new : State) (before after : ℤ) (early late : Ledgers) → Converses r conversation (this (Some credential)) credential held round old new before after early late → OnOk r (LogsIn asked held round old new before after early late)
     log_in_accepted (Ok done) old new before after early late h =
         let conversed = (here (Ok done) old new before after early late h).accepted in
         record {
-          reached = λ greeting described r. conversed_reached asked greeting credential round mechanism who (users greeting described) (went greeting r) (mechanisms greeting described) has_conversation taken old new before after early late (conversed greeting described (by_it greeting described r));
-          costs = λ greeting described r. conversed_costs asked greeting credential round mechanism who (users greeting described) (went greeting r) (mechanisms greeting described) has_conversation taken old new before after early late (conversed greeting described (by_it greeting described r));
+          reached = λ greeting described r. conversed_reached asked greeting credential round mechanism who (users greeting described) (went greeting r) (mechanisms greeting described) conversation has taken old new before after early late (conversed greeting described (by_it greeting described r));
+          costs = λ greeting described r. conversed_costs asked greeting credential round mechanism who (users greeting described) (went greeting r) (mechanisms greeting described) conversation has taken old new before after early late (conversed greeting described (by_it greeting described r));
         }
     log_in_accepted (Err e) old new before after early late h = tt
 
     -- it was stopped
-    pub log_in_stopped : (r : Result (Unit {0}) Error) (old new : State) (before after : ℤ) (early late : Ledgers) → Converses r mechanism (this (Some credential)) credential held round old new before after early late → IfErr r (λ e. LoginStops asked held round e.kind old new before after early late)
+    pub log_in_stopped : (r : Result (Unit {0}) Error) (old new : State) (before after : ℤ) (early late : Ledgers) → Converses r conversation (this (Some credential)) credential held round old new before after early late → IfErr r (λ e. LoginStops asked held round e.kind old new before after early late)
     log_in_stopped (Ok done) old new before after early late h = tt
     log_in_stopped (Err e) old new before after early late h =
         let stopped = (here (Err e) old new before after early late h).refused in
         record {
-          stopped = λ greeting described r. stopped_stopped asked greeting credential round mechanism who (users greeting described) (went greeting r) (mechanisms greeting described) has_conversation taken e.kind old new before after early late (stopped greeting described (by_it greeting described r));
-          costs = λ greeting described r. stopped_costs asked greeting credential round mechanism who (users greeting described) (went greeting r) (mechanisms greeting described) has_conversation taken e.kind old new before after early late (stopped greeting described (by_it greeting described r));
+          stopped = λ greeting described r. stopped_stopped asked greeting credential round mechanism who (users greeting described) (went greeting r) (mechanisms greeting described) conversation has taken e.kind old new before after early late (stopped greeting described (by_it greeting described r));
+          costs = λ greeting described r. stopped_costs asked greeting credential round mechanism who (users greeting described) (went greeting r) (mechanisms greeting described) conversation has taken e.kind old new before after early late (stopped greeting described (by_it greeting described r));
         }

@@ -7,10 +7,10 @@ use Rattle.mongo_command.specs.Conversation.{Event, Turn, Reached, Stopped}
 use Rattle.mongo_command.proofs.Steps.{reached_more, stopped_more}
 use Rattle.mongo_sasl.specs.declared.credential.Credential.{Credential}
 use Rattle.mongo_sasl.specs.declared.mechanism.AuthMechanism.{AuthMechanism}
-use Rattle.mongo_sasl.specs.declared.mechanism.AuthMechanism.TheVariants.{ScramSha1, ScramSha256, MongoDbX509, Plain}
 use Rattle.mongo_scram.specs.declared.scram_version.ScramVersion.{ScramVersion}
-use Rattle.mongo_scram.specs.declared.scram_version.ScramVersion.TheVariants.{Sha1, Sha256}
 use Rattle.mongo_scram.specs.Costs.{Ledgers}
+use Rattle.mongo_establish.specs.declared.conversation.Conversation.{Conversation}
+use Rattle.mongo_establish.specs.declared.conversation.Conversation.TheVariants.{Scram, Plain as PlainText, X509}
 use Rattle.mongo_establish.specs.declared.establisher.PendingConnection.{PendingConnection}
 use Rattle.mongo_establish.specs.declared.generation.PoolGeneration.TheVariants.{Normal}
 use Rattle.mongo_establish.specs.declared.login_state.Nonces.{Nonces}
@@ -19,7 +19,8 @@ use Rattle.mongo_establish.specs.Asked.{Asked, asked_for}
 use Rattle.mongo_establish.specs.Costs.{ScramAccepted, AcceptedCosts, StoppedCosts, LoginCostsOf, LoginCosts, StoppedLoginCostsOf, StoppedLoginCosts}
 use Rattle.mongo_establish.specs.Greeting.{Greeting}
 use Rattle.mongo_establish.specs.Login.{logging_in}
-use Rattle.mongo_establish.specs.Plan.{conversation, mechanism_plan, login_by, login_plan}
+use Rattle.mongo_establish.specs.Plan.{conversation_plan, mechanism_plan, login_by, login_plan}
+use Rattle.mongo_establish.specs.Spoken.{conversation_of}
 
 -- what a handshake over a connection knows of it
 abbrev pub pending_over : Connection → PendingConnection
@@ -32,13 +33,15 @@ module _ (first second : PendingConnection) (options : HandshakerOptions) (crede
   abbrev that : Asked
   that = asked_for second options credential nonces second_id
 
+  conversation_alike : (conversation : Conversation) (c : Credential) (greeting : Greeting) (past : List Event) (turn : Turn Greeting) → conversation_plan conversation this c greeting past turn → conversation_plan conversation that c greeting past turn
+  unfolding conversation_plan
+  conversation_alike (Scram version) c greeting past turn h = h
+  conversation_alike PlainText c greeting past turn h = h
+  conversation_alike X509 c greeting past turn h = h
+
   mechanism_alike : (mechanism : AuthMechanism) (c : Credential) (greeting : Greeting) (past : List Event) (turn : Turn Greeting) → mechanism_plan mechanism this c greeting past turn → mechanism_plan mechanism that c greeting past turn
-  unfolding mechanism_plan conversation
-  mechanism_alike ScramSha1 c greeting past turn h = h
-  mechanism_alike ScramSha256 c greeting past turn h = h
-  mechanism_alike Plain c greeting past turn h = h
-  mechanism_alike MongoDbX509 c greeting past turn h = h
-  mechanism_alike mechanism c greeting past turn h = absurd h
+  unfolding mechanism_plan
+  mechanism_alike mechanism c greeting past turn h = (h.0, h.1, elim h.2 [ inl row ↦ inl row | inr on ↦ inr (on.0, conversation_alike h.0 c greeting past turn on.1) ])
 
   login_alike : (who : Option Credential) (greeting : Greeting) (past : List Event) (turn : Turn Greeting) → login_by who this greeting past turn → login_by who that greeting past turn
   login_alike None greeting past turn h = h
@@ -57,19 +60,17 @@ module _ (first second : PendingConnection) (options : HandshakerOptions) (crede
   scram_costs_alike : (version : ScramVersion) (c : Credential) (greeting : Greeting) (old new : State) (before after : ℤ) (early late : Ledgers) → ScramAccepted version this c greeting old new before after early late → ScramAccepted version that c greeting old new before after early late
   scram_costs_alike version c greeting old new before after early late h = record { document = h.document; accepted = h.accepted }
 
-  accepted_costs_alike : (mechanism : AuthMechanism) (c : Credential) (greeting : Greeting) (old new : State) (before after : ℤ) (early late : Ledgers) → AcceptedCosts mechanism this c greeting old new before after early late → AcceptedCosts mechanism that c greeting old new before after early late
-  accepted_costs_alike ScramSha1 c greeting old new before after early late h = scram_costs_alike Sha1 c greeting old new before after early late h
-  accepted_costs_alike ScramSha256 c greeting old new before after early late h = scram_costs_alike Sha256 c greeting old new before after early late h
-  accepted_costs_alike mechanism c greeting old new before after early late h = h
+  accepted_costs_alike : (conversation : Option Conversation) (c : Credential) (greeting : Greeting) (old new : State) (before after : ℤ) (early late : Ledgers) → AcceptedCosts conversation this c greeting old new before after early late → AcceptedCosts conversation that c greeting old new before after early late
+  accepted_costs_alike (Some (Scram version)) c greeting old new before after early late h = scram_costs_alike version c greeting old new before after early late h
+  accepted_costs_alike conversation c greeting old new before after early late h = h
 
-  stopped_costs_alike : (mechanism : AuthMechanism) (c : Credential) (greeting : Greeting) (kind : ErrorKind) (old new : State) (before after : ℤ) (early late : Ledgers) → StoppedCosts mechanism this c greeting kind old new before after early late → StoppedCosts mechanism that c greeting kind old new before after early late
-  stopped_costs_alike ScramSha1 c greeting kind old new before after early late h = h
-  stopped_costs_alike ScramSha256 c greeting kind old new before after early late h = h
-  stopped_costs_alike mechanism c greeting kind old new before after early late h = h
+  stopped_costs_alike : (conversation : Option Conversation) (c : Credential) (greeting : Greeting) (kind : ErrorKind) (old new : State) (before after : ℤ) (early late : Ledgers) → StoppedCosts conversation this c greeting kind old new before after early late → StoppedCosts conversation that c greeting kind old new before after early late
+  stopped_costs_alike (Some (Scram version)) c greeting kind old new before after early late h = h
+  stopped_costs_alike conversation c greeting kind old new before after early late h = h
 
   costs_of_alike : (who : Option Credential) (greeting : Greeting) (old new : State) (before after : ℤ) (early late : Ledgers) → LoginCostsOf who this greeting old new before after early late → LoginCostsOf who that greeting old new before after early late
   costs_of_alike None greeting old new before after early late h = h
-  costs_of_alike (Some c) greeting old new before after early late h = record { mechanism = h.mechanism; is_mechanism = h.is_mechanism; costs = accepted_costs_alike h.mechanism c greeting old new before after early late h.costs }
+  costs_of_alike (Some c) greeting old new before after early late h = record { mechanism = h.mechanism; is_mechanism = h.is_mechanism; costs = accepted_costs_alike (conversation_of h.mechanism) c greeting old new before after early late h.costs }
 
   pub costs_alike : (greeting : Greeting) (old new : State) (before after : ℤ) (early late : Ledgers) → LoginCosts this greeting old new before after early late → LoginCosts that greeting old new before after early late
   costs_alike greeting old new before after early late h = costs_of_alike (logging_in that greeting) greeting old new before after early late h
@@ -79,7 +80,7 @@ module _ (first second : PendingConnection) (options : HandshakerOptions) (crede
   stopped_costs_of_alike (Some c) greeting kind old new before after early late h = record {
     mechanism = h.mechanism;
     is_mechanism = h.is_mechanism;
-    costs = elim h.costs [ inl row ↦ inl row | inr stopped ↦ inr (stopped_costs_alike h.mechanism c greeting kind old new before after early late stopped) ];
+    costs = elim h.costs [ inl row ↦ inl row | inr stopped ↦ inr (stopped_costs_alike (conversation_of h.mechanism) c greeting kind old new before after early late stopped) ];
   }
 
   pub stopped_login_costs_alike : (greeting : Greeting) (kind : ErrorKind) (old new : State) (before after : ℤ) (early late : Ledgers) → StoppedLoginCosts this greeting kind old new before after early late → StoppedLoginCosts that greeting kind old new before after early late

@@ -1,23 +1,19 @@
 -- The plan of a login has one turn.
-use Rattle.std.proofs.Common.{ℕ, refl, Option, None, Some, List}
+use Rattle.std.proofs.Common.{◌≡◌, ℕ, ◌∙◌, refl, subst, sym, Option, None, Some, List}
 use Rattle.mongo_command.specs.declared.stream_description.StreamDescription.{StreamDescription}
-use Rattle.mongo_command.specs.Conversation.{Plan, IsOne, HasOneTurn, ending, followed_by}
-use Rattle.mongo_command.proofs.Plans.{one_is, one_ending, one_unless, one_reading, one_followed}
+use Rattle.mongo_command.specs.Conversation.{Plan, IsOne, HasOneTurn, reading}
+use Rattle.mongo_command.proofs.Plans.{one_is, one_ending, one_unless, one_reading}
 use Rattle.mongo_sasl.specs.declared.credential.Credential.{Credential}
 use Rattle.mongo_sasl.specs.declared.mechanism.AuthMechanism.{AuthMechanism}
-use Rattle.mongo_sasl.specs.declared.mechanism.AuthMechanism.TheVariants.{ScramSha1, ScramSha256, MongoDbX509, Plain}
+use Rattle.mongo_sasl.specs.declared.mechanism.AuthMechanism.TheVariants.{ScramSha1, ScramSha256}
 use Rattle.mongo_sasl.specs.Mechanism.{IsNegotiated}
-use Rattle.mongo_sasl.specs.Plain.{plain_plan}
-use Rattle.mongo_sasl.specs.X509.{x509_plan}
-use Rattle.mongo_sasl.proofs.PlainPlan.{one_plain}
-use Rattle.mongo_sasl.proofs.X509Plan.{one_x509}
-use Rattle.mongo_scram.specs.declared.scram_version.ScramVersion.TheVariants.{Sha1, Sha256}
-use Rattle.mongo_scram.specs.Plan.{scram_plan}
-use Rattle.mongo_scram.proofs.ScramPlan.{one_scram}
+use Rattle.mongo_establish.specs.declared.conversation.Conversation.{Conversation}
 use Rattle.mongo_establish.specs.Asked.{Asked}
 use Rattle.mongo_establish.specs.Greeting.{Greeting}
-use Rattle.mongo_establish.specs.Login.{logging_in, speculative_reply, IsMechanism, handed_by, plain_by, x509_by}
-use Rattle.mongo_establish.specs.Plan.{conversation, mechanism_plan, login_by, login_plan}
+use Rattle.mongo_establish.specs.Login.{logging_in, speculative_reply, IsMechanism}
+use Rattle.mongo_establish.specs.Plan.{validated, mechanism_plan, login_by, login_plan}
+use Rattle.mongo_establish.specs.Spoken.{HasConversation}
+use Rattle.mongo_establish.proofs.Conversations.{joins}
 use Rattle.mongo_establish.proofs.Validated.{one_invalid_row}
 
 -- ---- the mechanism
@@ -36,26 +32,23 @@ one_mechanism (Some given) reply description = one_is given
 one_mechanism None (Some reply) description = one_is ScramSha256
 one_mechanism None None description = one_negotiated description.sasl_supported_mechs
 
+same_conversation : (a b : Conversation) → Some a ≡ Some b → a ≡ b
+same_conversation a b e = cc
+
+pub one_conversation : (mechanism : AuthMechanism) → IsOne (HasConversation mechanism)
+one_conversation mechanism a b p q = same_conversation a b (sym p ∙ q)
+
 -- ---- the login
 
-one_then : {A : Type 0} (plan : Plan A) (greeting : Greeting) → HasOneTurn plan → HasOneTurn (followed_by plan (λ done. ending greeting))
-one_then plan greeting one = one_followed plan (λ done. ending greeting) one (λ done. one_ending greeting)
-
-one_conversation : (mechanism : AuthMechanism) (asked : Asked) (credential : Credential) (greeting : Greeting) → HasOneTurn (conversation mechanism asked credential greeting)
-unfolding conversation
-one_conversation ScramSha1 asked credential greeting = one_then (scram_plan (handed_by Sha1 asked credential greeting)) greeting (one_scram (handed_by Sha1 asked credential greeting))
-one_conversation ScramSha256 asked credential greeting = one_then (scram_plan (handed_by Sha256 asked credential greeting)) greeting (one_scram (handed_by Sha256 asked credential greeting))
-one_conversation Plain asked credential greeting = one_then (plain_plan (plain_by asked credential greeting)) greeting (one_plain (plain_by asked credential greeting))
-one_conversation MongoDbX509 asked credential greeting = one_then (x509_plan (x509_by asked credential greeting)) greeting (one_x509 (x509_by asked credential greeting))
-one_conversation mechanism asked credential greeting = λ events a b p q. absurd p
+-- what is read may be known of what follows it
+one_reading_it : {X A : Type 0} (reads : X → Type 0) (plan : X → Plan A) → IsOne reads → ((x : X) → reads x → HasOneTurn (plan x)) → HasOneTurn (reading reads plan)
+one_reading_it reads plan p q events a b x y = q y.0 y.1 events a b (subst (λ z. plan z events a) (p x.0 y.0 x.1 y.1) x.2) y.2
 
 one_mechanism_plan : (mechanism : AuthMechanism) (asked : Asked) (credential : Credential) (greeting : Greeting) → HasOneTurn (mechanism_plan mechanism asked credential greeting)
 unfolding mechanism_plan
-one_mechanism_plan ScramSha1 asked credential greeting = one_unless _ _ (one_invalid_row (speculative_reply asked greeting) ScramSha1 credential tt) (one_conversation ScramSha1 asked credential greeting)
-one_mechanism_plan ScramSha256 asked credential greeting = one_unless _ _ (one_invalid_row (speculative_reply asked greeting) ScramSha256 credential tt) (one_conversation ScramSha256 asked credential greeting)
-one_mechanism_plan Plain asked credential greeting = one_unless _ _ (one_invalid_row (speculative_reply asked greeting) Plain credential tt) (one_conversation Plain asked credential greeting)
-one_mechanism_plan MongoDbX509 asked credential greeting = one_unless _ _ (one_invalid_row (speculative_reply asked greeting) MongoDbX509 credential tt) (one_conversation MongoDbX509 asked credential greeting)
-one_mechanism_plan mechanism asked credential greeting = λ events a b p q. absurd p
+one_mechanism_plan mechanism asked credential greeting =
+    one_reading_it (HasConversation mechanism) (validated mechanism asked credential greeting) (one_conversation mechanism) (λ conversation has.
+    one_unless _ _ (one_invalid_row (speculative_reply asked greeting) mechanism conversation credential has) (joins conversation asked credential greeting).one)
 
 one_login_by : (who : Option Credential) (asked : Asked) (greeting : Greeting) → HasOneTurn (login_by who asked greeting)
 one_login_by None asked greeting = one_ending greeting

@@ -3,16 +3,17 @@ use Rattle.std.specs.Prelude.{◌≡◌, ℕ, Option, None, Some, List}
 use Rattle.mongo_command.specs.Conversation.{Said, Turn, ends, Plan, ending, unless, reading, followed_by, Leads}
 use Rattle.mongo_sasl.specs.declared.credential.Credential.{Credential}
 use Rattle.mongo_sasl.specs.declared.mechanism.AuthMechanism.{AuthMechanism}
-use Rattle.mongo_sasl.specs.declared.mechanism.AuthMechanism.TheVariants.{ScramSha1, ScramSha256}
 use Rattle.mongo_scram.specs.declared.cache.SaltedKey.{SaltedKey}
 use Rattle.mongo_scram.specs.declared.scram_version.ScramVersion.{ScramVersion}
-use Rattle.mongo_scram.specs.declared.scram_version.ScramVersion.TheVariants.{Sha1, Sha256}
 use Rattle.mongo_scram.specs.Costs.{key_by}
 use Rattle.mongo_scram.specs.Plan.{opening}
+use Rattle.mongo_establish.specs.declared.conversation.Conversation.{Conversation}
+use Rattle.mongo_establish.specs.declared.conversation.Conversation.TheVariants.{Scram}
 use Rattle.mongo_establish.specs.Asked.{Asked}
 use Rattle.mongo_establish.specs.Greeting.{Greeting}
 use Rattle.mongo_establish.specs.Login.{logging_in, speculative_reply, IsMechanism, InvalidRow, handed_by}
 use Rattle.mongo_establish.specs.Plan.{hello_plan}
+use Rattle.mongo_establish.specs.Spoken.{conversation_of}
 
 -- ---- the plan
 
@@ -21,17 +22,16 @@ abbrev pub scram_derivation : ScramVersion → Asked → Credential → Greeting
 scram_derivation version asked credential greeting =
     followed_by (opening (handed_by version asked credential greeting)) (λ challenge. ending (Some (key_by (handed_by version asked credential greeting) challenge)))
 
--- another mechanism derives from none
-unfoldable pub derivation_by : AuthMechanism → Asked → Credential → Greeting → Plan (Option SaltedKey)
-derivation_by ScramSha1 asked credential greeting = unless (InvalidRow (speculative_reply asked greeting) ScramSha1 credential) (scram_derivation Sha1 asked credential greeting)
-derivation_by ScramSha256 asked credential greeting = unless (InvalidRow (speculative_reply asked greeting) ScramSha256 credential) (scram_derivation Sha256 asked credential greeting)
-derivation_by mechanism asked credential greeting = ending None
+-- it follows where the mechanism takes the credential; another conversation derives from none
+unfoldable pub derivation_by : Option Conversation → AuthMechanism → Asked → Credential → Greeting → Plan (Option SaltedKey)
+derivation_by (Some (Scram version)) mechanism asked credential greeting = unless (InvalidRow (speculative_reply asked greeting) mechanism credential) (scram_derivation version asked credential greeting)
+derivation_by conversation mechanism asked credential greeting = ending None
 
 -- nor does a server where nobody logs in ask for one
 abbrev pub derivation_of : Option Credential → Asked → Greeting → Plan (Option SaltedKey)
 derivation_of None asked greeting = ending None
 derivation_of (Some credential) asked greeting =
-    reading (IsMechanism credential.mechanism (speculative_reply asked greeting) greeting.description) (λ mechanism. derivation_by mechanism asked credential greeting)
+    reading (IsMechanism credential.mechanism (speculative_reply asked greeting) greeting.description) (λ mechanism. derivation_by (conversation_of mechanism) mechanism asked credential greeting)
 
 unfoldable pub login_derivation : Asked → Greeting → Plan (Option SaltedKey)
 login_derivation asked greeting = derivation_of (logging_in asked greeting) asked greeting

@@ -4,11 +4,9 @@ use Rattle.mongo_wire.specs.declared.error.ErrorKind.{ErrorKind}
 use Rattle.mongo_wire.specs.declared.error.ErrorKind.TheVariants.{OutOfMemory}
 use Rattle.mongo_sasl.specs.declared.credential.Credential.{Credential}
 use Rattle.mongo_sasl.specs.declared.mechanism.AuthMechanism.{AuthMechanism}
-use Rattle.mongo_sasl.specs.declared.mechanism.AuthMechanism.TheVariants.{ScramSha1, ScramSha256, MongoDbX509}
 use Rattle.mongo_sasl.specs.Commands.{IsNotBuilt}
 use Rattle.mongo_sasl.specs.X509.{x509_body}
 use Rattle.mongo_scram.specs.declared.scram_version.ScramVersion.{ScramVersion}
-use Rattle.mongo_scram.specs.declared.scram_version.ScramVersion.TheVariants.{Sha1, Sha256}
 use Rattle.mongo_scram.specs.declared.messages.ClientFirst.{ClientFirst as ScramFirst}
 use Rattle.mongo_scram.specs.declared.conversation.FirstRound.{FirstRound as ScramRound}
 use Rattle.mongo_scram.specs.Client.{message_of, nonce_of, source_of, includes_db, speculated_of}
@@ -16,11 +14,14 @@ use Rattle.mongo_scram.specs.Commands.{first_body}
 use Rattle.mongo_scram.specs.Plan.{Speculated}
 use Rattle.mongo_establish.specs.Asked.{Asked}
 use Rattle.mongo_establish.specs.Greeting.{Greeting}
-use Rattle.mongo_establish.specs.Login.{IsScram, speculative_reply, speculated_by}
+use Rattle.mongo_establish.specs.Login.{speculative_reply, speculated_by}
+use Rattle.mongo_establish.specs.declared.conversation.Conversation.{Conversation}
+use Rattle.mongo_establish.specs.declared.conversation.Conversation.TheVariants.{Scram as ByScram, X509 as ByX509}
 use Rattle.mongo_establish.specs.declared.client_first.ClientFirst.{ClientFirst}
 use Rattle.mongo_establish.specs.declared.client_first.ClientFirst.TheVariants.{Scram, X509}
 use Rattle.mongo_establish.specs.declared.first_round.FirstRound.{FirstRound}
 use Rattle.mongo_establish.specs.declared.first_round.FirstRound.TheVariants.{Scram as ScramAnswered}
+use Rattle.mongo_establish.specs.Spoken.{conversation_of, IsScram}
 use Rattle.mongo_establish.specs.Speculation.{mechanism_before, scram_speculation, speculative_message, speculative_nonce}
 
 -- ---- the first message
@@ -47,11 +48,13 @@ IsX509First credential (Some (X509 command)) = command.body ≡ x509_body creden
 IsX509First credential first = ⊥
 
 -- the first message that goes with a hello, or none
+abbrev pub IsFirstIn : Option Conversation → Credential → List ℕ → Option ClientFirst → Type 0
+IsFirstIn (Some (ByScram version)) credential nonce first = IsScramFirst version credential nonce first
+IsFirstIn (Some ByX509) credential nonce first = IsX509First credential first
+IsFirstIn conversation credential nonce first = first ≡ None
+
 abbrev pub IsFirstMessageBy : AuthMechanism → Credential → List ℕ → Option ClientFirst → Type 0
-IsFirstMessageBy ScramSha1 credential nonce first = IsScramFirst Sha1 credential nonce first
-IsFirstMessageBy ScramSha256 credential nonce first = IsScramFirst Sha256 credential nonce first
-IsFirstMessageBy MongoDbX509 credential nonce first = IsX509First credential first
-IsFirstMessageBy mechanism credential nonce first = first ≡ None
+IsFirstMessageBy mechanism credential nonce first = IsFirstIn (conversation_of mechanism) credential nonce first
 
 abbrev pub IsFirstMessage : Option Credential → List ℕ → Option ClientFirst → Type 0
 IsFirstMessage None nonce first = first ≡ None
@@ -74,13 +77,13 @@ abbrev pub round_with : Option ClientFirst → Option (List ℕ) → Option Spec
 round_with (Some (Scram version first)) answer = option_map (λ reply. let s : Speculated = record { message = message_of first; nonce = nonce_of first; reply = reply } in s) answer
 round_with first answer = None
 
--- A first round by the mechanism is there where the greeting answers to what went with the hello; a round of SCRAM is what it
+-- A first round of the conversation is there where the greeting answers to what went with the hello; a round of SCRAM is what it
 -- answers.
-pub record IsRoundBy (mechanism : AuthMechanism) (credential : Credential) (asked : Asked) (greeting : Greeting) (round : Option FirstRound) : Type 0 where
+pub record IsRoundBy (conversation : Option Conversation) (credential : Credential) (asked : Asked) (greeting : Greeting) (round : Option FirstRound) : Type 0 where
   pub there : is_some round ≡ is_some (speculative_reply asked greeting)
-  pub scram : IsScram mechanism → speculated_of (scram_round round) ≡ speculated_by credential asked greeting
+  pub scram : IsScram conversation → speculated_of (scram_round round) ≡ speculated_by credential asked greeting
 
 -- the first round that went with the hello
 abbrev pub IsRoundOf : Option Credential → Asked → Greeting → Option FirstRound → Type 0
 IsRoundOf None asked greeting round = ⊤
-IsRoundOf (Some credential) asked greeting round = IsRoundBy (mechanism_before credential.mechanism) credential asked greeting round
+IsRoundOf (Some credential) asked greeting round = IsRoundBy (conversation_of (mechanism_before credential.mechanism)) credential asked greeting round

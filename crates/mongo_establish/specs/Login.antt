@@ -7,7 +7,7 @@ use Rattle.mongo_command.specs.declared.server_type.ServerType.TheVariants.{RsAr
 use Rattle.mongo_command.specs.declared.stream_description.StreamDescription.{StreamDescription}
 use Rattle.mongo_sasl.specs.declared.credential.Credential.{Credential}
 use Rattle.mongo_sasl.specs.declared.mechanism.AuthMechanism.{AuthMechanism}
-use Rattle.mongo_sasl.specs.declared.mechanism.AuthMechanism.TheVariants.{ScramSha1, ScramSha256, MongoDbX509, Plain}
+use Rattle.mongo_sasl.specs.declared.mechanism.AuthMechanism.TheVariants.{ScramSha256}
 use Rattle.mongo_sasl.specs.Mechanism.{IsNegotiated}
 use Rattle.mongo_sasl.specs.Plain.{PlainHanded, plain_handed}
 use Rattle.mongo_sasl.specs.Validation.{IsValidated}
@@ -39,20 +39,6 @@ IsMechanism (Some given) reply description mechanism = mechanism ≡ given
 IsMechanism None (Some reply) description mechanism = mechanism ≡ ScramSha256
 IsMechanism None None description mechanism = IsNegotiated description.sasl_supported_mechs mechanism
 
--- a mechanism of SCRAM
-abbrev pub IsScram : AuthMechanism → Type 0
-IsScram ScramSha1 = ⊤
-IsScram ScramSha256 = ⊤
-IsScram mechanism = ⊥
-
--- a mechanism with a conversation
-abbrev pub HasConversation : AuthMechanism → Type 0
-HasConversation ScramSha1 = ⊤
-HasConversation ScramSha256 = ⊤
-HasConversation Plain = ⊤
-HasConversation MongoDbX509 = ⊤
-HasConversation mechanism = ⊥
-
 -- Why the mechanism doesn't take the credential. It isn't asked where the login that went with the hello was answered.
 abbrev pub InvalidRow : Option (List ℕ) → AuthMechanism → Credential → ErrorKind → Type 0
 InvalidRow None mechanism credential (InvalidArgument fault) = IsValidated mechanism credential false (Err fault)
@@ -63,7 +49,7 @@ abbrev pub TakesCredential : Option (List ℕ) → AuthMechanism → Credential 
 TakesCredential None mechanism credential = IsValidated mechanism credential false (Ok tt)
 TakesCredential (Some reply) mechanism credential = ⊤
 
--- ---- what each mechanism is handed
+-- ---- what each conversation is handed
 
 -- the first round that went with the hello, where the server answered it
 abbrev pub speculated_by : Credential → Asked → Greeting → Option Speculated

@@ -2,10 +2,11 @@ ghost use Rattle.std.specs.Prelude.{◌≡◌, IfOk, IfErr, OnOk};
 ghost use Rattle.mongo_wire.specs.declared.error.ErrorKind.{ErrorKind};
 ghost use Rattle.mongo_wire.specs.declared.error.ErrorKind.TheVariants.{OutOfMemory};
 ghost use Rattle.mongo_command.specs.Conversation.{or_else};
-ghost use Rattle.mongo_establish.specs.Speculation.{MechanismRow, speculation_by};
+ghost use Rattle.mongo_establish.specs.Speculation.{ConversationRow, MechanismRow, speculation_by, speculation_in};
 ghost use Rattle.mongo_scram.specs.User.{CredentialRow};
-ghost use Rattle.mongo_establish.specs.First.{IsFirstMessageBy, IsScramFirst, IsUnmade};
+ghost use Rattle.mongo_establish.specs.First.{IsFirstIn, IsFirstMessageBy, IsScramFirst, IsUnmade};
 
+use crate::{Conversation, conversation_of};
 use mongo_bson::RawDocumentBuf;
 use mongo_command::{Command, ServerAddress};
 use mongo_sasl::{AuthMechanism, Credential, x509};
@@ -58,15 +59,30 @@ pub fn build_speculative_client_first(
     ensures refused { IfErr result (λ e. or_else (MechanismRow mechanism.now credential.now) (IsUnmade (speculation_by mechanism.now credential.now nonce.now)) e.kind) }
 {
     match mechanism {
-        AuthMechanism::ScramSha1 => scram_first(alloc, ScramVersion::Sha1, credential, nonce),
-        AuthMechanism::ScramSha256 => scram_first(alloc, ScramVersion::Sha256, credential, nonce),
-        AuthMechanism::MongoDbX509 => Ok(Some(ClientFirst::X509(x509::build_client_first(
-            alloc, credential, None,
-        )?))),
         AuthMechanism::MongoDbCr => Err(Error {
             kind: ErrorKind::Authentication(AuthFault::MongoDbCr),
         }),
-        _ => Ok(None),
+        _ => conversation_first(alloc, conversation_of(*mechanism), credential, nonce),
+    }
+}
+
+// The first message of a conversation, where it goes with a hello.
+fn conversation_first(
+    alloc: Global,
+    conversation: Option<Conversation>,
+    credential: &Credential,
+    nonce: &[u8; 32],
+) -> Result<Option<ClientFirst>, Error>
+    ensures first { IfOk result (IsFirstIn conversation credential.now nonce.now) }
+    ensures made { OnOk result ((kind : ErrorKind) → ConversationRow conversation credential.now kind → ⊥) }
+    ensures refused { IfErr result (λ e. or_else (ConversationRow conversation credential.now) (IsUnmade (speculation_in conversation credential.now nonce.now)) e.kind) }
+{
+    match conversation {
+        Some(Conversation::Scram(version)) => scram_first(alloc, version, credential, nonce),
+        Some(Conversation::X509) => Ok(Some(ClientFirst::X509(x509::build_client_first(
+            alloc, credential, None,
+        )?))),
+        Some(Conversation::Plain) | None => Ok(None),
     }
 }
 

@@ -13,6 +13,7 @@
 #![tactic(auto)]
 
 mod client_first;
+mod conversation;
 mod establisher;
 mod first_round;
 mod generation;
@@ -23,6 +24,7 @@ mod login_state;
 mod options;
 
 pub use client_first::{ClientFirst, build_speculative_client_first};
+pub use conversation::{Conversation, conversation_of, is_spoken};
 pub use establisher::{
     ConnectionEstablisher, EstablishError, HandshakePhase, PendingConnection, PooledConnection,
 };

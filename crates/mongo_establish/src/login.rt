@@ -6,15 +6,15 @@ ghost use Rattle.mongo_command.specs.Connection.{kept_fault, KeepsRest};
 ghost use Rattle.mongo_command.specs.Exchange.{CountsStay};
 ghost use Rattle.mongo_sasl.specs.Kept.{KeepsAfter};
 ghost use Rattle.mongo_scram.specs.Cache.{entries_of};
-ghost use Rattle.mongo_scram.specs.Commands.{mechanism_of};
 ghost use Rattle.mongo_scram.specs.Costs.{ledgers};
+ghost use Rattle.mongo_establish.specs.declared.conversation.Conversation.TheVariants.{Scram};
 ghost use Rattle.mongo_establish.specs.Asked.{asked_over};
-ghost use Rattle.mongo_establish.specs.Login.{holds_users, HasConversation, IsMechanism, InvalidRow};
+ghost use Rattle.mongo_establish.specs.Login.{holds_users, IsMechanism, InvalidRow};
 ghost use Rattle.mongo_establish.specs.LoggingIn.{Converses, IsCredentialTaken, LogsIn, LoginStops};
 ghost use Rattle.mongo_establish.specs.Speculation.{HelloRow, SpeaksFor};
 
 use crate::first_round::{FirstRound, scram_round};
-use crate::{HandshakerOptions, LoginInputs, LoginState};
+use crate::{Conversation, HandshakerOptions, LoginInputs, LoginState, conversation_of};
 use mongo_command::{Connection, StreamDescription};
 use mongo_mac::Steps;
 use mongo_sasl::{AuthMechanism, Credential, plain, x509};
@@ -59,16 +59,28 @@ pub(crate) fn log_in<L: Link, G: Ledger>(
         return Ok(());
     };
     validate(mechanism, credential, round.is_some())?;
+    let Some(conversation) = conversation_of(mechanism) else {
+        unreachable!()
+    };
     converse(
-        alloc, options, mechanism, connection, link, credential, state, round, inputs, steps,
+        alloc,
+        options,
+        conversation,
+        connection,
+        link,
+        credential,
+        state,
+        round,
+        inputs,
+        steps,
     )
 }
 
-// The conversation of a mechanism, which goes on from the first round where there was one.
+// A login's conversation, which goes on from the first round where there was one.
 fn converse<L: Link, G: Ledger>(
     alloc: Global,
     options: &HandshakerOptions,
-    mechanism: AuthMechanism,
+    conversation: Conversation,
     connection: &mut Connection,
     link: &mut L,
     credential: &Credential,
@@ -77,9 +89,8 @@ fn converse<L: Link, G: Ledger>(
     inputs: &LoginInputs,
     steps: &mut Steps<G>,
 ) -> Result<(), Error>
-    requires conversation { HasConversation mechanism }
     requires faultless { kept_fault connection.old ≡ None }
-    ensures converses { Converses result mechanism (asked_over connection.old options.now (Some credential.now) inputs.now.nonces state.old.ids) credential.now connection.old.stream_description round
+    ensures converses { Converses result conversation (asked_over connection.old options.now (Some credential.now) inputs.now.nonces state.old.ids) credential.now connection.old.stream_description round
         (L.state link.old) (L.state link.new) state.old.ids state.new.ids (ledgers steps.old state.old.salted) (ledgers steps.new state.new.salted) }
     ensures entries { OnErr result (entries_of state.new.salted ≡ entries_of state.old.salted) }
     ensures connection { KeepsRest connection.old connection.new }
@@ -89,32 +100,11 @@ fn converse<L: Link, G: Ledger>(
 {
     let api = options.auth_options.server_api.as_ref();
     let mut buffer = FrameBuffer::new(alloc);
-    match mechanism {
-        AuthMechanism::ScramSha1 => by_scram(
-            alloc,
-            options,
-            ScramVersion::Sha1,
-            connection,
-            link,
-            credential,
-            state,
-            round,
-            inputs,
-            steps,
+    match conversation {
+        Conversation::Scram(version) => by_scram(
+            alloc, options, version, connection, link, credential, state, round, inputs, steps,
         ),
-        AuthMechanism::ScramSha256 => by_scram(
-            alloc,
-            options,
-            ScramVersion::Sha256,
-            connection,
-            link,
-            credential,
-            state,
-            round,
-            inputs,
-            steps,
-        ),
-        AuthMechanism::Plain => plain::authenticate_stream(
+        Conversation::Plain => plain::authenticate_stream(
             alloc,
             connection,
             link,
@@ -123,7 +113,7 @@ fn converse<L: Link, G: Ledger>(
             credential,
             api,
         ),
-        AuthMechanism::MongoDbX509 => x509::authenticate_stream(
+        Conversation::X509 => x509::authenticate_stream(
             alloc,
             connection,
             link,
@@ -133,7 +123,6 @@ fn converse<L: Link, G: Ledger>(
             api,
             round.is_some(),
         ),
-        _ => unreachable!(),
     }
 }
 
@@ -151,7 +140,7 @@ fn by_scram<L: Link, G: Ledger>(
     steps: &mut Steps<G>,
 ) -> Result<(), Error>
     requires faultless { kept_fault connection.old ≡ None }
-    ensures converses { Converses result (mechanism_of version) (asked_over connection.old options.now (Some credential.now) inputs.now.nonces state.old.ids) credential.now connection.old.stream_description round
+    ensures converses { Converses result (Scram version) (asked_over connection.old options.now (Some credential.now) inputs.now.nonces state.old.ids) credential.now connection.old.stream_description round
         (L.state link.old) (L.state link.new) state.old.ids state.new.ids (ledgers steps.old state.old.salted) (ledgers steps.new state.new.salted) }
     ensures entries { OnErr result (entries_of state.new.salted ≡ entries_of state.old.salted) }
     ensures connection { KeepsRest connection.old connection.new }

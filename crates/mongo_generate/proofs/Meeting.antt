@@ -26,6 +26,7 @@ use Rattle.mongo_scram.specs.User.{User, IsUser, CredentialRow}
 use Rattle.mongo_scram.specs.Validity.{BeginsWith}
 use Rattle.mongo_scram.proofs.OneRow.{no_credential_row}
 use Rattle.mongo_scram.proofs.OpeningEnds.{IsOpened, OpensBy, CanOpen, opening_ends}
+use Rattle.mongo_establish.specs.declared.conversation.Conversation.TheVariants.{Scram}
 use Rattle.mongo_establish.specs.declared.establisher.PendingConnection.{PendingConnection}
 use Rattle.mongo_establish.specs.declared.generation.PoolGeneration.TheVariants.{Normal}
 use Rattle.mongo_establish.specs.declared.login_state.Nonces.{Nonces}
@@ -34,10 +35,11 @@ use Rattle.mongo_establish.specs.Client.{hello_document}
 use Rattle.mongo_establish.specs.Derivation.{scram_derivation, derivation_by, login_derivation, derivation_plan, LeadsToKey}
 use Rattle.mongo_establish.specs.Generation.{NamesService}
 use Rattle.mongo_establish.specs.Greeting.{Greeting, Greets}
-use Rattle.mongo_establish.specs.Login.{speculative_reply, handed_by, InvalidRow}
+use Rattle.mongo_establish.specs.Login.{speculative_reply, handed_by, InvalidRow, TakesCredential}
 use Rattle.mongo_establish.specs.Plan.{hello_said, hello_plan}
 use Rattle.mongo_establish.specs.Script.{Script, IsLoginBy, IsScript, HasScript}
 use Rattle.mongo_establish.specs.Speculation.{MechanismRow, HelloRow, speculative_message, speculative_nonce, answer_to}
+use Rattle.mongo_establish.specs.Spoken.{conversation_of, HasConversation}
 use Rattle.mongo_establish.proofs.HelloPlan.{greeting_ends}
 use Rattle.mongo_server.specs.Acceptance.{IsClientOf, IsAccepted, challenge_of}
 use Rattle.mongo_server.specs.Exchange.{Exchange, joined_of, first_of, close_of, final_of}
@@ -59,12 +61,22 @@ row_by : (version : ScramVersion) (credential : Credential) (kind : ErrorKind) �
 row_by Sha1 credential kind row = row
 row_by Sha256 credential kind row = row
 
-login_by : (version : ScramVersion) (asked : Asked) (credential : Credential) (greeting : Greeting) (commands replies : List (List ℕ)) → IsScramLogin (handed_by version asked credential greeting) commands replies → IsLoginBy (mechanism_of version) asked credential greeting commands replies
-login_by Sha1 asked credential greeting commands replies is = is
-login_by Sha256 asked credential greeting commands replies is = is
+has_scram : (version : ScramVersion) → HasConversation (mechanism_of version) (Scram version)
+has_scram Sha1 = refl
+has_scram Sha256 = refl
+
+-- which was answered in the hello, so that its mechanism isn't asked whether it takes the credential
+login_by : (version : ScramVersion) (asked : Asked) (credential : Credential) (greeting : Greeting) (given : List ℕ) (commands replies : List (List ℕ)) → speculative_reply asked greeting ≡ Some given → IsScramLogin (handed_by version asked credential greeting) commands replies
+    → IsLoginBy (mechanism_of version) asked credential greeting commands replies
+login_by version asked credential greeting given commands replies is login = record {
+  taken = subst (λ reply. TakesCredential reply (mechanism_of version) credential) (sym is) tt;
+  conversation = Scram version;
+  has_conversation = has_scram version;
+  holds = login;
+}
 
 derivation_ends : (version : ScramVersion) (asked : Asked) (credential : Credential) (greeting : Greeting) (key : SaltedKey) → HasNone (InvalidRow (speculative_reply asked greeting) (mechanism_of version) credential) → Ends (scram_derivation version asked credential greeting) [] (Some key)
-    → derivation_by (mechanism_of version) asked credential greeting [] (ends (Some key))
+    → derivation_by (conversation_of (mechanism_of version)) (mechanism_of version) asked credential greeting [] (ends (Some key))
 unfolding derivation_by
 derivation_ends Sha1 asked credential greeting key none is = inr (none, is.answer_is)
 derivation_ends Sha256 asked credential greeting key none is = inr (none, is.answer_is)
@@ -220,7 +232,7 @@ module _ (pending : PendingConnection) (x : Exchange) (nonces : Nonces) (bytes :
     later_replies = last_heard ∷ [];
     replies_are = refl;
     greets = greets;
-    login = (mechanism_of x.version, refl, login_by x.version asked credential greeting (close_document (close_of x) ∷ []) (last_heard ∷ []) is_login);
+    login = (mechanism_of x.version, refl, login_by x.version asked credential greeting inner (close_document (close_of x) ∷ []) (last_heard ∷ []) replied is_login);
     service = subst (λ generation. NamesService generation greeting.description) (sym pool) tt;
   }
 

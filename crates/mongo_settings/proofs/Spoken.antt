@@ -1,15 +1,15 @@
 -- Settings hold no credential whose mechanism isn't spoken.
 use Rattle.std.proofs.Common.{◌≡◌, ℕ, ℤ, List, [], Option, None, Some, option_map, Result, Ok, Err, IfOk, refl, sym, ap, ◌∙◌, subst}
-use Rattle.std.specs.Prelude.{⊤, unwrap_or}
+use Rattle.std.specs.Prelude.{⊤, Bool, true, false, IsTrue, if◌then◌else◌, unwrap_or}
 use Rattle.serde_json.specs.Data.{Data}
 use Rattle.serde_json.specs.Find.{get, as_str}
 use Rattle.mongo_sasl.specs.declared.credential.Credential.{Credential}
 use Rattle.mongo_sasl.specs.declared.mechanism.AuthMechanism.{AuthMechanism}
-use Rattle.mongo_sasl.specs.declared.mechanism.AuthMechanism.TheVariants.{MongoDbCr, ScramSha1, ScramSha256, MongoDbX509, Plain, MongoDbAws, MongoDbOidc}
 use Rattle.mongo_meta.specs.declared.client_options.ClientOptions.{ClientOptions}
 use Rattle.mongo_establish.specs.declared.login_state.Nonces.{Nonces}
 use Rattle.mongo_establish.specs.declared.establisher.PendingConnection.{PendingConnection}
-use Rattle.mongo_establish.specs.Speculation.{mechanism_before, IsSpoken, SpeaksFor}
+use Rattle.mongo_establish.specs.Speculation.{mechanism_before, SpeaksFor}
+use Rattle.mongo_establish.specs.Spoken.{is_spoken, IsSpoken}
 use Rattle.mongo_settings.specs.Keys.{credential_keys, replies_key, credential_key, nonces_key, first_id_key, max_iterations_key, username_key, source_key, password_key, mechanism_key, properties_key}
 use Rattle.mongo_settings.specs.Kinds.{◌>>=◌, optional, optional_in, object_of, joined_hex_in, nonces_in, int32_in, iterations_in}
 use Rattle.mongo_settings.specs.Credential.{mechanism_in, credential_in}
@@ -20,26 +20,26 @@ use Rattle.mongo_settings.specs.Properties.{properties_in}
 use Rattle.mongo_settings.specs.Settings.{mechanism_judged, settings_of, Gives}
 use Rattle.mongo_settings.specs.declared.settings.Settings.{Settings}
 use Rattle.mongo_settings.specs.declared.settings.SettingsError.{SettingsError}
+use Rattle.mongo_settings.specs.declared.settings.SettingsError.TheVariants.{NotBuilt}
 use Rattle.mongo_settings.proofs.Judgement.{settings_of-ok}
 
 -- ---- mechanisms
 
+-- a rule that was kept holds
+kept : (holds : Bool) → ◌≡◌ {A = Result ⊤ SettingsError} (if holds then Ok tt else Err NotBuilt) (Ok tt) → IsTrue holds
+kept true is = refl
+kept false is = let no : ⊥ = cc in absurd no
+
 built_spoken : (mechanism : AuthMechanism) → mechanism_judged (Some mechanism) ≡ Ok tt → IsSpoken mechanism
-built_spoken MongoDbCr is = tt
-built_spoken ScramSha1 is = tt
-built_spoken ScramSha256 is = tt
-built_spoken MongoDbX509 is = tt
-built_spoken Plain is = tt
-built_spoken MongoDbAws is = cc
-built_spoken MongoDbOidc is = cc
+built_spoken mechanism is = kept (is_spoken mechanism) is
 
 judged_spoken : (found mechanism : Option AuthMechanism) → option_map Some found ≡ Some mechanism → mechanism_judged found ≡ Ok tt → IsSpoken (mechanism_before mechanism)
 judged_spoken None mechanism is judged = let no : ⊥ = cc in absurd no
-judged_spoken (Some one) None is judged = tt
+judged_spoken (Some one) None is judged = refl
 judged_spoken (Some one) (Some other) is judged = let same : one ≡ other = cc in subst IsSpoken same (built_spoken one judged)
 
 given_spoken : (given : Option Data) (mechanism : Option AuthMechanism) → optional_in mechanism_in given ≡ Some mechanism → mechanism_judged (given >>= mechanism_in) ≡ Ok tt → IsSpoken (mechanism_before mechanism)
-given_spoken None None is judged = tt
+given_spoken None None is judged = refl
 given_spoken None (Some mechanism) is judged = let no : ⊥ = cc in absurd no
 given_spoken (Some name) mechanism is judged = judged_spoken (mechanism_in name) mechanism is judged
 

@@ -1,5 +1,5 @@
 -- Credentials as settings have them.
-use Rattle.std.specs.Prelude.{ℕ, Bool, true, false, Option, Some, option_and_then, List, [], ◌∷◌, bytes_eq}
+use Rattle.std.specs.Prelude.{ℕ, Bool, Option, Some, option_and_then, List, [], ◌∷◌, bytes_eq}
 use Rattle.std.specs.List.{find}
 use Rattle.serde_json.specs.Data.{Data}
 use Rattle.serde_json.specs.Find.{get, as_str}
@@ -7,6 +7,7 @@ use Rattle.mongo_sasl.specs.declared.credential.Credential.{Credential}
 use Rattle.mongo_sasl.specs.declared.mechanism.AuthMechanism.{AuthMechanism}
 use Rattle.mongo_sasl.specs.declared.mechanism.AuthMechanism.TheVariants.{MongoDbCr, ScramSha1, ScramSha256, MongoDbX509, Plain, MongoDbAws, MongoDbOidc}
 use Rattle.mongo_sasl.specs.Mechanism.{name_of}
+use Rattle.mongo_establish.specs.Spoken.{is_spoken}
 use Rattle.mongo_settings.specs.Keys.{credential_keys, credential_key, username_key, source_key, password_key, mechanism_key, properties_key}
 use Rattle.mongo_settings.specs.Kinds.{◌>>=◌, optional, object_of}
 use Rattle.mongo_settings.specs.Properties.{properties_in}
@@ -30,13 +31,7 @@ named_mechanism d = do
 
 -- a login by it is made, or is refused with its reason
 abbrev pub is_built : AuthMechanism → Bool
-is_built MongoDbCr = true
-is_built ScramSha1 = true
-is_built ScramSha256 = true
-is_built MongoDbX509 = true
-is_built Plain = true
-is_built MongoDbAws = false
-is_built MongoDbOidc = false
+is_built mechanism = is_spoken mechanism
 
 unfoldable pub credential_in : Data → Option Credential
 credential_in d = do

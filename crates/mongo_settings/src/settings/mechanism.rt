@@ -2,10 +2,11 @@
 ghost use Rattle.std.specs.Prelude.{◌≡◌};
 ghost use Rattle.serde_json.specs.View.{view};
 ghost use Rattle.mongo_settings.specs.Settings.{mechanism_judged};
-ghost use Rattle.mongo_settings.specs.Credential.{mechanism_named, mechanism_in, named_mechanism, is_built};
+ghost use Rattle.mongo_settings.specs.Credential.{mechanism_named, mechanism_in, named_mechanism};
 
 use crate::settings::reading::SettingValue;
 use crate::settings::{SettingsError, keys};
+use mongo_establish::is_spoken;
 use mongo_sasl::AuthMechanism;
 use serde_json::Value;
 use std::alloc::Global;
@@ -16,7 +17,7 @@ pub fn judge_mechanism(object: &Value) -> Result<(), SettingsError>
     ensures { result ≡ mechanism_judged (named_mechanism (view object.now)) }
 {
     match named_mechanism(object) {
-        Some(mechanism) if !is_built(mechanism) => Err(SettingsError::NotBuilt),
+        Some(mechanism) if !is_spoken(mechanism) => Err(SettingsError::NotBuilt),
         _ => Ok(()),
     }
 }
@@ -27,19 +28,6 @@ fn named_mechanism(object: &Value) -> Option<AuthMechanism>
     let credential = object.get(keys::CREDENTIAL)?;
     let name = credential.get(keys::MECHANISM)?;
     mechanism_in(name)
-}
-
-fn is_built(mechanism: AuthMechanism) -> bool
-    ensures { result ≡ is_built mechanism }
-{
-    match mechanism {
-        AuthMechanism::MongoDbCr
-        | AuthMechanism::ScramSha1
-        | AuthMechanism::ScramSha256
-        | AuthMechanism::MongoDbX509
-        | AuthMechanism::Plain => true,
-        AuthMechanism::MongoDbAws | AuthMechanism::MongoDbOidc => false,
-    }
 }
 
 /// The name of a mechanism.
