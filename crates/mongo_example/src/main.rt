@@ -12,7 +12,7 @@ mod recorded;
 
 use mongo_establish::{Bytes, Error, MemoryLink, PooledConnection, ServerAddress, Steps};
 use pool::Pool;
-use recorded::recording_at;
+use recorded::{Recorded, recording_at};
 use std::alloc::{AllocError, Global};
 use std::marker::Brand;
 use std::process::ExitCode;
@@ -38,21 +38,41 @@ fn two_connections<G: Ledger>(alloc: Global, blank: Blank) -> Result<String, Err
 {
     let mut steps = Steps::<G>::new(blank);
     let mut pool = Pool::new(alloc)?;
+    lines_of_two(alloc, &mut pool, &mut steps)
+}
+
+/// The lines of the pool's next two connections.
+fn lines_of_two<G: Ledger>(
+    alloc: Global,
+    pool: &mut Pool,
+    steps: &mut Steps<G>,
+) -> Result<String, Error> {
     let mut lines = String::new(alloc);
     for place in 0..2 {
-        let server = recording_at(place);
-        let mut link = MemoryLink::new(alloc, Bytes::from_slice(alloc, server.replies)?);
-        let pending = pool.next_pending(alloc)?;
-        let before = pool.rounds();
-        match pool.establish(alloc, pending, &mut link, &server.inputs, &mut steps) {
-            Ok(pooled) => {
-                let derived = pool.rounds().saturating_sub(before);
-                lines.push_str(line_of(alloc, &pooled, derived)?.as_str())?;
-            }
-            Err(refused) => return Err(refused.cause),
-        }
+        let line = connect(alloc, pool, &recording_at(place), steps)?;
+        lines.push_str(line.as_str())?;
     }
     Ok(lines)
+}
+
+/// Makes the pool's next connection, over what a server answered, and gives its line.
+fn connect<G: Ledger>(
+    alloc: Global,
+    pool: &mut Pool,
+    server: &Recorded,
+    steps: &mut Steps<G>,
+) -> Result<String, Error> {
+    let replies = Bytes::from_slice(alloc, server.replies)?;
+    let mut link = MemoryLink::new(alloc, replies);
+    let pending = pool.next_pending(alloc)?;
+    let before = pool.rounds();
+    match pool.establish(alloc, pending, &mut link, &server.inputs, steps) {
+        Ok(pooled) => {
+            let derived = pool.rounds().saturating_sub(before);
+            Ok(line_of(alloc, &pooled, derived)?)
+        }
+        Err(refused) => Err(refused.cause),
+    }
 }
 
 /// What a pool keeps of a connection that is ready for commands, and how many rounds its login derived.

@@ -33,24 +33,12 @@ impl Pool {
 
     /// A pool for `user` at `db.example.net`, of generation 7, that has made no connection.
     pub fn new(alloc: Global) -> Result<Pool, Error> {
-        let options = options(alloc)?;
-        let metadata = ClientMetadata::from_options(alloc, &options)?;
-        let spec = TopologySpec {
-            options,
-            metadata,
-            max_iterations: 10_000_000,
-        };
-        let address = ServerAddress::Tcp {
-            host: Text::from_slice(alloc, "db.example.net")?,
-            port: None,
-        };
+        let host = Text::from_slice(alloc, "db.example.net")?;
         let credential = credential(alloc)?;
+        let establisher = establisher(alloc)?;
         Ok(Pool {
-            establisher: ConnectionEstablisher::new(
-                alloc,
-                EstablisherOptions::from_spec(alloc, &spec)?,
-            )?,
-            address,
+            establisher,
+            address: ServerAddress::Tcp { host, port: None },
             credential,
             state: LoginState {
                 salted: SaltedCache::new(alloc),
@@ -125,21 +113,36 @@ fn credential(alloc: Global) -> Result<Credential, Error>
     )
 }
 
+// What makes the connections: it holds the hello that they have in common.
+fn establisher(alloc: Global) -> Result<ConnectionEstablisher, Error> {
+    let options = options(alloc)?;
+    let metadata = ClientMetadata::from_options(alloc, &options)?;
+    let spec = TopologySpec {
+        options,
+        metadata,
+        max_iterations: 10_000_000,
+    };
+    ConnectionEstablisher::new(alloc, EstablisherOptions::from_spec(alloc, &spec)?)
+}
+
 // What the client says of itself.
 fn options(alloc: Global) -> Result<ClientOptions, Error> {
+    let os_type = Text::from_slice(alloc, "linux")?;
+    let platform = Text::from_slice(alloc, "rattle / sync")?;
+    let platform_short = Text::from_slice(alloc, "rattle")?;
     Ok(ClientOptions {
         app_name: None,
         driver_info: None,
         server_api: None,
         load_balanced: false,
         os: OsMetadata {
-            os_type: Text::from_slice(alloc, "linux")?,
+            os_type,
             name: None,
             architecture: None,
             version: None,
         },
-        platform: Text::from_slice(alloc, "rattle / sync")?,
-        platform_short: Text::from_slice(alloc, "rattle")?,
+        platform,
+        platform_short,
         environment: Environment {
             variables: Variables::new(alloc),
             dockerenv: false,

@@ -3,6 +3,7 @@ pub mod Payloads
 pub mod ServerReplies
 pub mod Texts
 pub mod Sizes
+pub mod ReplySizes
 pub mod Keys
 pub mod SoFar
 pub mod Numbered

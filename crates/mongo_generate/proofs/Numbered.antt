@@ -1,10 +1,10 @@
 -- The login of a number is the client's side of a possible exchange.
-use Rattle.std.proofs.Common.{◌≡◌, ℕ, zero, suc, ◌+◌, ◌%◌, ◌<◌, ◌≤◌, Result, Ok, Err, IfOk, List, [], ◌∷◌, ◌++◌, length, replicate, codes, decimal, inl, inr, get_or, ap, ◌∙◌, subst, arith}
+use Rattle.std.proofs.Common.{◌≡◌, ◌⊎◌, ℕ, zero, suc, ◌+◌, ◌%◌, ◌<◌, ◌≤◌, Result, Ok, Err, IfOk, List, [], ◌∷◌, ◌++◌, length, replicate, codes, decimal, inl, inr, get_or, ap, ◌∙◌, subst, arith}
 use Rattle.std.proofs.lemmas.Fmt.{decimal_digit}
 use Rattle.std.proofs.lemmas.List.{length-replicate}
 use Rattle.mongo_wire.specs.declared.auth_fault.AuthFault.TheVariants.{PasswordControl}
 use Rattle.mongo_wire.specs.declared.error.ErrorKind.{ErrorKind}
-use Rattle.mongo_wire.specs.declared.error.ErrorKind.TheVariants.{Authentication, PasswordNotAscii}
+use Rattle.mongo_wire.specs.declared.error.ErrorKind.TheVariants.{Authentication, PasswordNotAscii, OutOfMemory}
 use Rattle.mongo_scram.specs.declared.scram_version.ScramVersion.{ScramVersion}
 use Rattle.mongo_scram.specs.declared.scram_version.ScramVersion.TheVariants.{Sha1, Sha256}
 use Rattle.mongo_scram.specs.Base64.{base64_of}
@@ -33,6 +33,12 @@ no_row Sha256 d few kind row = absurd row
 
 usable : (version : ScramVersion) (d : ℕ) → d < 10 → (kind : ErrorKind) → PasswordRow version (112 ∷ decimal d) kind → ⊥
 usable version d few kind row = no_row version d few kind (subst (λ digits. PasswordRow version (112 ∷ digits) kind) (decimal_digit d few) row)
+
+-- a user of its password is refused for want of memory alone
+pub only_memory : (k : ℕ) (version : ScramVersion) (password : List ℕ) (kind : ErrorKind) → version ≡ version_at k → password ≡ codes "p" ++ decimal (k % 3) → PasswordRow version password kind ⊎ (kind ≡ OutOfMemory) → kind ≡ OutOfMemory
+only_memory k version password kind v p (inl row) =
+    absurd (usable (version_at k) (k % 3) (omega arith) kind (subst (λ w. PasswordRow w (codes "p" ++ decimal (k % 3)) kind) v (subst (λ s. PasswordRow version s kind) p row)))
+only_memory k version password kind v p (inr memory) = memory
 
 -- ---- its exchange
 

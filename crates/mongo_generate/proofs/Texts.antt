@@ -90,7 +90,7 @@ length_xor [] ys = omega arith
 length_xor (x ∷ xs) [] = omega arith
 length_xor (x ∷ xs) (y ∷ ys) = omega (arith, length_xor xs ys)
 
-length_digest : (version : ScramVersion) (text : List ℕ) → length (digest_of version text) ≤ 32
+pub length_digest : (version : ScramVersion) (text : List ℕ) → length (digest_of version text) ≤ 32
 length_digest Sha1 text = omega (arith, length-sha1 text)
 length_digest Sha256 text = omega (arith, length-sha256 text)
 

@@ -15,6 +15,7 @@
 mod accepted;
 mod log_in;
 mod logins;
+mod memory;
 mod numbering;
 mod options;
 mod replies;

@@ -6,6 +6,7 @@ ghost use Rattle.mongo_server.specs.Server.{Serves, HasBegun};
 ghost use Rattle.mongo_generate.specs.Acceptance.{IsAcceptedAs, AreExchangeReplies};
 ghost use Rattle.mongo_generate.specs.Login.{IsExchangeClient};
 
+use crate::memory::want_of_memory;
 use crate::replies::replies_of;
 use crate::written::client_final;
 use crate::{Acceptance, Client, Login};
@@ -31,7 +32,8 @@ impl Client {
 
     /// Establishes a connection over a link in memory whose replies carry the server's messages: hello with the login that
     /// goes with it, and the last round. The client's last message, as it was written, is then the server's to judge. None
-    /// where either side refuses. The ids of the commands begin at 0.
+    /// where either side refuses, or where a message of the server doesn't fit into a reply of 48000000 bytes. The ids of the
+    /// commands begin at 0.
     ///
     /// A server of the login's exchange, and its client, accept: the answer is their last messages.
     pub fn log_in<G: Ledger>(
@@ -115,7 +117,8 @@ fn is_accepted(ended: Result<PooledConnection, EstablishError>) -> Result<bool, 
     }
 }
 
-// The replies of a server that heard the client's first message, or None where it refuses that.
+// The replies of a server that heard the client's first message. None where it refuses that, or where a message of its own
+// doesn't fit into a reply.
 fn heard(alloc: Global, login: &Login, server: &mut ServerCore) -> Result<Option<Bytes>, AllocError>
     ensures heard { (x : Exchange) → IsExchangeClient x login.now → Serves server.old x → IfOk result (λ replies. MatchOption replies ⊥ (AreExchangeReplies x)) }
     ensures begun { (x : Exchange) → IsExchangeClient x login.now → Serves server.old x → OnOk result (HasBegun server.new x) }
@@ -126,12 +129,18 @@ fn heard(alloc: Global, login: &Login, server: &mut ServerCore) -> Result<Option
         Err(ServerFault::OutOfMemory) => return Err(AllocError),
         Err(_) => return Ok(None),
     };
-    let Ok(last) = server.expected_final(alloc) else {
-        return Err(AllocError);
+    let last = match server.expected_final(alloc) {
+        Ok(last) => last,
+        Err(ServerFault::OutOfMemory) => return Err(AllocError),
+        // a conversation has begun
+        Err(_) => unreachable!(),
     };
     match replies_of(alloc, first.as_bytes(), last.as_bytes()) {
         Ok(replies) => Ok(Some(replies)),
-        Err(_) => Err(AllocError),
+        Err(error) => match error.kind {
+            ErrorKind::OutOfMemory => Err(AllocError),
+            _ => Ok(None),
+        },
     }
 }
 
@@ -139,8 +148,9 @@ fn heard(alloc: Global, login: &Login, server: &mut ServerCore) -> Result<Option
 fn pending(alloc: Global) -> Result<PendingConnection, AllocError>
     ensures generation { IfOk result (λ pending. pending.generation ≡ Normal 0) }
 {
-    let Ok(host) = Text::from_slice(alloc, "localhost") else {
-        return Err(AllocError);
+    let host = match Text::from_slice(alloc, "localhost") {
+        Ok(host) => host,
+        Err(fault) => return Err(want_of_memory(fault.into())),
     };
     Ok(PendingConnection {
         id: 0,

@@ -1,9 +1,12 @@
 //! The login of a number, and the server that knows its user.
-ghost use Rattle.std.specs.Prelude.{◌≡◌, ◌+◌, ◌≤◌, ◌%◌, ◌++◌, codes, decimal, IfOk, OnOk};
+ghost use Rattle.std.specs.Prelude.{◌≡◌, ◌+◌, ◌≤◌, ◌%◌, ◌++◌, codes, decimal, IfOk, IfErr, OnOk};
+ghost use Rattle.mongo_wire.specs.declared.error.ErrorKind.TheVariants.{OutOfMemory};
 ghost use Rattle.mongo_server.specs.Server.{Serves};
 ghost use Rattle.mongo_generate.specs.Generated.{version_at, exchange_at};
+ghost use Rattle.mongo_generate.specs.Login.{IsExchangeClient};
 
 use crate::Login;
+use crate::memory::want_of_memory;
 use itoa::Buffer;
 use mongo_bson::{BsonFault, Bytes, Text};
 use mongo_establish::{Error, Nonces, ScramVersion};
@@ -26,24 +29,30 @@ impl Login {
     pub fn generated(alloc: Global, number: u32) -> Result<Login, AllocError>
         ensures login { IfOk result (IsExchangeClient (exchange_at number)) }
     {
-        let (Ok(username), Ok(password)) = (
-            lettered(alloc, "u", number % 7),
-            lettered(alloc, "p", number % 3),
-        ) else {
-            return Err(AllocError);
-        };
-        let nonces = Nonces {
-            first: [(number % 256) as u8; 32],
-            second: [((number % 256 + 1) % 256) as u8; 32],
-        };
-        Login::new(
-            alloc,
-            version_at(number),
-            username.as_str(),
-            password.as_str(),
-            nonces,
-        )
+        match login_of(alloc, number) {
+            Ok(login) => Ok(login),
+            Err(error) => Err(want_of_memory(error)),
+        }
     }
+}
+
+fn login_of(alloc: Global, number: u32) -> Result<Login, Error>
+    ensures login { IfOk result (IsExchangeClient (exchange_at number)) }
+    ensures refused { IfErr result (λ e. e.kind ≡ OutOfMemory) }
+{
+    let username = lettered(alloc, "u", number % 7)?;
+    let password = lettered(alloc, "p", number % 3)?;
+    let nonces = Nonces {
+        first: [(number % 256) as u8; 32],
+        second: [((number % 256 + 1) % 256) as u8; 32],
+    };
+    Login::of_user(
+        alloc,
+        version_at(number),
+        username.as_str(),
+        password.as_str(),
+        nonces,
+    )
 }
 
 /// The server that knows the user of the login of this number, by a salt of 16 bytes of the number modulo 5 and 4096
@@ -59,7 +68,7 @@ pub fn generated_server<G: Ledger>(
 {
     match server_of(alloc, number, steps) {
         Ok(server) => Ok(server),
-        Err(_) => Err(AllocError),
+        Err(error) => Err(want_of_memory(error)),
     }
 }
 
@@ -69,6 +78,7 @@ fn server_of<G: Ledger>(
     steps: &mut Steps<G>,
 ) -> Result<ServerCore, Error>
     ensures serves { IfOk result (λ server. Serves server (exchange_at number)) }
+    ensures refused { IfErr result (λ e. e.kind ≡ OutOfMemory) }
     ensures cost { OnOk result (steps.new ≡ steps.old + 4096) }
     ensures steps { steps.old ≤ steps.new }
 {
@@ -99,6 +109,7 @@ fn version_at(number: u32) -> ScramVersion
 // A letter and a number.
 fn lettered(alloc: Global, letter: &str, number: u32) -> Result<Text, BsonFault>
     ensures text { IfOk result (λ text. text ≡ letter.now ++ decimal number) }
+    ensures refused { IfErr result (λ fault. fault ≡ BsonFault.OutOfMemory) }
 {
     let mut text = Text::from_slice(alloc, letter)?;
     let mut digits = Buffer::new();

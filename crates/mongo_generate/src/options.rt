@@ -1,7 +1,9 @@
-ghost use Rattle.std.specs.Prelude.{◌≡◌, IfOk};
+ghost use Rattle.std.specs.Prelude.{◌≡◌, IfOk, IfErr};
+ghost use Rattle.mongo_wire.specs.declared.error.ErrorKind.TheVariants.{OutOfMemory};
 ghost use Rattle.mongo_establish.specs.Establisher.{options_of_establisher};
 ghost use Rattle.mongo_generate.specs.Options.{client_options, handshaker_options};
 
+use crate::memory::want_of_memory;
 use mongo_bson::{BsonFault, Text};
 use mongo_establish::{
     ClientMetadata, ClientOptions, ConnectionEstablisher, Error, EstablisherOptions, TopologySpec,
@@ -24,7 +26,7 @@ impl Client {
     pub fn new(alloc: Global) -> Result<Client, AllocError> {
         match establisher(alloc) {
             Ok(establisher) => Ok(Client { establisher }),
-            Err(_) => Err(AllocError),
+            Err(error) => Err(want_of_memory(error)),
         }
     }
 }
@@ -32,6 +34,7 @@ impl Client {
 #[tactic(auto, unfolding(crate::specs::Options::handshaker_options))]
 fn establisher(alloc: Global) -> Result<ConnectionEstablisher, Error>
     ensures options { IfOk result (λ establisher. options_of_establisher establisher ≡ handshaker_options) }
+    ensures refused { IfErr result (λ e. e.kind ≡ OutOfMemory) }
 {
     let options = client_options(alloc)?;
     let metadata = ClientMetadata::from_options(alloc, &options)?;
@@ -46,6 +49,7 @@ fn establisher(alloc: Global) -> Result<ConnectionEstablisher, Error>
 // What the client says of itself.
 fn client_options(alloc: Global) -> Result<ClientOptions, BsonFault>
     ensures options { IfOk result (λ options. options ≡ client_options) }
+    ensures refused { IfErr result (λ fault. fault ≡ BsonFault.OutOfMemory) }
 {
     Ok(ClientOptions {
         app_name: None,

@@ -1,13 +1,13 @@
 //! A server's two replies, as frames.
-ghost use Rattle.std.specs.Prelude.{◌≡◌, ◌++◌, ◌∷◌, [], List, IfOk, OnOk};
-ghost use Rattle.mongo_bson.specs.Document.{Element};
-ghost use Rattle.mongo_bson.specs.Value.{element_of};
+ghost use Rattle.std.specs.Prelude.{◌≡◌, ◌^◌, ◌<◌, length, IfOk, IfErr, OnOk};
+ghost use Rattle.mongo_wire.specs.declared.error.ErrorKind.TheVariants.{OutOfMemory};
 ghost use Rattle.mongo_command.specs.Literal.{document_of};
-ghost use Rattle.mongo_generate.specs.Replies.{round_elements, hello_reply, final_reply, WritesReply, AreReplies};
+ghost use Rattle.mongo_generate.specs.Replies.{speculative_elements, hello_reply, final_reply, WritesReply, AreReplies};
 
 use bitflags::Flags;
 use mongo_bson::{BsonFault, Bytes, RawDocumentBuf, RawValue};
 use mongo_command::keys::{OK, SPECULATIVE_AUTHENTICATE};
+use mongo_sasl::document_of;
 use mongo_sasl::keys::{CONVERSATION_ID, DONE, PAYLOAD};
 use mongo_wire::{Error, MemoryLink, Message, MessageFlags, RequestIds, Sequences};
 use std::alloc::Global;
@@ -18,10 +18,20 @@ const ONE: u64 = 0x3FF0_0000_0000_0000;
 // The greatest frame that the server takes.
 const MAXIMUM: i32 = 48_000_000;
 
+// The number of the conversation.
+const CONVERSATION: i32 = 1;
+
+// The generic subtype of a binary, BSON 1.1.
+const GENERIC: u8 = 0;
+
 /// The frames of the reply to a hello with this first message, and of the reply to the command after it with this last
 /// one.
+///
+/// `TooLong` where a message is too long for its reply, whose frame has 48000000 bytes at most.
 pub fn replies_of(alloc: Global, server_first: &[u8], server_final: &[u8]) -> Result<Bytes, Error>
     ensures replies { IfOk result (AreReplies server_first.now server_final.now) }
+    // Messages that are shorter than 16 MiB fit.
+    ensures short { length server_first.now < 2 ^ 24 → length server_final.now < 2 ^ 24 → IfErr result (λ e. e.kind ≡ OutOfMemory) }
 {
     let mut link = MemoryLink::new(alloc, Bytes::new(alloc));
     write_reply(alloc, hello_reply(alloc, server_first)?, &mut link)?;
@@ -36,6 +46,7 @@ fn write_reply(
     link: &mut MemoryLink,
 ) -> Result<(), Error>
     ensures written { OnOk result (WritesReply document_payload link.old link.new) }
+    ensures short { length document_payload < 2 ^ 25 → IfErr result (λ e. e.kind ≡ OutOfMemory) }
 {
     let message = Message {
         document_payload,
@@ -53,44 +64,39 @@ fn write_reply(
 #[tactic(auto, unfolding(crate::specs::Replies::hello_reply))]
 fn hello_reply(alloc: Global, server_first: &[u8]) -> Result<RawDocumentBuf, BsonFault>
     ensures reply { IfOk result (λ document. document ≡ hello_reply server_first.now) }
+    ensures short { length server_first.now < 2 ^ 24 → IfErr result (λ fault. fault ≡ BsonFault.OutOfMemory) }
 {
-    let mut speculative = RawDocumentBuf::new(alloc)?;
-    put_round(&mut speculative, false, server_first)?;
-    let mut reply = RawDocumentBuf::new(alloc)?;
-    put(&mut reply, OK, RawValue::Double(ONE))?;
-    put(&mut reply, "maxBsonObjectSize", RawValue::Int32(16_777_216))?;
-    put(&mut reply, "maxMessageSizeBytes", RawValue::Int32(MAXIMUM))?;
-    put(
-        &mut reply,
+    let answer = answer_to_login(alloc, server_first)?;
+    let ok = (OK, RawValue::Double(ONE));
+    let size = ("maxBsonObjectSize", RawValue::Int32(16_777_216));
+    let most = ("maxMessageSizeBytes", RawValue::Int32(MAXIMUM));
+    let answer = (
         SPECULATIVE_AUTHENTICATE,
-        RawValue::Document(speculative.borrow()),
-    )?;
-    Ok(reply)
+        RawValue::Document(answer.borrow()),
+    );
+    document_of(alloc, &[ok, size, most, answer])
+}
+
+// What the reply to a hello says to the login that went with it.
+fn answer_to_login(alloc: Global, server_first: &[u8]) -> Result<RawDocumentBuf, BsonFault>
+    ensures answer { IfOk result (λ document. document ≡ document_of (speculative_elements server_first.now)) }
+    ensures short { length server_first.now < 2 ^ 24 → IfErr result (λ fault. fault ≡ BsonFault.OutOfMemory) }
+{
+    let id = (CONVERSATION_ID, RawValue::Int32(CONVERSATION));
+    let done = (DONE, RawValue::Bool(false));
+    let payload = (PAYLOAD, RawValue::Binary(GENERIC, server_first));
+    document_of(alloc, &[id, done, payload])
 }
 
 // The reply that ends a login: `{ok: 1.0, conversationId: 1, done: true, payload: the server's last message}`.
 #[tactic(auto, unfolding(crate::specs::Replies::final_reply))]
 fn final_reply(alloc: Global, server_final: &[u8]) -> Result<RawDocumentBuf, BsonFault>
     ensures reply { IfOk result (λ document. document ≡ final_reply server_final.now) }
+    ensures short { length server_final.now < 2 ^ 24 → IfErr result (λ fault. fault ≡ BsonFault.OutOfMemory) }
 {
-    let mut reply = RawDocumentBuf::new(alloc)?;
-    put(&mut reply, OK, RawValue::Double(ONE))?;
-    put_round(&mut reply, true, server_final)?;
-    Ok(reply)
-}
-
-// Puts what a round of a conversation says at the end of a document.
-fn put_round(document: &mut RawDocumentBuf, done: bool, payload: &[u8]) -> Result<(), BsonFault>
-    ensures put { (elements : List Element) → document.old ≡ document_of elements → OnOk result (document.new ≡ document_of (elements ++ round_elements done payload.now)) }
-{
-    put(document, CONVERSATION_ID, RawValue::Int32(1))?;
-    put(document, DONE, RawValue::Bool(done))?;
-    put(document, PAYLOAD, RawValue::Binary(0, payload))
-}
-
-// Puts an element at the end of a document.
-fn put(document: &mut RawDocumentBuf, key: &str, value: RawValue<'_>) -> Result<(), BsonFault>
-    ensures put { (elements : List Element) → document.old ≡ document_of elements → OnOk result (document.new ≡ document_of (elements ++ element_of key.now value.entry ∷ [])) }
-{
-    document.append(key, value)
+    let ok = (OK, RawValue::Double(ONE));
+    let id = (CONVERSATION_ID, RawValue::Int32(CONVERSATION));
+    let done = (DONE, RawValue::Bool(true));
+    let payload = (PAYLOAD, RawValue::Binary(GENERIC, server_final));
+    document_of(alloc, &[ok, id, done, payload])
 }

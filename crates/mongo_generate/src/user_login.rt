@@ -2,6 +2,7 @@ ghost use Rattle.std.specs.Prelude.{◌≡◌, Some, IsTrue};
 ghost use Rattle.mongo_scram.specs.Commands.{mechanism_of};
 ghost use Rattle.mongo_generate.specs.Scram.{is_scram};
 
+use crate::memory::want_of_memory;
 use mongo_bson::Text;
 use mongo_establish::{
     AuthMechanism, Credential, Error, LoginInputs, Moment, Nonces, ScramVersion,
@@ -20,7 +21,8 @@ pub struct Login {
 }
 
 impl Login {
-    ghost use Rattle.std.specs.Prelude.{◌≡◌, IfOk};
+    ghost use Rattle.std.specs.Prelude.{◌≡◌, IfOk, IfErr};
+    ghost use Rattle.mongo_wire.specs.declared.error.ErrorKind.TheVariants.{OutOfMemory};
     ghost use Rattle.mongo_generate.specs.Login.{IsUserLogin, credential_by};
 
     /// The login of a user of the database `admin`, by this version of SCRAM and these nonces.
@@ -35,11 +37,12 @@ impl Login {
     {
         match Login::of_user(alloc, version, username, password, nonces) {
             Ok(login) => Ok(login),
-            Err(_) => Err(AllocError),
+            Err(error) => Err(want_of_memory(error)),
         }
     }
 
-    fn of_user(
+    // The same, for a caller that has other errors to hand on.
+    pub(crate) fn of_user(
         alloc: Global,
         version: ScramVersion,
         username: &str,
@@ -47,6 +50,7 @@ impl Login {
         nonces: Nonces,
     ) -> Result<Login, Error>
         ensures login { IfOk result (IsUserLogin version username.now password.now nonces.first) }
+        ensures refused { IfErr result (λ e. e.kind ≡ OutOfMemory) }
     {
         let first = ClientFirst::new(alloc, "admin", username, true, None, &nonces.first)?;
         let client_first = Text::from_slice(alloc, first.message())?;

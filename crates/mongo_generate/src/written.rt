@@ -7,6 +7,7 @@ ghost use Rattle.mongo_wire.specs.Frame.{Frame, IsFrame};
 ghost use Rattle.mongo_wire.specs.Memory.{bytes_left};
 ghost use Rattle.mongo_generate.specs.Written.{IsBinaryOf, CarriesPayload, CarriesPayloadLast};
 
+use crate::memory::want_of_memory;
 use mongo_bson::{Bytes, RawDocument, RawValue};
 use mongo_sasl::keys::PAYLOAD;
 use mongo_wire::{FrameBuffer, FrameFault, MemoryLink};
@@ -79,6 +80,6 @@ fn content_of(alloc: Global, value: RawValue<'_>) -> Result<Option<Bytes>, Alloc
     };
     match Bytes::from_slice(alloc, content) {
         Ok(content) => Ok(Some(content)),
-        Err(_) => Err(AllocError),
+        Err(fault) => Err(want_of_memory(fault.into())),
     }
 }

@@ -1,7 +1,9 @@
-use Rattle.std.proofs.Common.{[], ◌∷◌}
-use Rattle.mongo_generate.specs.Replies.{ok_element, final_reply}
+use Rattle.std.proofs.Common.{arith}
+use Rattle.mongo_generate.specs.Replies.{final_reply}
+use Rattle.mongo_generate.proofs.ReplySizes.{length_final, document_fits}
 use Rattle.mongo_generate.proofs.replies.final_reply.Goals as goal
 
-pub returns : goal.returns
+pub returns-clause-short : goal.returns-clause-short
 unfolding final_reply
-returns c = record { reply = c.in_ok-put_round.ensures.put (ok_element ∷ []) (c.in_ok-put.ensures.put [] c.in_ok-reply.ensures.empty) }
+returns-clause-short c = λ short.
+    document_fits c.document_of.result (final_reply c.args.server_final.now) (let size = length_final c.args.server_final.now short in omega (arith, size)) c.document_of.ensures.refused

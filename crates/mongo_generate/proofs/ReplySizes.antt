@@ -1,0 +1,107 @@
+-- The messages of a possible exchange fit into replies, so that only memory can be wanting where these are made.
+use Rattle.std.proofs.Common.{◌≡◌, ◌≢◌, ℕ, ℤ, pos, ◌+◌, ◌-◌, ◌^◌, ◌<◌, ◌≤◌, Option, None, Some, Result, Ok, Err, IfErr, List, [], ◌∷◌, ◌++◌, length, length-append, map, codes, decimal, refl, sym, ap, subst, arith}
+use Rattle.std.specs.List.{AllByRecursion, flat_map}
+use Rattle.std.proofs.lemmas.Fmt.{length-decimal-le}
+use Rattle.std.proofs.lemmas.Int.{ints}
+use Rattle.mongo_bson.specs.declared.fault.BsonFault.{BsonFault}
+use Rattle.mongo_bson.specs.declared.fault.BsonFault.TheVariants.{TooLong as DocumentTooLong, OutOfMemory as NoMemory}
+use Rattle.mongo_bson.specs.Document.{Element}
+use Rattle.mongo_wire.specs.declared.document_sequence.DocumentSequence.{DocumentSequence}
+use Rattle.mongo_wire.specs.declared.error.Error.{Error}
+use Rattle.mongo_wire.specs.declared.error.ErrorKind.{ErrorKind}
+use Rattle.mongo_wire.specs.declared.error.ErrorKind.TheVariants.{OutOfMemory, WriteFault, InvalidArgument}
+use Rattle.mongo_wire.specs.declared.fault.ArgumentFault.TheVariants.{IdentifierHasZero, SequenceTooLong, MaximumNegative, TooLong}
+use Rattle.mongo_wire.specs.declared.message.Message.{Message}
+use Rattle.mongo_wire.specs.Frame.{body, sequence, section_bytes}
+use Rattle.mongo_wire.specs.Message.{WriteRefused, checksum_bytes, frame_length}
+use Rattle.mongo_command.specs.Literal.{document_element, int32_element, document_of}
+use Rattle.mongo_sasl.specs.Commands.{IsTooLong}
+use Rattle.mongo_scram.specs.Base64.{base64_of}
+use Rattle.mongo_scram.specs.Messages.{verifier}
+use Rattle.mongo_scram.specs.Version.{digest_of}
+use Rattle.mongo_scram.specs.declared.scram_version.ScramVersion.{ScramVersion}
+use Rattle.mongo_mac.specs.Hmac.{hmac_of}
+use Rattle.mongo_server.specs.Exchange.{Exchange, joined_of, salted_of, auth_message_of, first_of, final_of}
+use Rattle.mongo_generate.specs.Login.{IsPossible}
+use Rattle.mongo_generate.specs.Replies.{ok_element, server_maximum, speculative_elements, hello_elements, final_elements, hello_reply, final_reply}
+use Rattle.mongo_generate.proofs.Documents.{spelled_length, length-document_of}
+use Rattle.mongo_generate.proofs.Texts.{length_base64, length_digest}
+
+-- ---- the server's messages
+
+pub short_first : (x : Exchange) → IsPossible x → length (first_of x) < 2 ^ 24
+short_first x possible =
+    let within = possible.within in
+    let short = possible.short in
+    let rest = codes ",s=" ++ (base64_of x.salt ++ (codes ",i=" ++ decimal x.count)) in
+    omega (
+      arith,
+      length-append (joined_of x) rest,
+      length-append x.nonce x.suffix,
+      length-append (base64_of x.salt) (codes ",i=" ++ decimal x.count),
+      length_base64 x.salt,
+      length-decimal-le 8 x.count (omega arith) (omega arith) (omega arith),
+    )
+
+length_verifier : (version : ScramVersion) (salted auth_message : List ℕ) → length (verifier (digest_of version) salted auth_message) ≤ 32
+unfolding verifier hmac_of
+length_verifier version salted auth_message = length_digest version _
+
+pub short_final : (x : Exchange) → length (final_of x) < 2 ^ 24
+short_final x =
+    let owed = verifier (digest_of x.version) (salted_of x) (auth_message_of x) in
+    omega (arith, length_base64 owed, length_verifier x.version (salted_of x) (auth_message_of x))
+
+-- ---- documents
+
+pub length_hello : (payload : List ℕ) → length payload < 2 ^ 24 → length (hello_reply payload) < 2 ^ 25
+unfolding hello_reply
+length_hello payload short = omega (arith, length-document_of (hello_elements payload), length-document_of (speculative_elements payload))
+
+pub length_final : (payload : List ℕ) → length payload < 2 ^ 24 → length (final_reply payload) < 2 ^ 25
+unfolding final_reply
+length_final payload short = omega (arith, length-document_of (final_elements payload))
+
+-- a document that is short enough is made
+pub document_fits : {T : Type 0} (r : Result T BsonFault) (document : List ℕ) → length document < 2 ^ 31 → IfErr r (λ fault. IsTooLong fault document) → IfErr r (λ fault. fault ≡ NoMemory)
+document_fits (Ok made) document short refused = tt
+document_fits (Err DocumentTooLong) document short refused = let long : 2 ^ 31 - 1 < length document = refused in absurd (omega (arith, long))
+document_fits (Err NoMemory) document short refused = refl
+document_fits (Err fault) document short refused = absurd refused
+
+-- the reply to a hello that answers its login so
+abbrev answering : List ℕ → List Element
+answering answer = ok_element ∷ int32_element (codes "maxBsonObjectSize") (pos 16777216) ∷ int32_element (codes "maxMessageSizeBytes") server_maximum ∷ document_element (codes "speculativeAuthenticate") answer ∷ []
+
+pub hello_fits : {T : Type 0} (r : Result T BsonFault) (payload answer : List ℕ) → length payload < 2 ^ 24 → answer ≡ document_of (speculative_elements payload) → IfErr r (λ fault. IsTooLong fault (document_of (answering answer))) → IfErr r (λ fault. fault ≡ NoMemory)
+hello_fits r payload answer short is refused =
+    document_fits r (document_of (answering answer)) (omega (arith, length-document_of (answering answer), ap length is, length-document_of (speculative_elements payload))) refused
+
+-- ---- frames
+
+-- a body alone
+length_message : (m : Message) → m.document_sequences ≡ [] → m.checksum ≡ None → frame_length m ≡ 21 + length m.document_payload
+length_message m alone bare =
+    let document = m.document_payload in
+    let is : frame_length m ≡ 20 + length (flat_map section_bytes (body document ∷ []) ++ []) = λ i. 20 + length (flat_map section_bytes (body document ∷ map sequence (alone i)) ++ checksum_bytes (bare i)) in
+    omega (arith, is, length-append document [], length-append (document ++ []) [])
+
+module _ (m : Message) (old new : Option (List ℕ)) (before after : ℤ) (alone : m.document_sequences ≡ []) (bare : m.checksum ≡ None) (short : length m.document_payload < 2 ^ 25) where
+  -- of each of none
+  none : (P : DocumentSequence → Type 0) → AllByRecursion P m.document_sequences
+  none P = subst (AllByRecursion P) (sym alone) tt
+
+  only_memory : (kind : ErrorKind) → WriteRefused kind (pos 48000000) m old new 0 0 before after → kind ≡ OutOfMemory
+  only_memory OutOfMemory refused = refl
+  only_memory WriteFault refused = let rose = refused.0 in absurd (omega (arith, rose))
+  only_memory (InvalidArgument IdentifierHasZero) refused = absurd (refused.0 (none _))
+  only_memory (InvalidArgument SequenceTooLong) refused = absurd (refused.0.1 (none _))
+  only_memory (InvalidArgument MaximumNegative) refused = let negative = refused.0.2 in absurd (omega (arith, ints, negative))
+  only_memory (InvalidArgument TooLong) refused = let long = refused.0.3 in absurd (omega (arith, ints, long, length_message m alone bare))
+  only_memory (InvalidArgument fault) refused = absurd refused.0
+  only_memory kind refused = absurd refused
+
+  -- a message that is short enough is written to a link that doesn't fail
+  pub frame_fits : {T : Type 0} (r : Result T Error) → IfErr r (λ e. WriteRefused e.kind (pos 48000000) m old new 0 0 before after) → IfErr r (λ e. e.kind ≡ OutOfMemory)
+  frame_fits (Ok written) refused = tt
+  frame_fits (Err e) refused = only_memory e.kind refused
