@@ -87,9 +87,9 @@ payload_broken document payload carries broken = broken_no_document document pay
 -- ---- reading
 
 -- a frame of a link that doesn't fail is taken again, or memory runs out
-pub only_memory : (fault : FrameFault) (most : ℤ) (old new : State) → new.read_faults ≡ 0 → IsUnreadable (kind_of_frame_fault fault) → ReadRefused (kind_of_frame_fault fault) most old new → fault ≡ frame_fault.OutOfMemory
-only_memory frame_fault.ReadFault most old new none again refused = let rose = refused.0 in absurd (omega arith)
-only_memory frame_fault.EndOfInput most old new none again refused = absurd again
-only_memory frame_fault.OutOfMemory most old new none again refused = refl
-only_memory (frame_fault.InvalidArgument fault) most old new none again refused = absurd again
-only_memory (frame_fault.InvalidResponse fault) most old new none again refused = absurd again
+pub only_memory : (fault : FrameFault) (most : ℤ) (old new : State) → IsUnreadable (kind_of_frame_fault fault) → ReadRefused (kind_of_frame_fault fault) most old new → new.read_faults ≡ 0 → fault ≡ frame_fault.OutOfMemory
+only_memory frame_fault.ReadFault most old new again refused none = let rose = refused.0 in absurd (omega (arith, rose, none))
+only_memory frame_fault.EndOfInput most old new again refused none = absurd again
+only_memory frame_fault.OutOfMemory most old new again refused none = refl
+only_memory (frame_fault.InvalidArgument fault) most old new again refused none = absurd again
+only_memory (frame_fault.InvalidResponse fault) most old new again refused none = absurd again

@@ -1,5 +1,5 @@
 -- The messages of a possible exchange fit into replies, so that only memory can be wanting where these are made.
-use Rattle.std.proofs.Common.{◌≡◌, ◌≢◌, ℕ, ℤ, pos, ◌+◌, ◌-◌, ◌^◌, ◌<◌, ◌≤◌, Option, None, Some, Result, Ok, Err, IfErr, List, [], ◌∷◌, ◌++◌, length, length-append, map, codes, decimal, refl, sym, ap, subst, arith}
+use Rattle.std.proofs.Common.{◌≡◌, ◌≢◌, ℕ, ℤ, pos, ◌+◌, ◌-◌, ◌^◌, ◌<◌, ◌≤◌, None, Some, Result, Ok, Err, IfErr, List, [], ◌∷◌, ◌++◌, length, length-append, map, codes, decimal, refl, sym, ap, subst, arith}
 use Rattle.std.specs.List.{AllByRecursion, flat_map}
 use Rattle.std.proofs.lemmas.Fmt.{length-decimal-le}
 use Rattle.std.proofs.lemmas.Int.{ints}
@@ -13,7 +13,9 @@ use Rattle.mongo_wire.specs.declared.error.ErrorKind.TheVariants.{OutOfMemory, W
 use Rattle.mongo_wire.specs.declared.fault.ArgumentFault.TheVariants.{IdentifierHasZero, SequenceTooLong, MaximumNegative, TooLong}
 use Rattle.mongo_wire.specs.declared.message.Message.{Message}
 use Rattle.mongo_wire.specs.Frame.{body, sequence, section_bytes}
+use Rattle.mongo_wire.specs.Outside.{State}
 use Rattle.mongo_wire.specs.Message.{WriteRefused, checksum_bytes, frame_length}
+use Rattle.mongo_command.specs.Keys.{speculative_authenticate_key}
 use Rattle.mongo_command.specs.Literal.{document_element, int32_element, document_of}
 use Rattle.mongo_sasl.specs.Commands.{IsTooLong}
 use Rattle.mongo_scram.specs.Base64.{base64_of}
@@ -71,7 +73,7 @@ document_fits (Err fault) document short refused = absurd refused
 
 -- the reply to a hello that answers its login so
 abbrev answering : List ℕ → List Element
-answering answer = ok_element ∷ int32_element (codes "maxBsonObjectSize") (pos 16777216) ∷ int32_element (codes "maxMessageSizeBytes") server_maximum ∷ document_element (codes "speculativeAuthenticate") answer ∷ []
+answering answer = ok_element ∷ int32_element (codes "maxBsonObjectSize") (pos 16777216) ∷ int32_element (codes "maxMessageSizeBytes") server_maximum ∷ document_element speculative_authenticate_key answer ∷ []
 
 pub hello_fits : {T : Type 0} (r : Result T BsonFault) (payload answer : List ℕ) → length payload < 2 ^ 24 → answer ≡ document_of (speculative_elements payload) → IfErr r (λ fault. IsTooLong fault (document_of (answering answer))) → IfErr r (λ fault. fault ≡ NoMemory)
 hello_fits r payload answer short is refused =
@@ -86,22 +88,22 @@ length_message m alone bare =
     let is : frame_length m ≡ 20 + length (flat_map section_bytes (body document ∷ []) ++ []) = λ i. 20 + length (flat_map section_bytes (body document ∷ map sequence (alone i)) ++ checksum_bytes (bare i)) in
     omega (arith, is, length-append document [], length-append (document ++ []) [])
 
-module _ (m : Message) (old new : Option (List ℕ)) (before after : ℤ) (alone : m.document_sequences ≡ []) (bare : m.checksum ≡ None) (short : length m.document_payload < 2 ^ 25) where
+module _ (m : Message) (old new : State) (before after : ℤ) (alone : m.document_sequences ≡ []) (bare : m.checksum ≡ None) (short : length m.document_payload < 2 ^ 25) where
   -- of each of none
   none : (P : DocumentSequence → Type 0) → AllByRecursion P m.document_sequences
   none P = subst (AllByRecursion P) (sym alone) tt
 
-  only_memory : (kind : ErrorKind) → WriteRefused kind (pos 48000000) m old new 0 0 before after → kind ≡ OutOfMemory
-  only_memory OutOfMemory refused = refl
-  only_memory WriteFault refused = let rose = refused.0 in absurd (omega (arith, rose))
-  only_memory (InvalidArgument IdentifierHasZero) refused = absurd (refused.0 (none _))
-  only_memory (InvalidArgument SequenceTooLong) refused = absurd (refused.0.1 (none _))
-  only_memory (InvalidArgument MaximumNegative) refused = let negative = refused.0.2 in absurd (omega (arith, ints, negative))
-  only_memory (InvalidArgument TooLong) refused = let long = refused.0.3 in absurd (omega (arith, ints, long, length_message m alone bare))
-  only_memory (InvalidArgument fault) refused = absurd refused.0
-  only_memory kind refused = absurd refused
+  only_memory : (kind : ErrorKind) → WriteRefused kind (pos 48000000) m old new before after → new.write_faults ≡ 0 → kind ≡ OutOfMemory
+  only_memory OutOfMemory refused calm = refl
+  only_memory WriteFault refused calm = let rose = refused.0 in absurd (omega (arith, rose, calm))
+  only_memory (InvalidArgument IdentifierHasZero) refused calm = absurd (refused.0 (none _))
+  only_memory (InvalidArgument SequenceTooLong) refused calm = absurd (refused.0.1 (none _))
+  only_memory (InvalidArgument MaximumNegative) refused calm = let negative = refused.0.2 in absurd (omega (arith, ints, negative))
+  only_memory (InvalidArgument TooLong) refused calm = let long = refused.0.3 in absurd (omega (arith, ints, long, length_message m alone bare))
+  only_memory (InvalidArgument fault) refused calm = absurd refused.0
+  only_memory kind refused calm = absurd refused
 
   -- a message that is short enough is written to a link that doesn't fail
-  pub frame_fits : {T : Type 0} (r : Result T Error) → IfErr r (λ e. WriteRefused e.kind (pos 48000000) m old new 0 0 before after) → IfErr r (λ e. e.kind ≡ OutOfMemory)
-  frame_fits (Ok written) refused = tt
-  frame_fits (Err e) refused = only_memory e.kind refused
+  pub frame_fits : {T : Type 0} (r : Result T Error) → IfErr r (λ e. WriteRefused e.kind (pos 48000000) m old new before after) → new.write_faults ≡ 0 → IfErr r (λ e. e.kind ≡ OutOfMemory)
+  frame_fits (Ok written) refused calm = tt
+  frame_fits (Err e) refused calm = only_memory e.kind refused calm

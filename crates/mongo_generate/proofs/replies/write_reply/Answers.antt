@@ -6,4 +6,4 @@ use Rattle.mongo_generate.proofs.replies.write_reply.Goals as goal
 pub returns-clause-short : goal.returns-clause-short
 returns-clause-short c = λ short.
     let message : Message = record { document_payload = c.args.document_payload; document_sequences = c.new.result; response_to = pos 0; flags = c.empty.result; checksum = None; request_id = Some (pos 1) } in
-    frame_fits message _ _ _ _ c.new.ensures refl short c.write_op_msg_to.result c.write_op_msg_to.ensures.refused
+    frame_fits message _ _ _ _ c.new.ensures refl short c.write_op_msg_to.result c.write_op_msg_to.ensures.refused refl

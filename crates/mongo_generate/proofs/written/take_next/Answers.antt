@@ -15,5 +15,5 @@ returns-in-Ok c = record {
 pub returns-in-Err : goal.returns-in-Err
 returns-in-Err c = record {
   next = λ frame rest parts is frame_is within.
-      only_memory c.in-Err.fault _ _ _ refl (c.in-Err.ensures.again frame rest parts (ap Some is) frame_is within) c.in-Err.ensures.refused;
+      only_memory c.in-Err.fault _ _ _ (c.in-Err.ensures.again frame rest parts (ap Some is) frame_is within) c.in-Err.ensures.refused refl;
 }
