@@ -115,14 +115,23 @@ fn credential(alloc: Global) -> Result<Credential, Error>
 
 // What makes the connections: it holds the hello that they have in common.
 fn establisher(alloc: Global) -> Result<ConnectionEstablisher, Error> {
+    let spec = spec(alloc)?;
+    establisher_of(alloc, &spec)
+}
+
+fn establisher_of(alloc: Global, spec: &TopologySpec) -> Result<ConnectionEstablisher, Error> {
+    ConnectionEstablisher::new(alloc, EstablisherOptions::from_spec(alloc, spec)?)
+}
+
+// What the client is made of.
+fn spec(alloc: Global) -> Result<TopologySpec, Error> {
     let options = options(alloc)?;
     let metadata = ClientMetadata::from_options(alloc, &options)?;
-    let spec = TopologySpec {
+    Ok(TopologySpec {
         options,
         metadata,
         max_iterations: 10_000_000,
-    };
-    ConnectionEstablisher::new(alloc, EstablisherOptions::from_spec(alloc, &spec)?)
+    })
 }
 
 // What the client says of itself.

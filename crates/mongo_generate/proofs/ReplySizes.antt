@@ -1,5 +1,5 @@
 -- The messages of a possible exchange fit into replies, so that only memory can be wanting where these are made.
-use Rattle.std.proofs.Common.{◌≡◌, ◌≢◌, ℕ, ℤ, pos, ◌+◌, ◌-◌, ◌^◌, ◌<◌, ◌≤◌, None, Some, Result, Ok, Err, IfErr, List, [], ◌∷◌, ◌++◌, length, length-append, map, codes, decimal, refl, sym, ap, subst, arith}
+use Rattle.std.proofs.Common.{◌≡◌, ℕ, ℤ, pos, ◌+◌, ◌-◌, ◌^◌, ◌<◌, ◌≤◌, None, Some, Result, Ok, Err, IfErr, List, [], ◌∷◌, ◌++◌, length, length-append, map, codes, decimal, refl, sym, ap, subst, arith}
 use Rattle.std.specs.List.{AllByRecursion, flat_map}
 use Rattle.std.proofs.lemmas.Fmt.{length-decimal-le}
 use Rattle.std.proofs.lemmas.Int.{ints}
@@ -26,7 +26,7 @@ use Rattle.mongo_mac.specs.Hmac.{hmac_of}
 use Rattle.mongo_server.specs.Exchange.{Exchange, joined_of, salted_of, auth_message_of, first_of, final_of}
 use Rattle.mongo_generate.specs.Login.{IsPossible}
 use Rattle.mongo_generate.specs.Replies.{ok_element, server_maximum, speculative_elements, hello_elements, final_elements, hello_reply, final_reply}
-use Rattle.mongo_generate.proofs.Documents.{spelled_length, length-document_of}
+use Rattle.mongo_generate.proofs.Documents.{length-document_of}
 use Rattle.mongo_generate.proofs.Texts.{length_base64, length_digest}
 
 -- ---- the server's messages

@@ -1,6 +1,7 @@
 ghost use Rattle.std.specs.Prelude.{◌≡◌, IfOk, IfErr};
 ghost use Rattle.mongo_wire.specs.declared.error.ErrorKind.TheVariants.{OutOfMemory};
 ghost use Rattle.mongo_establish.specs.Establisher.{options_of_establisher};
+ghost use Rattle.mongo_establish.specs.Options.{options_of};
 ghost use Rattle.mongo_generate.specs.Options.{client_options, handshaker_options};
 
 use crate::memory::want_of_memory;
@@ -31,19 +32,33 @@ impl Client {
     }
 }
 
-#[tactic(auto, unfolding(crate::specs::Options::handshaker_options))]
 fn establisher(alloc: Global) -> Result<ConnectionEstablisher, Error>
     ensures options { IfOk result (λ establisher. options_of_establisher establisher ≡ handshaker_options) }
     ensures refused { IfErr result (λ e. e.kind ≡ OutOfMemory) }
 {
+    let spec = client_spec(alloc)?;
+    establisher_of(alloc, &spec)
+}
+
+fn establisher_of(alloc: Global, spec: &TopologySpec) -> Result<ConnectionEstablisher, Error>
+    ensures options { IfOk result (λ establisher. options_of_establisher establisher ≡ options_of spec.now) }
+    ensures refused { IfErr result (λ e. e.kind ≡ OutOfMemory) }
+{
+    ConnectionEstablisher::new(alloc, EstablisherOptions::from_spec(alloc, spec)?)
+}
+
+#[tactic(auto, unfolding(crate::specs::Options::handshaker_options))]
+fn client_spec(alloc: Global) -> Result<TopologySpec, Error>
+    ensures options { IfOk result (λ spec. options_of spec ≡ handshaker_options) }
+    ensures refused { IfErr result (λ e. e.kind ≡ OutOfMemory) }
+{
     let options = client_options(alloc)?;
     let metadata = ClientMetadata::from_options(alloc, &options)?;
-    let spec = TopologySpec {
+    Ok(TopologySpec {
         options,
         metadata,
         max_iterations: MOST_ITERATIONS,
-    };
-    ConnectionEstablisher::new(alloc, EstablisherOptions::from_spec(alloc, &spec)?)
+    })
 }
 
 // What the client says of itself.

@@ -1,7 +1,8 @@
-use Rattle.std.proofs.Common.{◌≡◌, ◌∙◌, subst}
+use Rattle.std.proofs.Common.{◌≡◌, ◌∙◌, ◌^◌, ◌<◌, length, sym, subst}
 use Rattle.mongo_server.specs.Acceptance.{Accepts}
 use Rattle.mongo_server.specs.Exchange.{first_of, final_of, IsReadAs}
 use Rattle.mongo_generate.specs.Replies.{AreReplies}
+use Rattle.mongo_generate.proofs.ReplySizes.{short_first, short_final}
 use Rattle.mongo_generate.proofs.log_in.heard.Goals as goal
 
 pub returns-in-Ok-replies_of-clause-heard : goal.returns-in-Ok-replies_of-clause-heard
@@ -16,3 +17,12 @@ returns-in-Ok-replies_of-clause-heard c = λ x logs serves.
       reads = subst (λ t. IsReadAs t x) one.0.text_is one.0;
       accepts = subst (Accepts x) two.0 two.1;
     }
+
+-- its messages fit
+pub returns-clause-heard : goal.returns-clause-heard
+returns-clause-heard c = λ x logs serves.
+    let one = c.in-Ok.ensures.accepts x serves logs.possible.printable (c.as_bytes.ensures ∙ logs.first_is) in
+    let two = c.in-Ok-expected_final.ensures.accepts x one.1 in
+    let first : c.as_bytes-2.result.now ≡ first_of x = c.as_bytes-2.ensures ∙ one.0.text_is in
+    let last : c.as_bytes-3.result.now ≡ final_of x = c.as_bytes-3.ensures ∙ two.0 in
+    c.in_default.not-OutOfMemory (c.in-Err-replies_of.ensures.short (subst (λ t. length t < 2 ^ 24) (sym first) (short_first x logs.possible)) (subst (λ t. length t < 2 ^ 24) (sym last) (short_final x)))

@@ -1,8 +1,9 @@
-use Rattle.std.proofs.Common.{◌≡◌, ◌∙◌, ℕ, List, subst, sym}
+use Rattle.std.proofs.Common.{◌≡◌, ◌∙◌, ℕ, List, subst, sym, rules}
 use Rattle.mongo_scram.specs.declared.scram_version.ScramVersion.{ScramVersion}
 use Rattle.mongo_server.specs.declared.user.ServerUser.{ServerUser}
 use Rattle.mongo_server.specs.User.{IsUserOf}
 use Rattle.mongo_generate.specs.Generated.{exchange_at}
+use Rattle.mongo_generate.proofs.Numbered.{only_memory}
 use Rattle.mongo_generate.proofs.numbering.server_of.Goals as goal
 
 renamed : (version other : ScramVersion) (username name password secret salt grains : List ℕ) (count : ℕ) (user : ServerUser) → version ≡ other → username ≡ name → password ≡ secret → salt ≡ grains → IsUserOf version username password salt count user → IsUserOf other name secret grains count user
@@ -17,3 +18,8 @@ returns-clause-serves g c =
           (renamed _ x.version _ x.username _ x.password _ x.salt 4096 c.in_ok-user.user c.version_at.ensures (c.as_str.ensures ∙ c.in_ok-username.ensures.text) (c.as_str-2.ensures ∙ c.in_ok-password.ensures.text) c.in_ok-from_slice.ensures.copied c.in_ok-user.ensures.user);
       suffix = c.new-2.ensures.suffix ∙ c.in_ok-from_slice-2.ensures.copied;
     }
+
+pub returns-in_err-user-clause-refused : goal.returns-in_err-user-clause-refused
+returns-in_err-user-clause-refused g c =
+    let memory = only_memory c.args.number _ _ _ c.version_at.ensures (c.as_str-2.ensures ∙ c.in_ok-password.ensures.text) c.in_err-user.ensures.refused in
+    search rules

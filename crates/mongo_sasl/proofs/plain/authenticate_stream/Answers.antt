@@ -1,4 +1,4 @@
-use Rattle.std.proofs.Common.{◌≡◌, ◌⊎◌, option_copied, inl, inr}
+use Rattle.std.proofs.Common.{◌≡◌, ◌⊎◌, Ok, Err, option_copied, inl, inr}
 use Rattle.mongo_wire.specs.declared.error.ErrorKind.TheVariants.{OutOfMemory}
 use Rattle.mongo_command.specs.Exchange.{frame_maximum}
 use Rattle.mongo_sasl.specs.Plain.{FinishedRow, plain_handed, plain_body, plain_heard, plain_plan, IsPlainLogin, user_of}
@@ -127,3 +127,10 @@ pub returns-clause-keeps : goal.returns-clause-keeps
 returns-clause-keeps g c faultless =
     let reply = c.held_reply.result.bytes.now in
     row_keeps c.finish.result (λ kind. FinishedRow reply kind ⊎ (kind ≡ OutOfMemory)) _ (finished_own reply) c.finish.ensures.refused c.in_ok-exchange_into.ensures.faultless
+
+answered : {T E : Type 0} (x : T) (e : E) → Ok x ≡ Err e → ⊥
+answered x e p = cc
+
+-- a connection that keeps a fault exchanges nothing
+pub returns-clause-kept : goal.returns-clause-kept
+returns-clause-kept g c = λ kind is. absurd (answered _ _ (c.in_ok-exchange_into.ensures.kept kind is).0)
