@@ -1,5 +1,5 @@
 -- A login that was followed to its end is a login by the script, and the other way round.
-use Rattle.std.proofs.Common.{◌≡◌, ℕ, ◌∙◌, refl, ap, subst, sym, inr, Option, None, Some, List, []}
+use Rattle.std.proofs.Common.{◌≡◌, ℕ, refl, ap, subst, sym, inr, Option, None, Some, List, []}
 use Rattle.mongo_wire.specs.declared.error.ErrorKind.{ErrorKind}
 use Rattle.mongo_command.specs.Conversation.{Event, Plan, HasNone, unless, reading}
 use Rattle.mongo_command.proofs.Talked.{follows_more}
