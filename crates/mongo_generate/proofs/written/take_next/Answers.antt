@@ -1,4 +1,4 @@
-use Rattle.std.proofs.Common.{◌≡◌, Some, ap, List, ℕ}
+use Rattle.std.proofs.Common.{◌≡◌, Some, ap, List, ℕ, refl}
 use Rattle.mongo_generate.proofs.Payloads.{only_memory}
 use Rattle.mongo_generate.proofs.written.take_next.Goals as goal
 
