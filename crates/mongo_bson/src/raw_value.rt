@@ -1,4 +1,8 @@
-use crate::{ObjectId, RawDocument};
+use crate::RawDocument;
+
+/// An object id of BSON 1.1: its 12 bytes in the order of the wire.
+#[derive(Clone, Copy, Debug, PartialEq, Eq)]
+pub struct ObjectId(pub [u8; 12]);
 
 /// A value of a document, borrowed from its bytes.
 #[derive(Debug, Clone, Copy, PartialEq, Drop)]

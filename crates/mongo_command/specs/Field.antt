@@ -4,7 +4,7 @@ use Rattle.std.specs.Prelude.{◌≡◌, ◌≢◌, ℕ, ℤ, pos, ◌==◌, Boo
 use Rattle.std.specs.List.{AllByRecursion}
 use Rattle.std.specs.Int.{from_le_bytes, from_bool, cast_signed, w32, w64}
 use Rattle.mongo_bson.specs.Document.{Element, IsDocument, text_of}
-use Rattle.mongo_bson.specs.declared.object_id.ObjectId.{ObjectId}
+use Rattle.mongo_bson.specs.declared.raw_value.ObjectId.{ObjectId}
 
 -- the first element of a key
 abbrev pub field_of : List ℕ → List Element → Option Element

@@ -7,7 +7,7 @@ use Rattle.std.specs.Cmp.Lexicographic.{slice_cmp}
 use Rattle.std.specs.BTreeMap.{is_at}
 use Rattle.std.specs.Map.{lookup}
 use Rattle.std.proofs.lemmas.Map.Lookups.{exact_bytes}
-use Rattle.mongo_bson.specs.declared.object_id.ObjectId.{ObjectId}
+use Rattle.mongo_bson.specs.declared.raw_value.ObjectId.{ObjectId}
 use Rattle.mongo_establish.specs.Generation.{Numbers, number_of, with_number, SetsNumber}
 
 unequal : (r : Ordering) → (r ≡ Equal → ⊥) → is_eq r ≡ false

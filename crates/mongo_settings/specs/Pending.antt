@@ -4,7 +4,7 @@ use Rattle.std.specs.Result.{result_ok}
 use Rattle.hex.specs.Hex.{decode_sized}
 use Rattle.serde_json.specs.Data.{Data, Members, no_members, member}
 use Rattle.serde_json.specs.Find.{as_str, as_bool, as_object}
-use Rattle.mongo_bson.specs.declared.object_id.ObjectId.{ObjectId}
+use Rattle.mongo_bson.specs.declared.raw_value.ObjectId.{ObjectId}
 use Rattle.mongo_command.specs.declared.server_address.ServerAddress.{ServerAddress}
 use Rattle.mongo_command.specs.declared.server_address.ServerAddress.TheVariants.{Tcp, Unix}
 use Rattle.mongo_establish.specs.declared.establisher.PendingConnection.{PendingConnection}

@@ -3,7 +3,7 @@ use Rattle.std.specs.Prelude.{◌≡◌, ℕ, ℤ, ◌≤◌, ◌||◌, nat_lt, 
 use Rattle.std.specs.Int.{from_le_bytes, w32}
 use Rattle.std.specs.Fmt.{signed_decimal}
 use Rattle.hex.specs.Hex.{encode_lower}
-use Rattle.mongo_bson.specs.declared.object_id.ObjectId.{ObjectId}
+use Rattle.mongo_bson.specs.declared.raw_value.ObjectId.{ObjectId}
 use Rattle.mongo_wire.specs.declared.error.ErrorKind.{ErrorKind}
 use Rattle.mongo_command.specs.declared.server_type.ServerType.{ServerType}
 use Rattle.mongo_command.specs.declared.stream_description.StreamDescription.{StreamDescription}

@@ -61,6 +61,7 @@ pub use op_code::OpCode;
 pub use outside::{Failed, Link, Outside, Sink, SinkError, Source};
 pub use raw_sections::write_sections;
 pub use read_document::read_document_bytes;
+pub use reading::{fill_or_end, take_into};
 pub use request_ids::RequestIds;
 pub use standard::{StdLink, StdSink, StdSource};
 pub use sync_read::SyncLittleEndianRead;
