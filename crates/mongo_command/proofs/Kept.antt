@@ -31,24 +31,24 @@ over_kept : (over : Bool) (length : ℤ) (code : OpCode) (kind : ErrorKind) → 
 over_kept true length code kind row = some_kept (InvalidResponse OverMaximum) kind refl row
 over_kept false length code kind row = code_kept length code kind row
 
-length_kept : (most length : ℤ) (code : Option OpCode) (number : ℤ) (kind : ErrorKind) → length_row most length code number ≡ Some kind → is_kept kind ≡ true
-length_kept most length None number kind row = some_kept (InvalidResponse (OpCodeFault number)) kind refl row
-length_kept most length (Some code) number kind row = over_kept (int_lt most length) length code kind row
+length_kept : (maximum length : ℤ) (code : Option OpCode) (number : ℤ) (kind : ErrorKind) → length_row maximum length code number ≡ Some kind → is_kept kind ≡ true
+length_kept maximum length None number kind row = some_kept (InvalidResponse (OpCodeFault number)) kind refl row
+length_kept maximum length (Some code) number kind row = over_kept (int_lt maximum length) length code kind row
 
 -- the rows of a frame
-row_kept : (most : ℤ) (taken : List ℕ) (kind : ErrorKind) → IsRow most taken kind → is_kept kind ≡ true
-row_kept most taken kind (inl short) = ap is_kept short.kind_is
-row_kept most taken kind (inr (inl header)) = length_kept most (signed_at 0 taken) (op_code_of (signed_at 12 taken)) (signed_at 12 taken) kind header.row
-row_kept most taken kind (inr (inr (inl short))) = ap is_kept short.kind_is
-row_kept most taken kind (inr (inr (inr none))) = ap is_kept none.kind_is
+row_kept : (maximum : ℤ) (taken : List ℕ) (kind : ErrorKind) → IsRow maximum taken kind → is_kept kind ≡ true
+row_kept maximum taken kind (inl short) = ap is_kept short.kind_is
+row_kept maximum taken kind (inr (inl header)) = length_kept maximum (signed_at 0 taken) (op_code_of (signed_at 12 taken)) (signed_at 12 taken) kind header.row
+row_kept maximum taken kind (inr (inr (inl short))) = ap is_kept short.kind_is
+row_kept maximum taken kind (inr (inr (inr none))) = ap is_kept none.kind_is
 
-read_kept : (kind : ErrorKind) (most : ℤ) (old new : State) → ReadRefused kind most old new → is_kept kind ≡ true
-read_kept ReadFault most old new refused = refl
-read_kept OutOfMemory most old new refused = refl
-read_kept EndOfInput most old new refused = refl
-read_kept (InvalidResponse fault) most old new refused = row_kept most refused.0 (InvalidResponse fault) refused.2
-read_kept (InvalidArgument fault) most old new refused = row_kept most refused.0 (InvalidArgument fault) refused.2
-read_kept kind most old new refused = absurd refused
+read_kept : (kind : ErrorKind) (maximum : ℤ) (old new : State) → ReadRefused kind maximum old new → is_kept kind ≡ true
+read_kept ReadFault maximum old new refused = refl
+read_kept OutOfMemory maximum old new refused = refl
+read_kept EndOfInput maximum old new refused = refl
+read_kept (InvalidResponse fault) maximum old new refused = row_kept maximum refused.0 (InvalidResponse fault) refused.2
+read_kept (InvalidArgument fault) maximum old new refused = row_kept maximum refused.0 (InvalidArgument fault) refused.2
+read_kept kind maximum old new refused = absurd refused
 
 pub received_kept : (kind : ErrorKind) (maximum : ℤ) (old new : State) → ReceiveRefused kind maximum old new → is_kept kind ≡ true
 received_kept kind maximum old new refused = read_kept kind maximum old new refused.refused

@@ -9,6 +9,7 @@ pub mod Phases
 pub mod CommandDocument
 pub mod Elements
 pub mod FieldAnswers
+pub mod FirstOfKey
 pub mod Entries
 pub mod Texts
 pub mod InnerDocuments

@@ -10,39 +10,19 @@ use Rattle.mongo_bson.specs.Framed.{body_of}
 use Rattle.mongo_bson.specs.Value.{IsValue, has_variant}
 use Rattle.mongo_bson.specs.declared.raw_value.RawValue.{RawValue}
 use Rattle.mongo_bson.specs.declared.raw_value.RawValue.TheVariants.{Double, Str, Document, Array, Binary, ObjectId, Bool as Boolean, DateTime, Null, Int32, Int64, Other}
-use Rattle.mongo_bson.proofs.Found.{first_in_document, none_in_document, broken_no_document}
+use Rattle.mongo_bson.proofs.Found.{broken_no_document}
 use Rattle.mongo_wire.specs.declared.fault.FrameFault.{FrameFault}
 use Rattle.mongo_wire.specs.declared.fault.FrameFault.TheVariants as frame_fault
 use Rattle.mongo_wire.specs.Error.{kind_of_frame_fault}
 use Rattle.mongo_wire.specs.Message.{ReadRefused, IsUnreadable}
 use Rattle.mongo_wire.specs.Outside.{State}
 use Rattle.mongo_command.specs.Field.{field_of, Required}
+use Rattle.mongo_command.proofs.FirstOfKey.{field_first, field_none}
 use Rattle.mongo_sasl.specs.Reply.{ReadsGeneric}
 use Rattle.mongo_sasl.specs.Keys.{payload_key}
 use Rattle.mongo_generate.specs.Written.{IsBinaryOf, CarriesPayload}
 
 -- ---- the field
-
-first_field : (key : List ℕ) (before after : List Element) (e : Element) → AllByRecursion (λ x. x.key ≢ key) before → e.key ≡ key → field_of key (before ++ e ∷ after) ≡ Some e
-first_field key [] after e other same = ap (λ b. if b then Some e else field_of key after) ((bytes_eq-Decides e.key key).1 same)
-first_field key (x ∷ xs) after e other same =
-    ap (λ b. if b then Some x else field_of key (xs ++ e ∷ after)) (differs x.key key other.0) ∙ first_field key xs after e other.1 same
-  where
-    differs : (a b : List ℕ) → a ≢ b → bytes_eq a b ≡ false
-    differs a b other = is_false (bytes_eq a b) (λ is. other ((bytes_eq-Decides a b).0 is)) where
-      is_false : (t : Bool) → (t ≡ true → ⊥) → t ≡ false
-      is_false true h = absurd (h refl)
-      is_false false h = refl
-
-no_field : (key : List ℕ) (es : List Element) → AllByRecursion (λ x. x.key ≢ key) es → field_of key es ≡ None
-no_field key [] other = refl
-no_field key (x ∷ xs) other = ap (λ b. if b then Some x else field_of key xs) (differs x.key key other.0) ∙ no_field key xs other.1
-  where
-    differs : (a b : List ℕ) → a ≢ b → bytes_eq a b ≡ false
-    differs a b other = is_false (bytes_eq a b) (λ is. other ((bytes_eq-Decides a b).0 is)) where
-      is_false : (t : Bool) → (t ≡ true → ⊥) → t ≡ false
-      is_false true h = absurd (h refl)
-      is_false false h = refl
 
 five : (kind : ℕ) → kind ≡ 5 → has_variant kind ≡ true
 five kind is = ap has_variant is
@@ -73,13 +53,12 @@ absent found payload is reads = subst (λ f. Required ReadsGeneric f payload) is
 pub payload_found : (document payload : List ℕ) (value : RawValue) → CarriesPayload payload document → FindsValue (body_of document) payload_key (Some value) → IsBinaryOf payload value
 payload_found document payload value carries found =
     let e = found.0 in
-    let first = first_in_document document payload_key e carries.elements carries.is_document found.1 in
-    let is = ap (field_of payload_key) first.place ∙ first_field payload_key first.before first.after e first.other found.1.key_is in
+    let is = field_first document payload_key carries.elements e carries.is_document found.1 in
     content_read e value payload (required (field_of payload_key carries.elements) e payload is carries.payload_is) found.2
 
 pub payload_absent : (document payload : List ℕ) → CarriesPayload payload document → LacksKey (body_of document) payload_key → ⊥
 payload_absent document payload carries none =
-    absent (field_of payload_key carries.elements) payload (no_field payload_key carries.elements (none_in_document document payload_key carries.elements carries.is_document none)) carries.payload_is
+    absent (field_of payload_key carries.elements) payload (field_none document payload_key carries.elements carries.is_document none) carries.payload_is
 
 pub payload_broken : (document payload : List ℕ) → CarriesPayload payload document → BreaksOff (body_of document) payload_key → ⊥
 payload_broken document payload carries broken = broken_no_document document payload_key carries.elements carries.is_document broken
@@ -87,9 +66,9 @@ payload_broken document payload carries broken = broken_no_document document pay
 -- ---- reading
 
 -- a frame of a link that doesn't fail is taken again, or memory runs out
-pub only_memory : (fault : FrameFault) (most : ℤ) (old new : State) → IsUnreadable (kind_of_frame_fault fault) → ReadRefused (kind_of_frame_fault fault) most old new → new.read_faults ≡ 0 → fault ≡ frame_fault.OutOfMemory
-only_memory frame_fault.ReadFault most old new again refused none = let rose = refused.0 in absurd (omega (arith, rose, none))
-only_memory frame_fault.EndOfInput most old new again refused none = absurd again
-only_memory frame_fault.OutOfMemory most old new again refused none = refl
-only_memory (frame_fault.InvalidArgument fault) most old new again refused none = absurd again
-only_memory (frame_fault.InvalidResponse fault) most old new again refused none = absurd again
+pub only_memory : (fault : FrameFault) (maximum : ℤ) (old new : State) → IsUnreadable (kind_of_frame_fault fault) → ReadRefused (kind_of_frame_fault fault) maximum old new → new.read_faults ≡ 0 → fault ≡ frame_fault.OutOfMemory
+only_memory frame_fault.ReadFault maximum old new again refused none = let rose = refused.0 in absurd (omega (arith, rose, none))
+only_memory frame_fault.EndOfInput maximum old new again refused none = absurd again
+only_memory frame_fault.OutOfMemory maximum old new again refused none = refl
+only_memory (frame_fault.InvalidArgument fault) maximum old new again refused none = absurd again
+only_memory (frame_fault.InvalidResponse fault) maximum old new again refused none = absurd again

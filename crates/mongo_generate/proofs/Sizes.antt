@@ -165,8 +165,8 @@ frame_of id document fits framed short =
     let none : FitsSigned w32 (pos 0) = omega arith in
     written_is_frame id (plain_message document) fits none (omega (arith, length-append document [], length-append (document ++ []) [])) (framed, tt) tt tt
 
-pub frame_within : (id : ℤ) (document : List ℕ) (most : ℕ) → 21 + length document ≤ most → pos (length (written_frame id (plain_message document))) ≤ℤ pos most
-frame_within id document most small = omega (arith, ints, length_frame id document)
+pub frame_within : (id : ℤ) (document : List ℕ) (maximum : ℕ) → 21 + length document ≤ maximum → pos (length (written_frame id (plain_message document))) ≤ℤ pos maximum
+frame_within id document maximum small = omega (arith, ints, length_frame id document)
 
 -- a frame's document is no longer than the frame
 in_sections : (sections : List Section) (document : List ℕ) → bodies sections ≡ document ∷ [] → length document ≤ length (flat_map section_bytes sections)

@@ -8,7 +8,7 @@ use Rattle.mongo_sasl.specs.declared.credential.Credential.{Credential}
 use Rattle.mongo_sasl.specs.declared.rules.Rule.{Rule}
 use Rattle.mongo_sasl.specs.Rules.{first_broken}
 use Rattle.mongo_sasl.specs.Validation.{ByProperties, oidc_table}
-use Rattle.mongo_sasl.proofs.FirstOfKey.{elements_of}
+use Rattle.mongo_command.proofs.FirstOfKey.{elements_of}
 
 pub judged : (properties : List ℕ) (rules : List Element → List Rule) (result : Result (Unit {0}) ArgumentFault) → IsReadable maximum_depth properties → ((elements : List Element) → IsDocument properties elements → result ≡ first_broken (rules elements)) → ByProperties properties rules result
 judged properties rules result readable says =

@@ -9,7 +9,6 @@ pub mod PlainPlan
 pub mod PlainSteps
 pub mod X509Plan
 pub mod X509Steps
-mod FirstOfKey
 mod Foreign
 mod SaslRead
 mod MechanismNames

@@ -18,7 +18,7 @@ use Rattle.mongo_command.specs.Keys.{ok_key}
 use Rattle.mongo_sasl.specs.declared.sasl_response.SaslResponse.{SaslResponse}
 use Rattle.mongo_sasl.specs.Reply.{Succeeded, SaysFailure, ReadsValue, IsSaslTable, IsSaslReply, IsSaslFailure, SaslRefused, IsUnsuccessful}
 use Rattle.mongo_sasl.specs.View.{value_of, read_as, kind_of_field_fault}
-use Rattle.mongo_sasl.proofs.FirstOfKey.{bytes_found, bytes_none}
+use Rattle.mongo_command.proofs.FirstOfKey.{bytes_found, bytes_none}
 use Rattle.mongo_sasl.proofs.OneReply.{same_elements, not_both}
 
 -- ---- the whole reply

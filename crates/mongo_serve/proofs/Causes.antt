@@ -86,21 +86,21 @@ pub record Refused (fault : ServeFault) (old mid new : State) : Type 0 where
   pub consumed : Consumes mid.left new.left taken
   pub cause : HasCause fault old new [] taken
 
-started : (most : ℤ) (taken : List ℕ) → IsUnfinished most taken → IsStarted most taken
-started most taken (inl short) = inl (omega (arith, short))
-started most taken (inr (passes, short)) = inr (passes, omega (arith, ints, short))
+started : (maximum : ℤ) (taken : List ℕ) → IsUnfinished maximum taken → IsStarted maximum taken
+started maximum taken (inl short) = inl (omega (arith, short))
+started maximum taken (inr (passes, short)) = inr (passes, omega (arith, ints, short))
 
-row_started : (most : ℤ) (taken : List ℕ) (kind : ErrorKind) → IsRow most taken kind → IsStarted most taken
-row_started most taken kind (inl short) = inl (omega (arith, short.short))
-row_started most taken kind (inr (inl row)) = inl (omega (arith, row.header))
-row_started most taken kind (inr (inr (inl short))) = inr (short.passes, omega (arith, ints, short.short))
-row_started most taken kind (inr (inr (inr none))) = inr (none.passes, omega (arith, ints, none.whole))
+row_started : (maximum : ℤ) (taken : List ℕ) (kind : ErrorKind) → IsRow maximum taken kind → IsStarted maximum taken
+row_started maximum taken kind (inl short) = inl (omega (arith, short.short))
+row_started maximum taken kind (inr (inl row)) = inl (omega (arith, row.header))
+row_started maximum taken kind (inr (inr (inl short))) = inr (short.passes, omega (arith, ints, short.short))
+row_started maximum taken kind (inr (inr (inr none))) = inr (none.passes, omega (arith, ints, none.whole))
 
-row_whole : (most : ℤ) (taken : List ℕ) (kind : ErrorKind) → (kind ≡ EndOfInput → ⊥) → IsRow most taken kind → 16 ≤ length taken
-row_whole most taken kind whole (inl short) = absurd (whole short.kind_is)
-row_whole most taken kind whole (inr (inl row)) = omega (arith, row.header)
-row_whole most taken kind whole (inr (inr (inl short))) = short.passes.whole
-row_whole most taken kind whole (inr (inr (inr none))) = none.passes.whole
+row_whole : (maximum : ℤ) (taken : List ℕ) (kind : ErrorKind) → (kind ≡ EndOfInput → ⊥) → IsRow maximum taken kind → 16 ≤ length taken
+row_whole maximum taken kind whole (inl short) = absurd (whole short.kind_is)
+row_whole maximum taken kind whole (inr (inl row)) = omega (arith, row.header)
+row_whole maximum taken kind whole (inr (inr (inl short))) = short.passes.whole
+row_whole maximum taken kind whole (inr (inr (inr none))) = none.passes.whole
 
 -- what was emptied was taken
 emptied_some : (old mid new : Option (List ℕ)) (taken : List ℕ) → mid ≡ old → IfSome old (λ bytes. 0 < length bytes) → Consumes mid new taken → IsEmptied new → IfSome old (λ _. 0 < length taken)

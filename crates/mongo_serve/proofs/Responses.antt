@@ -57,35 +57,35 @@ pub nothing_written : (old : Option (List ℕ)) (bytes : List ℕ) → AppendsFr
 nothing_written old bytes = (0, Appends-nil old)
 
 -- a front of the frame was written
-pub refused_front : (kind : ErrorKind) (most : ℤ) (m : Message) (old new : State) (before after : ℤ) → WriteRefused kind most m old new before after → AppendsFront old.written new.written (written_frame (id_of m before) m)
-refused_front (InvalidArgument fault) most m old new before after h = nothing_kept old.written new.written (written_frame (id_of m before) m) h.1
-refused_front WriteFault most m old new before after h = h.1.front
-refused_front OutOfMemory most m old new before after h = h.front
-refused_front ReadFault most m old new before after h = absurd h
-refused_front EndOfInput most m old new before after h = absurd h
-refused_front (InvalidResponse _) most m old new before after h = absurd h
-refused_front (Command _) most m old new before after h = absurd h
-refused_front (Authentication _) most m old new before after h = absurd h
-refused_front IncompatibleServer most m old new before after h = absurd h
-refused_front (Write _) most m old new before after h = absurd h
-refused_front (InsertMany _) most m old new before after h = absurd h
-refused_front (Callback _) most m old new before after h = absurd h
-refused_front PasswordNotAscii most m old new before after h = absurd h
+pub refused_front : (kind : ErrorKind) (maximum : ℤ) (m : Message) (old new : State) (before after : ℤ) → WriteRefused kind maximum m old new before after → AppendsFront old.written new.written (written_frame (id_of m before) m)
+refused_front (InvalidArgument fault) maximum m old new before after h = nothing_kept old.written new.written (written_frame (id_of m before) m) h.1
+refused_front WriteFault maximum m old new before after h = h.1.front
+refused_front OutOfMemory maximum m old new before after h = h.front
+refused_front ReadFault maximum m old new before after h = absurd h
+refused_front EndOfInput maximum m old new before after h = absurd h
+refused_front (InvalidResponse _) maximum m old new before after h = absurd h
+refused_front (Command _) maximum m old new before after h = absurd h
+refused_front (Authentication _) maximum m old new before after h = absurd h
+refused_front IncompatibleServer maximum m old new before after h = absurd h
+refused_front (Write _) maximum m old new before after h = absurd h
+refused_front (InsertMany _) maximum m old new before after h = absurd h
+refused_front (Callback _) maximum m old new before after h = absurd h
+refused_front PasswordNotAscii maximum m old new before after h = absurd h
 
-pub refused_cause : (kind : ErrorKind) (most : ℤ) (m : Message) (old new : State) (before after : ℤ) → WriteRefused kind most m old new before after → WriteCause (fault_of_kind kind) old new
-refused_cause (InvalidArgument fault) most m old new before after h = tt
-refused_cause WriteFault most m old new before after h = h.0
-refused_cause OutOfMemory most m old new before after h = tt
-refused_cause ReadFault most m old new before after h = absurd h
-refused_cause EndOfInput most m old new before after h = absurd h
-refused_cause (InvalidResponse _) most m old new before after h = absurd h
-refused_cause (Command _) most m old new before after h = absurd h
-refused_cause (Authentication _) most m old new before after h = absurd h
-refused_cause IncompatibleServer most m old new before after h = absurd h
-refused_cause (Write _) most m old new before after h = absurd h
-refused_cause (InsertMany _) most m old new before after h = absurd h
-refused_cause (Callback _) most m old new before after h = absurd h
-refused_cause PasswordNotAscii most m old new before after h = absurd h
+pub refused_cause : (kind : ErrorKind) (maximum : ℤ) (m : Message) (old new : State) (before after : ℤ) → WriteRefused kind maximum m old new before after → WriteCause (fault_of_kind kind) old new
+refused_cause (InvalidArgument fault) maximum m old new before after h = tt
+refused_cause WriteFault maximum m old new before after h = h.0
+refused_cause OutOfMemory maximum m old new before after h = tt
+refused_cause ReadFault maximum m old new before after h = absurd h
+refused_cause EndOfInput maximum m old new before after h = absurd h
+refused_cause (InvalidResponse _) maximum m old new before after h = absurd h
+refused_cause (Command _) maximum m old new before after h = absurd h
+refused_cause (Authentication _) maximum m old new before after h = absurd h
+refused_cause IncompatibleServer maximum m old new before after h = absurd h
+refused_cause (Write _) maximum m old new before after h = absurd h
+refused_cause (InsertMany _) maximum m old new before after h = absurd h
+refused_cause (Callback _) maximum m old new before after h = absurd h
+refused_cause PasswordNotAscii maximum m old new before after h = absurd h
 
 -- ---- an OP_MSG was answered
 

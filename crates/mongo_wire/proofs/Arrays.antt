@@ -8,7 +8,7 @@ use Rattle.mongo_bson.specs.Refusals.{AppendRefuses, PushRefuses}
 use Rattle.mongo_bson.specs.declared.fault.BsonFault.{BsonFault}
 use Rattle.mongo_bson.specs.declared.fault.BsonFault.TheVariants.{Malformed, KeyHasZero, TooLong, DuplicateKey, UpdateEmpty, UpdateNotModifiers, ReplacementHasModifiers, OutOfMemory}
 use Rattle.mongo_bson.proofs.Enclosed.{length-enclosed, body_of-enclosed}
-use Rattle.mongo_wire.specs.CommandDocument.{array_element, arrays_bytes}
+use Rattle.mongo_wire.specs.JoinedDocument.{array_element, arrays_bytes}
 use Rattle.mongo_wire.specs.declared.document_sequence.DocumentSequence.{DocumentSequence}
 use Rattle.mongo_wire.proofs.Passed.{joined_more, length_within}
 

@@ -35,21 +35,21 @@ emptied_untold (Some rest) e = absurd (false≢true (sym e))
 
 -- ---- the header was refused
 
-short_header : (most : ℤ) (old new : Option (List ℕ)) → is_some new ≡ is_some old → RanOut old new 16 → TakesRow EndOfInput most old new × IsEmptied new
-short_header most None new tells r = (([], tt, inl (record { short = omega arith; kind_is = refl })), emptied_untold new tells)
-short_header most (Some bytes) new tells r =
+short_header : (maximum : ℤ) (old new : Option (List ℕ)) → is_some new ≡ is_some old → RanOut old new 16 → TakesRow EndOfInput maximum old new × IsEmptied new
+short_header maximum None new tells r = (([], tt, inl (record { short = omega arith; kind_is = refl })), emptied_untold new tells)
+short_header maximum (Some bytes) new tells r =
     let none : (Consumes (Some bytes) new bytes) × IsEmptied new = subst (λ n. Consumes (Some bytes) n bytes × IsEmptied n) (sym r.1) (sym (append-nil bytes), refl) in
     ((bytes, none.0, inl (record { short = r.0; kind_is = refl })), none.1)
 
-pub header_stopped : (kind : ErrorKind) (most : ℤ) (old new : State) → is_some new.left ≡ is_some old.left → ReadStops kind old new 16 → ReadRefused kind most old new
-header_stopped kind most old new tells s =
-    stop_cases (λ k. ReadRefused k most old new) kind old new 16 s
-    (λ _ f. (f.0, unfinished f.1)) (λ _ e. let (row, empty) = short_header most old.left new.left tells e.1 in (e.0, row, empty)) (λ _ m. started m)
+pub header_stopped : (kind : ErrorKind) (maximum : ℤ) (old new : State) → is_some new.left ≡ is_some old.left → ReadStops kind old new 16 → ReadRefused kind maximum old new
+header_stopped kind maximum old new tells s =
+    stop_cases (λ k. ReadRefused k maximum old new) kind old new 16 s
+    (λ _ f. (f.0, unfinished f.1)) (λ _ e. let (row, empty) = short_header maximum old.left new.left tells e.1 in (e.0, row, empty)) (λ _ m. started m)
   where
-    started : ConsumesAtMost old.left new.left 16 → TakesStarted most old.left new.left
+    started : ConsumesAtMost old.left new.left 16 → TakesStarted maximum old.left new.left
     started c = (c.0, c.2, inl c.1)
 
-    unfinished : ConsumesFewer old.left new.left 16 → TakesUnfinished most old.left new.left
+    unfinished : ConsumesFewer old.left new.left 16 → TakesUnfinished maximum old.left new.left
     unfinished c = (c.0, c.2, inl c.1)
 
 -- ---- the header calls for a row
@@ -68,71 +68,71 @@ code_cases P length op_code.Message kind e response argument = by (int_lt length
     by true p = subst P (same_kind _ kind p) (argument CheckedFailure)
     by false p = absurd (false≢true (ap is_some p))
 
-row_cases : (P : ErrorKind → Type 0) (most length : ℤ) (code : Option OpCode) (number : ℤ) (kind : ErrorKind) → length_row most length code number ≡ Some kind
+row_cases : (P : ErrorKind → Type 0) (maximum length : ℤ) (code : Option OpCode) (number : ℤ) (kind : ErrorKind) → length_row maximum length code number ≡ Some kind
     → ((fault : ResponseFault) → P (InvalidResponse fault)) → ((fault : ArgumentFault) → P (InvalidArgument fault)) → P kind
-row_cases P most length None number kind e response argument = subst P (same_kind _ kind e) (response (OpCodeFault number))
-row_cases P most length (Some code) number kind e response argument = by (int_lt most length) e
+row_cases P maximum length None number kind e response argument = subst P (same_kind _ kind e) (response (OpCodeFault number))
+row_cases P maximum length (Some code) number kind e response argument = by (int_lt maximum length) e
   where
     by : (over : Bool) → (if over then Some (InvalidResponse OverMaximum) else code_row length code) ≡ Some kind → P kind
     by true p = subst P (same_kind _ kind p) (response OverMaximum)
     by false p = code_cases P length code kind p response argument
 
-pub header_refused : (kind : ErrorKind) (most : ℤ) (old new : State) (head : List ℕ) → Consumes old.left new.left head → length head ≡ 16 → header_row most head ≡ Some kind → ReadRefused kind most old new
-header_refused kind most old new head taken sixteen row =
-    row_cases (λ k. TakesRow k most old.left new.left → ReadRefused k most old new) most (signed_at 0 head) _ (signed_at 12 head) kind row (λ fault t. t) (λ fault t. t)
+pub header_refused : (kind : ErrorKind) (maximum : ℤ) (old new : State) (head : List ℕ) → Consumes old.left new.left head → length head ≡ 16 → header_row maximum head ≡ Some kind → ReadRefused kind maximum old new
+header_refused kind maximum old new head taken sixteen row =
+    row_cases (λ k. TakesRow k maximum old.left new.left → ReadRefused k maximum old new) maximum (signed_at 0 head) _ (signed_at 12 head) kind row (λ fault t. t) (λ fault t. t)
     (head, taken, inr (inl (record { header = sixteen; row = row })))
 
 -- ---- what follows the header was refused
 
 -- the header passes, and bytes after it came
-passes : (most : ℤ) (head more : List ℕ) → length head ≡ 16 → header_row most head ≡ None → Passes most (head ++ more)
-passes most head more sixteen row = record { whole = omega (arith, length-append head more); good = row_in most head more (omega arith) ∙ row }
+passes : (maximum : ℤ) (head more : List ℕ) → length head ≡ 16 → header_row maximum head ≡ None → Passes maximum (head ++ more)
+passes maximum head more sixteen row = record { whole = omega (arith, length-append head more); good = row_in maximum head more (omega arith) ∙ row }
 
 size_with : (head more : List ℕ) → length head ≡ 16 → signed_at 0 (head ++ more) ≡ signed_at 0 head
 size_with head more sixteen = signed_in 0 head more (omega arith)
 
-short_frame : (most : ℤ) (head more : List ℕ) (wanted : ℕ) → length head ≡ 16 → header_row most head ≡ None → pos (16 + wanted) ≡ signed_at 0 head → length more < wanted → IsRow most (head ++ more) EndOfInput
-short_frame most head more wanted sixteen row size few =
+short_frame : (maximum : ℤ) (head more : List ℕ) (wanted : ℕ) → length head ≡ 16 → header_row maximum head ≡ None → pos (16 + wanted) ≡ signed_at 0 head → length more < wanted → IsRow maximum (head ++ more) EndOfInput
+short_frame maximum head more wanted sixteen row size few =
     inr (inr (inl (record {
-      passes = passes most head more sixteen row;
+      passes = passes maximum head more sixteen row;
       short = omega (arith, ints, length-append head more, size_with head more sixteen, size, few);
       kind_is = refl;
     })))
 
-cut_frame : (most : ℤ) (old mid new : Option (List ℕ)) (head : List ℕ) (wanted : ℕ) → Consumes old mid head → length head ≡ 16 → header_row most head ≡ None → pos (16 + wanted) ≡ signed_at 0 head
-    → 0 < wanted → is_some new ≡ is_some old → RanOut mid new wanted → TakesRow EndOfInput most old new × IsEmptied new
-cut_frame most None mid new head wanted p sixteen row size some tells r = ((head ++ [], tt, short_frame most head [] wanted sixteen row size some), emptied_untold new tells)
-cut_frame most (Some xs) None new head wanted p sixteen row size some tells r = absurd p
-cut_frame most (Some xs) (Some bytes) new head wanted p sixteen row size some tells r =
+cut_frame : (maximum : ℤ) (old mid new : Option (List ℕ)) (head : List ℕ) (wanted : ℕ) → Consumes old mid head → length head ≡ 16 → header_row maximum head ≡ None → pos (16 + wanted) ≡ signed_at 0 head
+    → 0 < wanted → is_some new ≡ is_some old → RanOut mid new wanted → TakesRow EndOfInput maximum old new × IsEmptied new
+cut_frame maximum None mid new head wanted p sixteen row size some tells r = ((head ++ [], tt, short_frame maximum head [] wanted sixteen row size some), emptied_untold new tells)
+cut_frame maximum (Some xs) None new head wanted p sixteen row size some tells r = absurd p
+cut_frame maximum (Some xs) (Some bytes) new head wanted p sixteen row size some tells r =
     let none : (Consumes (Some xs) new (head ++ bytes)) × IsEmptied new = subst (λ n. Consumes (Some xs) n (head ++ bytes) × IsEmptied n) (sym r.1) (p ∙ sym (append-nil (head ++ bytes)), refl) in
-    ((head ++ bytes, none.0, short_frame most head bytes wanted sixteen row size r.0), none.1)
+    ((head ++ bytes, none.0, short_frame maximum head bytes wanted sixteen row size r.0), none.1)
 
-pub rest_stopped : (kind : ErrorKind) (most : ℤ) (old mid new : State) (head : List ℕ) (wanted : ℕ)
-    → Consumes old.left mid.left head → ReadsOn old mid → is_some new.left ≡ is_some mid.left → length head ≡ 16 → header_row most head ≡ None → pos (16 + wanted) ≡ signed_at 0 head → 0 < wanted
-    → ReadStops kind mid new wanted → ReadRefused kind most old new
-rest_stopped kind most old mid new head wanted p on tells sixteen row size some s =
-    stop_cases (λ k. ReadRefused k most old new) kind mid new wanted s
+pub rest_stopped : (kind : ErrorKind) (maximum : ℤ) (old mid new : State) (head : List ℕ) (wanted : ℕ)
+    → Consumes old.left mid.left head → ReadsOn old mid → is_some new.left ≡ is_some mid.left → length head ≡ 16 → header_row maximum head ≡ None → pos (16 + wanted) ≡ signed_at 0 head → 0 < wanted
+    → ReadStops kind mid new wanted → ReadRefused kind maximum old new
+rest_stopped kind maximum old mid new head wanted p on tells sixteen row size some s =
+    stop_cases (λ k. ReadRefused k maximum old new) kind mid new wanted s
     (λ _ f. (rose_after old.read_faults mid.read_faults new.read_faults on.faults_stay f.0, unfinished f.1))
-    (λ _ e. let (row_of, empty) = cut_frame most old.left mid.left new.left head wanted p sixteen row size some (tells ∙ on.tells) e.1 in
+    (λ _ e. let (row_of, empty) = cut_frame maximum old.left mid.left new.left head wanted p sixteen row size some (tells ∙ on.tells) e.1 in
     (rose_after old.ends mid.ends new.ends on.ends_stay e.0, row_of, empty))
     (λ _ m. started m)
   where
-    started : ConsumesAtMost mid.left new.left wanted → TakesStarted most old.left new.left
+    started : ConsumesAtMost mid.left new.left wanted → TakesStarted maximum old.left new.left
     started c =
-        (head ++ c.0, Consumes-trans old.left mid.left new.left head c.0 p c.2, inr (passes most head c.0 sixteen row, omega (arith, ints, length-append head c.0, size_with head c.0 sixteen, size, c.1)))
+        (head ++ c.0, Consumes-trans old.left mid.left new.left head c.0 p c.2, inr (passes maximum head c.0 sixteen row, omega (arith, ints, length-append head c.0, size_with head c.0 sixteen, size, c.1)))
 
-    unfinished : ConsumesFewer mid.left new.left wanted → TakesUnfinished most old.left new.left
+    unfinished : ConsumesFewer mid.left new.left wanted → TakesUnfinished maximum old.left new.left
     unfinished c =
-        (head ++ c.0, Consumes-trans old.left mid.left new.left head c.0 p c.2, inr (passes most head c.0 sixteen row, omega (arith, ints, length-append head c.0, size_with head c.0 sixteen, size, c.1)))
+        (head ++ c.0, Consumes-trans old.left mid.left new.left head c.0 p c.2, inr (passes maximum head c.0 sixteen row, omega (arith, ints, length-append head c.0, size_with head c.0 sixteen, size, c.1)))
 
 -- the whole frame came, and is none
-pub sections_refused : (most : ℤ) (old mid new : State) (head bytes : List ℕ) → Consumes old.left mid.left head → Consumes mid.left new.left bytes → length head ≡ 16
-    → header_row most head ≡ None → pos (16 + length bytes) ≡ signed_at 0 head → NoFrame (head ++ bytes) → ReadRefused (InvalidResponse Sections) most old new
-sections_refused most old mid new head bytes p q sixteen row size none = (
+pub sections_refused : (maximum : ℤ) (old mid new : State) (head bytes : List ℕ) → Consumes old.left mid.left head → Consumes mid.left new.left bytes → length head ≡ 16
+    → header_row maximum head ≡ None → pos (16 + length bytes) ≡ signed_at 0 head → NoFrame (head ++ bytes) → ReadRefused (InvalidResponse Sections) maximum old new
+sections_refused maximum old mid new head bytes p q sixteen row size none = (
   head ++ bytes,
   Consumes-trans old.left mid.left new.left head bytes p q,
   inr (inr (inr (record {
-    passes = passes most head bytes sixteen row;
+    passes = passes maximum head bytes sixteen row;
     whole = omega (arith, ints, length-append head bytes, size_with head bytes sixteen, size);
     none = none;
     kind_is = refl;
@@ -142,18 +142,18 @@ sections_refused most old mid new head bytes p q sixteen row size none = (
 -- ---- a frame stood there
 
 -- where one stands, no row is called for
-pub no_refusal : (kind : ErrorKind) (most : ℤ) (old new : State) (frame rest : List ℕ) (parts : Frame) → old.left ≡ Some (frame ++ rest) → IsFrame frame parts
-    → pos (length frame) ≤ℤ most → ReadRefused kind most old new → IsUnreadable kind
-no_refusal kind most old new frame rest parts is frame_is within r = by kind r
+pub no_refusal : (kind : ErrorKind) (maximum : ℤ) (old new : State) (frame rest : List ℕ) (parts : Frame) → old.left ≡ Some (frame ++ rest) → IsFrame frame parts
+    → pos (length frame) ≤ℤ maximum → ReadRefused kind maximum old new → IsUnreadable kind
+no_refusal kind maximum old new frame rest parts is frame_is within r = by kind r
   where
-    stop : (kind : ErrorKind) → TakesRow kind most old.left new.left → (kind ≡ EndOfInput → IsEmptied new.left) → ⊥
+    stop : (kind : ErrorKind) → TakesRow kind maximum old.left new.left → (kind ≡ EndOfInput → IsEmptied new.left) → ⊥
     stop kind (taken, consumes, row) ends = at new.left (rw is at consumes) ends
       where
         at : (new : Option (List ℕ)) → Consumes (Some (frame ++ rest)) new taken → (kind ≡ EndOfInput → IsEmptied new) → ⊥
         at None c e = c
-        at (Some left) c e = row_no_frame most taken left frame rest kind parts row e frame_is within (sym c)
+        at (Some left) c e = row_no_frame maximum taken left frame rest kind parts row e frame_is within (sym c)
 
-    by : (kind : ErrorKind) → ReadRefused kind most old new → IsUnreadable kind
+    by : (kind : ErrorKind) → ReadRefused kind maximum old new → IsUnreadable kind
     by ReadFault r = tt
     by OutOfMemory r = tt
     by EndOfInput r = stop EndOfInput r.1 (λ _. r.2)
@@ -169,9 +169,9 @@ no_refusal kind most old new frame rest parts is frame_is within r = by kind r
     by PasswordNotAscii r = absurd r
 
 -- where one stands, it is the one that was taken
-pub same_taken : (most : ℤ) (old new : State) (buffer : FrameBuffer) (frame rest : List ℕ) (parts : Frame) → old.left ≡ Some (frame ++ rest) → IsFrame frame parts → IsFrameTaken most old new buffer
+pub same_taken : (maximum : ℤ) (old new : State) (buffer : FrameBuffer) (frame rest : List ℕ) (parts : Frame) → old.left ≡ Some (frame ++ rest) → IsFrame frame parts → IsFrameTaken maximum old new buffer
     → HoldsFrame frame parts buffer × (new.left ≡ Some rest)
-same_taken most old new buffer frame rest parts is frame_is taken = at new.left (rw is at taken.taken)
+same_taken maximum old new buffer frame rest parts is frame_is taken = at new.left (rw is at taken.taken)
   where
     at : (new : Option (List ℕ)) → Consumes (Some (frame ++ rest)) new taken.frame → HoldsFrame frame parts buffer × (new ≡ Some rest)
     at None c = absurd c
@@ -179,17 +179,17 @@ same_taken most old new buffer frame rest parts is frame_is taken = at new.left 
         let (frames, both, rests) = one_frame taken.frame frame left rest taken.parts parts taken.holds.is_held.is_frame frame_is (sym c) in
         (subst (λ f. HoldsFrame f parts buffer) frames (subst (λ p. HoldsFrame taken.frame p buffer) both taken.holds), ap Some rests)
 
-pub takes_again : {T : Type 0} (result : Result T FrameFault) (most : ℤ) (old new : State) (buffer : FrameBuffer)
-    → OnOk result (IsFrameTaken most old new buffer) → IfErr result (λ fault. ReadRefused (kind_of_frame_fault fault) most old new)
-    → (frame rest : List ℕ) (parts : Frame) → old.left ≡ Some (frame ++ rest) → IsFrame frame parts → pos (length frame) ≤ℤ most → TakesAgain frame parts rest new.left buffer result
-takes_again (Ok x) most old new buffer p q frame rest parts is frame_is within = same_taken most old new buffer frame rest parts is frame_is p
-takes_again (Err fault) most old new buffer p q frame rest parts is frame_is within = no_refusal (kind_of_frame_fault fault) most old new frame rest parts is frame_is within q
+pub takes_again : {T : Type 0} (result : Result T FrameFault) (maximum : ℤ) (old new : State) (buffer : FrameBuffer)
+    → OnOk result (IsFrameTaken maximum old new buffer) → IfErr result (λ fault. ReadRefused (kind_of_frame_fault fault) maximum old new)
+    → (frame rest : List ℕ) (parts : Frame) → old.left ≡ Some (frame ++ rest) → IsFrame frame parts → pos (length frame) ≤ℤ maximum → TakesAgain frame parts rest new.left buffer result
+takes_again (Ok x) maximum old new buffer p q frame rest parts is frame_is within = same_taken maximum old new buffer frame rest parts is frame_is p
+takes_again (Err fault) maximum old new buffer p q frame rest parts is frame_is within = no_refusal (kind_of_frame_fault fault) maximum old new frame rest parts is frame_is within q
 
 -- ---- the whole frame came
 
-pub frame_taken : (most : ℤ) (before mid new : State) (head bytes : List ℕ) (rest : ℕ) (held : HeldFrame) (buffer : FrameBuffer) → Consumes before.left mid.left head → Consumes mid.left new.left bytes → length head ≡ 16
-    → length bytes ≡ rest → pos (16 + rest) ≤ℤ most → IsHeld (head ++ bytes) held → buffer.last ≡ Some held → held_bytes buffer ≡ bytes → IsFrameTaken most before new buffer
-frame_taken most before mid new head bytes rest held buffer p q sixteen size within (parts, is_held) last bytes_are = record {
+pub frame_taken : (maximum : ℤ) (before mid new : State) (head bytes : List ℕ) (rest : ℕ) (held : HeldFrame) (buffer : FrameBuffer) → Consumes before.left mid.left head → Consumes mid.left new.left bytes → length head ≡ 16
+    → length bytes ≡ rest → pos (16 + rest) ≤ℤ maximum → IsHeld (head ++ bytes) held → buffer.last ≡ Some held → held_bytes buffer ≡ bytes → IsFrameTaken maximum before new buffer
+frame_taken maximum before mid new head bytes rest held buffer p q sixteen size within (parts, is_held) last bytes_are = record {
   frame = head ++ bytes;
   parts = parts;
   holds = record { held = held; last_is = last; is_held = is_held; bytes_are = bytes_are ∙ sym (drop_at head bytes 16 sixteen) };

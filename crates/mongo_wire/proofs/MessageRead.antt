@@ -29,8 +29,8 @@ copied_parts frame parts m is owned =
     same_parts parts.request_id parts.request_id parts.response_to m.response_to parts.flags (bit_and m.flags.0 known_flags) parts.body m.document_payload parts.sequences m.document_sequences parts.checksum m.checksum
     refl (sym owned.response_is) flags (sym owned.body_is) (sym owned.sequences_are) (sym owned.checksum_is)
 
-pub read_whole : (most : ℤ) (old new : State) (buffer : FrameBuffer) (m : Message) (read : IsFrameTaken most old new buffer) → IsOwned read.parts m → IsRead most old new m
-read_whole most old new buffer m read owned = record {
+pub read_whole : (maximum : ℤ) (old new : State) (buffer : FrameBuffer) (m : Message) (read : IsFrameTaken maximum old new buffer) → IsOwned read.parts m → IsRead maximum old new m
+read_whole maximum old new buffer m read owned = record {
   frame = read.frame;
   id = read.parts.request_id;
   is_frame = subst (IsFrame read.frame) (copied_parts read.frame read.parts m read.holds.is_held.is_frame owned) read.holds.is_held.is_frame;
@@ -41,19 +41,19 @@ read_whole most old new buffer m read owned = record {
 }
 
 -- memory ran out after the whole frame came
-pub read_then_stopped : (most : ℤ) (old new : State) (buffer : FrameBuffer) → IsFrameTaken most old new buffer → TakesStarted most old.left new.left
-read_then_stopped most old new buffer read =
+pub read_then_stopped : (maximum : ℤ) (old new : State) (buffer : FrameBuffer) → IsFrameTaken maximum old new buffer → TakesStarted maximum old.left new.left
+read_then_stopped maximum old new buffer read =
     let is = read.holds.is_held.is_frame in
-    (read.frame, read.taken, inr (record { whole = omega (arith, least_frame read.frame read.parts is); good = frame_row most read.frame read.parts is read.within }, omega (arith, ints, frame_size read.frame read.parts is)))
+    (read.frame, read.taken, inr (record { whole = omega (arith, least_frame read.frame read.parts is); good = frame_row maximum read.frame read.parts is read.within }, omega (arith, ints, frame_size read.frame read.parts is)))
 
 same_id : (p q : Frame) → p ≡ q → p.request_id ≡ q.request_id
 same_id p q e = ap (λ z. z.request_id) e
 
-pub reads_again : (result : Result Message Error) (most : ℤ) (old new : State)
-    → IfOk result (IsRead most old new) → IfErr result (λ e. ReadRefused e.kind most old new)
-    → (frame rest : List ℕ) (parts : Frame) → old.left ≡ Some (frame ++ rest) → IsFrame frame parts → pos (length frame) ≤ℤ most → ReadsAgain parts rest new.left result
-reads_again (Err e) most old new p q frame rest parts is frame_is within = no_refusal e.kind most old new frame rest parts is frame_is within q
-reads_again (Ok m) most old new p q frame rest parts is frame_is within = at new.left (rw is at p.taken)
+pub reads_again : (result : Result Message Error) (maximum : ℤ) (old new : State)
+    → IfOk result (IsRead maximum old new) → IfErr result (λ e. ReadRefused e.kind maximum old new)
+    → (frame rest : List ℕ) (parts : Frame) → old.left ≡ Some (frame ++ rest) → IsFrame frame parts → pos (length frame) ≤ℤ maximum → ReadsAgain parts rest new.left result
+reads_again (Err e) maximum old new p q frame rest parts is frame_is within = no_refusal e.kind maximum old new frame rest parts is frame_is within q
+reads_again (Ok m) maximum old new p q frame rest parts is frame_is within = at new.left (rw is at p.taken)
   where
     at : (new : Option (List ℕ)) → Consumes (Some (frame ++ rest)) new p.frame → (parts_of parts.request_id m ≡ parts) × (new ≡ Some rest)
     at None c = absurd c

@@ -182,11 +182,11 @@ pub signed_in : (at : ℕ) (xs ys : List ℕ) → at + 4 ≤ length xs → signe
 signed_in at xs ys p = ap (cast_signed w32) (number_in at xs ys p)
 
 -- a header's row lies in its 16 bytes
-pub row_in : (most : ℤ) (xs ys : List ℕ) → 16 ≤ length xs → header_row most (xs ++ ys) ≡ header_row most xs
-row_in most xs ys p =
+pub row_in : (maximum : ℤ) (xs ys : List ℕ) → 16 ≤ length xs → header_row maximum (xs ++ ys) ≡ header_row maximum xs
+row_in maximum xs ys p =
     let size = signed_in 0 xs ys (omega arith) in
     let code = signed_in 12 xs ys (omega arith) in
-    ap (λ z. length_row most z (op_code_of (signed_at 12 (xs ++ ys))) (signed_at 12 (xs ++ ys))) size ∙ ap (λ z. length_row most (signed_at 0 xs) (op_code_of z) z) code
+    ap (λ z. length_row maximum z (op_code_of (signed_at 12 (xs ++ ys))) (signed_at 12 (xs ++ ys))) size ∙ ap (λ z. length_row maximum (signed_at 0 xs) (op_code_of z) z) code
 
 pub frame_size : (f : List ℕ) (p : Frame) → IsFrame f p → signed_at 0 f ≡ pos (length f)
 frame_size f p is =
@@ -199,16 +199,16 @@ frame_code f p is = ap (signed_at 12) is.spelled
 pub least_frame : (f : List ℕ) (p : Frame) → IsFrame f p → 20 ≤ length f
 least_frame f p is = omega (arith, ap length is.spelled)
 
-no_row : (most size : ℤ) → pos 16 ≤ℤ size → size ≤ℤ most → length_row most size (Some op_code.Message) (pos 2013) ≡ None
-no_row most size p q =
-    let long : int_lt most size ≡ false = grind (arith, ints) in
+no_row : (maximum size : ℤ) → pos 16 ≤ℤ size → size ≤ℤ maximum → length_row maximum size (Some op_code.Message) (pos 2013) ≡ None
+no_row maximum size p q =
+    let long : int_lt maximum size ≡ false = grind (arith, ints) in
     let short : int_lt size (pos 16) ≡ false = grind (arith, ints) in
     rw (long, short) refl
 
-pub frame_row : (most : ℤ) (f : List ℕ) (p : Frame) → IsFrame f p → pos (length f) ≤ℤ most → header_row most f ≡ None
-frame_row most f p is within =
-    ap (λ z. length_row most (signed_at 0 f) (op_code_of z) z) (frame_code f p is) ∙ ap (λ z. length_row most z (Some op_code.Message) (pos 2013)) (frame_size f p is)
-    ∙ no_row most (pos (length f)) (omega (arith, ints, least_frame f p is)) within
+pub frame_row : (maximum : ℤ) (f : List ℕ) (p : Frame) → IsFrame f p → pos (length f) ≤ℤ maximum → header_row maximum f ≡ None
+frame_row maximum f p is within =
+    ap (λ z. length_row maximum (signed_at 0 f) (op_code_of z) z) (frame_code f p is) ∙ ap (λ z. length_row maximum z (Some op_code.Message) (pos 2013)) (frame_size f p is)
+    ∙ no_row maximum (pos (length f)) (omega (arith, ints, least_frame f p is)) within
 
 -- ---- rows
 
@@ -216,9 +216,9 @@ short_no_frame : (taken rest frame more : List ℕ) (kind : ErrorKind) (parts : 
 short_no_frame taken rest frame more kind parts row ends is e =
     omega (arith, ap length e, length-append taken rest, length-append frame more, ap length (ends row.kind_is), row.short, least_frame frame parts is)
 
-header_no_frame : (most : ℤ) (taken rest frame more : List ℕ) (kind : ErrorKind) (parts : Frame) → HeaderRow most taken kind → IsFrame frame parts → pos (length frame) ≤ℤ most → taken ++ rest ≡ frame ++ more → ⊥
-header_no_frame most taken rest frame more kind parts row is within e =
-    let none : Some kind ≡ None = sym row.row ∙ sym (row_in most taken rest (omega (arith, row.header))) ∙ ap (header_row most) e ∙ row_in most frame more (omega (arith, least_frame frame parts is)) ∙ frame_row most frame parts is within in
+header_no_frame : (maximum : ℤ) (taken rest frame more : List ℕ) (kind : ErrorKind) (parts : Frame) → HeaderRow maximum taken kind → IsFrame frame parts → pos (length frame) ≤ℤ maximum → taken ++ rest ≡ frame ++ more → ⊥
+header_no_frame maximum taken rest frame more kind parts row is within e =
+    let none : Some kind ≡ None = sym row.row ∙ sym (row_in maximum taken rest (omega (arith, row.header))) ∙ ap (header_row maximum) e ∙ row_in maximum frame more (omega (arith, least_frame frame parts is)) ∙ frame_row maximum frame parts is within in
     cc
 
 -- both have the frame's length in their header
@@ -226,27 +226,27 @@ same_size : (taken rest frame more : List ℕ) (parts : Frame) → 16 ≤ length
 same_size taken rest frame more parts p is e =
     sym (signed_in 0 taken rest (omega arith)) ∙ ap (signed_at 0) e ∙ signed_in 0 frame more (omega (arith, least_frame frame parts is)) ∙ frame_size frame parts is
 
-cut_no_frame : (most : ℤ) (taken rest frame more : List ℕ) (kind : ErrorKind) (parts : Frame) → ShortFrame most taken kind → (kind ≡ EndOfInput → rest ≡ []) → IsFrame frame parts → taken ++ rest ≡ frame ++ more → ⊥
-cut_no_frame most taken rest frame more kind parts row ends is e =
+cut_no_frame : (maximum : ℤ) (taken rest frame more : List ℕ) (kind : ErrorKind) (parts : Frame) → ShortFrame maximum taken kind → (kind ≡ EndOfInput → rest ≡ []) → IsFrame frame parts → taken ++ rest ≡ frame ++ more → ⊥
+cut_no_frame maximum taken rest frame more kind parts row ends is e =
     omega (arith, ints, ap length e, length-append taken rest, length-append frame more, ap length (ends row.kind_is), row.short, same_size taken rest frame more parts row.passes.whole is e)
 
-other_no_frame : (most : ℤ) (taken rest frame more : List ℕ) (kind : ErrorKind) (parts : Frame) → NoSections most taken kind → IsFrame frame parts → taken ++ rest ≡ frame ++ more → ⊥
-other_no_frame most taken rest frame more kind parts row is e =
+other_no_frame : (maximum : ℤ) (taken rest frame more : List ℕ) (kind : ErrorKind) (parts : Frame) → NoSections maximum taken kind → IsFrame frame parts → taken ++ rest ≡ frame ++ more → ⊥
+other_no_frame maximum taken rest frame more kind parts row is e =
     let size : length taken ≡ length frame = omega (arith, ints, row.whole, same_size taken rest frame more parts row.passes.whole is e) in
     let front = same_front taken frame rest more e size in
     row.none parts (subst (λ l. IsFrame l parts) (sym front.0) is)
 
 -- bytes that call for a row begin with no frame within the maximum
-pub row_no_frame : (most : ℤ) (taken rest frame more : List ℕ) (kind : ErrorKind) (parts : Frame) → IsRow most taken kind → (kind ≡ EndOfInput → rest ≡ [])
-    → IsFrame frame parts → pos (length frame) ≤ℤ most → taken ++ rest ≡ frame ++ more → ⊥
-row_no_frame most taken rest frame more kind parts row ends is within e =
+pub row_no_frame : (maximum : ℤ) (taken rest frame more : List ℕ) (kind : ErrorKind) (parts : Frame) → IsRow maximum taken kind → (kind ≡ EndOfInput → rest ≡ [])
+    → IsFrame frame parts → pos (length frame) ≤ℤ maximum → taken ++ rest ≡ frame ++ more → ⊥
+row_no_frame maximum taken rest frame more kind parts row ends is within e =
     elim row [
       | inl a ↦ short_no_frame taken rest frame more kind parts a ends is e
       | inr b ↦ elim b [
-        | inl a ↦ header_no_frame most taken rest frame more kind parts a is within e
+        | inl a ↦ header_no_frame maximum taken rest frame more kind parts a is within e
         | inr c ↦ elim c [
-          | inl a ↦ cut_no_frame most taken rest frame more kind parts a ends is e
-          | inr d ↦ other_no_frame most taken rest frame more kind parts d is e
+          | inl a ↦ cut_no_frame maximum taken rest frame more kind parts a ends is e
+          | inr d ↦ other_no_frame maximum taken rest frame more kind parts d is e
         ]
       ]
     ]
@@ -257,51 +257,51 @@ record OnShort (b taken : List ℕ) (kind : ErrorKind) : Type 0 where
   few : length b < 16
   kind_is : kind ≡ EndOfInput
 
-record OnHeader (most : ℤ) (b taken : List ℕ) (kind : ErrorKind) : Type 0 where
+record OnHeader (maximum : ℤ) (b taken : List ℕ) (kind : ErrorKind) : Type 0 where
   front : taken ≡ take 16 b
   many : 16 ≤ length b
-  row : header_row most b ≡ Some kind
+  row : header_row maximum b ≡ Some kind
 
-record OnCut (most : ℤ) (b taken : List ℕ) (kind : ErrorKind) : Type 0 where
+record OnCut (maximum : ℤ) (b taken : List ℕ) (kind : ErrorKind) : Type 0 where
   all : taken ≡ b
   many : 16 ≤ length b
-  row : header_row most b ≡ None
+  row : header_row maximum b ≡ None
   few : pos (length b) <ℤ signed_at 0 b
   kind_is : kind ≡ EndOfInput
 
-record OnNone (most : ℤ) (b taken : List ℕ) (kind : ErrorKind) : Type 0 where
+record OnNone (maximum : ℤ) (b taken : List ℕ) (kind : ErrorKind) : Type 0 where
   front : taken ≡ take (length taken) b
   many : 16 ≤ length b
-  row : header_row most b ≡ None
+  row : header_row maximum b ≡ None
   whole : length taken ≤ length b
   size : pos (length taken) ≡ signed_at 0 b
   kind_is : kind ≡ InvalidResponse Sections
 
 abbrev On : ℤ → List ℕ → List ℕ → ErrorKind → Type 0
-On most b taken kind = OnShort b taken kind ⊎ (OnHeader most b taken kind ⊎ (OnCut most b taken kind ⊎ OnNone most b taken kind))
+On maximum b taken kind = OnShort b taken kind ⊎ (OnHeader maximum b taken kind ⊎ (OnCut maximum b taken kind ⊎ OnNone maximum b taken kind))
 
 no_more : (taken rest : List ℕ) → rest ≡ [] → taken ≡ taken ++ rest
 no_more taken rest e = sym (append-nil taken) ∙ ap (λ l. taken ++ l) (sym e)
 
-on_all : (most : ℤ) (taken rest : List ℕ) (kind : ErrorKind) → IsRow most taken kind → (kind ≡ EndOfInput → rest ≡ []) → On most (taken ++ rest) taken kind
-on_all most taken rest kind row ends =
+on_all : (maximum : ℤ) (taken rest : List ℕ) (kind : ErrorKind) → IsRow maximum taken kind → (kind ≡ EndOfInput → rest ≡ []) → On maximum (taken ++ rest) taken kind
+on_all maximum taken rest kind row ends =
     let whole = length-append taken rest in
     elim row [
       | inl a ↦ inl (record { all = no_more taken rest (ends a.kind_is); few = omega (arith, a.short, whole, ap length (ends a.kind_is)); kind_is = a.kind_is })
       | inr b ↦ elim b [
-        | inl a ↦ inr (inl (record { front = sym (take_at taken rest 16 a.header); many = omega (arith, a.header, whole); row = row_in most taken rest (omega (arith, a.header)) ∙ a.row }))
+        | inl a ↦ inr (inl (record { front = sym (take_at taken rest 16 a.header); many = omega (arith, a.header, whole); row = row_in maximum taken rest (omega (arith, a.header)) ∙ a.row }))
         | inr c ↦ elim c [
           | inl a ↦ inr (inr (inl (record {
             all = no_more taken rest (ends a.kind_is);
             many = omega (arith, a.passes.whole, whole);
-            row = row_in most taken rest a.passes.whole ∙ a.passes.good;
+            row = row_in maximum taken rest a.passes.whole ∙ a.passes.good;
             few = omega (arith, ints, a.short, whole, ap length (ends a.kind_is), signed_in 0 taken rest (omega (arith, a.passes.whole)));
             kind_is = a.kind_is;
           })))
           | inr d ↦ inr (inr (inr (record {
             front = sym (take_at taken rest (length taken) refl);
             many = omega (arith, d.passes.whole, whole);
-            row = row_in most taken rest d.passes.whole ∙ d.passes.good;
+            row = row_in maximum taken rest d.passes.whole ∙ d.passes.good;
             whole = omega (arith, whole);
             size = d.whole ∙ sym (signed_in 0 taken rest (omega (arith, d.passes.whole)));
             kind_is = d.kind_is;
@@ -317,8 +317,8 @@ one_kind a b e = cc
 no_kind : (a : ErrorKind) → Some a ≡ None → ⊥
 no_kind a e = cc
 
-one_on : (most : ℤ) (b t u : List ℕ) (k l : ErrorKind) → On most b t k → On most b u l → (k ≡ l) × (t ≡ u)
-one_on most b t u k l p q =
+one_on : (maximum : ℤ) (b t u : List ℕ) (k l : ErrorKind) → On maximum b t k → On maximum b u l → (k ≡ l) × (t ≡ u)
+one_on maximum b t u k l p q =
     elim p [
       | inl x ↦ elim q [
         | inl y ↦ (x.kind_is ∙ sym y.kind_is, x.all ∙ sym y.all)
@@ -355,7 +355,7 @@ one_on most b t u k l p q =
     ]
 
 -- bytes call for at most one row, and it takes the same of them
-pub one_row : (most : ℤ) (taken rest other more : List ℕ) (kind also : ErrorKind) → IsRow most taken kind → IsRow most other also → (kind ≡ EndOfInput → rest ≡ [])
+pub one_row : (maximum : ℤ) (taken rest other more : List ℕ) (kind also : ErrorKind) → IsRow maximum taken kind → IsRow maximum other also → (kind ≡ EndOfInput → rest ≡ [])
     → (also ≡ EndOfInput → more ≡ []) → taken ++ rest ≡ other ++ more → (kind ≡ also) × (taken ≡ other)
-one_row most taken rest other more kind also p q ends stops e =
-    one_on most (other ++ more) taken other kind also (subst (λ b. On most b taken kind) e (on_all most taken rest kind p ends)) (on_all most other more also q stops)
+one_row maximum taken rest other more kind also p q ends stops e =
+    one_on maximum (other ++ more) taken other kind also (subst (λ b. On maximum b taken kind) e (on_all maximum taken rest kind p ends)) (on_all maximum other more also q stops)

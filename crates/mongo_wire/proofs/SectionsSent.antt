@@ -21,9 +21,9 @@ sections_spelled id to flags size head word sections id_fits to_fits p q counted
     ∙ ap (λ i. fields (20 + length sections) i (to_z w32 (of_z w32 to)) ++ rest) (to_z-of_z w32 id id_fits)
     ∙ ap (λ t. fields (20 + length sections) id t ++ rest) (to_z-of_z w32 to to_fits)
 
-pub sections_refused : (kind : ErrorKind) (most : ℤ) (sections frame : List ℕ) (old new : State) → SectionsFit most sections → WriteStops kind old new frame → SectionsRefused kind most sections frame old new
-sections_refused kind most sections frame old new fits s =
-    write_cases (λ k. SectionsRefused k most sections frame old new) kind old new frame s (λ f. (f.0, fits, f.1)) (λ f. (fits, f))
+pub sections_refused : (kind : ErrorKind) (maximum : ℤ) (sections frame : List ℕ) (old new : State) → SectionsFit maximum sections → WriteStops kind old new frame → SectionsRefused kind maximum sections frame old new
+sections_refused kind maximum sections frame old new fits s =
+    write_cases (λ k. SectionsRefused k maximum sections frame old new) kind old new frame s (λ f. (f.0, fits, f.1)) (λ f. (fits, f))
 
 -- the flags that are written are known ones
 known_again : (flags : ℕ) → bit_and (bit_and flags unsummed_flags) known_flags ≡ bit_and flags unsummed_flags

@@ -123,13 +123,13 @@ frame_spelled id size m head start document sequences id_fits to_fits p q r s co
     ∙ ap (λ i. fields (frame_length m) i to_code ++ (uint32 word ++ content_of m)) (to_z-of_z w32 id id_fits)
     ∙ ap (λ t. fields (frame_length m) id t ++ (uint32 word ++ content_of m)) (to_z-of_z w32 m.response_to to_fits)
 
-pub write_refused : (kind : ErrorKind) (most : ℤ) (m : Message) (old new : State) (before after : ℤ)
-    → Fits most m → after ≡ id_after m.request_id before → WriteStops kind old new (written_frame (id_of m before) m) → WriteRefused kind most m old new before after
-write_refused kind most m old new before after fits drawn s =
-    write_cases (λ k. WriteRefused k most m old new before after) kind old new (written_frame (id_of m before) m) s
+pub write_refused : (kind : ErrorKind) (maximum : ℤ) (m : Message) (old new : State) (before after : ℤ)
+    → Fits maximum m → after ≡ id_after m.request_id before → WriteStops kind old new (written_frame (id_of m before) m) → WriteRefused kind maximum m old new before after
+write_refused kind maximum m old new before after fits drawn s =
+    write_cases (λ k. WriteRefused k maximum m old new before after) kind old new (written_frame (id_of m before) m) s
     (λ f. (f.0, cut f.1)) (λ f. cut f)
   where
-    cut : AppendsFront old.written new.written (written_frame (id_of m before) m) → WriteCut most m old new before after
+    cut : AppendsFront old.written new.written (written_frame (id_of m before) m) → WriteCut maximum m old new before after
     cut front = record { fits = fits; front = front; drawn = drawn }
 
 -- items were written one after another, and then one of them was refused

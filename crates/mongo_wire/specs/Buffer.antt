@@ -46,11 +46,11 @@ pub record HoldsNothing (buffer : FrameBuffer) : Type 0 where
   pub empty : held_bytes buffer ≡ []
 
 -- A frame within the maximum was taken of the bytes left, and nothing after it; the buffer holds it.
-pub record IsFrameTaken (most : ℤ) (old new : State) (buffer : FrameBuffer) : Type 0 where
+pub record IsFrameTaken (maximum : ℤ) (old new : State) (buffer : FrameBuffer) : Type 0 where
   pub frame : List ℕ
   pub parts : Frame
   pub holds : HoldsFrame frame parts buffer
-  pub within : pos (length frame) ≤ℤ most
+  pub within : pos (length frame) ≤ℤ maximum
   pub taken : Consumes old.left new.left frame
 
 -- A frame of these parts stood before this rest: just it was taken, unless the source failed or memory ran out.
@@ -65,36 +65,36 @@ pub record IsCleared (old new : FrameBuffer) : Type 0 where
 
 -- the buffer has no more memory than it had, or than the maximum
 abbrev pub StaysWithin : ℤ → FrameBuffer → FrameBuffer → Type 0
-StaysWithin most old new = (memory_of new ≤ memory_of old) ⊎ (pos (memory_of new) ≤ℤ most)
+StaysWithin maximum old new = (memory_of new ≤ memory_of old) ⊎ (pos (memory_of new) ≤ℤ maximum)
 
 -- for the bytes that were consumed the buffer gets memory for twice as many and one piece at most
 abbrev pub GrowsFor : State → State → FrameBuffer → FrameBuffer → Type 0
 GrowsFor source_old source_new old new = (had left : List ℕ) → source_old.left ≡ Some had → source_new.left ≡ Some left → memory_of new ≤ max (memory_of old) (4096 + 2 * (length had - length left))
 
 -- a frame was taken and counted, the buffer holds it in memory for what came, and the message shows it
-pub record IsReadInto (most : ℤ) (source_old source_new : State) (old : FrameBuffer) (message : MessageRef) (new : FrameBuffer) : Type 0 where
-  pub is_taken : IsFrameTaken most source_old source_new new
+pub record IsReadInto (maximum : ℤ) (source_old source_new : State) (old : FrameBuffer) (message : MessageRef) (new : FrameBuffer) : Type 0 where
+  pub is_taken : IsFrameTaken maximum source_old source_new new
   pub shown : IsRefOf is_taken.frame is_taken.parts message
   pub counted : frames_taken new ≡ risen (frames_taken old)
   pub came : GrowsFor source_old source_new old new
-  pub within : StaysWithin most old new
+  pub within : StaysWithin maximum old new
 
 -- no frame was taken: the buffer holds nothing, in memory for what came
-pub record IsUnreadInto (most : ℤ) (source_old source_new : State) (old new : FrameBuffer) : Type 0 where
+pub record IsUnreadInto (maximum : ℤ) (source_old source_new : State) (old new : FrameBuffer) : Type 0 where
   pub cleared : IsCleared old new
   pub came : GrowsFor source_old source_new old new
-  pub within : StaysWithin most old new
+  pub within : StaysWithin maximum old new
 
 -- what the buffer is after a read
 abbrev pub ReadsInto : ℤ → State → State → FrameBuffer → Result MessageRef FrameFault → FrameBuffer → Type 0
-ReadsInto most source_old source_new old (Ok message) new = IsReadInto most source_old source_new old message new
-ReadsInto most source_old source_new old (Err fault) new = IsUnreadInto most source_old source_new old new
+ReadsInto maximum source_old source_new old (Ok message) new = IsReadInto maximum source_old source_new old message new
+ReadsInto maximum source_old source_new old (Err fault) new = IsUnreadInto maximum source_old source_new old new
 
 -- the same of a next frame, of which there may be none
 abbrev pub NextInto : ℤ → State → State → FrameBuffer → Result (Option MessageRef) FrameFault → FrameBuffer → Type 0
-NextInto most source_old source_new old (Ok None) new = IsUnreadInto most source_old source_new old new
-NextInto most source_old source_new old (Ok (Some message)) new = IsReadInto most source_old source_new old message new
-NextInto most source_old source_new old (Err fault) new = IsUnreadInto most source_old source_new old new
+NextInto maximum source_old source_new old (Ok None) new = IsUnreadInto maximum source_old source_new old new
+NextInto maximum source_old source_new old (Ok (Some message)) new = IsReadInto maximum source_old source_new old message new
+NextInto maximum source_old source_new old (Err fault) new = IsUnreadInto maximum source_old source_new old new
 
 -- where a frame of these parts stood before this rest
 abbrev pub FindsAgain : List ℕ → Frame → List ℕ → Option (List ℕ) → FrameBuffer → Result Bool FrameFault → Type 0

@@ -15,4 +15,4 @@ pub mod Held
 pub mod Ref
 pub mod Small
 pub mod Sending
-pub mod CommandDocument
+pub mod JoinedDocument

@@ -21,11 +21,11 @@ parts_of id m = record { request_id = id; response_to = m.response_to; flags = b
 
 -- A frame within the maximum was taken of the bytes left, and nothing after it; the message has its parts, and no flag
 -- without a meaning.
-pub record IsRead (most : ℤ) (old new : State) (m : Message) : Type 0 where
+pub record IsRead (maximum : ℤ) (old new : State) (m : Message) : Type 0 where
   pub frame : List ℕ
   pub id : ℤ
   pub is_frame : IsFrame frame (parts_of id m)
-  pub within : pos (length frame) ≤ℤ most
+  pub within : pos (length frame) ≤ℤ maximum
   pub taken : Consumes old.left new.left frame
   pub flags_known : m.flags.0 ≡ bit_and m.flags.0 known_flags
   pub unnumbered : m.request_id ≡ None
@@ -33,12 +33,12 @@ pub record IsRead (most : ℤ) (old new : State) (m : Message) : Type 0 where
 -- Why no frame was read, and what that took: the row of the bytes that were taken, or how far the reading had come where
 -- the source failed or memory ran out.
 abbrev pub ReadRefused : ErrorKind → ℤ → State → State → Type 0
-ReadRefused ReadFault most old new = Rose old.read_faults new.read_faults × TakesUnfinished most old.left new.left
-ReadRefused OutOfMemory most old new = TakesStarted most old.left new.left
-ReadRefused EndOfInput most old new = Rose old.ends new.ends × TakesRow EndOfInput most old.left new.left × IsEmptied new.left
-ReadRefused (InvalidResponse fault) most old new = TakesRow (InvalidResponse fault) most old.left new.left
-ReadRefused (InvalidArgument fault) most old new = TakesRow (InvalidArgument fault) most old.left new.left
-ReadRefused kind most old new = ⊥
+ReadRefused ReadFault maximum old new = Rose old.read_faults new.read_faults × TakesUnfinished maximum old.left new.left
+ReadRefused OutOfMemory maximum old new = TakesStarted maximum old.left new.left
+ReadRefused EndOfInput maximum old new = Rose old.ends new.ends × TakesRow EndOfInput maximum old.left new.left × IsEmptied new.left
+ReadRefused (InvalidResponse fault) maximum old new = TakesRow (InvalidResponse fault) maximum old.left new.left
+ReadRefused (InvalidArgument fault) maximum old new = TakesRow (InvalidArgument fault) maximum old.left new.left
+ReadRefused kind maximum old new = ⊥
 
 -- a fault of reading, or want of memory
 abbrev pub IsUnreadable : ErrorKind → Type 0
@@ -98,37 +98,37 @@ abbrev pub HasSizes : Message → Type 0
 HasSizes m = AllByRecursion (λ s. 4 + length (sequence_bytes s) < 2 ^ 31) m.document_sequences
 
 -- the message can be written within the maximum, which isn't negative
-pub record Fits (most : ℤ) (m : Message) : Type 0 where
+pub record Fits (maximum : ℤ) (m : Message) : Type 0 where
   pub names : HasNames m
   pub sizes : HasSizes m
-  pub positive : pos 0 ≤ℤ most
-  pub within : pos (frame_length m) ≤ℤ most
+  pub positive : pos 0 ≤ℤ maximum
+  pub within : pos (frame_length m) ≤ℤ maximum
 
 -- why it can't, in this order
 abbrev pub ArgumentRow : ArgumentFault → ℤ → Message → Type 0
-ArgumentRow IdentifierHasZero most m = HasNames m → ⊥
-ArgumentRow SequenceTooLong most m = HasNames m × (HasSizes m → ⊥)
-ArgumentRow MaximumNegative most m = HasNames m × HasSizes m × (most <ℤ pos 0)
-ArgumentRow TooLong most m = HasNames m × HasSizes m × (pos 0 ≤ℤ most) × (most <ℤ pos (frame_length m))
-ArgumentRow fault most m = ⊥
+ArgumentRow IdentifierHasZero maximum m = HasNames m → ⊥
+ArgumentRow SequenceTooLong maximum m = HasNames m × (HasSizes m → ⊥)
+ArgumentRow MaximumNegative maximum m = HasNames m × HasSizes m × (maximum <ℤ pos 0)
+ArgumentRow TooLong maximum m = HasNames m × HasSizes m × (pos 0 ≤ℤ maximum) × (maximum <ℤ pos (frame_length m))
+ArgumentRow fault maximum m = ⊥
 
 -- what a write left that was cut after the message was judged: a front of the frame is written, and its id is drawn
-pub record WriteCut (most : ℤ) (m : Message) (old new : State) (before after : ℤ) : Type 0 where
-  pub fits : Fits most m
+pub record WriteCut (maximum : ℤ) (m : Message) (old new : State) (before after : ℤ) : Type 0 where
+  pub fits : Fits maximum m
   pub front : AppendsFront old.written new.written (written_frame (id_of m before) m)
   pub drawn : after ≡ id_after m.request_id before
 
 -- Why a write was refused, and what it left. Before the message is judged nothing is written and no id is drawn; want of
 -- memory is the sink's.
 abbrev pub WriteRefused : ErrorKind → ℤ → Message → State → State → ℤ → ℤ → Type 0
-WriteRefused (InvalidArgument fault) most m old new before after = ArgumentRow fault most m × Keeps old.written new.written × (after ≡ before)
-WriteRefused WriteFault most m old new before after = Rose old.write_faults new.write_faults × WriteCut most m old new before after
-WriteRefused OutOfMemory most m old new before after = WriteCut most m old new before after
-WriteRefused kind most m old new before after = ⊥
+WriteRefused (InvalidArgument fault) maximum m old new before after = ArgumentRow fault maximum m × Keeps old.written new.written × (after ≡ before)
+WriteRefused WriteFault maximum m old new before after = Rose old.write_faults new.write_faults × WriteCut maximum m old new before after
+WriteRefused OutOfMemory maximum m old new before after = WriteCut maximum m old new before after
+WriteRefused kind maximum m old new before after = ⊥
 
 -- A message was written: it fits, its frame stands at the end and is flushed, and its id is drawn.
-pub record Writes (most : ℤ) (m : Message) (old new : State) (before after : ℤ) : Type 0 where
-  pub fits : Fits most m
+pub record Writes (maximum : ℤ) (m : Message) (old new : State) (before after : ℤ) : Type 0 where
+  pub fits : Fits maximum m
   pub appended : Appends old.written new.written (written_frame (id_of m before) m)
   pub flushed_is : IsFlushed new
   pub drawn : after ≡ id_after m.request_id before

@@ -17,11 +17,11 @@ pub record IsRefOf (frame : List ℕ) (parts : Frame) (r : MessageRef) : Type 0 
   pub sections_are : r.sections.now ≡ flat_map section_bytes is_frame.sections
 
 -- A frame within the maximum was taken of the bytes left, and nothing after it; the message shows it.
-pub record IsFrameRead (most : ℤ) (old new : State) (r : MessageRef) : Type 0 where
+pub record IsFrameRead (maximum : ℤ) (old new : State) (r : MessageRef) : Type 0 where
   pub frame : List ℕ
   pub parts : Frame
   pub ref_of : IsRefOf frame parts r
-  pub within : pos (length frame) ≤ℤ most
+  pub within : pos (length frame) ≤ℤ maximum
   pub taken : Consumes old.left new.left frame
 
 -- the message shows the frame of these parts that stood before this rest, and just that frame was taken

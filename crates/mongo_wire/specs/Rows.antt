@@ -19,17 +19,17 @@ code_row length op_code.Query = Some (InvalidResponse NotMessage)
 code_row length op_code.Message = if int_lt length (pos 16) then Some (InvalidArgument CheckedFailure) else None
 
 abbrev pub length_row : ℤ → ℤ → Option OpCode → ℤ → Option ErrorKind
-length_row most length None number = Some (InvalidResponse (OpCodeFault number))
-length_row most length (Some code) number = if int_lt most length then Some (InvalidResponse OverMaximum) else code_row length code
+length_row maximum length None number = Some (InvalidResponse (OpCodeFault number))
+length_row maximum length (Some code) number = if int_lt maximum length then Some (InvalidResponse OverMaximum) else code_row length code
 
 -- the row that a header calls for by itself; none where it is an OP_MSG's whose length is 16 to the maximum
 abbrev pub header_row : ℤ → List ℕ → Option ErrorKind
-header_row most head = length_row most (signed_at 0 head) (op_code_of (signed_at 12 head)) (signed_at 12 head)
+header_row maximum head = length_row maximum (signed_at 0 head) (op_code_of (signed_at 12 head)) (signed_at 12 head)
 
 -- the header came and calls for no row
-pub record Passes (most : ℤ) (taken : List ℕ) : Type 0 where
+pub record Passes (maximum : ℤ) (taken : List ℕ) : Type 0 where
   pub whole : 16 ≤ length taken
-  pub good : header_row most taken ≡ None
+  pub good : header_row maximum taken ≡ None
 
 -- the bytes ended within the header
 pub record ShortHeader (taken : List ℕ) (kind : ErrorKind) : Type 0 where
@@ -37,37 +37,37 @@ pub record ShortHeader (taken : List ℕ) (kind : ErrorKind) : Type 0 where
   pub kind_is : kind ≡ EndOfInput
 
 -- the header calls for it
-pub record HeaderRow (most : ℤ) (taken : List ℕ) (kind : ErrorKind) : Type 0 where
+pub record HeaderRow (maximum : ℤ) (taken : List ℕ) (kind : ErrorKind) : Type 0 where
   pub header : length taken ≡ 16
-  pub row : header_row most taken ≡ Some kind
+  pub row : header_row maximum taken ≡ Some kind
 
 -- the bytes ended before the frame did
-pub record ShortFrame (most : ℤ) (taken : List ℕ) (kind : ErrorKind) : Type 0 where
-  pub passes : Passes most taken
+pub record ShortFrame (maximum : ℤ) (taken : List ℕ) (kind : ErrorKind) : Type 0 where
+  pub passes : Passes maximum taken
   pub short : pos (length taken) <ℤ signed_at 0 taken
   pub kind_is : kind ≡ EndOfInput
 
 -- all the bytes of the frame came, and they are none by the grammar
-pub record NoSections (most : ℤ) (taken : List ℕ) (kind : ErrorKind) : Type 0 where
-  pub passes : Passes most taken
+pub record NoSections (maximum : ℤ) (taken : List ℕ) (kind : ErrorKind) : Type 0 where
+  pub passes : Passes maximum taken
   pub whole : pos (length taken) ≡ signed_at 0 taken
   pub none : (parts : Frame) → IsFrame taken parts → ⊥
   pub kind_is : kind ≡ InvalidResponse Sections
 
 abbrev pub IsRow : ℤ → List ℕ → ErrorKind → Type 0
-IsRow most taken kind = ShortHeader taken kind ⊎ (HeaderRow most taken kind ⊎ (ShortFrame most taken kind ⊎ NoSections most taken kind))
+IsRow maximum taken kind = ShortHeader taken kind ⊎ (HeaderRow maximum taken kind ⊎ (ShortFrame maximum taken kind ⊎ NoSections maximum taken kind))
 
 -- bytes that call for no row yet and aren't a whole frame
 abbrev pub IsUnfinished : ℤ → List ℕ → Type 0
-IsUnfinished most taken = (length taken < 16) ⊎ (Passes most taken × (pos (length taken) <ℤ signed_at 0 taken))
+IsUnfinished maximum taken = (length taken < 16) ⊎ (Passes maximum taken × (pos (length taken) <ℤ signed_at 0 taken))
 
 -- a front of the header, or of a frame whose header calls for no row
 abbrev pub IsStarted : ℤ → List ℕ → Type 0
-IsStarted most taken = (length taken ≤ 16) ⊎ (Passes most taken × (pos (length taken) ≤ℤ signed_at 0 taken))
+IsStarted maximum taken = (length taken ≤ 16) ⊎ (Passes maximum taken × (pos (length taken) ≤ℤ signed_at 0 taken))
 
 -- the bytes that were taken of those that were left call for this row
 abbrev pub TakesRow : ErrorKind → ℤ → Option (List ℕ) → Option (List ℕ) → Type 0
-TakesRow kind most old new = (taken : List ℕ) × Consumes old new taken × IsRow most taken kind
+TakesRow kind maximum old new = (taken : List ℕ) × Consumes old new taken × IsRow maximum taken kind
 
 -- nothing is left
 abbrev pub IsEmptied : Option (List ℕ) → Type 0
@@ -75,8 +75,8 @@ IsEmptied left = IfSome left (λ rest. rest ≡ [])
 
 -- the reading was cut before any row and before the frame's end
 abbrev pub TakesUnfinished : ℤ → Option (List ℕ) → Option (List ℕ) → Type 0
-TakesUnfinished most old new = (taken : List ℕ) × Consumes old new taken × IsUnfinished most taken
+TakesUnfinished maximum old new = (taken : List ℕ) × Consumes old new taken × IsUnfinished maximum taken
 
 -- the reading was given up before any row, perhaps at the frame's end
 abbrev pub TakesStarted : ℤ → Option (List ℕ) → Option (List ℕ) → Type 0
-TakesStarted most old new = (taken : List ℕ) × Consumes old new taken × IsStarted most taken
+TakesStarted maximum old new = (taken : List ℕ) × Consumes old new taken × IsStarted maximum taken

@@ -18,22 +18,22 @@ abbrev pub sections_frame : ℤ → ℤ → ℕ → List ℕ → List ℕ
 sections_frame id to flags sections = uint32 (20 + length sections) ++ (int32 id ++ (int32 to ++ (uint32 message_code ++ (uint32 (bit_and flags unsummed_flags) ++ sections))))
 
 -- it can be written within the maximum, which isn't negative
-pub record SectionsFit (most : ℤ) (sections : List ℕ) : Type 0 where
-  pub positive : pos 0 ≤ℤ most
-  pub within : pos (20 + length sections) ≤ℤ most
+pub record SectionsFit (maximum : ℤ) (sections : List ℕ) : Type 0 where
+  pub positive : pos 0 ≤ℤ maximum
+  pub within : pos (20 + length sections) ≤ℤ maximum
 
 -- why it can't, in this order
 abbrev pub SectionsRow : ArgumentFault → ℤ → List ℕ → Type 0
-SectionsRow MaximumNegative most sections = most <ℤ pos 0
-SectionsRow TooLong most sections = (pos 0 ≤ℤ most) × (most <ℤ pos (20 + length sections))
-SectionsRow fault most sections = ⊥
+SectionsRow MaximumNegative maximum sections = maximum <ℤ pos 0
+SectionsRow TooLong maximum sections = (pos 0 ≤ℤ maximum) × (maximum <ℤ pos (20 + length sections))
+SectionsRow fault maximum sections = ⊥
 
 -- Why the write was refused, and what it left: nothing before the sections are judged, then a front of the frame.
 abbrev pub SectionsRefused : ErrorKind → ℤ → List ℕ → List ℕ → State → State → Type 0
-SectionsRefused (InvalidArgument fault) most sections frame old new = SectionsRow fault most sections × Keeps old.written new.written
-SectionsRefused WriteFault most sections frame old new = Rose old.write_faults new.write_faults × SectionsFit most sections × AppendsFront old.written new.written frame
-SectionsRefused OutOfMemory most sections frame old new = SectionsFit most sections × AppendsFront old.written new.written frame
-SectionsRefused kind most sections frame old new = ⊥
+SectionsRefused (InvalidArgument fault) maximum sections frame old new = SectionsRow fault maximum sections × Keeps old.written new.written
+SectionsRefused WriteFault maximum sections frame old new = Rose old.write_faults new.write_faults × SectionsFit maximum sections × AppendsFront old.written new.written frame
+SectionsRefused OutOfMemory maximum sections frame old new = SectionsFit maximum sections × AppendsFront old.written new.written frame
+SectionsRefused kind maximum sections frame old new = ⊥
 
 -- where the bytes are sections with one body, the frame is one of the grammar
 abbrev pub IsFrameOfSections : ℤ → ℤ → ℕ → List ℕ → Type 0

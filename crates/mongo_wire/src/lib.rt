@@ -12,7 +12,6 @@
 #![tactic(auto)]
 
 mod auth_fault;
-mod command_document;
 mod command_error;
 mod count_reader;
 mod document_sequence;
@@ -24,6 +23,7 @@ mod frames;
 mod header;
 mod header_bytes;
 mod held_frame;
+mod joined_document;
 mod measure;
 mod memory_link;
 mod message;

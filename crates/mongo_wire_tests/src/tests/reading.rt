@@ -102,12 +102,15 @@ fn frames_come_one_after_another_through_one_buffer(rt: HostRuntime) -> Result<(
 
 #[test]
 fn a_frame_is_read_byte_by_byte_unless_a_call_fails(rt: HostRuntime) -> Result<(), Fail> {
-    for call in 0..48 {
-        let mut link = failing_link(rt.alloc(), &MESSAGE_WITH_SEQUENCE, call, 1)?;
-        let mut buffer = FrameBuffer::new(rt.alloc());
-        let numbers = read_by(Way::ReadFrame, rt.alloc(), &mut link, &mut buffer);
-        assert_eq!(rt; numbers.is_ok(), call >= 46);
-        assert_eq!(rt; link.read_faults() == 1, call < 46);
+    for way in [Way::ReadFrame, Way::NextFrame] {
+        for call in 0..48 {
+            let mut link = failing_link(rt.alloc(), &MESSAGE_WITH_SEQUENCE, call, 1)?;
+            let mut buffer = FrameBuffer::new(rt.alloc());
+            let numbers = read_by(way, rt.alloc(), &mut link, &mut buffer);
+            assert_eq!(rt; numbers.is_ok(), call >= 46);
+            assert_eq!(rt; link.read_faults() == 1, call < 46);
+            assert_eq!(rt; buffer.as_bytes().is_empty(), call < 46);
+        }
     }
     Ok(())
 }

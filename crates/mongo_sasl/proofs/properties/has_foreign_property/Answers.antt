@@ -1,7 +1,7 @@
 use Rattle.std.proofs.Common.{◌≡◌, true, false, sym, ◌∙◌}
 use Rattle.mongo_command.proofs.Elements.{taken, stopped}
 use Rattle.mongo_sasl.specs.Validation.{is_oidc_property}
-use Rattle.mongo_sasl.proofs.FirstOfKey.{elements_of}
+use Rattle.mongo_command.proofs.FirstOfKey.{elements_of}
 use Rattle.mongo_sasl.proofs.Foreign.{left_known, left_foreign, left_none, left_unbroken}
 use Rattle.mongo_sasl.proofs.properties.has_foreign_property.Goals as goal
 

@@ -1,4 +1,4 @@
-use Rattle.mongo_sasl.proofs.FirstOfKey.{value_found, readable_unbroken}
+use Rattle.mongo_command.proofs.FirstOfKey.{value_found, readable_unbroken}
 use Rattle.mongo_sasl.proofs.properties.property.Goals as goal
 
 pub unreachable-requires : goal.unreachable-requires

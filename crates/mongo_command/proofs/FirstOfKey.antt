@@ -36,12 +36,12 @@ field_absent : (key : List ℕ) (elements : List Element) → AllByRecursion (λ
 field_absent key [] other = refl
 field_absent key (x ∷ xs) other = passed (bytes_eq x.key key) x (field_of key xs) (other_bytes x.key key other.0) ∙ field_absent key xs other.1
 
-field_first : (b key : List ℕ) (elements : List Element) (e : Element) → IsDocument b elements → IsFirstOf (body_of b) key e → field_of key elements ≡ Some e
+pub field_first : (b key : List ℕ) (elements : List Element) (e : Element) → IsDocument b elements → IsFirstOf (body_of b) key e → field_of key elements ≡ Some e
 field_first b key elements e is first =
     let stands = first_in_document b key e elements is first in
     ap (field_of key) stands.place ∙ field_there key stands.before stands.after e stands.other first.key_is
 
-field_none : (b key : List ℕ) (elements : List Element) → IsDocument b elements → LacksKey (body_of b) key → field_of key elements ≡ None
+pub field_none : (b key : List ℕ) (elements : List Element) → IsDocument b elements → LacksKey (body_of b) key → field_of key elements ≡ None
 field_none b key elements is none = field_absent key elements (none_in_document b key elements is none)
 
 -- a value that is found by key is the field's

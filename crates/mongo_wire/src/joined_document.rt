@@ -3,7 +3,7 @@ ghost use Rattle.std.specs.List.{AllByRecursion};
 ghost use Rattle.mongo_bson.specs.Framed.{body_of, enclosed, IsFramed};
 ghost use Rattle.mongo_bson.specs.Document.{spell};
 ghost use Rattle.mongo_bson.specs.Refusals.{PushRefuses};
-ghost use Rattle.mongo_wire.specs.CommandDocument.{joined_document, JoinRefused, array_element, arrays_bytes};
+ghost use Rattle.mongo_wire.specs.JoinedDocument.{joined_document, JoinRefused, array_element, arrays_bytes};
 ghost use Rattle.mongo_wire.specs.Measure.{IsWithoutZero};
 ghost use Rattle.mongo_wire.specs.Message.{HasNames};
 

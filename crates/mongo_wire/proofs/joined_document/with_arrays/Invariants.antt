@@ -1,7 +1,7 @@
 use Rattle.std.proofs.Common.{◌≡◌, ◌++◌, take}
 use Rattle.mongo_bson.specs.Framed.{body_of, enclosed, IsFramed}
-use Rattle.mongo_wire.specs.CommandDocument.{arrays_bytes}
-use Rattle.mongo_wire.proofs.command_document.with_arrays.Given as goal
+use Rattle.mongo_wire.specs.JoinedDocument.{arrays_bytes}
+use Rattle.mongo_wire.proofs.joined_document.with_arrays.Given as goal
 
 abbrev pub invariant-adding : goal.invariant-adding
 invariant-adding l = record {

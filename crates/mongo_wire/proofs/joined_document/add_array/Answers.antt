@@ -1,5 +1,5 @@
 use Rattle.mongo_wire.proofs.Arrays.{push_alone, without_zero}
-use Rattle.mongo_wire.proofs.command_document.add_array.Goals as goal
+use Rattle.mongo_wire.proofs.joined_document.add_array.Goals as goal
 
 pub returns-clause-refused : goal.returns-clause-refused
 returns-clause-refused c =

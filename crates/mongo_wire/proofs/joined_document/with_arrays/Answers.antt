@@ -1,7 +1,7 @@
 use Rattle.std.proofs.Common.{rules, Err, ap}
 use Rattle.mongo_bson.specs.Framed.{body_of}
 use Rattle.mongo_wire.proofs.Arrays.{array_added, all_too_long, same_fault}
-use Rattle.mongo_wire.proofs.command_document.with_arrays.Goals as goal
+use Rattle.mongo_wire.proofs.joined_document.with_arrays.Goals as goal
 
 pub adding-preserved : goal.adding-preserved
 adding-preserved c = record {
