@@ -8,7 +8,7 @@ use Rattle.mongo_bson.specs.Framed.{body_of}
 use Rattle.mongo_bson.specs.Document.{Element, IsDocument, IsReadable, maximum_depth}
 use Rattle.mongo_bson.specs.Find.{IsFirstOf, LacksKey, BreaksOff, FindsValue, FindsBytes}
 use Rattle.mongo_bson.specs.declared.raw_value.RawValue.{RawValue}
-use Rattle.mongo_bson.proofs.Found.{StandsFirst, first_in_document, none_in_document, broken_no_document}
+use Rattle.mongo_bson.proofs.Found.{first_in_document, none_in_document, broken_no_document}
 use Rattle.mongo_command.specs.Field.{field_of}
 use Rattle.mongo_command.specs.Fields.{IsValueOf}
 

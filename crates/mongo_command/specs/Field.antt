@@ -11,6 +11,10 @@ abbrev pub field_of : List ℕ → List Element → Option Element
 field_of key [] = None
 field_of key (e ∷ es) = if bytes_eq e.key key then Some e else field_of key es
 
+-- elements fill the document
+abbrev pub IsFilled : List ℕ → Type 0
+IsFilled document = ((elements : List Element) → IsDocument document elements → ⊥) → ⊥
+
 -- ---- whether it is there
 
 -- a field that has to be there
