@@ -51,3 +51,30 @@ sasl_supported_mechs_key = codes "saslSupportedMechs"
 
 abbrev pub speculative_authenticate_key : List ℕ
 speculative_authenticate_key = codes "speculativeAuthenticate"
+
+abbrev pub is_writable_primary_key : List ℕ
+is_writable_primary_key = codes "isWritablePrimary"
+
+abbrev pub is_master_key : List ℕ
+is_master_key = codes "ismaster"
+
+abbrev pub logical_session_timeout_minutes_key : List ℕ
+logical_session_timeout_minutes_key = codes "logicalSessionTimeoutMinutes"
+
+abbrev pub min_wire_version_key : List ℕ
+min_wire_version_key = codes "minWireVersion"
+
+abbrev pub max_wire_version_key : List ℕ
+max_wire_version_key = codes "maxWireVersion"
+
+abbrev pub max_bson_object_size_key : List ℕ
+max_bson_object_size_key = codes "maxBsonObjectSize"
+
+abbrev pub max_message_size_bytes_key : List ℕ
+max_message_size_bytes_key = codes "maxMessageSizeBytes"
+
+abbrev pub max_write_batch_size_key : List ℕ
+max_write_batch_size_key = codes "maxWriteBatchSize"
+
+abbrev pub connection_id_key : List ℕ
+connection_id_key = codes "connectionId"

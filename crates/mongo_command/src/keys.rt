@@ -50,3 +50,30 @@ pub const SASL_SUPPORTED_MECHS: &str = "saslSupportedMechs";
 
 /// The login that a hello begins; in its reply, the answer to it.
 pub const SPECULATIVE_AUTHENTICATE: &str = "speculativeAuthenticate";
+
+/// Whether writes are taken.
+pub const IS_WRITABLE_PRIMARY: &str = "isWritablePrimary";
+
+/// The same, as servers spell it that know no `hello`.
+pub const IS_MASTER: &str = "ismaster";
+
+/// How long a session lives unused, in minutes.
+pub const LOGICAL_SESSION_TIMEOUT_MINUTES: &str = "logicalSessionTimeoutMinutes";
+
+/// The least wire version.
+pub const MIN_WIRE_VERSION: &str = "minWireVersion";
+
+/// The greatest wire version.
+pub const MAX_WIRE_VERSION: &str = "maxWireVersion";
+
+/// The greatest document, in bytes.
+pub const MAX_BSON_OBJECT_SIZE: &str = "maxBsonObjectSize";
+
+/// The greatest frame, in bytes.
+pub const MAX_MESSAGE_SIZE_BYTES: &str = "maxMessageSizeBytes";
+
+/// The greatest number of writes in a batch.
+pub const MAX_WRITE_BATCH_SIZE: &str = "maxWriteBatchSize";
+
+/// The server's number for the connection.
+pub const CONNECTION_ID: &str = "connectionId";

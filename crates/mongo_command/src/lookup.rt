@@ -17,7 +17,10 @@ pub(crate) fn value_in<'a>(document: RawDocument<'a>, key: &str) -> Option<RawVa
 }
 
 // The value of the first entry of a key.
-pub(crate) fn value_of_key<'a>(entries: &[(&'a str, RawValue<'a>)], key: &str) -> Option<RawValue<'a>>
+pub(crate) fn value_of_key<'a>(
+    entries: &[(&'a str, RawValue<'a>)],
+    key: &str,
+) -> Option<RawValue<'a>>
     ensures { result ≡ first_entry key.now entries.now }
 {
     for (name, value) in entries {

@@ -15,7 +15,7 @@ use Rattle.mongo_wire.specs.declared.message.Message.{Message}
 use Rattle.mongo_wire.specs.Frame.{body, sequence, section_bytes}
 use Rattle.mongo_wire.specs.Outside.{State}
 use Rattle.mongo_wire.specs.Message.{WriteRefused, checksum_bytes, frame_length}
-use Rattle.mongo_command.specs.Keys.{speculative_authenticate_key}
+use Rattle.mongo_command.specs.Keys.{max_bson_object_size_key, max_message_size_bytes_key, speculative_authenticate_key}
 use Rattle.mongo_command.specs.Literal.{document_element, int32_element, document_of}
 use Rattle.mongo_sasl.specs.Commands.{IsTooLong}
 use Rattle.mongo_scram.specs.Base64.{base64_of}
@@ -73,7 +73,7 @@ document_fits (Err fault) document short refused = absurd refused
 
 -- the reply to a hello that answers its login so
 abbrev answering : List ℕ → List Element
-answering answer = ok_element ∷ int32_element (codes "maxBsonObjectSize") (pos 16777216) ∷ int32_element (codes "maxMessageSizeBytes") server_maximum ∷ document_element speculative_authenticate_key answer ∷ []
+answering answer = ok_element ∷ int32_element max_bson_object_size_key (pos 16777216) ∷ int32_element max_message_size_bytes_key server_maximum ∷ document_element speculative_authenticate_key answer ∷ []
 
 pub hello_fits : {T : Type 0} (r : Result T BsonFault) (payload answer : List ℕ) → length payload < 2 ^ 24 → answer ≡ document_of (speculative_elements payload) → IfErr r (λ fault. IsTooLong fault (document_of (answering answer))) → IfErr r (λ fault. fault ≡ NoMemory)
 hello_fits r payload answer short is refused =

@@ -1,5 +1,5 @@
 -- The server's two replies say what they carry.
-use Rattle.std.proofs.Common.{◌≡◌, ℕ, suc, pos, ◌^◌, ◌<◌, Bool, true, false, None, Some, inl, inr, FitsSigned, List, length, codes, refl, sym, ◌∙◌, subst, arith}
+use Rattle.std.proofs.Common.{◌≡◌, ℕ, suc, pos, ◌^◌, ◌<◌, Bool, true, false, None, Some, inl, inr, FitsSigned, List, length, refl, sym, ◌∙◌, subst, arith}
 use Rattle.std.specs.Int.{to_le_bytes, cast_unsigned, w32}
 use Rattle.std.specs.List.{AllByRecursion}
 use Rattle.mongo_bson.specs.Document.{Element, Shape, fixed, boolean, binary, document, shape_of, IsCstring, IsElement, IsDocument, IsReadable, IsInside, HasDistinctKeys}
@@ -10,7 +10,7 @@ use Rattle.mongo_command.specs.Literal.{document_element, boolean_element, int32
 use Rattle.mongo_command.specs.declared.hello.HelloCommandResponse.{HelloCommandResponse}
 use Rattle.mongo_command.specs.Field.{Required, Optional}
 use Rattle.mongo_command.specs.Hello.{IsHelloResponse}
-use Rattle.mongo_command.specs.Keys.{ok_key, speculative_authenticate_key}
+use Rattle.mongo_command.specs.Keys.{max_bson_object_size_key, max_message_size_bytes_key, ok_key, speculative_authenticate_key}
 use Rattle.mongo_sasl.specs.Commands.{generic_element}
 use Rattle.mongo_sasl.specs.Reply.{IsSaslReply}
 use Rattle.mongo_sasl.specs.Keys.{conversation_id_key, done_key, payload_key}
@@ -110,11 +110,11 @@ final_says payload short = record {
 
 -- ---- the hello's reply
 
-size_key : IsCstring (codes "maxBsonObjectSize")
-size_key = cstring (codes "maxBsonObjectSize") refl refl
+size_key : IsCstring max_bson_object_size_key
+size_key = cstring max_bson_object_size_key refl refl
 
-message_key : IsCstring (codes "maxMessageSizeBytes")
-message_key = cstring (codes "maxMessageSizeBytes") refl refl
+message_key : IsCstring max_message_size_bytes_key
+message_key = cstring max_message_size_bytes_key refl refl
 
 speculative_key : IsCstring speculative_authenticate_key
 speculative_key = cstring speculative_authenticate_key refl refl
@@ -128,7 +128,7 @@ message_fits = omega arith
 hello_document : (payload : List ℕ) → length payload < 2 ^ 29 → IsDocument (document_of (hello_elements payload)) (hello_elements payload)
 hello_document payload short =
     document_of-is (hello_elements payload)
-    (ok_is_element, (number_is_element (codes "maxBsonObjectSize") (pos 16777216) size_key size_fits, (number_is_element (codes "maxMessageSizeBytes") (pos 48000000) message_key message_fits, (document_is_element speculative_authenticate_key (document_of (speculative_elements payload)) speculative_key (framed_document_of (speculative_elements payload) (omega arith)), tt))))
+    (ok_is_element, (number_is_element max_bson_object_size_key (pos 16777216) size_key size_fits, (number_is_element max_message_size_bytes_key (pos 48000000) message_key message_fits, (document_is_element speculative_authenticate_key (document_of (speculative_elements payload)) speculative_key (framed_document_of (speculative_elements payload) (omega arith)), tt))))
     (omega (arith, length-document_of (speculative_elements payload)))
 
 inner_readable : (levels : ℕ) (payload d : List ℕ) → length payload < 2 ^ 29 → IsInside (document_element speculative_authenticate_key (document_of (speculative_elements payload))) d → IsReadable (suc levels) d
@@ -142,7 +142,7 @@ unfolding IsReadable
 hello_readable levels payload short = (
   hello_elements payload,
   hello_document payload short,
-  ((λ d inside. absurd (ok_flat d inside)), ((λ d inside. absurd (flat (int32_element (codes "maxBsonObjectSize") (pos 16777216)) (fixed 4) refl (not_fixed 4) (λ is. absurd (omega arith)) d inside)), ((λ d inside. absurd (flat (int32_element (codes "maxMessageSizeBytes") (pos 48000000)) (fixed 4) refl (not_fixed 4) (λ is. absurd (omega arith)) d inside)), ((λ d inside. inner_readable levels payload d short inside), tt)))),
+  ((λ d inside. absurd (ok_flat d inside)), ((λ d inside. absurd (flat (int32_element max_bson_object_size_key (pos 16777216)) (fixed 4) refl (not_fixed 4) (λ is. absurd (omega arith)) d inside)), ((λ d inside. absurd (flat (int32_element max_message_size_bytes_key (pos 48000000)) (fixed 4) refl (not_fixed 4) (λ is. absurd (omega arith)) d inside)), ((λ d inside. inner_readable levels payload d short inside), tt)))),
 )
 
 -- a standalone server's, with this answer to the login
@@ -187,7 +187,7 @@ hello_says payload short = record {
   well_formed = record {
     document = hello_document payload short;
     readable = hello_readable 98 payload short;
-    distinct = ((apart (codes "maxBsonObjectSize") ok_key refl, (apart (codes "maxMessageSizeBytes") ok_key refl, (apart speculative_authenticate_key ok_key refl, tt))), ((apart (codes "maxMessageSizeBytes") (codes "maxBsonObjectSize") refl, (apart speculative_authenticate_key (codes "maxBsonObjectSize") refl, tt)), ((apart speculative_authenticate_key (codes "maxMessageSizeBytes") refl, tt), (tt, tt))));
+    distinct = ((apart max_bson_object_size_key ok_key refl, (apart max_message_size_bytes_key ok_key refl, (apart speculative_authenticate_key ok_key refl, tt))), ((apart max_message_size_bytes_key max_bson_object_size_key refl, (apart speculative_authenticate_key max_bson_object_size_key refl, tt)), ((apart speculative_authenticate_key max_message_size_bytes_key refl, tt), (tt, tt))));
   };
   success = refl;
   table = record {

@@ -1,10 +1,10 @@
 -- A server's two replies to a login: that to the hello, which answers the login that went with it, and that to the command
 -- after it.
-use Rattle.std.specs.Prelude.{◌≡◌, ℕ, ℤ, pos, ◌≤ℤ◌, Bool, true, false, List, [], ◌∷◌, ◌++◌, length, codes}
+use Rattle.std.specs.Prelude.{◌≡◌, ℕ, ℤ, pos, ◌≤ℤ◌, Bool, true, false, List, [], ◌∷◌, ◌++◌, length}
 use Rattle.std.specs.Int.{to_le_bytes, w64}
 use Rattle.mongo_bson.specs.Document.{Element}
 use Rattle.mongo_command.specs.Literal.{document_element, boolean_element, int32_element, document_of}
-use Rattle.mongo_command.specs.Keys.{ok_key, speculative_authenticate_key}
+use Rattle.mongo_command.specs.Keys.{max_bson_object_size_key, max_message_size_bytes_key, ok_key, speculative_authenticate_key}
 use Rattle.mongo_sasl.specs.Commands.{generic_element}
 use Rattle.mongo_sasl.specs.Keys.{conversation_id_key, done_key, payload_key}
 use Rattle.mongo_wire.specs.declared.memory_link.MemoryLink.{MemoryLink}
@@ -29,8 +29,8 @@ speculative_elements server_first = round_elements false server_first
 abbrev pub hello_elements : List ℕ → List Element
 hello_elements server_first =
     ok_element
-    ∷ int32_element (codes "maxBsonObjectSize") (pos 16777216)
-    ∷ int32_element (codes "maxMessageSizeBytes") server_maximum
+    ∷ int32_element max_bson_object_size_key (pos 16777216)
+    ∷ int32_element max_message_size_bytes_key server_maximum
     ∷ document_element speculative_authenticate_key (document_of (speculative_elements server_first))
     ∷ []
 

@@ -6,7 +6,9 @@ ghost use Rattle.mongo_generate.specs.Replies.{speculative_elements, hello_reply
 
 use bitflags::Flags;
 use mongo_bson::{BsonFault, Bytes, RawDocumentBuf, RawValue};
-use mongo_command::keys::{OK, SPECULATIVE_AUTHENTICATE};
+use mongo_command::keys::{
+    MAX_BSON_OBJECT_SIZE, MAX_MESSAGE_SIZE_BYTES, OK, SPECULATIVE_AUTHENTICATE,
+};
 use mongo_sasl::document_of;
 use mongo_sasl::keys::{CONVERSATION_ID, DONE, PAYLOAD};
 use mongo_wire::{Error, MemoryLink, Message, MessageFlags, RequestIds, Sequences};
@@ -68,13 +70,13 @@ fn hello_reply(alloc: Global, server_first: &[u8]) -> Result<RawDocumentBuf, Bso
 {
     let answer = answer_to_login(alloc, server_first)?;
     let ok = (OK, RawValue::Double(ONE));
-    let size = ("maxBsonObjectSize", RawValue::Int32(16_777_216));
-    let most = ("maxMessageSizeBytes", RawValue::Int32(MAXIMUM));
+    let size = (MAX_BSON_OBJECT_SIZE, RawValue::Int32(16_777_216));
+    let frame = (MAX_MESSAGE_SIZE_BYTES, RawValue::Int32(MAXIMUM));
     let answer = (
         SPECULATIVE_AUTHENTICATE,
         RawValue::Document(answer.borrow()),
     );
-    document_of(alloc, &[ok, size, most, answer])
+    document_of(alloc, &[ok, size, frame, answer])
 }
 
 // What the reply to a hello says to the login that went with it.

@@ -3,7 +3,7 @@ use Rattle.std.specs.Prelude.{ℕ, ℤ, pos, Bool, true, false, Option, None, So
 use Rattle.std.specs.Int.{to_le_bytes, cast_unsigned, w64}
 use Rattle.mongo_bson.specs.Document.{Element}
 use Rattle.mongo_command.specs.Literal.{text_element, document_element, boolean_element, int32_element, document_of}
-use Rattle.mongo_command.specs.Keys.{code_key, code_name_key, errmsg_key, hello_ok_key, ok_key, sasl_supported_mechs_key, speculative_authenticate_key}
+use Rattle.mongo_command.specs.Keys.{code_key, code_name_key, connection_id_key, errmsg_key, hello_ok_key, is_master_key, is_writable_primary_key, logical_session_timeout_minutes_key, max_bson_object_size_key, max_message_size_bytes_key, max_wire_version_key, max_write_batch_size_key, min_wire_version_key, ok_key, sasl_supported_mechs_key, speculative_authenticate_key}
 use Rattle.mongo_sasl.specs.Commands.{generic_element}
 use Rattle.mongo_sasl.specs.Keys.{conversation_id_key, done_key, payload_key}
 use Rattle.mongo_serve.specs.declared.reply.Reply.{Reply}
@@ -59,7 +59,7 @@ build_info_document =
     text_element (codes "version") (codes "7.0.0")
     ∷ text_element (codes "gitVersion") []
     ∷ array_element (codes "versionArray") version_document
-    ∷ int32_element (codes "maxBsonObjectSize") (pos 16777216)
+    ∷ int32_element max_bson_object_size_key (pos 16777216)
     ∷ ok_element
     ∷ [])
 
@@ -69,21 +69,21 @@ build_info_document =
 abbrev pub description : List Element
 description =
     boolean_element hello_ok_key true
-    ∷ int32_element (codes "maxBsonObjectSize") (pos 16777216)
-    ∷ int32_element (codes "maxMessageSizeBytes") (pos 48000000)
-    ∷ int32_element (codes "maxWriteBatchSize") (pos 100000)
+    ∷ int32_element max_bson_object_size_key (pos 16777216)
+    ∷ int32_element max_message_size_bytes_key (pos 48000000)
+    ∷ int32_element max_write_batch_size_key (pos 100000)
     ∷ date_element (codes "localTime") (pos 0)
-    ∷ int32_element (codes "logicalSessionTimeoutMinutes") (pos 30)
-    ∷ int32_element (codes "connectionId") (pos 1)
-    ∷ int32_element (codes "minWireVersion") (pos 0)
-    ∷ int32_element (codes "maxWireVersion") (pos 21)
+    ∷ int32_element logical_session_timeout_minutes_key (pos 30)
+    ∷ int32_element connection_id_key (pos 1)
+    ∷ int32_element min_wire_version_key (pos 0)
+    ∷ int32_element max_wire_version_key (pos 21)
     ∷ boolean_element (codes "readOnly") false
     ∷ []
 
 -- the key that says that writes are taken
 abbrev pub writable_key : Bool → List ℕ
-writable_key true = codes "ismaster"
-writable_key false = codes "isWritablePrimary"
+writable_key true = is_master_key
+writable_key false = is_writable_primary_key
 
 -- an array of the mechanisms' names
 abbrev pub names_document : Mechanisms → List ℕ

@@ -10,9 +10,13 @@ ghost use Rattle.mongo_serve.specs.Replies.{description, hello_elements, mechani
 use crate::documents::ONE;
 use crate::fault::ServeFault;
 use crate::reply::{HelloReply, Mechanisms, SaslReply};
-use crate::reply_document::{MAX_BSON_OBJECT_SIZE, sasl_document};
+use crate::reply_document::{DOCUMENT_MAXIMUM, sasl_document};
 use mongo_bson::{RawDocument, RawDocumentBuf, RawValue};
-use mongo_command::keys::{HELLO_OK, OK, SASL_SUPPORTED_MECHS, SPECULATIVE_AUTHENTICATE};
+use mongo_command::keys::{
+    CONNECTION_ID, HELLO_OK, IS_MASTER, IS_WRITABLE_PRIMARY, LOGICAL_SESSION_TIMEOUT_MINUTES,
+    MAX_BSON_OBJECT_SIZE, MAX_MESSAGE_SIZE_BYTES, MAX_WIRE_VERSION, MAX_WRITE_BATCH_SIZE,
+    MIN_WIRE_VERSION, OK, SASL_SUPPORTED_MECHS, SPECULATIVE_AUTHENTICATE,
+};
 use mongo_sasl::document_of;
 use std::alloc::Global;
 
@@ -44,14 +48,14 @@ fn description(alloc: Global) -> Result<RawDocumentBuf, ServeFault>
         alloc,
         &[
             (HELLO_OK, RawValue::Bool(true)),
-            ("maxBsonObjectSize", RawValue::Int32(MAX_BSON_OBJECT_SIZE)),
-            ("maxMessageSizeBytes", RawValue::Int32(48_000_000)),
-            ("maxWriteBatchSize", RawValue::Int32(100_000)),
+            (MAX_BSON_OBJECT_SIZE, RawValue::Int32(DOCUMENT_MAXIMUM)),
+            (MAX_MESSAGE_SIZE_BYTES, RawValue::Int32(48_000_000)),
+            (MAX_WRITE_BATCH_SIZE, RawValue::Int32(100_000)),
             ("localTime", RawValue::DateTime(0)),
-            ("logicalSessionTimeoutMinutes", RawValue::Int32(30)),
-            ("connectionId", RawValue::Int32(1)),
-            ("minWireVersion", RawValue::Int32(0)),
-            ("maxWireVersion", RawValue::Int32(21)),
+            (LOGICAL_SESSION_TIMEOUT_MINUTES, RawValue::Int32(30)),
+            (CONNECTION_ID, RawValue::Int32(1)),
+            (MIN_WIRE_VERSION, RawValue::Int32(0)),
+            (MAX_WIRE_VERSION, RawValue::Int32(21)),
             ("readOnly", RawValue::Bool(false)),
         ],
     )?)
@@ -62,9 +66,9 @@ fn writable_key(is_legacy: bool) -> &'static str
     ensures { result.now ≡ writable_key is_legacy }
 {
     if is_legacy {
-        "ismaster"
+        IS_MASTER
     } else {
-        "isWritablePrimary"
+        IS_WRITABLE_PRIMARY
     }
 }
 

@@ -9,7 +9,7 @@ use crate::fault::ServeFault;
 use crate::hello_document::hello_document;
 use crate::reply::{Refusal, Reply, SaslReply};
 use mongo_bson::{RawDocument, RawDocumentBuf, RawValue, Text};
-use mongo_command::keys::{CODE, CODE_NAME, ERRMSG, OK};
+use mongo_command::keys::{CODE, CODE_NAME, ERRMSG, MAX_BSON_OBJECT_SIZE, OK};
 use mongo_sasl::document_of;
 use mongo_sasl::keys::{CONVERSATION_ID, DONE, PAYLOAD};
 use std::alloc::Global;
@@ -21,7 +21,7 @@ const CONVERSATION: i32 = 1;
 const GENERIC: u8 = 0;
 
 /// The greatest document, in bytes.
-pub const MAX_BSON_OBJECT_SIZE: i32 = 16_777_216;
+pub const DOCUMENT_MAXIMUM: i32 = 16_777_216;
 
 /// The document that says a reply.
 ///
@@ -102,7 +102,7 @@ fn build_info_document(alloc: Global) -> Result<RawDocumentBuf, ServeFault>
     let version = ("version", RawValue::Str("7.0.0"));
     let git = ("gitVersion", RawValue::Str(""));
     let numbers = ("versionArray", RawValue::Array(version_numbers()));
-    let size = ("maxBsonObjectSize", RawValue::Int32(MAX_BSON_OBJECT_SIZE));
+    let size = (MAX_BSON_OBJECT_SIZE, RawValue::Int32(DOCUMENT_MAXIMUM));
     let ok = (OK, RawValue::Double(ONE));
     Ok(document_of(alloc, &[version, git, numbers, size, ok])?)
 }
