@@ -7,10 +7,10 @@ use Rattle.mongo_bench.specs.declared.task.Hash.{Hash}
 use Rattle.mongo_bench.specs.declared.task.Hash.TheVariants.{Sha1, Sha256}
 
 -- the first generated login over the hash: the even ones are by SCRAM-SHA-1
-abbrev pub number_of : Hash → ℕ
-number_of Sha1 = 0
-number_of Sha256 = 1
+abbrev pub number_of_hash : Hash → ℕ
+number_of_hash Sha1 = 0
+number_of_hash Sha256 = 1
 
 -- the key from which it derives
-abbrev pub key_for : Hash → SaltedKey
-key_for hash = key_of (exchange_at (number_of hash))
+abbrev pub bench_key : Hash → SaltedKey
+bench_key hash = key_of (exchange_at (number_of_hash hash))

@@ -3,9 +3,9 @@ use Rattle.std.specs.Prelude.{ℕ}
 use Rattle.mongo_bench.specs.declared.run.Status.{Status}
 use Rattle.mongo_bench.specs.declared.run.Status.TheVariants.{Done, Usage, SinkFault, NoWords, NoMemory}
 
-abbrev pub code_of : Status → ℕ
-code_of Done = 0
-code_of Usage = 3
-code_of SinkFault = 5
-code_of NoWords = 6
-code_of NoMemory = 6
+abbrev pub bench_code : Status → ℕ
+bench_code Done = 0
+bench_code Usage = 3
+bench_code SinkFault = 5
+bench_code NoWords = 6
+bench_code NoMemory = 6

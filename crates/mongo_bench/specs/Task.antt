@@ -53,10 +53,10 @@ name_of_shape Flat = codes "flat"
 name_of_shape TooDeep = codes "too-deep"
 
 -- the bytes of a frame, and the words for frames
-abbrev pub bytes_of : FrameSize → ℕ
-bytes_of Small = 100
-bytes_of Middle = 10000
-bytes_of Large = 16777216
+abbrev pub size_of_frame : FrameSize → ℕ
+size_of_frame Small = 100
+size_of_frame Middle = 10000
+size_of_frame Large = 16777216
 
 abbrev pub name_of_direction : Direction → List ℕ
 name_of_direction Write = codes "write"
@@ -69,13 +69,13 @@ name_of_size Middle = codes "10000"
 name_of_size Large = codes "16777216"
 
 -- how often a task does what it does
-abbrev pub count_of : Task → ℕ
-count_of (Derive hash count) = count
-count_of (Walk pass shape count) = count
-count_of (Document shape) = 1
-count_of (Frames direction size count) = count
-count_of (Insert count) = count
-count_of (Login hash count) = count
+abbrev pub task_count : Task → ℕ
+task_count (Derive hash count) = count
+task_count (Walk pass shape count) = count
+task_count (Document shape) = 1
+task_count (Frames direction size count) = count
+task_count (Insert count) = count
+task_count (Login hash count) = count
 
 -- the words that ask for a task
 abbrev pub words_of : Task → List (List ℕ)
@@ -87,7 +87,7 @@ words_of (Insert count) = codes "insert" ∷ decimal count ∷ []
 words_of (Login hash count) = codes "login" ∷ name_of_login hash ∷ decimal count ∷ []
 
 abbrev pub AsksTask : List (List ℕ) → Task → Type 0
-AsksTask words task = (words ≡ words_of task) × (1 ≤ count_of task) × (count_of task < 2 ^ 32)
+AsksTask words task = (words ≡ words_of task) × (1 ≤ task_count task) × (task_count task < 2 ^ 32)
 
 -- the words ask for no task
 abbrev pub AsksNothing : List (List ℕ) → Type 0
@@ -108,8 +108,8 @@ derived_by Sha1 count = hi_of sha1 password salt count
 derived_by Sha256 count = hi_of sha256 password salt count
 
 -- the line that a derivation prints: the hex of those bytes
-abbrev pub line_of : Hash → ℕ → List ℕ
-line_of hash count = encode_lower (derived_by hash count) ++ codes "\n"
+abbrev pub derived_line : Hash → ℕ → List ℕ
+derived_line hash count = encode_lower (derived_by hash count) ++ codes "\n"
 
 -- what a pass tells of a document: a number, or whether it is readable
 abbrev pub PassTells : Pass → List ℕ → List ℕ → Type 0
@@ -124,7 +124,7 @@ HasTold pass document old new = (text : List ℕ) × PassTells pass document tex
 -- what a task prints: a derivation its line, a walk what its pass tells of a document, a document its bytes, frames
 -- and commands a number, and logins how many were accepted, all of them
 abbrev pub Prints : Task → List ℕ → Type 0
-Prints (Derive hash count) text = text ≡ line_of hash count
+Prints (Derive hash count) text = text ≡ derived_line hash count
 Prints (Walk pass shape count) text = (document : List ℕ) × IsFramed document × PassTells pass document text
 Prints (Document shape) text = IsFramed text
 Prints (Frames direction size count) text = (length : ℕ) × (text ≡ decimal length ++ codes "\n")

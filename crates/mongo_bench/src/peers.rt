@@ -1,5 +1,5 @@
 ghost use Rattle.std.specs.Prelude.{◌≡◌};
-ghost use Rattle.mongo_bench.specs.Login.{number_of};
+ghost use Rattle.mongo_bench.specs.Login.{number_of_hash};
 
 use crate::task::Hash;
 use mongo_establish::{LoginState, RequestIds, SaltedCache};
@@ -24,7 +24,7 @@ impl Peers {
     ghost use Rattle.mongo_scram.specs.Cache.{entries_of};
     ghost use Rattle.mongo_scram.specs.Costs.{ledgers};
     ghost use Rattle.mongo_establish.specs.KeyCosts.{TakesKey};
-    ghost use Rattle.mongo_bench.specs.Login.{key_for};
+    ghost use Rattle.mongo_bench.specs.Login.{bench_key};
     ghost use Rattle.mongo_bench.specs.Peers.{AreReady};
 
     /// The user of the first generated login over this hash, whose server derives its keys by 4096 steps. Nothing is kept from
@@ -65,7 +65,7 @@ impl Peers {
     ) -> Result<(), AllocError>
         requires ready { AreReady self.old }
         ensures ready { AreReady self.new }
-        ensures takes { OnOk result (TakesKey (key_for self.old.hash) (ledgers steps.old self.old.state.salted) (ledgers steps.new self.new.state.salted)) }
+        ensures takes { OnOk result (TakesKey (bench_key self.old.hash) (ledgers steps.old self.old.state.salted) (ledgers steps.new self.new.state.salted)) }
         ensures hash { self.new.hash ≡ self.old.hash }
         ensures steps { steps.old ≤ steps.new }
     {
@@ -78,7 +78,7 @@ impl Peers {
 
 // The number of the first generated login over this hash.
 fn number_of(hash: Hash) -> u32
-    ensures { result ≡ number_of hash }
+    ensures { result ≡ number_of_hash hash }
 {
     match hash {
         Hash::Sha1 => 0,

@@ -1,7 +1,7 @@
 ghost use Rattle.std.specs.Prelude.{◌≡◌, ◌≢◌, ◌<◌, ◌≤◌, ◌+◌, ◌++◌, ◌↔◌, ℕ, IsOk, OnOk, map, codes, string_bytes};
 ghost use Rattle.hex.specs.Hex.{encode_lower};
 ghost use Rattle.std.specs.Io.KnownBytes.{Appends};
-ghost use Rattle.mongo_bench.specs.Status.{code_of};
+ghost use Rattle.mongo_bench.specs.Status.{bench_code};
 ghost use Rattle.mongo_bench.specs.Task.{AsksTask, AsksNothing, HasPrinted, Costs, derived_by};
 ghost use Rattle.mongo_bench.specs.Work.{nothing_done, work_of};
 
@@ -35,7 +35,7 @@ pub enum Status {
 impl Status {
     /// The exit status of the program.
     pub fn code(self) -> u8
-        ensures { result ≡ code_of self }
+        ensures { result ≡ bench_code self }
     {
         match self {
             Status::Done => 0,

@@ -1,5 +1,5 @@
 ghost use Rattle.std.specs.Prelude.{◌≡◌, ◌≢◌, ◌∷◌, [], ℕ, MatchOption, codes, map, slice_index, string_bytes};
-ghost use Rattle.mongo_bench.specs.Task.{AsksTask, AsksNothing, IsTaskCount, bytes_of, name_of_direction, name_of_hash, name_of_login, name_of_pass, name_of_shape, name_of_size};
+ghost use Rattle.mongo_bench.specs.Task.{AsksTask, AsksNothing, IsTaskCount, size_of_frame, name_of_direction, name_of_hash, name_of_login, name_of_pass, name_of_shape, name_of_size};
 
 /// The password of each derivation (RFC 5802, section 5).
 pub const PASSWORD: &[u8] = b"pencil";
@@ -63,7 +63,7 @@ pub enum FrameSize {
 impl FrameSize {
     /// The bytes of a frame.
     pub fn bytes(self) -> usize
-        ensures { result ≡ bytes_of self }
+        ensures { result ≡ size_of_frame self }
     {
         match self {
             FrameSize::Small => 100,

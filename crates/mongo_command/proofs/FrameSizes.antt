@@ -11,7 +11,7 @@ use Rattle.mongo_bson.proofs.Enclosed.{length-enclosed, body_of-enclosed, length
 use Rattle.mongo_wire.specs.Frame.{sequence, section_bytes, sequence_bytes}
 use Rattle.mongo_wire.specs.declared.document_sequence.DocumentSequence.{DocumentSequence}
 use Rattle.mongo_command.specs.Command.{argument_elements, command_document}
-use Rattle.mongo_command.specs.Collection.{frame_size, LengthensBy, sequence_growth, array_growth, numbered_document, array_element, GrowsList, CarriesSequence, GrowsArray, CarriesArray}
+use Rattle.mongo_command.specs.Collection.{frame_size, LengthensBy, sequence_growth, array_growth, numbered_document, collection_element, GrowsList, CarriesSequence, GrowsArray, CarriesArray}
 use Rattle.mongo_command.specs.declared.command.Command.{Command}
 
 -- the bytes of sequences, each with its kind byte and its size
@@ -57,16 +57,16 @@ array_size old new document g =
     omega (arith, ap length g.document_is, length-enclosed (body_of old.document ++ spell element), length-append (body_of old.document) (spell element), length-append (decimal old.count) (0 ∷ document), length-body_of old.document g.framed)
 
 -- what stands in the body of a command that carries an array
-body_carried : (array : RawArrayBuf) (identifier : List ℕ) (old new : Command) → CarriesArray array identifier old new → body_of new.body ≡ body_of old.body ++ spell (array_element identifier array)
+body_carried : (array : RawArrayBuf) (identifier : List ℕ) (old new : Command) → CarriesArray array identifier old new → body_of new.body ≡ body_of old.body ++ spell (collection_element identifier array)
 body_carried array identifier old new c =
-    let whole = body_of old.body ++ spell (array_element identifier array) in
+    let whole = body_of old.body ++ spell (collection_element identifier array) in
     let is : new.body ≡ enclosed whole = ap (λ x. x.body) c.command_is in
     ap body_of is ∙ body_of-enclosed whole (omega (arith, c.framed.most, ap length is, length-enclosed whole))
 
 array_carried_size : (array : RawArrayBuf) (identifier : List ℕ) (old new : Command) → CarriesArray array identifier old new → frame_size new ≡ 28 + length (body_of old.body) + length identifier + length array.document + length (flat_map spell (argument_elements old.target_db old.arguments)) + sections_size old.document_sequences
 array_carried_size array identifier old new c =
     let arguments = flat_map spell (argument_elements new.target_db new.arguments) in
-    let element = array_element identifier array in
+    let element = collection_element identifier array in
     let same_arguments : length arguments ≡ length (flat_map spell (argument_elements old.target_db old.arguments)) = ap (λ x. length (flat_map spell (argument_elements x.target_db x.arguments))) c.command_is in
     let same_sections : sections_size new.document_sequences ≡ sections_size old.document_sequences = ap (λ x. sections_size x.document_sequences) c.command_is in
     omega (arith, frame_size-is new, same_arguments, same_sections, length-enclosed (body_of new.body ++ arguments), length-append (body_of new.body) arguments, ap length (body_carried array identifier old new c), length-append (body_of old.body) (spell element), length-append identifier (0 ∷ array.document))

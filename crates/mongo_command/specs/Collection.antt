@@ -57,17 +57,17 @@ ArrayPushRefused array document (InvalidArgument (Bson TooLong)) = 2 ^ 31 - 1 < 
 ArrayPushRefused array document OutOfMemory = ⊤
 ArrayPushRefused array document kind = ⊥
 
-abbrev pub array_element : List ℕ → RawArrayBuf → Element
-array_element identifier array = record { kind = 0x04; key = identifier; value = array.document }
+abbrev pub collection_element : List ℕ → RawArrayBuf → Element
+collection_element identifier array = record { kind = 0x04; key = identifier; value = array.document }
 
 -- the command whose body has the array as an element more, at its end
 pub record CarriesArray (array : RawArrayBuf) (identifier : List ℕ) (old new : Command) : Type 0 where
   pub named : Contains identifier 0 → ⊥
-  pub command_is : new ≡ record old { body = enclosed (body_of old.body ++ spell (array_element identifier array)) }
+  pub command_is : new ≡ record old { body = enclosed (body_of old.body ++ spell (collection_element identifier array)) }
   pub framed : IsFramed new.body
 
 abbrev pub ArrayAddRefused : RawArrayBuf → List ℕ → Command → ErrorKind → Type 0
 ArrayAddRefused array identifier command (InvalidArgument (Bson KeyHasZero)) = Contains identifier 0
-ArrayAddRefused array identifier command (InvalidArgument (Bson TooLong)) = (Contains identifier 0 → ⊥) × (2 ^ 31 - 1 < length command.body + length (spell (array_element identifier array)))
+ArrayAddRefused array identifier command (InvalidArgument (Bson TooLong)) = (Contains identifier 0 → ⊥) × (2 ^ 31 - 1 < length command.body + length (spell (collection_element identifier array)))
 ArrayAddRefused array identifier command OutOfMemory = ⊤
 ArrayAddRefused array identifier command kind = ⊥

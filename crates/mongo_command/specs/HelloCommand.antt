@@ -2,7 +2,7 @@
 -- the legacy one.
 use Rattle.std.specs.Prelude.{ℕ, ℤ, pos, ◌-◌, ◌^◌, nat_lt, ◌||◌, Bool, true, false, Option, None, Some, option_map, is_some, is_none, unwrap_or, List, [], ◌∷◌, ◌++◌, codes, if◌then◌else◌}
 use Rattle.mongo_bson.specs.Document.{Element}
-use Rattle.mongo_command.specs.Literal.{text_element, document_element, id_element, int32_element, int64_element, boolean_element, document_of}
+use Rattle.mongo_command.specs.Literal.{text_element, document_element, object_id_element, int32_element, int64_element, boolean_element, document_of}
 use Rattle.mongo_command.specs.Command.{given, command_of}
 use Rattle.mongo_command.specs.declared.server_api.ServerApi.{ServerApi}
 use Rattle.mongo_command.specs.declared.inner_documents.TopologyVersion.{TopologyVersion}
@@ -24,7 +24,7 @@ asked_hello_ok modern hello_ok = if modern then None else if is_none hello_ok th
 -- ---- a hello that waits
 
 abbrev pub topology_version_elements : TopologyVersion → List Element
-topology_version_elements version = id_element process_id_key version.process_id.0 ∷ int64_element counter_key version.counter ∷ []
+topology_version_elements version = object_id_element process_id_key version.process_id.0 ∷ int64_element counter_key version.counter ∷ []
 
 abbrev pub topology_version_document : AwaitableHelloOptions → List ℕ
 topology_version_document options = document_of (topology_version_elements options.topology_version)

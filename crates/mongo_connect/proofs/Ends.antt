@@ -22,7 +22,7 @@ use Rattle.mongo_settings.specs.declared.status.Status.TheVariants.{Done, Refuse
 use Rattle.mongo_connect.specs.Connecting.{IsConnectionTold, TellsBytes, Faultless, ReportsConnection}
 use Rattle.mongo_connect.specs.Input.{is_line_feed, line_of, after_line}
 use Rattle.mongo_connect.specs.Settings.{line_judged, with_replies}
-use Rattle.mongo_connect.specs.Run.{Connected, LineRead, Attempt, Reported, IsRefusedLine, Ends, RunEnds, Unfailed, LineComesOut, IsDecided}
+use Rattle.mongo_connect.specs.Run.{Connected, LineRead, Attempt, ConnectReported, IsRefusedLine, Ends, RunEnds, ConnectUnfailed, LineComesOut, ConnectDecided}
 
 -- ---- after the line
 
@@ -98,7 +98,7 @@ module _ {L K : Type 0} (link : L → State) (sink : K → State) (run : Run L K
     unreported = unreported;
   }
 
-  reported_end : (status : RehearsalStatus) → Reported link sink status run → Ends link sink run (status_after status)
+  reported_end : (status : RehearsalStatus) → ConnectReported link sink status run → Ends link sink run (status_after status)
   reported_end rehearsal.Accepted r = r
   reported_end rehearsal.Refused r = r
 
@@ -119,7 +119,7 @@ module _ {L K : Type 0} (link : L → State) (sink : K → State) (run : Run L K
 
   -- ---- what decides
 
-  reported_decides : (status : RehearsalStatus) (settings : Settings) (input : List ℕ) (r : Reported link sink status run) → Connected input r.rehearsal (link run.source) (link run.source_after) → line_judged (line_of input) ≡ Ok settings
+  reported_decides : (status : RehearsalStatus) (settings : Settings) (input : List ℕ) (r : ConnectReported link sink status run) → Connected input r.rehearsal (link run.source) (link run.source_after) → line_judged (line_of input) ≡ Ok settings
       → JudgementDecides (LineComesOut (after_line input)) (Ok settings) (status_after status)
   reported_decides status settings input r c known other out =
       let same : c.settings ≡ settings = one_settings (line_judged (line_of input)) settings c.settings known c.settings_are in
@@ -129,7 +129,7 @@ module _ {L K : Type 0} (link : L → State) (sink : K → State) (run : Run L K
       let ends : status ≡ other = reports_status (one replied) (steps_of 0 0) status other r.rehearsal.report.items (record { report = c.report; status_is = sym r.status_is ∙ c.status_is; steps_rise = rises }) out_so in
       inl (ap status_after ends)
 
-  settle : (result : Status) (input : List ℕ) (judgement : Result Settings SettingsError) → Ends link sink run result → Unfailed link sink run → TellsBytes (link run.source) input → line_judged (line_of input) ≡ judgement → JudgementDecides (LineComesOut (after_line input)) judgement result
+  settle : (result : Status) (input : List ℕ) (judgement : Result Settings SettingsError) → Ends link sink run result → ConnectUnfailed link sink run → TellsBytes (link run.source) input → line_judged (line_of input) ≡ judgement → JudgementDecides (LineComesOut (after_line input)) judgement result
   settle Done input (Ok settings) e u told known = reported_decides rehearsal.Accepted settings input e (e.attempt.connected input told u.link_faultless) known
   settle Done input (Err error) e u told known = absurd (ok_error _ _ error (e.attempt.connected input told u.link_faultless).settings_are known)
   settle Refused input (Ok settings) e u told known = reported_decides rehearsal.Refused settings input e (e.attempt.connected input told u.link_faultless) known
@@ -148,5 +148,5 @@ module _ {L K : Type 0} (link : L → State) (sink : K → State) (run : Run L K
   settle SourceFault input judgement e u told known = absurd (u.link_faultless.reads e.rose)
   settle SinkFault input judgement e u told known = absurd (u.writes e.rose)
 
-  pub decided : (words : ℕ) (result : Status) → Ends link sink run result → IsDecided link sink words run result
+  pub decided : (words : ℕ) (result : Status) → Ends link sink run result → ConnectDecided link sink words run result
   decided words result e none u input told = settle result input (line_judged (line_of input)) e u told refl

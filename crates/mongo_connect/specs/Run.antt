@@ -58,7 +58,7 @@ pub record Attempt (rehearsal : Rehearsal) (old new : State) : Type 0 where
 
 module _ {L K : Type 0} (link : L → State) (sink : K → State) where
   -- the report was written whole after what was there, and flushed
-  pub record Reported (status : RehearsalStatus) (run : Run L K) : Type 0 where
+  pub record ConnectReported (status : RehearsalStatus) (run : Run L K) : Type 0 where
     pub rehearsal : Rehearsal
     pub status_is : rehearsal.status ≡ status
     pub attempt : Attempt rehearsal (link run.source) (link run.source_after)
@@ -90,7 +90,7 @@ module _ {L K : Type 0} (link : L → State) (sink : K → State) where
     pub front : AppendsFront (sink run.sink).written (sink run.sink_after).written rehearsal.report.items
 
   -- the report's sink failed
-  pub record SinkFailed (run : Run L K) : Type 0 where
+  pub record ConnectSinkFailed (run : Run L K) : Type 0 where
     pub rose : Rose (sink run.sink).write_faults (sink run.sink_after).write_faults
     pub front : ReportedFront run
 
@@ -101,17 +101,17 @@ module _ {L K : Type 0} (link : L → State) (sink : K → State) where
 
   -- how a run on a line ends
   abbrev pub Ends : Run L K → Status → Type 0
-  Ends run Done = Reported rehearsal.Accepted run
-  Ends run Refused = Reported rehearsal.Refused run
+  Ends run Done = ConnectReported rehearsal.Accepted run
+  Ends run Refused = ConnectReported rehearsal.Refused run
   Ends run BadSettings = IsRefusedLine Bad run
   Ends run Usage = ⊥
   Ends run SourceFault = LinkFailed run
-  Ends run SinkFault = SinkFailed run
+  Ends run SinkFault = ConnectSinkFailed run
   Ends run NoMemory = IsSilent run ⊎ (Unreported run ⊎ ReportedFront run)
   Ends run NotBuilt = IsRefusedLine Unbuilt run
 
   -- there are words: nothing is read or written
-  pub record IsUsage (words : ℕ) (run : Run L K) : Type 0 where
+  pub record ConnectUsage (words : ℕ) (run : Run L K) : Type 0 where
     pub some : 0 < words
     pub unread : run.source_after ≡ run.source
     pub unreported : run.sink_after ≡ run.sink
@@ -123,13 +123,13 @@ module _ {L K : Type 0} (link : L → State) (sink : K → State) where
 
   -- how a run with so many words ends
   abbrev pub RunEnds : ℕ → Run L K → Status → Type 0
-  RunEnds words run Usage = IsUsage words run
+  RunEnds words run Usage = ConnectUsage words run
   RunEnds words run status = RanLine words run status
 
   -- ---- what decides
 
   -- the link and the sink didn't fail
-  pub record Unfailed (run : Run L K) : Type 0 where
+  pub record ConnectUnfailed (run : Run L K) : Type 0 where
     pub link_faultless : Faultless (link run.source) (link run.source_after)
     pub writes : Rose (sink run.sink).write_faults (sink run.sink_after).write_faults → ⊥
 
@@ -138,5 +138,5 @@ abbrev pub LineComesOut : List ℕ → Settings → RehearsalStatus → Type 0
 LineComesOut bytes settings status = LoginComesOut (with_replies settings bytes) status
 
 -- Where nothing fails and there are no words, the link's bytes decide; want of memory may stand in its place.
-abbrev pub IsDecided : {L K : Type 0} → (L → State) → (K → State) → ℕ → Run L K → Status → Type 0
-IsDecided link sink words run result = words ≡ 0 → Unfailed link sink run → (input : List ℕ) → TellsBytes (link run.source) input → JudgementDecides (LineComesOut (after_line input)) (line_judged (line_of input)) result
+abbrev pub ConnectDecided : {L K : Type 0} → (L → State) → (K → State) → ℕ → Run L K → Status → Type 0
+ConnectDecided link sink words run result = words ≡ 0 → ConnectUnfailed link sink run → (input : List ℕ) → TellsBytes (link run.source) input → JudgementDecides (LineComesOut (after_line input)) (line_judged (line_of input)) result

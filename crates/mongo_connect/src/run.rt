@@ -2,7 +2,7 @@
 ghost use Rattle.std.specs.Prelude.{◌≡◌, ◌<◌, ℕ, length};
 ghost use Rattle.mongo_settings.specs.Run.{run_of};
 ghost use Rattle.mongo_settings.specs.Status.{StepsAfter};
-ghost use Rattle.mongo_connect.specs.Run.{Ends, RunEnds, IsDecided};
+ghost use Rattle.mongo_connect.specs.Run.{Ends, RunEnds, ConnectDecided};
 
 #[cfg(test)]
 mod tests;
@@ -30,7 +30,7 @@ pub fn run<L: Link, K: Sink, G: Ledger>(
     // How it ends, a row a status: done, what was printed, sent and taken are exactly those of the settings' one report.
     ensures ends { RunEnds L.state K.state (length words.items) (run_of link result.1 report.old report.new) result.0 }
     // Where nothing fails, the words, the line and what follows it decide.
-    ensures decided { IsDecided L.state K.state (length words.items) (run_of link result.1 report.old report.new) result.0 }
+    ensures decided { ConnectDecided L.state K.state (length words.items) (run_of link result.1 report.old report.new) result.0 }
     ensures steps { StepsAfter result.0 steps.old steps.new }
 {
     if words.is_empty() {
@@ -52,7 +52,7 @@ pub fn run_counted<L: Link, K: Sink, G: Ledger>(
     requires parts { blank.parts ≡ G.parts }
     requires has_a_part { 0 < G.parts }
     ensures ends { RunEnds L.state K.state (length words.items) (run_of link result.1 report.old report.new) result.0 }
-    ensures decided { IsDecided L.state K.state (length words.items) (run_of link result.1 report.old report.new) result.0 }
+    ensures decided { ConnectDecided L.state K.state (length words.items) (run_of link result.1 report.old report.new) result.0 }
 {
     let mut steps = Steps::<G>::new(blank);
     run(alloc, words, link, report, &mut steps)

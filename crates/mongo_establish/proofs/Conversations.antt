@@ -21,7 +21,7 @@ use Rattle.mongo_establish.specs.declared.conversation.Conversation.{Conversatio
 use Rattle.mongo_establish.specs.declared.conversation.Conversation.TheVariants.{Scram, Plain as PlainText, X509}
 use Rattle.mongo_establish.specs.Asked.{Asked}
 use Rattle.mongo_establish.specs.Greeting.{Greeting}
-use Rattle.mongo_establish.specs.Login.{handed_by, plain_by, x509_by}
+use Rattle.mongo_establish.specs.Login.{scram_handed_by, plain_by, x509_by}
 use Rattle.mongo_establish.specs.Plan.{scram_login, plain_login, x509_login, conversation_plan}
 use Rattle.mongo_establish.specs.Script.{HoldsConversation}
 use Rattle.mongo_establish.proofs.Fitting.{Fits, fits_followed, fits_scram, fits_plain, fits_x509}
@@ -97,9 +97,9 @@ scram_end handed commands replies is =
       },
     )
 
-scram_joins : (version : ScramVersion) (asked : Asked) (credential : Credential) (greeting : Greeting) → Joins (scram_login version asked credential greeting) (IsScramLogin (handed_by version asked credential greeting)) greeting
+scram_joins : (version : ScramVersion) (asked : Asked) (credential : Credential) (greeting : Greeting) → Joins (scram_login version asked credential greeting) (IsScramLogin (scram_handed_by version asked credential greeting)) greeting
 scram_joins version asked credential greeting =
-    let handed = handed_by version asked credential greeting in
+    let handed = scram_handed_by version asked credential greeting in
     then_joins (scram_plan handed) (IsScramLogin handed) greeting (one_scram handed) (fits_scram handed) (λ events c e. scram_found handed events c (scram_ended handed events c e)) (scram_end handed)
 
 -- ---- PLAIN and X.509

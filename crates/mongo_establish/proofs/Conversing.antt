@@ -26,7 +26,7 @@ use Rattle.mongo_establish.specs.Asked.{Asked}
 use Rattle.mongo_establish.specs.First.{IsRoundBy, scram_round}
 use Rattle.mongo_establish.specs.Greeting.{Greeting}
 use Rattle.mongo_establish.specs.LoggingIn.{Conversed, ConversationStopped, Converses}
-use Rattle.mongo_establish.specs.Login.{handed_by, plain_by, x509_by}
+use Rattle.mongo_establish.specs.Login.{scram_handed_by, plain_by, x509_by}
 use Rattle.mongo_establish.specs.Plan.{conversation_plan}
 
 abbrev followed : {A : Type 0} → Plan A → Greeting → Plan Greeting
@@ -43,22 +43,22 @@ then_stopped plan greeting kind old new before after s = stopped_first plan (λ 
 
 -- what it was handed is what the plan says
 handed_same : (version : ScramVersion) (asked : Asked) (credential : Credential) (greeting : Greeting) (api : Option ServerApi) (round : Option FirstRound) (begun : Option ScramRound) (held : Option StreamDescription) → api ≡ asked.options.auth_options.server_api → begun ≡ scram_round round → IsRoundBy (Some (Scram version)) credential asked greeting round → held ≡ Some greeting.description
-    → handed_to version credential api begun (base64_of asked.nonces.second) asked.options.max_iterations (frame_maximum held) ≡ handed_by version asked credential greeting
+    → handed_to version credential api begun (base64_of asked.nonces.second) asked.options.max_iterations (frame_maximum held) ≡ scram_handed_by version asked credential greeting
 handed_same version asked credential greeting api round begun held p b went d =
     let q = ap speculated_of b ∙ went.scram tt in
     λ i. let h : Handed = record { version = version; credential = credential; server_api = p i; speculated = q i; nonce = base64_of asked.nonces.second; most = asked.options.max_iterations; maximum = frame_maximum (d i) } in h
 
-scram_accepted : (version : ScramVersion) (asked : Asked) (credential : Credential) (greeting : Greeting) (document : List ℕ) (old new : State) (before after : ℤ) (early late : Ledgers) → Accepted (handed_by version asked credential greeting) document old new before after early late → Conversed (Scram version) asked credential greeting old new before after early late
+scram_accepted : (version : ScramVersion) (asked : Asked) (credential : Credential) (greeting : Greeting) (document : List ℕ) (old new : State) (before after : ℤ) (early late : Ledgers) → Accepted (scram_handed_by version asked credential greeting) document old new before after early late → Conversed (Scram version) asked credential greeting old new before after early late
 unfolding conversation_plan
 scram_accepted version asked credential greeting document old new before after early late is = record {
-  reached = then_reached (scram_plan (handed_by version asked credential greeting)) is.challenge greeting old new before after (accepted_reached (handed_by version asked credential greeting) document old new before after early late is);
+  reached = then_reached (scram_plan (scram_handed_by version asked credential greeting)) is.challenge greeting old new before after (accepted_reached (scram_handed_by version asked credential greeting) document old new before after early late is);
   costs = record { document = document; accepted = is };
 }
 
-scram_stopped : (version : ScramVersion) (asked : Asked) (credential : Credential) (greeting : Greeting) (kind : ErrorKind) (old new : State) (before after : ℤ) (early late : Ledgers) → StoppedScram (handed_by version asked credential greeting) kind old new before after early late → ConversationStopped (Scram version) asked credential greeting kind old new before after early late
+scram_stopped : (version : ScramVersion) (asked : Asked) (credential : Credential) (greeting : Greeting) (kind : ErrorKind) (old new : State) (before after : ℤ) (early late : Ledgers) → StoppedScram (scram_handed_by version asked credential greeting) kind old new before after early late → ConversationStopped (Scram version) asked credential greeting kind old new before after early late
 unfolding conversation_plan
 scram_stopped version asked credential greeting kind old new before after early late is = record {
-  stopped = then_stopped (scram_plan (handed_by version asked credential greeting)) greeting kind old new before after (stopped_whole (handed_by version asked credential greeting) kind old new before after early late is);
+  stopped = then_stopped (scram_plan (scram_handed_by version asked credential greeting)) greeting kind old new before after (stopped_whole (scram_handed_by version asked credential greeting) kind old new before after early late is);
   costs = is;
 }
 

@@ -15,7 +15,7 @@ use Rattle.mongo_establish.specs.declared.conversation.Conversation.TheVariants.
 use Rattle.mongo_establish.specs.Asked.{Asked}
 use Rattle.mongo_establish.specs.Derivation.{scram_derivation, derivation_by, derivation_of, login_derivation, derivation_plan, key_in, LeadsToKey}
 use Rattle.mongo_establish.specs.Greeting.{Greeting}
-use Rattle.mongo_establish.specs.Login.{logging_in, speculative_reply, handed_by}
+use Rattle.mongo_establish.specs.Login.{logging_in, speculative_reply, scram_handed_by}
 use Rattle.mongo_establish.specs.Plan.{hello_plan}
 use Rattle.mongo_establish.specs.Spoken.{conversation_of}
 use Rattle.mongo_establish.proofs.HelloPlan.{one_hello}
@@ -26,7 +26,7 @@ use Rattle.mongo_establish.proofs.Validated.{one_invalid_row}
 
 one_scram_derivation : (version : ScramVersion) (asked : Asked) (credential : Credential) (greeting : Greeting) → HasOneTurn (scram_derivation version asked credential greeting)
 one_scram_derivation version asked credential greeting =
-    let handed = handed_by version asked credential greeting in
+    let handed = scram_handed_by version asked credential greeting in
     one_followed (opening handed) (λ challenge. ending (Some (key_by handed challenge))) (one_opening handed) (λ challenge. one_ending (Some (key_by handed challenge)))
 
 one_derivation_by : (conversation : Option Conversation) (mechanism : AuthMechanism) (asked : Asked) (credential : Credential) (greeting : Greeting) → conversation_of mechanism ≡ conversation → HasOneTurn (derivation_by conversation mechanism asked credential greeting)

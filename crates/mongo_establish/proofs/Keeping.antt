@@ -17,7 +17,7 @@ use Rattle.mongo_sasl.specs.declared.credential.Credential.{Credential}
 use Rattle.mongo_sasl.specs.declared.mechanism.AuthMechanism.{AuthMechanism}
 use Rattle.mongo_sasl.specs.declared.mechanism.AuthMechanism.TheVariants.{MongoDbCr}
 use Rattle.mongo_sasl.specs.Kept.{KeepsAfter}
-use Rattle.mongo_sasl.specs.Rules.{first_broken, is_other_than, is_text}
+use Rattle.mongo_sasl.specs.Rules.{first_broken, is_other_than, is_given}
 use Rattle.mongo_sasl.specs.Validation.{scram_rules, x509_rules, plain_rules}
 use Rattle.mongo_sasl.proofs.KeptAfter.{IsOwn, own_keeps, unbuilt_own, kept_after}
 use Rattle.mongo_scram.specs.User.{CredentialRow}
@@ -109,7 +109,7 @@ x509_fault credential fault is =
 plain_fault : (credential : Credential) (fault : ArgumentFault) → Err fault ≡ first_broken (plain_rules credential) → EndsNone fault
 plain_fault credential fault is =
     by_rule (is_none credential.username) PlainUsername fault _ refl (λ named.
-    by_rule (is_text (codes "") credential.username) PlainUsernameEmpty fault _ refl (λ later.
+    by_rule (is_given (codes "") credential.username) PlainUsernameEmpty fault _ refl (λ later.
     by_rule (is_none credential.password) PlainPassword fault (Ok tt) refl (unbroken fault) later) named) is
 
 answer_fault : (conversation : Conversation) (credential : Credential) (fault : ArgumentFault) → Err fault ≡ answer_of conversation credential → EndsNone fault

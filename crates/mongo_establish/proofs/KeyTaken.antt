@@ -32,7 +32,7 @@ use Rattle.mongo_establish.specs.Derivation.{derivation_by, derivation_of, login
 use Rattle.mongo_establish.specs.Established.{StoppedHandshake}
 use Rattle.mongo_establish.specs.Greeting.{Greeting}
 use Rattle.mongo_establish.specs.KeyCosts.{TakesKey, AcceptedTakes, RefusedTakes, TakesAsLed, CostsAsLed}
-use Rattle.mongo_establish.specs.Login.{holds_users, logging_in, speculative_reply, IsMechanism, InvalidRow, handed_by}
+use Rattle.mongo_establish.specs.Login.{holds_users, logging_in, speculative_reply, IsMechanism, InvalidRow, scram_handed_by}
 use Rattle.mongo_establish.specs.Plan.{hello_plan}
 use Rattle.mongo_establish.specs.Pooled.{UnnamedService}
 use Rattle.mongo_establish.specs.Speculation.{mechanism_before, ConversationRow, MechanismRow, HelloRow}
@@ -68,22 +68,22 @@ closing_takes handed kind old new before after first last is =
     ]
 
 opening_reached : (version : ScramVersion) (mechanism : AuthMechanism) (asked : Asked) (credential : Credential) (greeting : Greeting) (c : Challenge) (old middle : State) (before between : ℤ) → HasNone (InvalidRow (speculative_reply asked greeting) mechanism credential)
-    → Reached (opening (handed_by version asked credential greeting)) c old middle before between → Reached (derivation_by (Some (Scram version)) mechanism asked credential greeting) (Some (key_by (handed_by version asked credential greeting) c)) old middle before between
+    → Reached (opening (scram_handed_by version asked credential greeting)) c old middle before between → Reached (derivation_by (Some (Scram version)) mechanism asked credential greeting) (Some (key_by (scram_handed_by version asked credential greeting) c)) old middle before between
 unfolding derivation_by
 opening_reached version mechanism asked credential greeting c old middle before between none r =
-    let handed = handed_by version asked credential greeting in
+    let handed = scram_handed_by version asked credential greeting in
     reached_unless _ _ (Some (key_by handed c)) old middle before between none (reached_both (opening handed) (λ challenge. ending (Some (key_by handed challenge))) c (Some (key_by handed c)) old middle middle before between between r (reached_ending (Some (key_by handed c)) middle between))
 
 opening_stopped : (version : ScramVersion) (mechanism : AuthMechanism) (asked : Asked) (credential : Credential) (greeting : Greeting) (kind : ErrorKind) (old new : State) (before after : ℤ) → HasNone (InvalidRow (speculative_reply asked greeting) mechanism credential)
-    → Stopped (opening (handed_by version asked credential greeting)) kind old new before after → Stopped (derivation_by (Some (Scram version)) mechanism asked credential greeting) kind old new before after
+    → Stopped (opening (scram_handed_by version asked credential greeting)) kind old new before after → Stopped (derivation_by (Some (Scram version)) mechanism asked credential greeting) kind old new before after
 unfolding derivation_by
 opening_stopped version mechanism asked credential greeting kind old new before after none s =
-    let handed = handed_by version asked credential greeting in
+    let handed = scram_handed_by version asked credential greeting in
     stopped_unless _ _ kind old new before after none (stopped_first (opening handed) (λ challenge. ending (Some (key_by handed challenge))) kind old new before after s)
 
 module _ (version : ScramVersion) (mechanism : AuthMechanism) (asked : Asked) (credential : Credential) (greeting : Greeting) (none : HasNone (InvalidRow (speculative_reply asked greeting) mechanism credential)) where
   abbrev handed : Handed
-  handed = handed_by version asked credential greeting
+  handed = scram_handed_by version asked credential greeting
 
   scram_takes : (document : List ℕ) (old new : State) (before after : ℤ) (first last : Ledgers) → Accepted handed document old new before after first last → KeyTaken (derivation_by (Some (Scram version)) mechanism asked credential greeting) old before first last
   scram_takes document old new before after first last is = record {

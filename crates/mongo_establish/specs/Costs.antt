@@ -14,7 +14,7 @@ use Rattle.mongo_establish.specs.declared.conversation.Conversation.TheVariants.
 use Rattle.mongo_establish.specs.declared.establisher.EstablishError.{EstablishError}
 use Rattle.mongo_establish.specs.Asked.{Asked}
 use Rattle.mongo_establish.specs.Greeting.{Greeting}
-use Rattle.mongo_establish.specs.Login.{logging_in, speculative_reply, IsMechanism, InvalidRow, handed_by}
+use Rattle.mongo_establish.specs.Login.{logging_in, speculative_reply, IsMechanism, InvalidRow, scram_handed_by}
 use Rattle.mongo_establish.specs.Plan.{hello_plan}
 use Rattle.mongo_establish.specs.Spoken.{conversation_of}
 
@@ -23,7 +23,7 @@ use Rattle.mongo_establish.specs.Spoken.{conversation_of}
 -- SCRAM's was accepted: its key was derived where it had no entry, and has one now
 pub record ScramAccepted (version : ScramVersion) (asked : Asked) (credential : Credential) (greeting : Greeting) (old new : State) (before after : ℤ) (first last : Ledgers) : Type 0 where
   pub document : List ℕ
-  pub accepted : Accepted (handed_by version asked credential greeting) document old new before after first last
+  pub accepted : Accepted (scram_handed_by version asked credential greeting) document old new before after first last
 
 -- what a login costs that was accepted
 abbrev pub AcceptedCosts : Option Conversation → Asked → Credential → Greeting → State → State → ℤ → ℤ → Ledgers → Ledgers → Type 0
@@ -32,7 +32,7 @@ AcceptedCosts conversation asked credential greeting old new before after first 
 
 -- that was stopped: SCRAM derived its key where the opening had ended and the key had no entry; the entries stay
 abbrev pub StoppedCosts : Option Conversation → Asked → Credential → Greeting → ErrorKind → State → State → ℤ → ℤ → Ledgers → Ledgers → Type 0
-StoppedCosts (Some (Scram version)) asked credential greeting kind old new before after first last = StoppedScram (handed_by version asked credential greeting) kind old new before after first last
+StoppedCosts (Some (Scram version)) asked credential greeting kind old new before after first last = StoppedScram (scram_handed_by version asked credential greeting) kind old new before after first last
 StoppedCosts conversation asked credential greeting kind old new before after first last = CostsNothing first last
 
 -- ---- a login

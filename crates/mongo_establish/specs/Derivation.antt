@@ -11,7 +11,7 @@ use Rattle.mongo_establish.specs.declared.conversation.Conversation.{Conversatio
 use Rattle.mongo_establish.specs.declared.conversation.Conversation.TheVariants.{Scram}
 use Rattle.mongo_establish.specs.Asked.{Asked}
 use Rattle.mongo_establish.specs.Greeting.{Greeting}
-use Rattle.mongo_establish.specs.Login.{logging_in, speculative_reply, IsMechanism, InvalidRow, handed_by}
+use Rattle.mongo_establish.specs.Login.{logging_in, speculative_reply, IsMechanism, InvalidRow, scram_handed_by}
 use Rattle.mongo_establish.specs.Plan.{hello_plan}
 use Rattle.mongo_establish.specs.Spoken.{conversation_of}
 
@@ -20,7 +20,7 @@ use Rattle.mongo_establish.specs.Spoken.{conversation_of}
 -- SCRAM's opening ends with the key, whose password is usable
 abbrev pub scram_derivation : ScramVersion → Asked → Credential → Greeting → Plan (Option SaltedKey)
 scram_derivation version asked credential greeting =
-    followed_by (opening (handed_by version asked credential greeting)) (λ challenge. ending (Some (key_by (handed_by version asked credential greeting) challenge)))
+    followed_by (opening (scram_handed_by version asked credential greeting)) (λ challenge. ending (Some (key_by (scram_handed_by version asked credential greeting) challenge)))
 
 -- it follows where the mechanism takes the credential; another conversation derives from none
 unfoldable pub derivation_by : Option Conversation → AuthMechanism → Asked → Credential → Greeting → Plan (Option SaltedKey)

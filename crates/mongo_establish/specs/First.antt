@@ -9,7 +9,7 @@ use Rattle.mongo_sasl.specs.X509.{x509_body}
 use Rattle.mongo_scram.specs.declared.scram_version.ScramVersion.{ScramVersion}
 use Rattle.mongo_scram.specs.declared.messages.ClientFirst.{ClientFirst as ScramFirst}
 use Rattle.mongo_scram.specs.declared.conversation.FirstRound.{FirstRound as ScramRound}
-use Rattle.mongo_scram.specs.Client.{message_of, nonce_of, source_of, includes_db, speculated_of}
+use Rattle.mongo_scram.specs.Client.{message_of, nonce_of, first_source, includes_db, speculated_of}
 use Rattle.mongo_scram.specs.Commands.{first_body}
 use Rattle.mongo_scram.specs.Plan.{Speculated}
 use Rattle.mongo_establish.specs.Asked.{Asked}
@@ -28,7 +28,7 @@ use Rattle.mongo_establish.specs.Speculation.{mechanism_before, scram_speculatio
 
 -- the document that carries it
 abbrev pub first_document : ClientFirst → List ℕ
-first_document (Scram version first) = first_body version (includes_db first) (source_of first) (message_of first)
+first_document (Scram version first) = first_body version (includes_db first) (first_source first) (message_of first)
 first_document (X509 command) = command.body
 
 -- a SCRAM login's first message says who logs in and its nonce

@@ -56,8 +56,8 @@ abbrev pub speculated_by : Credential → Asked → Greeting → Option Speculat
 speculated_by credential asked greeting = option_map (λ reply. let s : Speculated = record { message = speculative_message credential asked.nonces.first; nonce = speculative_nonce asked.nonces.first; reply = reply } in s) (speculative_reply asked greeting)
 
 -- what SCRAM is handed: that first round, and for a message after the hello the second nonce
-abbrev pub handed_by : ScramVersion → Asked → Credential → Greeting → Handed
-handed_by version asked credential greeting = record {
+abbrev pub scram_handed_by : ScramVersion → Asked → Credential → Greeting → Handed
+scram_handed_by version asked credential greeting = record {
   version = version;
   credential = credential;
   server_api = asked.options.auth_options.server_api;

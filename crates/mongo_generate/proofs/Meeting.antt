@@ -35,18 +35,18 @@ use Rattle.mongo_establish.specs.Client.{hello_document}
 use Rattle.mongo_establish.specs.Derivation.{scram_derivation, derivation_by, login_derivation, derivation_plan, LeadsToKey}
 use Rattle.mongo_establish.specs.Generation.{NamesService}
 use Rattle.mongo_establish.specs.Greeting.{Greeting, Greets}
-use Rattle.mongo_establish.specs.Login.{speculative_reply, handed_by, InvalidRow, TakesCredential}
+use Rattle.mongo_establish.specs.Login.{speculative_reply, scram_handed_by, InvalidRow, TakesCredential}
 use Rattle.mongo_establish.specs.Plan.{hello_said, hello_plan}
 use Rattle.mongo_establish.specs.Script.{Script, IsLoginBy, IsScript, HasScript}
 use Rattle.mongo_establish.specs.Speculation.{MechanismRow, HelloRow, speculative_message, speculative_nonce, answer_to}
 use Rattle.mongo_establish.specs.Spoken.{conversation_of, HasConversation}
 use Rattle.mongo_establish.proofs.HelloPlan.{greeting_ends}
 use Rattle.mongo_server.specs.Acceptance.{IsClientOf, IsAccepted, challenge_of}
-use Rattle.mongo_server.specs.Exchange.{Exchange, joined_of, first_of, close_of, final_of}
+use Rattle.mongo_server.specs.Exchange.{Exchange, joined_of, first_of, close_of, server_final_of}
 use Rattle.mongo_generate.specs.Acceptance.{AreExchangeReplies}
 use Rattle.mongo_generate.specs.Login.{IsPossible, credential_by, key_of}
 use Rattle.mongo_generate.specs.Options.{handshaker_options}
-use Rattle.mongo_generate.specs.Replies.{speculative_elements, hello_elements, final_elements, hello_reply, final_reply}
+use Rattle.mongo_generate.specs.Replies.{speculative_elements, standalone_elements, final_elements, hello_reply, final_reply}
 use Rattle.mongo_command.specs.Literal.{document_of}
 use Rattle.mongo_generate.specs.Written.{CarriesPayloadLast}
 use Rattle.mongo_generate.proofs.Documents.{length-document_of}
@@ -66,7 +66,7 @@ has_scram Sha1 = refl
 has_scram Sha256 = refl
 
 -- which was answered in the hello, so that its mechanism isn't asked whether it takes the credential
-login_by : (version : ScramVersion) (asked : Asked) (credential : Credential) (greeting : Greeting) (given : List ℕ) (commands replies : List (List ℕ)) → speculative_reply asked greeting ≡ Some given → IsScramLogin (handed_by version asked credential greeting) commands replies
+login_by : (version : ScramVersion) (asked : Asked) (credential : Credential) (greeting : Greeting) (given : List ℕ) (commands replies : List (List ℕ)) → speculative_reply asked greeting ≡ Some given → IsScramLogin (scram_handed_by version asked credential greeting) commands replies
     → IsLoginBy (mechanism_of version) asked credential greeting commands replies
 login_by version asked credential greeting given commands replies is login = record {
   taken = subst (λ reply. TakesCredential reply (mechanism_of version) credential) (sym is) tt;
@@ -104,13 +104,13 @@ module _ (pending : PendingConnection) (x : Exchange) (nonces : Nonces) (bytes :
   hello_heard = hello_reply (first_of x)
 
   abbrev last_heard : List ℕ
-  last_heard = final_reply (final_of x)
+  last_heard = final_reply (server_final_of x)
 
   abbrev greeting : Greeting
   greeting = record { document = hello_heard; description = description_of pending.address (standalone inner); speculative = Some inner; connection_id = None }
 
   abbrev handed : Handed
-  handed = handed_by x.version asked credential greeting
+  handed = scram_handed_by x.version asked credential greeting
 
   abbrev close_heard : Challenge
   close_heard = challenge_of x conversation user
@@ -124,14 +124,14 @@ module _ (pending : PendingConnection) (x : Exchange) (nonces : Nonces) (bytes :
   short_first =
       let is = heard.replies.hello_is in
       let within = is.within in
-      omega (arith, ints, body_within heard.replies.hello is.parts is.is_frame, ap length is.body_is, length-document_of (hello_elements (first_of x)), length-document_of (speculative_elements (first_of x)))
+      omega (arith, ints, body_within heard.replies.hello is.parts is.is_frame, ap length is.body_is, length-document_of (standalone_elements (first_of x)), length-document_of (speculative_elements (first_of x)))
 
-  short_final : length (final_of x) < 2 ^ 30
+  short_final : length (server_final_of x) < 2 ^ 30
   unfolding final_reply
   short_final =
       let is = heard.replies.final_is in
       let within = is.within in
-      omega (arith, ints, body_within heard.replies.final is.parts is.is_frame, ap length is.body_is, length-document_of (final_elements (final_of x)))
+      omega (arith, ints, body_within heard.replies.final is.parts is.is_frame, ap length is.body_is, length-document_of (final_elements (server_final_of x)))
 
   short_close : length (close_of x) < 2 ^ 22
   short_close = let short = possible.short in omega (arith, length_close x)
@@ -170,7 +170,7 @@ module _ (pending : PendingConnection) (x : Exchange) (nonces : Nonces) (bytes :
       }
 
   abbrev accepted : IsAccepted x handed user conversation inner last_heard
-  accepted = heard.accepts handed user conversation inner last_heard is_client (record { first_carried = speculative_says (first_of x) (omega (arith, short_first)); last_carried = final_says (final_of x) short_final })
+  accepted = heard.accepts handed user conversation inner last_heard is_client (record { first_carried = speculative_says (first_of x) (omega (arith, short_first)); last_carried = final_says (server_final_of x) short_final })
 
   -- ---- what it says
 

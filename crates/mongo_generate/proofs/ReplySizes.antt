@@ -16,16 +16,16 @@ use Rattle.mongo_wire.specs.Frame.{body, sequence, section_bytes}
 use Rattle.mongo_wire.specs.Outside.{State}
 use Rattle.mongo_wire.specs.Message.{WriteRefused, checksum_bytes, frame_length}
 use Rattle.mongo_command.specs.Keys.{max_bson_object_size_key, max_message_size_bytes_key, speculative_authenticate_key}
-use Rattle.mongo_command.specs.Literal.{document_element, int32_element, document_of}
+use Rattle.mongo_command.specs.Literal.{document_element, int32_element, ok_element, document_of}
 use Rattle.mongo_sasl.specs.Commands.{IsTooLong}
 use Rattle.mongo_scram.specs.Base64.{base64_of}
 use Rattle.mongo_scram.specs.Messages.{verifier}
 use Rattle.mongo_scram.specs.Version.{digest_of}
 use Rattle.mongo_scram.specs.declared.scram_version.ScramVersion.{ScramVersion}
 use Rattle.mongo_mac.specs.Hmac.{hmac_of}
-use Rattle.mongo_server.specs.Exchange.{Exchange, joined_of, salted_of, auth_message_of, first_of, final_of}
+use Rattle.mongo_server.specs.Exchange.{Exchange, joined_of, salted_between, auth_message_between, first_of, server_final_of}
 use Rattle.mongo_generate.specs.Login.{IsPossible}
-use Rattle.mongo_generate.specs.Replies.{ok_element, server_maximum, speculative_elements, hello_elements, final_elements, hello_reply, final_reply}
+use Rattle.mongo_generate.specs.Replies.{server_maximum, speculative_elements, standalone_elements, final_elements, hello_reply, final_reply}
 use Rattle.mongo_generate.proofs.Documents.{length-document_of}
 use Rattle.mongo_generate.proofs.Texts.{length_base64, length_digest}
 
@@ -49,16 +49,16 @@ length_verifier : (version : ScramVersion) (salted auth_message : List ℕ) → 
 unfolding verifier hmac_of
 length_verifier version salted auth_message = length_digest version _
 
-pub short_final : (x : Exchange) → length (final_of x) < 2 ^ 24
+pub short_final : (x : Exchange) → length (server_final_of x) < 2 ^ 24
 short_final x =
-    let owed = verifier (digest_of x.version) (salted_of x) (auth_message_of x) in
-    omega (arith, length_base64 owed, length_verifier x.version (salted_of x) (auth_message_of x))
+    let owed = verifier (digest_of x.version) (salted_between x) (auth_message_between x) in
+    omega (arith, length_base64 owed, length_verifier x.version (salted_between x) (auth_message_between x))
 
 -- ---- documents
 
 pub length_hello : (payload : List ℕ) → length payload < 2 ^ 24 → length (hello_reply payload) < 2 ^ 25
 unfolding hello_reply
-length_hello payload short = omega (arith, length-document_of (hello_elements payload), length-document_of (speculative_elements payload))
+length_hello payload short = omega (arith, length-document_of (standalone_elements payload), length-document_of (speculative_elements payload))
 
 pub length_final : (payload : List ℕ) → length payload < 2 ^ 24 → length (final_reply payload) < 2 ^ 25
 unfolding final_reply

@@ -6,7 +6,7 @@ use Rattle.mongo_bson.specs.Document.{Element, Shape, fixed, boolean, binary, do
 use Rattle.mongo_bson.specs.declared.owned_value.OwnedValue.{OwnedValue}
 use Rattle.mongo_bson.specs.declared.raw_value.RawValue.TheVariants.{Double}
 use Rattle.mongo_bson.proofs.ReadBack.{written_element}
-use Rattle.mongo_command.specs.Literal.{document_element, boolean_element, int32_element, document_of}
+use Rattle.mongo_command.specs.Literal.{document_element, boolean_element, int32_element, ok_element, document_of}
 use Rattle.mongo_command.specs.declared.hello.HelloCommandResponse.{HelloCommandResponse}
 use Rattle.mongo_command.specs.Field.{Required, Optional}
 use Rattle.mongo_command.specs.Hello.{IsHelloResponse}
@@ -14,7 +14,7 @@ use Rattle.mongo_command.specs.Keys.{max_bson_object_size_key, max_message_size_
 use Rattle.mongo_sasl.specs.Commands.{generic_element}
 use Rattle.mongo_sasl.specs.Reply.{IsSaslReply}
 use Rattle.mongo_sasl.specs.Keys.{conversation_id_key, done_key, payload_key}
-use Rattle.mongo_generate.specs.Replies.{ok_element, round_elements, speculative_elements, hello_elements, final_elements, hello_reply, final_reply}
+use Rattle.mongo_generate.specs.Replies.{round_elements, speculative_elements, standalone_elements, final_elements, hello_reply, final_reply}
 use Rattle.mongo_generate.proofs.Documents.{cstring, apart, number_is_element, boolean_is_element, binary_is_element, document_is_element, length-document_of, document_of-is, framed_document_of, IsFlat, flat_readable}
 
 -- ---- what no document is inside of
@@ -125,9 +125,9 @@ size_fits = omega arith
 message_fits : FitsSigned w32 (pos 48000000)
 message_fits = omega arith
 
-hello_document : (payload : List ℕ) → length payload < 2 ^ 29 → IsDocument (document_of (hello_elements payload)) (hello_elements payload)
+hello_document : (payload : List ℕ) → length payload < 2 ^ 29 → IsDocument (document_of (standalone_elements payload)) (standalone_elements payload)
 hello_document payload short =
-    document_of-is (hello_elements payload)
+    document_of-is (standalone_elements payload)
     (ok_is_element, (number_is_element max_bson_object_size_key (pos 16777216) size_key size_fits, (number_is_element max_message_size_bytes_key (pos 48000000) message_key message_fits, (document_is_element speculative_authenticate_key (document_of (speculative_elements payload)) speculative_key (framed_document_of (speculative_elements payload) (omega arith)), tt))))
     (omega (arith, length-document_of (speculative_elements payload)))
 
@@ -137,10 +137,10 @@ inner_readable levels payload d short inside = elim inside [
   | inr y ↦ (let scope = y.0 in absurd (omega arith))
 ]
 
-hello_readable : (levels : ℕ) (payload : List ℕ) → length payload < 2 ^ 29 → IsReadable (suc (suc levels)) (document_of (hello_elements payload))
+hello_readable : (levels : ℕ) (payload : List ℕ) → length payload < 2 ^ 29 → IsReadable (suc (suc levels)) (document_of (standalone_elements payload))
 unfolding IsReadable
 hello_readable levels payload short = (
-  hello_elements payload,
+  standalone_elements payload,
   hello_document payload short,
   ((λ d inside. absurd (ok_flat d inside)), ((λ d inside. absurd (flat (int32_element max_bson_object_size_key (pos 16777216)) (fixed 4) refl (not_fixed 4) (λ is. absurd (omega arith)) d inside)), ((λ d inside. absurd (flat (int32_element max_message_size_bytes_key (pos 48000000)) (fixed 4) refl (not_fixed 4) (λ is. absurd (omega arith)) d inside)), ((λ d inside. inner_readable levels payload d short inside), tt)))),
 )
@@ -183,7 +183,7 @@ standalone inner = record {
 pub hello_says : (payload : List ℕ) → length payload < 2 ^ 29 → IsHelloResponse (hello_reply payload) (standalone (document_of (speculative_elements payload))) None
 unfolding Required Optional hello_reply
 hello_says payload short = record {
-  elements = hello_elements payload;
+  elements = standalone_elements payload;
   well_formed = record {
     document = hello_document payload short;
     readable = hello_readable 98 payload short;

@@ -16,7 +16,7 @@ use Rattle.mongo_scram.specs.Messages.{bare_message, open_message, no_proof, cli
 use Rattle.mongo_scram.specs.UserName.{escaped_byte, escaped}
 use Rattle.mongo_scram.specs.Version.{digest_of}
 use Rattle.mongo_server.specs.ClientMessages.{IsPrintable, IsNonce}
-use Rattle.mongo_server.specs.Exchange.{Exchange, salted_of, auth_message_of, close_of}
+use Rattle.mongo_server.specs.Exchange.{Exchange, salted_between, auth_message_between, close_of}
 
 -- ---- base64
 
@@ -111,4 +111,4 @@ length_closing version salted auth_message nonce =
     omega (arith, length-append nonce (codes ",p=" ++ base64_of owed), length_base64 owed, length_proof version salted auth_message)
 
 pub length_close : (x : Exchange) → length (close_of x) ≤ length x.nonce + length x.suffix + 100
-length_close x = omega (arith, length_closing x.version (salted_of x) (auth_message_of x) (x.nonce ++ x.suffix), length-append x.nonce x.suffix)
+length_close x = omega (arith, length_closing x.version (salted_between x) (auth_message_between x) (x.nonce ++ x.suffix), length-append x.nonce x.suffix)

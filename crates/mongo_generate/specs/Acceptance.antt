@@ -5,14 +5,14 @@ use Rattle.mongo_establish.specs.declared.establisher.EstablishError.{EstablishE
 use Rattle.mongo_establish.specs.declared.establisher.PooledConnection.{PooledConnection}
 use Rattle.mongo_server.specs.declared.server_core.ServerCore.{ServerCore}
 use Rattle.mongo_server.specs.Acceptance.{Accepts}
-use Rattle.mongo_server.specs.Exchange.{Exchange, first_of, close_of, final_of, IsReadAs}
+use Rattle.mongo_server.specs.Exchange.{Exchange, first_of, close_of, server_final_of, IsReadAs}
 use Rattle.mongo_server.specs.Server.{IsOwed, IsLastMessageTaken}
 use Rattle.mongo_generate.specs.declared.accepted.Acceptance.{Acceptance}
 use Rattle.mongo_generate.specs.Replies.{AreReplies}
 
 -- the last messages of an exchange
 abbrev pub acceptance_of : Exchange → Acceptance
-acceptance_of x = record { client_final = close_of x; server_final = final_of x }
+acceptance_of x = record { client_final = close_of x; server_final = server_final_of x }
 
 -- the server has taken the client's last message, and owes its own
 abbrev pub IsTakenBy : ServerCore → Acceptance → Type 0
@@ -26,6 +26,6 @@ IsAcceptedAs ended accepted = ⊥
 
 -- the bytes are the replies of the exchange, which its client accepts
 pub record AreExchangeReplies (x : Exchange) (bytes : List ℕ) : Type 0 where
-  pub replies : AreReplies (first_of x) (final_of x) bytes
+  pub replies : AreReplies (first_of x) (server_final_of x) bytes
   pub reads : IsReadAs (first_of x) x
-  pub accepts : Accepts x (final_of x)
+  pub accepts : Accepts x (server_final_of x)

@@ -4,7 +4,7 @@ use Rattle.sha2.specs.Sha256.{sha256}
 use Rattle.mongo_scram.specs.declared.scram_version.ScramVersion.{ScramVersion}
 use Rattle.mongo_scram.specs.declared.scram_version.ScramVersion.TheVariants.{Sha1, Sha256}
 use Rattle.mongo_scram.specs.Base64.{base64_of}
-use Rattle.mongo_server.specs.Exchange.{Exchange, close_of, final_of}
+use Rattle.mongo_server.specs.Exchange.{Exchange, close_of, server_final_of}
 use Rattle.mongo_generate.specs.declared.logins.Generated.{Generated}
 
 -- ---- the login of a number
@@ -27,7 +27,7 @@ exchange_at k = record {
 
 -- the client's last message and then the server's
 abbrev pub last_messages : Exchange → List ℕ
-last_messages x = close_of x ++ final_of x
+last_messages x = close_of x ++ server_final_of x
 
 -- those of the logins of the numbers below this one, joined
 unfoldable pub all_messages : ℕ → List ℕ

@@ -1,19 +1,14 @@
 -- A server's two replies to a login: that to the hello, which answers the login that went with it, and that to the command
 -- after it.
 use Rattle.std.specs.Prelude.{◌≡◌, ℕ, ℤ, pos, ◌≤ℤ◌, Bool, true, false, List, [], ◌∷◌, ◌++◌, length}
-use Rattle.std.specs.Int.{to_le_bytes, w64}
 use Rattle.mongo_bson.specs.Document.{Element}
-use Rattle.mongo_command.specs.Literal.{document_element, boolean_element, int32_element, document_of}
-use Rattle.mongo_command.specs.Keys.{max_bson_object_size_key, max_message_size_bytes_key, ok_key, speculative_authenticate_key}
+use Rattle.mongo_command.specs.Literal.{document_element, boolean_element, int32_element, ok_element, document_of}
+use Rattle.mongo_command.specs.Keys.{max_bson_object_size_key, max_message_size_bytes_key, speculative_authenticate_key}
 use Rattle.mongo_sasl.specs.Commands.{generic_element}
 use Rattle.mongo_sasl.specs.Keys.{conversation_id_key, done_key, payload_key}
 use Rattle.mongo_wire.specs.declared.memory_link.MemoryLink.{MemoryLink}
 use Rattle.mongo_wire.specs.Frame.{Frame, IsFrame}
 use Rattle.mongo_wire.specs.Memory.{bytes_written}
-
--- `ok: 1.0`
-abbrev pub ok_element : Element
-ok_element = record { kind = 0x01; key = ok_key; value = to_le_bytes w64 0x3FF0000000000000 }
 
 -- the greatest frame that the server takes
 abbrev pub server_maximum : ℤ
@@ -26,8 +21,8 @@ round_elements done payload = int32_element conversation_id_key (pos 1) ∷ bool
 abbrev pub speculative_elements : List ℕ → List Element
 speculative_elements server_first = round_elements false server_first
 
-abbrev pub hello_elements : List ℕ → List Element
-hello_elements server_first =
+abbrev pub standalone_elements : List ℕ → List Element
+standalone_elements server_first =
     ok_element
     ∷ int32_element max_bson_object_size_key (pos 16777216)
     ∷ int32_element max_message_size_bytes_key server_maximum
@@ -39,7 +34,7 @@ final_elements server_final = ok_element ∷ round_elements true server_final
 
 -- a standalone server's answer to a hello, with its first message
 unfoldable pub hello_reply : List ℕ → List ℕ
-hello_reply server_first = document_of (hello_elements server_first)
+hello_reply server_first = document_of (standalone_elements server_first)
 
 -- the end of the login, with its last
 unfoldable pub final_reply : List ℕ → List ℕ

@@ -83,7 +83,7 @@ module _ {S K : Type 0} (source : S → State) (sink : K → State) where
     pub printed : GaveInput (source run.source) (λ input. PrintedFront task steps input (sink run.sink) (sink run.sink_after))
 
   -- memory ran out: no more than one byte past the limit was read, and at most a front of the report was written
-  pub record RanOut (task : Task) (steps : Steps) (run : Run S K) : Type 0 where
+  pub record TaskRanOut (task : Task) (steps : Steps) (run : Run S K) : Type 0 where
     pub read : ConsumesAtMost (source run.source).left (source run.source_after).left (limit + 1)
     pub printed : GaveInput (source run.source) (λ input. PrintedAtMost task steps input (sink run.sink) (sink run.sink_after))
 
@@ -95,7 +95,7 @@ module _ {S K : Type 0} (source : S → State) (sink : K → State) where
   TaskEnds task steps run Usage = ⊥
   TaskEnds task steps run SourceFault = SourceFailed run
   TaskEnds task steps run SinkFault = SinkFailed task steps run
-  TaskEnds task steps run NoMemory = RanOut task steps run
+  TaskEnds task steps run NoMemory = TaskRanOut task steps run
   TaskEnds task steps run NotBuilt = IsUnbuilt task run
 
   -- logins are made, and nothing is read

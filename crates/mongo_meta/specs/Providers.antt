@@ -7,7 +7,7 @@ use Rattle.mongo_meta.specs.declared.environment.Environment.{Environment}
 use Rattle.mongo_meta.specs.declared.faas.FaasEnvironmentName.{FaasEnvironmentName}
 use Rattle.mongo_meta.specs.declared.faas.FaasEnvironmentName.TheVariants.{AwsLambda, AzureFunc, GcpFunc, Vercel}
 use Rattle.mongo_meta.specs.declared.runtime_environment.RuntimeEnvironment.{RuntimeEnvironment}
-use Rattle.mongo_meta.specs.Variables.{value_of, is_set, number_of}
+use Rattle.mongo_meta.specs.Variables.{variable_value, is_set, number_under}
 
 abbrev pub name_text : FaasEnvironmentName → List ℕ
 name_text AwsLambda = codes "aws.lambda"
@@ -34,21 +34,21 @@ abbrev pub found_by : Bool → ProviderSigns
 found_by found = record { found = found; runtime = None; timeout_sec = None; memory_mb = None; region = None }
 
 abbrev pub provider : FaasEnvironmentName → Environment → ProviderSigns
-provider AwsLambda env = record (found_by (begins_with (codes "AWS_Lambda_") (value_of (codes "AWS_EXECUTION_ENV") env) || is_set (codes "AWS_LAMBDA_RUNTIME_API") env)) {
-  runtime = value_of (codes "AWS_EXECUTION_ENV") env;
-  memory_mb = number_of (codes "AWS_LAMBDA_FUNCTION_MEMORY_SIZE") env;
-  region = value_of (codes "AWS_REGION") env;
+provider AwsLambda env = record (found_by (begins_with (codes "AWS_Lambda_") (variable_value (codes "AWS_EXECUTION_ENV") env) || is_set (codes "AWS_LAMBDA_RUNTIME_API") env)) {
+  runtime = variable_value (codes "AWS_EXECUTION_ENV") env;
+  memory_mb = number_under (codes "AWS_LAMBDA_FUNCTION_MEMORY_SIZE") env;
+  region = variable_value (codes "AWS_REGION") env;
 }
 provider Vercel env = record (found_by (is_set (codes "VERCEL") env)) {
-  region = value_of (codes "VERCEL_REGION") env;
+  region = variable_value (codes "VERCEL_REGION") env;
 }
 provider AzureFunc env = record (found_by (is_set (codes "FUNCTIONS_WORKER_RUNTIME") env)) {
-  runtime = value_of (codes "FUNCTIONS_WORKER_RUNTIME") env;
+  runtime = variable_value (codes "FUNCTIONS_WORKER_RUNTIME") env;
 }
 provider GcpFunc env = record (found_by (is_set (codes "K_SERVICE") env || is_set (codes "FUNCTION_NAME") env)) {
-  timeout_sec = number_of (codes "FUNCTION_TIMEOUT_SEC") env;
-  memory_mb = number_of (codes "FUNCTION_MEMORY_MB") env;
-  region = value_of (codes "FUNCTION_REGION") env;
+  timeout_sec = number_under (codes "FUNCTION_TIMEOUT_SEC") env;
+  memory_mb = number_under (codes "FUNCTION_MEMORY_MB") env;
+  region = variable_value (codes "FUNCTION_REGION") env;
 }
 
 abbrev pub providers_in : Environment → List FaasEnvironmentName

@@ -10,8 +10,8 @@ use Rattle.mongo_meta.specs.declared.environment.Environment.{Environment}
 abbrev pub first_value : List ℕ → List Variable → Option (List ℕ)
 first_value name variables = option_map (λ v. v.value) (find (λ v. bytes_eq v.name name) variables)
 
-abbrev pub value_of : List ℕ → Environment → Option (List ℕ)
-value_of name env = first_value name env.variables
+abbrev pub variable_value : List ℕ → Environment → Option (List ℕ)
+variable_value name env = first_value name env.variables
 
 abbrev pub is_filled : Option (List ℕ) → Bool
 is_filled None = false
@@ -19,7 +19,7 @@ is_filled (Some value) = nat_lt 0 (length value)
 
 -- a variable is there and not empty
 abbrev pub is_set : List ℕ → Environment → Bool
-is_set name env = is_filled (value_of name env)
+is_set name env = is_filled (variable_value name env)
 
 -- one decimal digit or more, after a sign where there is one, that write an int32
 abbrev pub is_numeral : List ℕ → Bool
@@ -34,5 +34,5 @@ abbrev pub number_in : List ℕ → Option ℤ
 number_in text = if is_numeral (without_leading_sign text) && is_int32 (signed_digits_value 10 text) then Some (signed_digits_value 10 text) else None
 
 -- the number that a variable holds
-abbrev pub number_of : List ℕ → Environment → Option ℤ
-number_of name env = option_and_then number_in (value_of name env)
+abbrev pub number_under : List ℕ → Environment → Option ℤ
+number_under name env = option_and_then number_in (variable_value name env)

@@ -45,7 +45,7 @@ pub struct Environment {
 }
 
 impl Environment {
-    ghost use Rattle.mongo_meta.specs.Variables.{value_of, number_of, is_set};
+    ghost use Rattle.mongo_meta.specs.Variables.{variable_value, number_under, is_set};
 
     /// A copy.
     pub fn try_clone(&self, alloc: Global) -> Result<Environment, BsonFault>
@@ -60,14 +60,14 @@ impl Environment {
 
     // The value of a variable, or None where there is none of this name.
     pub(crate) fn value(&self, name: &str) -> Option<&str>
-        ensures { option_copied result ≡ value_of name.now self.now }
+        ensures { option_copied result ≡ variable_value name.now self.now }
     {
         first_value(self.variables.as_slice(), name)
     }
 
     // A copy of that value.
     pub(crate) fn text(&self, alloc: Global, name: &str) -> Result<Option<Text>, BsonFault>
-        ensures text { IfOk result (λ text. text ≡ value_of name.now self.now) }
+        ensures text { IfOk result (λ text. text ≡ variable_value name.now self.now) }
         ensures refused { IfErr result (λ fault. fault ≡ BsonFault.OutOfMemory) }
     {
         match self.value(name) {
@@ -78,7 +78,7 @@ impl Environment {
 
     // The number that a variable's value is, or None where it is none or not there.
     pub(crate) fn number(&self, name: &str) -> Option<i32>
-        ensures { result ≡ number_of name.now self.now }
+        ensures { result ≡ number_under name.now self.now }
     {
         match self.value(name) {
             Some(value) => value.parse().ok(),

@@ -2,6 +2,6 @@
 use Rattle.std.specs.Prelude.{Option, None, Some, List, ℕ}
 
 -- the text that `shown` writes of a value, which is `None` where that says nothing
-abbrev pub text_of : {T : Type 0} → (T → Option (List ℕ)) → List ℕ → Option T → Option (List ℕ)
-text_of shown failed None = Some failed
-text_of shown failed (Some x) = shown x
+abbrev pub shown_text : {T : Type 0} → (T → Option (List ℕ)) → List ℕ → Option T → Option (List ℕ)
+shown_text shown failed None = Some failed
+shown_text shown failed (Some x) = shown x

@@ -17,7 +17,7 @@ use Rattle.mongo_command.specs.Fields.{Answers, IsValueOf}
 use Rattle.mongo_command.specs.Keys.{ok_key}
 use Rattle.mongo_sasl.specs.declared.sasl_response.SaslResponse.{SaslResponse}
 use Rattle.mongo_sasl.specs.Reply.{Succeeded, SaysFailure, ReadsValue, IsSaslTable, IsSaslReply, IsSaslFailure, SaslRefused, IsUnsuccessful}
-use Rattle.mongo_sasl.specs.View.{value_of, read_as, kind_of_field_fault}
+use Rattle.mongo_sasl.specs.View.{owned_value_of, read_as, kind_of_field_fault}
 use Rattle.mongo_command.proofs.FirstOfKey.{bytes_found, bytes_none}
 use Rattle.mongo_sasl.proofs.OneReply.{same_elements, not_both}
 
@@ -60,7 +60,7 @@ no_id None is value reads = reads
 no_id (Some e) is value reads = let some : Some e ≡ None = is in absurd cc
 
 -- the id that is found, or that there is none
-pub id_answer : (b key : List ℕ) (elements : List Element) (found : Option (ℕ × Bor (List ℕ))) → IsDocument b elements → FindsBytes (body_of b) key found → Answers (Required ReadsValue) (field_of key elements) (read_as value_of (ok_or found Unreadable))
+pub id_answer : (b key : List ℕ) (elements : List Element) (found : Option (ℕ × Bor (List ℕ))) → IsDocument b elements → FindsBytes (body_of b) key found → Answers (Required ReadsValue) (field_of key elements) (read_as owned_value_of (ok_or found Unreadable))
 id_answer b key elements None is none = no_id (field_of key elements) (bytes_none b key elements is none)
 id_answer b key elements (Some value) is first = id_read (field_of key elements) (record { kind = value.0; key = key; value = value.1.now }) value (bytes_found b key elements value is first) refl refl
 

@@ -32,10 +32,10 @@ value_element key value = record { kind = value.kind; key = key; value = value.b
 abbrev pub skip_empty_exchange : List ℕ
 skip_empty_exchange = document_of (boolean_element (codes "skipEmptyExchange") true ∷ [])
 
-abbrev pub options_of : AuthMechanism → List Element
-options_of ScramSha1 = document_element options_key skip_empty_exchange ∷ []
-options_of ScramSha256 = document_element options_key skip_empty_exchange ∷ []
-options_of other = []
+abbrev pub start_options : AuthMechanism → List Element
+start_options ScramSha1 = document_element options_key skip_empty_exchange ∷ []
+start_options ScramSha256 = document_element options_key skip_empty_exchange ∷ []
+start_options other = []
 
 -- the elements of a `saslStart`
 abbrev pub start_elements : AuthMechanism → List ℕ → List Element
@@ -43,7 +43,7 @@ start_elements mechanism payload =
     int32_element sasl_start_key (pos 1)
     ∷ text_element mechanism_key (name_of mechanism)
     ∷ generic_element payload_key payload
-    ∷ options_of mechanism
+    ∷ start_options mechanism
 
 -- the elements of a `saslContinue`
 abbrev pub continue_elements : OwnedValue → List ℕ → List Element

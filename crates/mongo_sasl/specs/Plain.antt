@@ -92,8 +92,8 @@ pub record IsPlainLogin (handed : PlainHanded) (commands replies : List (List �
 
 -- ---- what the code holds
 
-abbrev pub user_of : Login → PlainUser
-user_of login = record { username = login.username.now; password = login.password.now; source = login.source.now }
+abbrev pub plain_user_of : Login → PlainUser
+plain_user_of login = record { username = login.username.now; password = login.password.now; source = login.source.now }
 
 abbrev pub plain_handed : Credential → Option ServerApi → ℤ → PlainHanded
 plain_handed credential api maximum = record { credential = credential; server_api = api; maximum = maximum }

@@ -8,7 +8,7 @@ use Rattle.mongo_sasl.specs.declared.mechanism.AuthMechanism.{AuthMechanism}
 use Rattle.mongo_sasl.specs.declared.mechanism.AuthMechanism.TheVariants.{MongoDbCr, ScramSha1, ScramSha256, MongoDbX509, Plain, MongoDbAws, MongoDbOidc}
 use Rattle.mongo_sasl.specs.declared.credential.Credential.{Credential}
 use Rattle.mongo_sasl.specs.declared.rules.Rule.{Rule}
-use Rattle.mongo_sasl.specs.Rules.{rule, first_broken, is_other_than, is_text, properties_of, has_property, text_property, is_other_than_array}
+use Rattle.mongo_sasl.specs.Rules.{rule, first_broken, is_other_than, is_given, properties_of, has_property, text_property, is_other_than_array}
 
 -- ---- the rules of each mechanism
 
@@ -26,7 +26,7 @@ x509_rules c =
 abbrev pub plain_rules : Credential → List Rule
 plain_rules c =
     rule PlainUsername (is_none c.username)
-    ∷ rule PlainUsernameEmpty (is_text (codes "") c.username)
+    ∷ rule PlainUsernameEmpty (is_given (codes "") c.username)
     ∷ rule PlainPassword (is_none c.password)
     ∷ []
 
@@ -47,11 +47,11 @@ has_foreign_property (e ∷ es) = not (is_oidc_property e.key) || has_foreign_pr
 
 -- the environments whose tokens are made for a resource
 abbrev pub takes_resource : Option (List ℕ) → Bool
-takes_resource environment = is_text (codes "azure") environment || is_text (codes "gcp") environment
+takes_resource environment = is_given (codes "azure") environment || is_given (codes "gcp") environment
 
 -- an environment is given that is none of the three
 abbrev pub is_unknown_environment : Option (List ℕ) → Bool
-is_unknown_environment environment = is_some environment && not (takes_resource environment || is_text (codes "k8s") environment)
+is_unknown_environment environment = is_some environment && not (takes_resource environment || is_given (codes "k8s") environment)
 
 -- by what the properties say: whether there is a foreign one, the environment, whether there is a token resource, and
 -- whether the allowed hosts are there and no array

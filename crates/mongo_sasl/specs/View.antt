@@ -10,8 +10,8 @@ use Rattle.mongo_command.specs.declared.field.FieldFault.TheVariants.{Unreadable
 use Rattle.mongo_sasl.specs.declared.sasl_response.SaslResponse.{SaslResponse}
 use Rattle.mongo_sasl.specs.declared.sasl_view.SaslView.{SaslView}
 
-abbrev pub value_of : ℕ × Bor (List ℕ) → OwnedValue
-value_of borrowed = record { kind = borrowed.0; bytes = borrowed.1.now }
+abbrev pub owned_value_of : ℕ × Bor (List ℕ) → OwnedValue
+owned_value_of borrowed = record { kind = borrowed.0; bytes = borrowed.1.now }
 
 abbrev pub response_of : SaslView → SaslResponse
 response_of view = record { conversation_id = record { kind = view.conversation_kind; bytes = view.conversation_bytes.now }; done = view.done; payload = view.payload.now }

@@ -101,6 +101,6 @@ abbrev pub x509_handed : Credential → Option ServerApi → Bool → ℤ → X5
 x509_handed credential api speculated maximum = record { credential = credential; server_api = api; speculated = speculated; maximum = maximum }
 
 -- the count of a buffer's frames after a login
-abbrev pub frames_after : Bool → ℕ → ℕ
-frames_after true frames = frames
-frames_after false frames = risen frames
+abbrev pub x509_frames_after : Bool → ℕ → ℕ
+x509_frames_after true frames = frames
+x509_frames_after false frames = risen frames

@@ -11,7 +11,7 @@ ghost use Rattle.mongo_command.specs.Exchange.{frame_maximum, HoldsReply, Counts
 ghost use Rattle.mongo_sasl.specs.Commands.{IsNotBuilt};
 ghost use Rattle.mongo_sasl.specs.Kept.{KeepsAfter};
 ghost use Rattle.mongo_sasl.specs.Login.{HasLogin, IsLed, EndsByReply};
-ghost use Rattle.mongo_sasl.specs.Plain.{payload_of, IsPlainUser, PlainRow, plain_body, plain_command, plain_plan, IsPlainLogin, IsFinished, FinishedRow, user_of, plain_handed};
+ghost use Rattle.mongo_sasl.specs.Plain.{payload_of, IsPlainUser, PlainRow, plain_body, plain_command, plain_plan, IsPlainLogin, IsFinished, FinishedRow, plain_user_of, plain_handed};
 
 use crate::buffered_reply::held_reply;
 use crate::refusal::refused;
@@ -104,7 +104,7 @@ pub fn authenticate_stream<L: Link>(
 
 // The user of a credential.
 fn login_of(credential: &Credential) -> Result<Login<'_>, Error>
-    ensures user { IfOk result (λ login. IsPlainUser credential.now (user_of login)) }
+    ensures user { IfOk result (λ login. IsPlainUser credential.now (plain_user_of login)) }
     ensures refused { IfErr result (λ e. PlainRow credential.now e.kind) }
 {
     let Some(username) = &credential.username else {
@@ -130,8 +130,8 @@ fn start_command(
     login: Login<'_>,
     server_api: Option<&ServerApi>,
 ) -> Result<Command, Error>
-    ensures command { IfOk result (λ command. command ≡ plain_command (user_of login.entry) (option_copied server_api.entry)) }
-    ensures refused { IfErr result (λ e. IsNotBuilt (plain_body (user_of login.entry)) e.kind) }
+    ensures command { IfOk result (λ command. command ≡ plain_command (plain_user_of login.entry) (option_copied server_api.entry)) }
+    ensures refused { IfErr result (λ e. IsNotBuilt (plain_body (plain_user_of login.entry)) e.kind) }
 {
     let payload = payload_bytes(alloc, login.username, login.password)?;
     let source = Text::from_slice(alloc, login.source)?;

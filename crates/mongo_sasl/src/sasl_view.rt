@@ -5,7 +5,7 @@ ghost use Rattle.mongo_command.specs.Field.{field_of, Required};
 ghost use Rattle.mongo_command.specs.Fields.{IsValueOf, Answers, AreFields, HoldsWellFormed};
 ghost use Rattle.mongo_command.specs.Keys.{errmsg_key, ok_key};
 ghost use Rattle.mongo_sasl.specs.Reply.{ReadsValue, ReadsGeneric, IsSaslTable, IsSaslReply, SaslRefused, Succeeded, IsUnsuccessful, IsFailureOf};
-ghost use Rattle.mongo_sasl.specs.View.{value_of, response_of, read_as, kind_of_field_fault};
+ghost use Rattle.mongo_sasl.specs.View.{owned_value_of, response_of, read_as, kind_of_field_fault};
 ghost use Rattle.mongo_sasl.specs.Keys.{conversation_id_key};
 
 use crate::keys::{CONVERSATION_ID, DONE, PAYLOAD};
@@ -136,7 +136,7 @@ fn table_of<'b>(response: RawDocument<'b>, fields: &Fields<'b>) -> Result<SaslVi
 
 // The conversation's id: the kind byte and the bytes of a value of any kind.
 fn conversation_id<'b>(response: RawDocument<'b>) -> Result<(u8, &'b [u8]), FieldFault>
-    ensures { (elements : List Element) → IsDocument response.entry.bytes.now elements → Answers (Required ReadsValue) (field_of conversation_id_key elements) (read_as value_of result) }
+    ensures { (elements : List Element) → IsDocument response.entry.bytes.now elements → Answers (Required ReadsValue) (field_of conversation_id_key elements) (read_as owned_value_of result) }
 {
     response
         .get_bytes(CONVERSATION_ID)?

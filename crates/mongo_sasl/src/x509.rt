@@ -11,7 +11,7 @@ ghost use Rattle.mongo_command.specs.Exchange.{frame_maximum, HoldsReply, Counts
 ghost use Rattle.mongo_sasl.specs.Commands.{IsTooLong, IsNotBuilt};
 ghost use Rattle.mongo_sasl.specs.Kept.{KeepsAfter};
 ghost use Rattle.mongo_sasl.specs.Login.{HasLogin, IsLed, EndsByReply};
-ghost use Rattle.mongo_sasl.specs.X509.{x509_body, x509_command, IsCertificateTaken, X509Row, x509_plan, IsX509Login, x509_handed, frames_after};
+ghost use Rattle.mongo_sasl.specs.X509.{x509_body, x509_command, IsCertificateTaken, X509Row, x509_plan, IsX509Login, x509_handed, x509_frames_after};
 
 use crate::buffered_reply::held_reply;
 use crate::commands::login_command;
@@ -81,7 +81,7 @@ pub fn authenticate_stream<L: Link>(
         IsLed result outcome commands unread (L.state link.old) (L.state link.new) ids.old ids.new }
 
     // The reply passed through the buffer, where there is one; the buffer holds just the reply of the login's one exchange.
-    ensures frames { OnOk result (frames_taken buffer.new ≡ frames_after speculated (frames_taken buffer.old)) }
+    ensures frames { OnOk result (frames_taken buffer.new ≡ x509_frames_after speculated (frames_taken buffer.old)) }
     ensures holds { speculated ≡ false → OnOk result (HoldsReply buffer.new) }
     ensures taken { speculated ≡ false → OnOk result (IsFrameTaken (frame_maximum connection.old.stream_description) (L.state link.old) (L.state link.new) buffer.new) }
     ensures reply { speculated ≡ false → OnOk result (EndsByReply (x509_plan (x509_handed credential.now (option_copied server_api.entry) speculated (frame_maximum connection.old.stream_description))) tt (held_document buffer.new)

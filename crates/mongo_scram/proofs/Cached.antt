@@ -11,7 +11,7 @@ use Rattle.std.proofs.lemmas.List.Elements.{Contains-append_right, All-cons, All
 use Rattle.mongo_scram.specs.declared.scram_version.ScramVersion.{ScramVersion}
 use Rattle.mongo_scram.specs.declared.scram_version.ScramVersion.TheVariants.{Sha1, Sha256}
 use Rattle.mongo_scram.specs.declared.cache.SaltedKey.{SaltedKey}
-use Rattle.mongo_scram.specs.Version.{name_of}
+use Rattle.mongo_scram.specs.Version.{version_name}
 use Rattle.mongo_scram.specs.KeyOrder.{key_cmp, key_cmp-total}
 use Rattle.mongo_scram.specs.Entry.{IsSaltedEntry, IsUsable, salted_of}
 use Rattle.mongo_scram.specs.Cache.{Adds}
@@ -23,7 +23,7 @@ both_equal Less s is = absurd (cc)
 both_equal Equal s is = (refl, is)
 both_equal Greater s is = absurd (cc)
 
-same_version : (a b : ScramVersion) → slice_cmp nat_cmp (name_of a) (name_of b) ≡ Equal → a ≡ b
+same_version : (a b : ScramVersion) → slice_cmp nat_cmp (version_name a) (version_name b) ≡ Equal → a ≡ b
 same_version Sha1 Sha1 is = refl
 same_version Sha1 Sha256 is = absurd (cc)
 same_version Sha256 Sha1 is = absurd (cc)

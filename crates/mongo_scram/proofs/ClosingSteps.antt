@@ -6,7 +6,7 @@ use Rattle.mongo_command.specs.Conversation.{Said, HasNone, Stopped}
 use Rattle.mongo_sasl.specs.Login.{EndsByReply}
 use Rattle.mongo_scram.specs.declared.messages.ClientFirst.{ClientFirst}
 use Rattle.mongo_scram.specs.declared.messages.ClientFinal.{ClientFinal}
-use Rattle.mongo_scram.specs.Client.{bare_of, message_of, final_of, auth_message_of, conversation_of, final_source_of, final_api_of}
+use Rattle.mongo_scram.specs.Client.{bare_of, message_of, final_of, auth_message_of, final_conversation, final_source_of, final_api_of}
 use Rattle.mongo_scram.specs.Commands.{final_command}
 use Rattle.mongo_command.specs.Command.{command_document}
 use Rattle.mongo_scram.specs.Costs.{EndsLogin}
@@ -20,13 +20,13 @@ pub record IsFinal (handed : Handed) (c : Challenge) (tag : List ℕ) (final : C
   pub tag_is : tag ≡ salted_by handed c
   pub auth_message : auth_message_of final ≡ auth_message_by handed c
   pub message : final_of final ≡ close_by handed c
-  pub conversation : conversation_of final ≡ c.first.conversation_id
+  pub conversation : final_conversation final ≡ c.first.conversation_id
   pub source : final_source_of final ≡ c.user.source
   pub api : final_api_of final ≡ handed.server_api
 
 -- by what it was made of
 pub final_by : (handed : Handed) (c : Challenge) (tag : List ℕ) (first : ClientFirst) (final : ClientFinal) → tag ≡ salted_by handed c → message_of first ≡ message_by handed c.user → auth_message_of final ≡ transcript (bare_of first) c.first.message c.first.nonce → final_of final ≡ close_message (digest_of handed.version) tag (auth_message_of final) c.first.nonce
-    → conversation_of final ≡ c.first.conversation_id → final_source_of final ≡ c.user.source → final_api_of final ≡ handed.server_api → IsFinal handed c tag final
+    → final_conversation final ≡ c.first.conversation_id → final_source_of final ≡ c.user.source → final_api_of final ≡ handed.server_api → IsFinal handed c tag final
 final_by handed c tag first final tag_is message auth_message message_is conversation source api =
     let auth : auth_message_of final ≡ auth_message_by handed c = auth_message ∙ ap (λ m. transcript (drop 3 m) c.first.message c.first.nonce) message in
     record {
@@ -53,21 +53,21 @@ same_owed handed c tag final is =
     λ i. verifier (digest_of handed.version) (salted i) (auth i)
 
 pub closing_ends : (handed : Handed) (c : Challenge) (tag : List ℕ) (final : ClientFinal) (maximum : ℤ) (document : List ℕ) (old new : State) (before after : ℤ) → maximum ≡ handed.maximum → IsFinal handed c tag final
-    → EndsByReply (last_round (final_said final maximum) (conversation_of final) (verifier (digest_of handed.version) tag (auth_message_of final)) c) c document old new before after → EndsByReply (closing handed c) c document old new before after
+    → EndsByReply (last_round (final_said final maximum) (final_conversation final) (verifier (digest_of handed.version) tag (auth_message_of final)) c) c document old new before after → EndsByReply (closing handed c) c document old new before after
 closing_ends handed c tag final maximum document old new before after same is r =
     subst (λ owed. EndsByReply (last_round (close_said handed c) c.first.conversation_id owed c) c document old new before after) (same_owed handed c tag final is)
     (subst (λ id. EndsByReply (last_round (close_said handed c) id (verifier (digest_of handed.version) tag (auth_message_of final)) c) c document old new before after) is.conversation
-    (subst (λ said. EndsByReply (last_round said (conversation_of final) (verifier (digest_of handed.version) tag (auth_message_of final)) c) c document old new before after) (same_said handed c tag final maximum same is) r))
+    (subst (λ said. EndsByReply (last_round said (final_conversation final) (verifier (digest_of handed.version) tag (auth_message_of final)) c) c document old new before after) (same_said handed c tag final maximum same is) r))
 
 pub closing_stopped : (handed : Handed) (c : Challenge) (tag : List ℕ) (final : ClientFinal) (maximum : ℤ) (kind : ErrorKind) (old new : State) (before after : ℤ) → maximum ≡ handed.maximum → IsFinal handed c tag final
-    → Stopped (last_round (final_said final maximum) (conversation_of final) (verifier (digest_of handed.version) tag (auth_message_of final)) c) kind old new before after → Stopped (closing handed c) kind old new before after
+    → Stopped (last_round (final_said final maximum) (final_conversation final) (verifier (digest_of handed.version) tag (auth_message_of final)) c) kind old new before after → Stopped (closing handed c) kind old new before after
 closing_stopped handed c tag final maximum kind old new before after same is r =
     subst (λ owed. Stopped (last_round (close_said handed c) c.first.conversation_id owed c) kind old new before after) (same_owed handed c tag final is)
     (subst (λ id. Stopped (last_round (close_said handed c) id (verifier (digest_of handed.version) tag (auth_message_of final)) c) kind old new before after) is.conversation
-    (subst (λ said. Stopped (last_round said (conversation_of final) (verifier (digest_of handed.version) tag (auth_message_of final)) c) kind old new before after) (same_said handed c tag final maximum same is) r))
+    (subst (λ said. Stopped (last_round said (final_conversation final) (verifier (digest_of handed.version) tag (auth_message_of final)) c) kind old new before after) (same_said handed c tag final maximum same is) r))
 
 -- the last reply ends the login
-pub ends_login : (handed : Handed) (c : Challenge) (tag : List ℕ) (final : ClientFinal) (document : List ℕ) → IsFinal handed c tag final → TakesLastMessage (conversation_of final) (verifier (digest_of handed.version) tag (auth_message_of final)) document → EndsLogin handed c document
+pub ends_login : (handed : Handed) (c : Challenge) (tag : List ℕ) (final : ClientFinal) (document : List ℕ) → IsFinal handed c tag final → TakesLastMessage (final_conversation final) (verifier (digest_of handed.version) tag (auth_message_of final)) document → EndsLogin handed c document
 ends_login handed c tag final document is taken =
     let row : HasNone (LastRow handed c taken.last) =
     subst (λ owed. HasNone (RoundRow c.first.conversation_id owed taken.last)) (same_owed handed c tag final is)

@@ -15,7 +15,7 @@ use Rattle.mongo_scram.specs.declared.messages.ClientFirst.{ClientFirst}
 use Rattle.mongo_scram.specs.declared.conversation.FirstRound.{FirstRound}
 use Rattle.mongo_scram.specs.declared.rounds.Login.{Login}
 use Rattle.mongo_scram.specs.declared.rounds.Opened.{Opened}
-use Rattle.mongo_scram.specs.Client.{message_of, nonce_of, source_of, includes_db, server_api_of, speculated_of}
+use Rattle.mongo_scram.specs.Client.{message_of, nonce_of, first_source, includes_db, server_api_of, speculated_of}
 use Rattle.mongo_scram.specs.Commands.{mechanism_of, first_body, first_command}
 use Rattle.mongo_scram.specs.User.{User}
 use Rattle.mongo_scram.specs.Plan.{Handed, message_by, nonce_by, start_said, challenged, opened}
@@ -30,11 +30,11 @@ start_command handed user = first_command handed.version false user.source (mess
 -- a first message as the plan has it
 pub record IsStart (handed : Handed) (user : User) (first : ClientFirst) : Type 0 where
   pub db : includes_db first ≡ false
-  pub source : source_of first ≡ user.source
+  pub source : first_source first ≡ user.source
   pub message : message_of first ≡ message_by handed user
   pub api : server_api_of first ≡ handed.server_api
 
-same_command : (handed : Handed) (user : User) (first : ClientFirst) → IsStart handed user first → first_command handed.version (includes_db first) (source_of first) (message_of first) (server_api_of first) ≡ start_command handed user
+same_command : (handed : Handed) (user : User) (first : ClientFirst) → IsStart handed user first → first_command handed.version (includes_db first) (first_source first) (message_of first) (server_api_of first) ≡ start_command handed user
 same_command handed user first is =
     let db = is.db in
     let source = is.source in
@@ -42,7 +42,7 @@ same_command handed user first is =
     let api = is.api in
     λ i. first_command handed.version (db i) (source i) (message i) (api i)
 
-same_body : (handed : Handed) (user : User) (first : ClientFirst) → IsStart handed user first → first_body handed.version (includes_db first) (source_of first) (message_of first) ≡ first_body handed.version false user.source (message_by handed user)
+same_body : (handed : Handed) (user : User) (first : ClientFirst) → IsStart handed user first → first_body handed.version (includes_db first) (first_source first) (message_of first) ≡ first_body handed.version false user.source (message_by handed user)
 same_body handed user first is =
     let db = is.db in
     let source = is.source in
@@ -51,19 +51,19 @@ same_body handed user first is =
 
 -- ---- its command
 
-pub start_unbuilt : (handed : Handed) (user : User) (first : ClientFirst) (kind : ErrorKind) (old : State) (before : ℤ) → IsStart handed user first → IsNotBuilt (first_body handed.version (includes_db first) (source_of first) (message_of first)) kind → Stopped (saying (start_said handed user) (challenged handed user)) kind old old before before
+pub start_unbuilt : (handed : Handed) (user : User) (first : ClientFirst) (kind : ErrorKind) (old : State) (before : ℤ) → IsStart handed user first → IsNotBuilt (first_body handed.version (includes_db first) (first_source first) (message_of first)) kind → Stopped (saying (start_said handed user) (challenged handed user)) kind old old before before
 start_unbuilt handed user first kind old before is unbuilt =
     unbuilt_stopped (start_said handed user) (challenged handed user) (start_command handed user) kind old before refl
     (omega (arith, length-enclosed (flat_map spell (start_elements (mechanism_of handed.version) (message_by handed user) ++ []))))
     (subst (λ body. IsNotBuilt body kind) (same_body handed user first is) unbuilt)
 
-pub start_unanswered : (handed : Handed) (user : User) (first : ClientFirst) (command : Command) (kind : ErrorKind) (old new : State) (before after : ℤ) (kept : Option ErrorKind) → IsStart handed user first → command ≡ first_command handed.version (includes_db first) (source_of first) (message_of first) (server_api_of first) → CountsStay old new
+pub start_unanswered : (handed : Handed) (user : User) (first : ClientFirst) (command : Command) (kind : ErrorKind) (old new : State) (before after : ℤ) (kept : Option ErrorKind) → IsStart handed user first → command ≡ first_command handed.version (includes_db first) (first_source first) (message_of first) (server_api_of first) → CountsStay old new
     → ExchangeRefused kind handed.maximum (command_message command) old new before after kept → Stopped (saying (start_said handed user) (challenged handed user)) kind old new before after
 start_unanswered handed user first command kind old new before after kept start is counts refused =
     stopped_saying (start_said handed user) (challenged handed user) kind old new before after kept (subst (λ x. ExchangeRefused kind handed.maximum (command_message x) old new before after kept) (is ∙ same_command handed user first start) refused) counts
 
 -- the exchange was that of the command
-pub start_exchanged : (handed : Handed) (user : User) (first : ClientFirst) (command : Command) (old new : State) (before after : ℤ) (reply : List ℕ) → IsStart handed user first → command ≡ first_command handed.version (includes_db first) (source_of first) (message_of first) (server_api_of first)
+pub start_exchanged : (handed : Handed) (user : User) (first : ClientFirst) (command : Command) (old new : State) (before after : ℤ) (reply : List ℕ) → IsStart handed user first → command ≡ first_command handed.version (includes_db first) (first_source first) (message_of first) (server_api_of first)
     → Exchanges handed.maximum (command_message command) old new before after reply → Exchanges handed.maximum (plain_message (start_said handed user).document) old new before after reply
 start_exchanged handed user first command old new before after reply start is e =
     subst (λ x. Exchanges handed.maximum (command_message x) old new before after reply) (is ∙ same_command handed user first start) e

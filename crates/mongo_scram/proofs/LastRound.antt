@@ -15,7 +15,7 @@ use Rattle.mongo_sasl.specs.Commands.{continue_elements, continue_body, IsNotBui
 use Rattle.mongo_sasl.specs.Login.{EndsByReply}
 use Rattle.mongo_sasl.proofs.LastReply.{ends_by_reply}
 use Rattle.mongo_scram.specs.declared.messages.ClientFinal.{ClientFinal}
-use Rattle.mongo_scram.specs.Client.{final_of, conversation_of, final_source_of, final_api_of}
+use Rattle.mongo_scram.specs.Client.{final_of, final_conversation, final_source_of, final_api_of}
 use Rattle.mongo_scram.specs.Commands.{final_command}
 use Rattle.mongo_scram.specs.Plan.{Challenge}
 use Rattle.mongo_scram.specs.Replies.{FinalReplyRow}
@@ -25,18 +25,18 @@ use Rattle.mongo_sasl.proofs.Unsent.{unbuilt_stopped}
 
 -- ---- the command
 
-pub final_unbuilt : (final : ClientFinal) (maximum : ℤ) (conversation : OwnedValue) (owed : List ℕ) (c : Challenge) (kind : ErrorKind) (old : State) (before : ℤ) → IsNotBuilt (continue_body (conversation_of final) (final_of final)) kind → Stopped (last_round (final_said final maximum) conversation owed c) kind old old before before
+pub final_unbuilt : (final : ClientFinal) (maximum : ℤ) (conversation : OwnedValue) (owed : List ℕ) (c : Challenge) (kind : ErrorKind) (old : State) (before : ℤ) → IsNotBuilt (continue_body (final_conversation final) (final_of final)) kind → Stopped (last_round (final_said final maximum) conversation owed c) kind old old before before
 final_unbuilt final maximum conversation owed c kind old before unbuilt =
-    unbuilt_stopped (final_said final maximum) (last_heard conversation owed c) (final_command (conversation_of final) (final_source_of final) (final_of final) (final_api_of final)) kind old before refl
-    (omega (arith, length-enclosed (flat_map spell (continue_elements (conversation_of final) (final_of final))))) unbuilt
+    unbuilt_stopped (final_said final maximum) (last_heard conversation owed c) (final_command (final_conversation final) (final_source_of final) (final_of final) (final_api_of final)) kind old before refl
+    (omega (arith, length-enclosed (flat_map spell (continue_elements (final_conversation final) (final_of final))))) unbuilt
 
-pub final_unanswered : (final : ClientFinal) (command : Command) (maximum : ℤ) (conversation : OwnedValue) (owed : List ℕ) (c : Challenge) (kind : ErrorKind) (old new : State) (before after : ℤ) (kept : Option ErrorKind) → command ≡ final_command (conversation_of final) (final_source_of final) (final_of final) (final_api_of final) → CountsStay old new
+pub final_unanswered : (final : ClientFinal) (command : Command) (maximum : ℤ) (conversation : OwnedValue) (owed : List ℕ) (c : Challenge) (kind : ErrorKind) (old new : State) (before after : ℤ) (kept : Option ErrorKind) → command ≡ final_command (final_conversation final) (final_source_of final) (final_of final) (final_api_of final) → CountsStay old new
     → ExchangeRefused kind maximum (command_message command) old new before after kept → Stopped (last_round (final_said final maximum) conversation owed c) kind old new before after
 final_unanswered final command maximum conversation owed c kind old new before after kept is counts refused =
     stopped_saying (final_said final maximum) (last_heard conversation owed c) kind old new before after kept (subst (λ x. ExchangeRefused kind maximum (command_message x) old new before after kept) is refused) counts
 
 -- the exchange was that of the command
-pub final_exchanged : (final : ClientFinal) (command : Command) (maximum : ℤ) (old new : State) (before after : ℤ) (held reply : List ℕ) → command ≡ final_command (conversation_of final) (final_source_of final) (final_of final) (final_api_of final) → reply ≡ held
+pub final_exchanged : (final : ClientFinal) (command : Command) (maximum : ℤ) (old new : State) (before after : ℤ) (held reply : List ℕ) → command ≡ final_command (final_conversation final) (final_source_of final) (final_of final) (final_api_of final) → reply ≡ held
     → Exchanges maximum (command_message command) old new before after held → Exchanges maximum (plain_message (final_said final maximum).document) old new before after reply
 final_exchanged final command maximum old new before after held reply is same e =
     subst (Exchanges maximum (plain_message (final_said final maximum).document) old new before after) (sym same) (subst (λ x. Exchanges maximum (command_message x) old new before after held) is e)

@@ -22,8 +22,8 @@ bare_of first = drop 3 (string_bytes first.message)
 abbrev pub nonce_of : ClientFirst → List ℕ
 nonce_of first = first.nonce
 
-abbrev pub source_of : ClientFirst → List ℕ
-source_of first = first.source
+abbrev pub first_source : ClientFirst → List ℕ
+first_source first = first.source
 
 abbrev pub includes_db : ClientFirst → Bool
 includes_db first = first.include_db
@@ -37,8 +37,8 @@ final_of last = string_bytes last.message
 abbrev pub auth_message_of : ClientFinal → List ℕ
 auth_message_of last = string_bytes last.auth_message
 
-abbrev pub conversation_of : ClientFinal → OwnedValue
-conversation_of last = last.conversation_id
+abbrev pub final_conversation : ClientFinal → OwnedValue
+final_conversation last = last.conversation_id
 
 abbrev pub final_source_of : ClientFinal → List ℕ
 final_source_of last = last.source

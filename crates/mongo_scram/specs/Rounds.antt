@@ -15,7 +15,7 @@ use Rattle.mongo_scram.specs.declared.rounds.Opened.{Opened}
 use Rattle.mongo_scram.specs.declared.server_first.ServerFirst.{ServerFirst}
 use Rattle.mongo_scram.specs.declared.server_final.ServerFinal.{ServerFinal}
 use Rattle.mongo_scram.specs.Base64.{base64_of}
-use Rattle.mongo_scram.specs.Client.{message_of, nonce_of, handed_to, final_of, conversation_of, final_source_of, final_api_of}
+use Rattle.mongo_scram.specs.Client.{message_of, nonce_of, handed_to, final_of, final_conversation, final_source_of, final_api_of}
 use Rattle.mongo_scram.specs.Commands.{final_command}
 use Rattle.mongo_scram.specs.Costs.{Ledgers, Derives, SameEntries}
 use Rattle.mongo_scram.specs.Entry.{salted_of, IsUsable}
@@ -72,7 +72,7 @@ AnswerRow first nonce most version password = or_else (ServerFirstRow first nonc
 
 -- the command of the client's last message
 abbrev pub final_said : ClientFinal → ℤ → Said
-final_said final maximum = record { maximum = maximum; document = command_document (final_command (conversation_of final) (final_source_of final) (final_of final) (final_api_of final)) }
+final_said final maximum = record { maximum = maximum; document = command_document (final_command (final_conversation final) (final_source_of final) (final_of final) (final_api_of final)) }
 
 -- why the server's last message isn't taken in this conversation, by the verifier that is owed
 abbrev pub RoundRow : OwnedValue → List ℕ → ServerFinal → ErrorKind → Type 0

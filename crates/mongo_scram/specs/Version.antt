@@ -18,5 +18,5 @@ digest_len Sha1 = 20
 digest_len Sha256 = 32
 
 -- the mechanism's name
-abbrev pub name_of : ScramVersion → List ℕ
-name_of version = mechanism_name (mechanism_of version)
+abbrev pub version_name : ScramVersion → List ℕ
+version_name version = mechanism_name (mechanism_of version)

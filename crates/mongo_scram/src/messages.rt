@@ -38,7 +38,7 @@ impl ClientFirst {
     ghost use Rattle.std.specs.Prelude.{◌≡◌, codes, IfOk, IfErr};
     ghost use Rattle.mongo_sasl.specs.Commands.{IsNotBuilt};
     ghost use Rattle.mongo_scram.specs.Base64.{base64_of};
-    ghost use Rattle.mongo_scram.specs.Client.{message_of, bare_of, nonce_of, source_of, includes_db, server_api_of};
+    ghost use Rattle.mongo_scram.specs.Client.{message_of, bare_of, nonce_of, first_source, includes_db, server_api_of};
     ghost use Rattle.mongo_scram.specs.Commands.{first_body, first_command};
     ghost use Rattle.mongo_scram.specs.Messages.{open_message};
 
@@ -54,7 +54,7 @@ impl ClientFirst {
     ) -> Result<ClientFirst, Error>
         ensures message { IfOk result (λ first. message_of first ≡ open_message username.now (base64_of nonce.now)) }
         ensures nonce { IfOk result (λ first. nonce_of first ≡ base64_of nonce.now) }
-        ensures source { IfOk result (λ first. source_of first ≡ source.now) }
+        ensures source { IfOk result (λ first. first_source first ≡ source.now) }
         ensures db { IfOk result (λ first. includes_db first ≡ include_db) }
         ensures api { IfOk result (λ first. server_api_of first ≡ server_api) }
         ensures refused { IfErr result (λ e. e.kind ≡ OutOfMemory) }
@@ -74,7 +74,7 @@ impl ClientFirst {
     ) -> Result<ClientFirst, Error>
         ensures message { IfOk result (λ first. message_of first ≡ open_message username.now nonce.now) }
         ensures nonce { IfOk result (λ first. nonce_of first ≡ nonce.now) }
-        ensures source { IfOk result (λ first. source_of first ≡ source.now) }
+        ensures source { IfOk result (λ first. first_source first ≡ source.now) }
         ensures db { IfOk result (λ first. includes_db first ≡ include_db) }
         ensures api { IfOk result (λ first. server_api_of first ≡ server_api) }
         ensures refused { IfErr result (λ e. e.kind ≡ OutOfMemory) }
@@ -94,7 +94,7 @@ impl ClientFirst {
     ) -> Result<ClientFirst, Error>
         ensures message { IfOk result (λ first. message_of first ≡ open_message username.now nonce) }
         ensures nonce { IfOk result (λ first. nonce_of first ≡ nonce) }
-        ensures source { IfOk result (λ first. source_of first ≡ source.now) }
+        ensures source { IfOk result (λ first. first_source first ≡ source.now) }
         ensures db { IfOk result (λ first. includes_db first ≡ include_db) }
         ensures api { IfOk result (λ first. server_api_of first ≡ server_api) }
         ensures refused { IfErr result (λ e. e.kind ≡ OutOfMemory) }
@@ -145,8 +145,8 @@ impl ClientFirst {
     ///
     /// `Bson(TooLong)` where the body would pass 2147483647 bytes.
     pub fn to_command(&self, alloc: Global, version: &ScramVersion) -> Result<Command, Error>
-        ensures command { IfOk result (λ command. command ≡ first_command version.now (includes_db self.now) (source_of self.now) (message_of self.now) (server_api_of self.now)) }
-        ensures refused { IfErr result (λ e. IsNotBuilt (first_body version.now (includes_db self.now) (source_of self.now) (message_of self.now)) e.kind) }
+        ensures command { IfOk result (λ command. command ≡ first_command version.now (includes_db self.now) (first_source self.now) (message_of self.now) (server_api_of self.now)) }
+        ensures refused { IfErr result (λ e. IsNotBuilt (first_body version.now (includes_db self.now) (first_source self.now) (message_of self.now)) e.kind) }
     {
         let source = self.source.try_clone(alloc)?;
         let payload = Bytes::from_slice(alloc, self.message.as_bytes())?;
@@ -164,7 +164,7 @@ impl ClientFirst {
     pub fn try_clone(&self, alloc: Global) -> Result<ClientFirst, Error>
         ensures message { IfOk result (λ first. message_of first ≡ message_of self.now) }
         ensures nonce { IfOk result (λ first. nonce_of first ≡ nonce_of self.now) }
-        ensures source { IfOk result (λ first. source_of first ≡ source_of self.now) }
+        ensures source { IfOk result (λ first. first_source first ≡ first_source self.now) }
         ensures db { IfOk result (λ first. includes_db first ≡ includes_db self.now) }
         ensures api { IfOk result (λ first. server_api_of first ≡ server_api_of self.now) }
         ensures refused { IfErr result (λ e. e.kind ≡ OutOfMemory) }
@@ -203,7 +203,7 @@ impl fmt::Debug for ClientFinal {
 impl ClientFinal {
     ghost use Rattle.std.specs.Prelude.{◌≡◌, IfOk, IfErr};
     ghost use Rattle.mongo_sasl.specs.Commands.{continue_body, IsNotBuilt};
-    ghost use Rattle.mongo_scram.specs.Client.{bare_of, final_of, auth_message_of, conversation_of, final_source_of, final_api_of};
+    ghost use Rattle.mongo_scram.specs.Client.{bare_of, final_of, auth_message_of, final_conversation, final_source_of, final_api_of};
     ghost use Rattle.mongo_scram.specs.Commands.{final_command};
     ghost use Rattle.mongo_scram.specs.Messages.{transcript, close_message};
     ghost use Rattle.mongo_scram.specs.Version.{digest_of};
@@ -223,7 +223,7 @@ impl ClientFinal {
             transcript (bare_of client_first.now) server_first.now.message server_first.now.nonce) }
         ensures message { IfOk result (λ last. final_of last ≡
             close_message (digest_of version.now) salted.now (auth_message_of last) server_first.now.nonce) }
-        ensures conversation { IfOk result (λ last. conversation_of last ≡ server_first.now.conversation_id) }
+        ensures conversation { IfOk result (λ last. final_conversation last ≡ server_first.now.conversation_id) }
         ensures source { IfOk result (λ last. final_source_of last ≡ source.now) }
         ensures api { IfOk result (λ last. final_api_of last ≡ server_api) }
         ensures refused { IfErr result (λ e. e.kind ≡ OutOfMemory) }
@@ -255,7 +255,7 @@ impl ClientFinal {
             transcript (bare_of client_first.now) server_first.now.message server_first.now.nonce) }
         ensures message { IfOk result (λ last. final_of last ≡
             close_message (digest_of version.now) salted.now (auth_message_of last) server_first.now.nonce) }
-        ensures conversation { IfOk result (λ last. conversation_of last ≡ server_first.now.conversation_id) }
+        ensures conversation { IfOk result (λ last. final_conversation last ≡ server_first.now.conversation_id) }
         ensures source { IfOk result (λ last. final_source_of last ≡ source.now) }
         ensures api { IfOk result (λ last. final_api_of last ≡ server_api) }
         ensures refused { IfErr result (λ e. e.kind ≡ OutOfMemory) }
@@ -303,8 +303,8 @@ impl ClientFinal {
     ///
     /// `Bson(TooLong)` where the body would pass 2147483647 bytes.
     pub fn to_command(&self, alloc: Global) -> Result<Command, Error>
-        ensures command { IfOk result (λ command. command ≡ final_command (conversation_of self.now) (final_source_of self.now) (final_of self.now) (final_api_of self.now)) }
-        ensures refused { IfErr result (λ e. IsNotBuilt (continue_body (conversation_of self.now) (final_of self.now)) e.kind) }
+        ensures command { IfOk result (λ command. command ≡ final_command (final_conversation self.now) (final_source_of self.now) (final_of self.now) (final_api_of self.now)) }
+        ensures refused { IfErr result (λ e. IsNotBuilt (continue_body (final_conversation self.now) (final_of self.now)) e.kind) }
     {
         let source = self.source.try_clone(alloc)?;
         let conversation_id = self.conversation_id.try_clone(alloc)?;
@@ -316,7 +316,7 @@ impl ClientFinal {
     pub fn try_clone(&self, alloc: Global) -> Result<ClientFinal, Error>
         ensures message { IfOk result (λ last. final_of last ≡ final_of self.now) }
         ensures auth_message { IfOk result (λ last. auth_message_of last ≡ auth_message_of self.now) }
-        ensures conversation { IfOk result (λ last. conversation_of last ≡ conversation_of self.now) }
+        ensures conversation { IfOk result (λ last. final_conversation last ≡ final_conversation self.now) }
         ensures source { IfOk result (λ last. final_source_of last ≡ final_source_of self.now) }
         ensures api { IfOk result (λ last. final_api_of last ≡ final_api_of self.now) }
         ensures refused { IfErr result (λ e. e.kind ≡ OutOfMemory) }
@@ -332,7 +332,7 @@ impl ClientFinal {
 
     /// The conversation that the server's first message named.
     pub(crate) fn conversation_id(&self) -> &OwnedValue
-        ensures { result.now ≡ conversation_of self.now }
+        ensures { result.now ≡ final_conversation self.now }
     {
         &self.conversation_id
     }

@@ -10,7 +10,7 @@ ghost use Rattle.mongo_command.specs.Conversation.{Stopped};
 ghost use Rattle.mongo_command.specs.Exchange.{frame_maximum, HoldsReply, CountsStay};
 ghost use Rattle.mongo_sasl.specs.Kept.{KeepsAfter};
 ghost use Rattle.mongo_sasl.specs.Login.{EndsByReply};
-ghost use Rattle.mongo_scram.specs.Client.{auth_message_of, conversation_of};
+ghost use Rattle.mongo_scram.specs.Client.{auth_message_of, final_conversation};
 ghost use Rattle.mongo_scram.specs.Messages.{verifier};
 ghost use Rattle.mongo_scram.specs.Plan.{Challenge};
 ghost use Rattle.mongo_scram.specs.Replies.{CarriesFirst, FirstReplyRow};
@@ -169,18 +169,18 @@ pub fn close<L: Link>(
     client_final: &ClientFinal,
 ) -> Result<(), Error>
     // By one exchange, whose reply the buffer holds.
-    ensures closed { (c : Challenge) → OnOk result (EndsByReply (last_round (final_said client_final.now (frame_maximum connection.old.stream_description)) (conversation_of client_final.now) (verifier (digest_of version) salted.now (auth_message_of client_final.now)) c) c (held_document buffer.new)
+    ensures closed { (c : Challenge) → OnOk result (EndsByReply (last_round (final_said client_final.now (frame_maximum connection.old.stream_description)) (final_conversation client_final.now) (verifier (digest_of version) salted.now (auth_message_of client_final.now)) c) c (held_document buffer.new)
         (L.state link.old) (L.state link.new) ids.old ids.new) }
-    ensures refused { (c : Challenge) → kept_fault connection.old ≡ None → IfErr result (λ e. Stopped (last_round (final_said client_final.now (frame_maximum connection.old.stream_description)) (conversation_of client_final.now) (verifier (digest_of version) salted.now (auth_message_of client_final.now)) c) e.kind
+    ensures refused { (c : Challenge) → kept_fault connection.old ≡ None → IfErr result (λ e. Stopped (last_round (final_said client_final.now (frame_maximum connection.old.stream_description)) (final_conversation client_final.now) (verifier (digest_of version) salted.now (auth_message_of client_final.now)) c) e.kind
         (L.state link.old) (L.state link.new) ids.old ids.new) }
-    ensures taken { OnOk result (TakesLastMessage (conversation_of client_final.now) (verifier (digest_of version) salted.now (auth_message_of client_final.now)) (held_document buffer.new)) }
+    ensures taken { OnOk result (TakesLastMessage (final_conversation client_final.now) (verifier (digest_of version) salted.now (auth_message_of client_final.now)) (held_document buffer.new)) }
     ensures frames { OnOk result (frames_taken buffer.new ≡ risen (frames_taken buffer.old)) }
     ensures holds { OnOk result (HoldsReply buffer.new) }
     ensures connection { KeepsRest connection.old connection.new }
     ensures faultless { OnOk result (kept_fault connection.new ≡ None) }
     ensures keeps { kept_fault connection.old ≡ None → IfErr result (λ e. KeepsAfter e.kind (kept_fault connection.new)) }
     ensures kept { (kind : ErrorKind) → kept_fault connection.old ≡ Some kind → OnOk result ⊥ × (link.new ≡ link.old) × (ids.new ≡ ids.old) × (kept_fault connection.new ≡ Some kind) }
-    ensures answers { (c : Challenge) (kind : ErrorKind) → kept_fault connection.old ≡ Some kind → IfErr result (λ e. (e.kind ≡ kind) ⊎ Stopped (last_round (final_said client_final.now (frame_maximum connection.old.stream_description)) (conversation_of client_final.now) (verifier (digest_of version) salted.now (auth_message_of client_final.now)) c) e.kind
+    ensures answers { (c : Challenge) (kind : ErrorKind) → kept_fault connection.old ≡ Some kind → IfErr result (λ e. (e.kind ≡ kind) ⊎ Stopped (last_round (final_said client_final.now (frame_maximum connection.old.stream_description)) (final_conversation client_final.now) (verifier (digest_of version) salted.now (auth_message_of client_final.now)) c) e.kind
         (L.state link.old) (L.state link.old) ids.old ids.old) }
     ensures counts { CountsStay (L.state link.old) (L.state link.new) }
 {
@@ -197,8 +197,8 @@ fn take_last(
     salted: &SaltedPassword,
     client_final: &ClientFinal,
 ) -> Result<(), Error>
-    ensures taken { OnOk result (TakesLastMessage (conversation_of client_final.now) (verifier (digest_of version) salted.now (auth_message_of client_final.now)) reply.entry.bytes.now) }
-    ensures refused { IfErr result (λ e. LastRefusal (conversation_of client_final.now) (verifier (digest_of version) salted.now (auth_message_of client_final.now)) reply.entry.bytes.now e.kind ⊎ (e.kind ≡ OutOfMemory)) }
+    ensures taken { OnOk result (TakesLastMessage (final_conversation client_final.now) (verifier (digest_of version) salted.now (auth_message_of client_final.now)) reply.entry.bytes.now) }
+    ensures refused { IfErr result (λ e. LastRefusal (final_conversation client_final.now) (verifier (digest_of version) salted.now (auth_message_of client_final.now)) reply.entry.bytes.now e.kind ⊎ (e.kind ≡ OutOfMemory)) }
 {
     let last = ServerFinal::parse(alloc, reply)?;
     let done = last.done;

@@ -2,7 +2,7 @@ ghost use Rattle.std.specs.Prelude.{◌≡◌, ◌+◌, ◌≤◌, length};
 ghost use Rattle.mongo_mac.specs.Hi.{hi_of};
 ghost use Rattle.mongo_mac.specs.Hmac.{hmac_of};
 ghost use Rattle.mongo_scram.specs.Commands.{mechanism_of};
-ghost use Rattle.mongo_scram.specs.Version.{digest_of, digest_len, name_of};
+ghost use Rattle.mongo_scram.specs.Version.{digest_of, digest_len, version_name};
 
 use mongo_mac::{Sha1Fn, Sha256Fn, Steps, Tag, digest, hi, hmac};
 use mongo_sasl::AuthMechanism;
@@ -31,7 +31,7 @@ impl ScramVersion {
 
     // The name of the mechanism, `SCRAM-SHA-1` or `SCRAM-SHA-256`.
     pub(crate) fn name(&self) -> &'static str
-        ensures { result.now ≡ name_of self.now }
+        ensures { result.now ≡ version_name self.now }
     {
         self.mechanism().as_str()
     }
@@ -80,7 +80,7 @@ impl ScramVersion {
 impl fmt::Display for ScramVersion {
     ghost use Rattle.std.specs.Prelude.{Some};
 
-    ghost output = { λ version. Some (name_of version) };
+    ghost output = { λ version. Some (version_name version) };
 
     fn fmt<W: fmt::Write>(&self, f: &mut fmt::Formatter<W>) -> fmt::Result {
         f.write_str(self.name())

@@ -3,7 +3,7 @@ ghost use Rattle.mongo_bson.specs.declared.fault.BsonFault.TheVariants.{OutOfMem
 ghost use Rattle.mongo_wire.specs.declared.error.ErrorKind.TheVariants.{OutOfMemory};
 ghost use Rattle.mongo_sasl.specs.Reply.{IsSaslReply};
 ghost use Rattle.mongo_sasl.specs.View.{response_of};
-ghost use Rattle.mongo_scram.specs.Client.{auth_message_of, conversation_of};
+ghost use Rattle.mongo_scram.specs.Client.{auth_message_of, final_conversation};
 ghost use Rattle.mongo_scram.specs.Messages.{verifier};
 ghost use Rattle.mongo_scram.specs.Replies.{CarriesFinal, FinalReplyRow};
 ghost use Rattle.mongo_scram.specs.Validity.{IsValidFinal, ServerFinalRow};
@@ -94,8 +94,8 @@ impl ServerFinal {
         client_final: &ClientFinal,
         version: &ScramVersion,
     ) -> Result<(), Error>
-        ensures valid { OnOk result (IsValidFinal self (conversation_of client_final.now) (verifier (digest_of version.now) salted.now (auth_message_of client_final.now))) }
-        ensures refused { IfErr result (λ e. ServerFinalRow self (conversation_of client_final.now) (verifier (digest_of version.now) salted.now (auth_message_of client_final.now)) e.kind) }
+        ensures valid { OnOk result (IsValidFinal self (final_conversation client_final.now) (verifier (digest_of version.now) salted.now (auth_message_of client_final.now))) }
+        ensures refused { IfErr result (λ e. ServerFinalRow self (final_conversation client_final.now) (verifier (digest_of version.now) salted.now (auth_message_of client_final.now)) e.kind) }
     {
         let salted = SaltedPassword::new(*version, *salted);
         self.validate_by(&salted, client_final, version)
@@ -108,8 +108,8 @@ impl ServerFinal {
         client_final: &ClientFinal,
         version: &ScramVersion,
     ) -> Result<(), Error>
-        ensures valid { OnOk result (IsValidFinal self (conversation_of client_final.now) (verifier (digest_of version.now) salted.now (auth_message_of client_final.now))) }
-        ensures refused { IfErr result (λ e. ServerFinalRow self (conversation_of client_final.now) (verifier (digest_of version.now) salted.now (auth_message_of client_final.now)) e.kind) }
+        ensures valid { OnOk result (IsValidFinal self (final_conversation client_final.now) (verifier (digest_of version.now) salted.now (auth_message_of client_final.now))) }
+        ensures refused { IfErr result (λ e. ServerFinalRow self (final_conversation client_final.now) (verifier (digest_of version.now) salted.now (auth_message_of client_final.now)) e.kind) }
     {
         let ServerFinal {
             conversation_id,

@@ -15,7 +15,7 @@ use Rattle.mongo_scram.specs.declared.scram_version.ScramVersion.{ScramVersion}
 use Rattle.mongo_serve.specs.Settings.{version_named}
 use Rattle.mongo_serve.specs.declared.request.SaslStart.{SaslStart}
 use Rattle.mongo_serve.specs.Requests.{CarriesLogin, HasPayload, IsCommandName, IsCommandNamed, SaysStart, SaysVersion, SkipsEmptyExchange}
-use Rattle.mongo_serve.specs.Values.{binary_of, HasInside, HasOne, HasText, HasTrue, HoldsIfAny, inner_of, SaysOne, IsTruth, StandsAt, string_of}
+use Rattle.mongo_serve.specs.Values.{binary_of, HasInside, HasOne, HasText, HasTrue, HoldsIfAny, inner_of, SaysOne, IsTrueBoolean, StandsAt, string_of}
 use Rattle.mongo_sasl.specs.Keys.{mechanism_key, options_key, payload_key, sasl_start_key}
 
 -- ---- one value
@@ -86,7 +86,7 @@ pub inner_held : (document key : List ℕ) (v : RawValue) → FindsValue (body_o
 inner_held document key (Document inner) (e, first, is) = record { element = e; first = first; is_document = is.0; inner_is = is.1 }
 inner_held document key other finds = λ inner has. other_kind document key other 0x03 finds refl refl has.element has.first has.is_document
 
-pub truth_held : (document key : List ℕ) (v : RawValue) → FindsValue (body_of document) key (Some v) → IsTruth v ↔ HasTrue document key
+pub truth_held : (document key : List ℕ) (v : RawValue) → FindsValue (body_of document) key (Some v) → IsTrueBoolean v ↔ HasTrue document key
 truth_held document key (Boolean true) (e, first, is) = (λ _. record { element = e; first = first; boolean = is.0; set = is.1 }, λ _. refl)
 truth_held document key (Boolean false) (e, first, is) =
     (λ never. absurd (false≢true never), λ has. absurd (zero_or_one e.value is.1 (ap (λ x. x.value) (one_found (body_of document) key e has.element first has.first) ∙ has.set)))

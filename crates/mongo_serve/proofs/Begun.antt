@@ -9,7 +9,7 @@ use Rattle.mongo_scram.specs.declared.scram_version.ScramVersion.{ScramVersion}
 use Rattle.mongo_scram.proofs.Parts.{one_cut}
 use Rattle.mongo_server.specs.ClientMessages.{IsNonce, IsClientFirst}
 use Rattle.mongo_server.specs.Exchange.{Exchange, open_of, first_of, IsReadAs}
-use Rattle.mongo_server.specs.Server.{user_of, suffix_of, username_of, Serves, HasBegun}
+use Rattle.mongo_server.specs.Server.{server_user, suffix_of, username_of, Serves, HasBegun}
 use Rattle.mongo_server.specs.User.{IsUserOf}
 use Rattle.mongo_server.specs.declared.fault.ServerFault.{ServerFault}
 use Rattle.mongo_server.specs.declared.fault.ServerFault.TheVariants.{OutOfMemory}
@@ -61,7 +61,7 @@ names_front message front name rest is front_is (says, said) = (
 
 -- the server of an account, from what its user was made of
 pub served_by : (account : Account) (suffix nonce : List ℕ) (core : ServerCore) (user : ServerUser) (name password salt : List ℕ) → name ≡ account.name → password ≡ account.password → salt ≡ account.salt
-    → IsUserOf account.version name password salt account.count user → user_of core ≡ user → suffix_of core ≡ suffix → Serves core (exchange_of account suffix nonce)
+    → IsUserOf account.version name password salt account.count user → server_user core ≡ user → suffix_of core ≡ suffix → Serves core (exchange_of account suffix nonce)
 served_by account suffix nonce core user name password salt named worded salted h user_is suffix_is =
     let a = subst (λ n. IsUserOf account.version n password salt account.count user) named h in
     let b = subst (λ w. IsUserOf account.version account.name w salt account.count user) worded a in
@@ -69,7 +69,7 @@ served_by account suffix nonce core user name password salt named worded salted 
     record { user = subst (IsUserOf account.version account.name account.password account.salt account.count) (sym user_is) c; suffix = suffix_is }
 
 pub begins : (account : Account) (suffix message : List ℕ) (old new : ServerCore) (text : List ℕ) (user : ServerUser) (name password salt : List ℕ) → name ≡ account.name → password ≡ account.password → salt ≡ account.salt
-    → IsUserOf account.version name password salt account.count user → user_of old ≡ user → suffix_of old ≡ suffix
+    → IsUserOf account.version name password salt account.count user → server_user old ≡ user → suffix_of old ≡ suffix
     → ((kind : ErrorKind) → PasswordRow account.version password kind → ⊥)
     → (nonce : List ℕ) → IsClientFirst message (username_of old) nonce
     → ((x : Exchange) → Serves old x → IsNonce x.nonce → message ≡ open_of x → IsReadAs text x × HasBegun new x)
@@ -166,7 +166,7 @@ unusable account suffix message password kind worded row nonce opening = opening
 
 -- nor of a message that its server refuses
 pub unheard : (account : Account) (suffix message : List ℕ) (core : ServerCore) (user : ServerUser) (name password salt : List ℕ) (fault : ServerFault) → name ≡ account.name → password ≡ account.password → salt ≡ account.salt
-    → IsUserOf account.version name password salt account.count user → user_of core ≡ user → suffix_of core ≡ suffix
+    → IsUserOf account.version name password salt account.count user → server_user core ≡ user → suffix_of core ≡ suffix
     → ((x : Exchange) → Serves core x → IsNonce x.nonce → message ≡ open_of x → fault ≡ OutOfMemory) → (fault ≡ OutOfMemory → ⊥) → (nonce : List ℕ) → IsOpening account suffix message nonce → ⊥
 unheard account suffix message core user name password salt fault named worded salted h user_is suffix_is accepts not_memory nonce opening =
     not_memory (accepts (exchange_of account suffix nonce) (served_by account suffix nonce core user name password salt named worded salted h user_is suffix_is) opening.printable opening.said)

@@ -7,7 +7,7 @@ use Rattle.mongo_sasl.specs.Keys.{sasl_continue_key, sasl_start_key}
 use Rattle.mongo_serve.specs.declared.request.Hello.{Hello}
 use Rattle.mongo_serve.specs.declared.request.Request.{Request}
 use Rattle.mongo_serve.specs.declared.request.Request.TheVariants.{Hello as Greeting, SaslStart, SaslContinue, Ping, BuildInfo, EndSessions, Other}
-use Rattle.mongo_serve.specs.Requests.{IsCommandName, IsGreeting, IsCommandNamed, SaysRequest, is_known}
+use Rattle.mongo_serve.specs.Requests.{IsCommandName, IsGreeting, IsCommandNamed, SaysRequest, is_known_command}
 
 -- a test that a greeting's names pass is passed by the name of each greeting
 passed : (test : List ℕ → Bool) (document name : List ℕ) → test (codes "hello") ≡ true → test (codes "isMaster") ≡ true → test (codes "ismaster") ≡ true → IsCommandNamed document name → IsGreeting document → test name ≡ true
@@ -21,8 +21,8 @@ greets name = bytes_eq name (codes "hello") || bytes_eq name (codes "isMaster") 
 otherwise : (document name : List ℕ) → greets name ≡ false → IsCommandNamed document name → IsGreeting document → ⊥
 otherwise document name other named greeting = false≢true (sym other ∙ passed greets document name refl refl refl named greeting)
 
-unknown : (document name : List ℕ) → is_known name ≡ false → IsCommandName document name → IsGreeting document → ⊥
-unknown document name other (inl named) greeting = false≢true (sym other ∙ passed is_known document name refl refl refl named greeting)
+unknown : (document name : List ℕ) → is_known_command name ≡ false → IsCommandName document name → IsGreeting document → ⊥
+unknown document name other (inl named) greeting = false≢true (sym other ∙ passed is_known_command document name refl refl refl named greeting)
 unknown document name other (inr (unnamed, empty)) (inl is) = unnamed (codes "hello") is
 unknown document name other (inr (unnamed, empty)) (inr (inl is)) = unnamed (codes "isMaster") is
 unknown document name other (inr (unnamed, empty)) (inr (inr is)) = unnamed (codes "ismaster") is

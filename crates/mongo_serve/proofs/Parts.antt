@@ -12,7 +12,7 @@ use Rattle.mongo_serve.specs.declared.reply.Reply.{Reply}
 use Rattle.mongo_serve.specs.declared.session.Session.{Session}
 use Rattle.mongo_serve.specs.declared.settings.Settings.{Settings}
 use Rattle.mongo_serve.specs.Login.{HasLoggedIn, Remembers}
-use Rattle.mongo_serve.specs.Replies.{reply_document}
+use Rattle.mongo_serve.specs.Replies.{document_of_served}
 use Rattle.mongo_serve.specs.Requests.{IsGreeting}
 use Rattle.mongo_serve.specs.Cut.{HasCause, IsCut, IsPart}
 use Rattle.mongo_serve.specs.Sent.{IsAnswerTo, IsReplySent, IsSentInPart, IsSentToQuery, message_reply, query_reply, WantsNone, WriteCause}
@@ -35,7 +35,7 @@ message_part settings requests old mid new before id after later frame parts doc
     remembers
 message_part settings requests old mid new before id after later frame parts document is_frame body_is consumed unwritten lasts on reply answered remembers to to_is flags flags_are (Err fault) h cut cause =
     let n = cut.front.0 in
-    let reply_bytes = reply_document reply in
+    let reply_bytes = document_of_served reply in
     let sent = take n (message_reply id to reply_bytes) in
     turn_cut settings requests old mid new before id after.user fault (record { frame = frame; document = document; sent = sent })
     (record {
@@ -59,24 +59,24 @@ message_part settings requests old mid new before id after later frame parts doc
 pub query_part : (settings : Settings) (requests : List (List ℕ)) (old mid new : State) (before : Session) (id : ℤ) (after : Session) (later : ℤ) (head body command : List ℕ) → IsQuery (head ++ body) command → length head ≡ 16
     → Consumes old.left mid.left (head ++ body) → mid.written ≡ old.written → Lasts old mid → WritesOn mid new → (reply : Reply) → IsDocumentAnswered settings before command after reply → IsGreeting command
     → Remembers settings (requests ++ command ∷ []) after → (to : ℤ) → to ≡ signed_at 4 head → (r : Result ⊤ ServeFault) → OnOk r (IsSentToQuery mid new to reply id later)
-    → OnErr r (AppendsFront mid.written new.written (query_reply id to (reply_document reply))) → IfErr r (λ fault. WriteCause fault mid new) → PartEnds settings requests old new before id after later r
+    → OnErr r (AppendsFront mid.written new.written (query_reply id to (document_of_served reply))) → IfErr r (λ fault. WriteCause fault mid new) → PartEnds settings requests old new before id after later r
 query_part settings requests old mid new before id after later head body command is_query sixteen consumed unwritten lasts on reply answered greeting remembers to to_is (Ok done) h front cause =
-    let sent = query_reply id to (reply_document reply) in
+    let sent = query_reply id to (document_of_served reply) in
     let to_front : to ≡ signed_at 4 (take 16 (head ++ body)) = to_is ∙ ap (signed_at 4) (sym (take_at head body 16 sixteen)) in
     turn_taken settings requests old mid new before id after later (record { frame = head ++ body; document = command; sent = sent }) (inr is_query) consumed unwritten lasts on h.appended (sent_flushed mid new sent h.appended h.flushed)
-    (record { reply = reply; answered = answered; sent = inr (is_query, greeting, (ap (λ t. query_reply id t (reply_document reply)) to_front, h.drawn)) })
+    (record { reply = reply; answered = answered; sent = inr (is_query, greeting, (ap (λ t. query_reply id t (document_of_served reply)) to_front, h.drawn)) })
     remembers
 query_part settings requests old mid new before id after later head body command is_query sixteen consumed unwritten lasts on reply answered greeting remembers to to_is (Err fault) h front cause =
     let n = front.0 in
     let to_front : to ≡ signed_at 4 (take 16 (head ++ body)) = to_is ∙ ap (signed_at 4) (sym (take_at head body 16 sixteen)) in
-    turn_cut settings requests old mid new before id after.user fault (record { frame = head ++ body; document = command; sent = take n (query_reply id to (reply_document reply)) })
+    turn_cut settings requests old mid new before id after.user fault (record { frame = head ++ body; document = command; sent = take n (query_reply id to (document_of_served reply)) })
     (record {
       is_taken = inr is_query;
       after = after;
       reply = reply;
       answered = answered;
       user_is = refl;
-      sent = inr (is_query, greeting, (n, ap (λ t. take n (query_reply id t (reply_document reply))) to_front));
+      sent = inr (is_query, greeting, (n, ap (λ t. take n (query_reply id t (document_of_served reply))) to_front));
     })
     consumed unwritten lasts on front.1 cause remembers.user
 

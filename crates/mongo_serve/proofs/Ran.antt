@@ -6,9 +6,9 @@ use Rattle.std.specs.Io.KnownBytes.{Appends, Keeps}
 use Rattle.mongo_wire.specs.Outside.{AppendsFront}
 use Rattle.mongo_serve.specs.declared.fault.ServeFault.{ServeFault}
 use Rattle.mongo_serve.specs.declared.fault.ServeFault.TheVariants.{ReadFault, WriteFault, CutFrame, NoFrame, NoHello, ReplyTooLong, TooManyRequests, OutOfMemory}
-use Rattle.mongo_serve.specs.Run.{Run, status_of, Ran, RunEnds}
+use Rattle.mongo_serve.specs.Run.{ServeRun, status_of_fault, Ran, RunEnds}
 
-pub ran_ends : (run : Run) (fault : Option ServeFault) → Ran run (status_of fault) → RunEnds run (status_of fault)
+pub ran_ends : (run : ServeRun) (fault : Option ServeFault) → Ran run (status_of_fault fault) → RunEnds run (status_of_fault fault)
 ran_ends run None h = h
 ran_ends run (Some OutOfMemory) h = inl h
 ran_ends run (Some ReadFault) h = inl h

@@ -15,7 +15,7 @@ use Rattle.mongo_wire.specs.declared.message_flags.MessageFlags.{MessageFlags}
 use Rattle.mongo_serve.specs.declared.fault.ServeFault.{ServeFault}
 use Rattle.mongo_serve.specs.declared.reply.Reply.{Reply}
 use Rattle.mongo_serve.specs.Faults.{fault_of_kind}
-use Rattle.mongo_serve.specs.Replies.{reply_document}
+use Rattle.mongo_serve.specs.Replies.{document_of_served}
 use Rattle.mongo_serve.specs.Sent.{message_reply, IsReplyFrame, IsReplySent, IsSentInPart, SendsReply, WantsNone, WriteCause}
 use Rattle.mongo_serve.proofs.Lasts.{sent_flushed}
 
@@ -89,7 +89,7 @@ refused_cause PasswordNotAscii maximum m old new before after h = absurd h
 
 -- ---- an OP_MSG was answered
 
-pub reply_sent : (old new : State) (to : ℤ) (flags : ℕ) (reply : Reply) (id later : ℤ) (document : List ℕ) (r : Result ⊤ ServeFault) → document ≡ reply_document reply → (WantsNone flags → ⊥) → OnOk r (SendsReply old new id later to document)
+pub reply_sent : (old new : State) (to : ℤ) (flags : ℕ) (reply : Reply) (id later : ℤ) (document : List ℕ) (r : Result ⊤ ServeFault) → document ≡ document_of_served reply → (WantsNone flags → ⊥) → OnOk r (SendsReply old new id later to document)
     → OnOk r (IsReplySent old new to flags reply id later)
 reply_sent old new to flags reply id later document (Err fault) is wanted h = tt
 reply_sent old new to flags reply id later document (Ok done) is wanted h = record {
@@ -99,7 +99,7 @@ reply_sent old new to flags reply id later document (Ok done) is wanted h = reco
   flushed = sent_flushed old new h.sent h.appended h.flushed;
 }
 
-pub reply_cut : (old new : State) (to : ℤ) (flags : ℕ) (reply : Reply) (id : ℤ) (document : List ℕ) (r : Result ⊤ ServeFault) → document ≡ reply_document reply → (WantsNone flags → ⊥)
+pub reply_cut : (old new : State) (to : ℤ) (flags : ℕ) (reply : Reply) (id : ℤ) (document : List ℕ) (r : Result ⊤ ServeFault) → document ≡ document_of_served reply → (WantsNone flags → ⊥)
     → OnErr r (AppendsFront old.written new.written (message_reply id to document)) → OnErr r (IsSentInPart old new to flags reply id)
 reply_cut old new to flags reply id document (Ok done) is wanted h = tt
 reply_cut old new to flags reply id document (Err fault) is wanted h = record { wanted = wanted; front = subst (λ d. AppendsFront old.written new.written (message_reply id to d)) is h }

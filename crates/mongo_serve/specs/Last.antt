@@ -1,15 +1,15 @@
 -- What a message comes to at a login that goes on, once the login was taken out of its session.
 use Rattle.std.specs.Prelude.{◌≡◌, ℕ, true, Option, None, Some, List, []}
-use Rattle.mongo_server.specs.Exchange.{Exchange, close_of, final_of}
+use Rattle.mongo_server.specs.Exchange.{Exchange, close_of, server_final_of}
 use Rattle.mongo_server.specs.Server.{HasBegun}
 use Rattle.mongo_serve.specs.declared.reply.SaslReply.{SaslReply}
 use Rattle.mongo_serve.specs.declared.session.Login.{Login}
 use Rattle.mongo_serve.specs.declared.session.Session.{Session}
-use Rattle.mongo_serve.specs.Sasl.{logged_in, after_proof}
+use Rattle.mongo_serve.specs.Sasl.{session_of_login, after_proof}
 
 -- it is the client's last, and the answer the server's
 pub record TakesLast (old : Session) (login : Login) (message : List ℕ) (new : Session) (answer : SaslReply) : Type 0 where
-  pub closes : (x : Exchange) → HasBegun login.core x → (message ≡ close_of x) × (answer.payload ≡ final_of x)
+  pub closes : (x : Exchange) → HasBegun login.core x → (message ≡ close_of x) × (answer.payload ≡ server_final_of x)
   pub done_is : answer.is_done ≡ login.skips_empty_exchange
   pub new_is : new ≡ after_proof old login
 
@@ -20,5 +20,5 @@ AnswersLast old login message new None = ((x : Exchange) → HasBegun login.core
 
 -- where it is
 abbrev pub AnswersEmpty : Session → Login → List ℕ → Session → Option SaslReply → Type 0
-AnswersEmpty old login message new (Some answer) = (message ≡ []) × (answer ≡ record { is_done = true; payload = [] }) × (new ≡ logged_in login)
+AnswersEmpty old login message new (Some answer) = (message ≡ []) × (answer ≡ record { is_done = true; payload = [] }) × (new ≡ session_of_login login)
 AnswersEmpty old login message new None = (message ≡ [] → ⊥) × (new ≡ old)

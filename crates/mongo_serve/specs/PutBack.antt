@@ -4,5 +4,5 @@ use Rattle.std.specs.Io.KnownBytes.{prepend_known}
 use Rattle.mongo_wire.specs.Outside.{State}
 use Rattle.mongo_serve.specs.declared.put_back.PutBack.{PutBack}
 
-abbrev pub state_of : {L : Type 0} → (L → State) → PutBack L → State
-state_of state s = record (state s.link) { left = prepend_known (drop s.at s.front.items) (state s.link).left }
+abbrev pub put_back_state : {L : Type 0} → (L → State) → PutBack L → State
+put_back_state state s = record (state s.link) { left = prepend_known (drop s.at s.front.items) (state s.link).left }

@@ -2,7 +2,7 @@
 use Rattle.std.specs.Prelude.{ℕ, ℤ, pos, Bool, true, false, Option, None, Some, List, [], ◌∷◌, ◌++◌, codes, if◌then◌else◌}
 use Rattle.std.specs.Int.{to_le_bytes, cast_unsigned, w64}
 use Rattle.mongo_bson.specs.Document.{Element}
-use Rattle.mongo_command.specs.Literal.{text_element, document_element, boolean_element, int32_element, document_of}
+use Rattle.mongo_command.specs.Literal.{text_element, document_element, array_element, boolean_element, int32_element, ok_element, document_of}
 use Rattle.mongo_command.specs.Keys.{code_key, code_name_key, connection_id_key, errmsg_key, hello_ok_key, is_master_key, is_writable_primary_key, logical_session_timeout_minutes_key, max_bson_object_size_key, max_message_size_bytes_key, max_wire_version_key, max_write_batch_size_key, min_wire_version_key, ok_key, sasl_supported_mechs_key, speculative_authenticate_key}
 use Rattle.mongo_sasl.specs.Commands.{generic_element}
 use Rattle.mongo_sasl.specs.Keys.{conversation_id_key, done_key, payload_key}
@@ -23,13 +23,6 @@ double_element key bits = record { kind = 0x01; key = key; value = to_le_bytes w
 
 abbrev pub date_element : List ℕ → ℤ → Element
 date_element key milliseconds = record { kind = 0x09; key = key; value = to_le_bytes w64 (cast_unsigned w64 milliseconds) }
-
-abbrev pub array_element : List ℕ → List ℕ → Element
-array_element key array = record { kind = 0x04; key = key; value = array }
-
--- `ok` 1.0
-abbrev pub ok_element : Element
-ok_element = double_element ok_key 0x3FF0000000000000
 
 -- ---- documents
 
@@ -99,14 +92,14 @@ abbrev pub speculation_elements : Option SaslReply → List Element
 speculation_elements None = []
 speculation_elements (Some message) = document_element speculative_authenticate_key (sasl_document message) ∷ []
 
-abbrev pub hello_elements : HelloReply → List Element
-hello_elements hello = description ++ (boolean_element (writable_key hello.is_legacy) true ∷ (mechanism_elements hello.mechanisms ++ (speculation_elements hello.speculation ++ ok_element ∷ [])))
+abbrev pub hello_reply_elements : HelloReply → List Element
+hello_reply_elements hello = description ++ (boolean_element (writable_key hello.is_legacy) true ∷ (mechanism_elements hello.mechanisms ++ (speculation_elements hello.speculation ++ ok_element ∷ [])))
 
 -- ---- the document of a reply
 
-abbrev pub reply_document : Reply → List ℕ
-reply_document (Hello hello) = document_of (hello_elements hello)
-reply_document (Sasl message) = sasl_document message
-reply_document BuildInfo = build_info_document
-reply_document Done = done_document
-reply_document (Refused refusal) = refusal_document refusal
+abbrev pub document_of_served : Reply → List ℕ
+document_of_served (Hello hello) = document_of (hello_reply_elements hello)
+document_of_served (Sasl message) = sasl_document message
+document_of_served BuildInfo = build_info_document
+document_of_served Done = done_document
+document_of_served (Refused refusal) = refusal_document refusal

@@ -108,8 +108,8 @@ pub record SaysContinue (document : List ℕ) (next : SaslContinue) : Type 0 whe
   pub message : HoldsIfAny (HasPayload document) next.payload
 
 -- the names that are known
-abbrev pub is_known : List ℕ → Bool
-is_known name =
+abbrev pub is_known_command : List ℕ → Bool
+is_known_command name =
     bytes_eq name (codes "hello") || bytes_eq name (codes "isMaster") || bytes_eq name (codes "ismaster")
     || bytes_eq name sasl_start_key || bytes_eq name sasl_continue_key || bytes_eq name (codes "ping")
     || bytes_eq name (codes "buildInfo") || bytes_eq name (codes "buildinfo") || bytes_eq name (codes "endSessions")
@@ -125,7 +125,7 @@ IsCommandName document name = IsCommandNamed document name ⊎ (IsUnnamed docume
 -- another command, or no first key
 pub record SaysOther (document name : List ℕ) : Type 0 where
   pub named : IsCommandName document name
-  pub unknown : is_known name ≡ false
+  pub unknown : is_known_command name ≡ false
 
 -- the document asks for this
 abbrev pub SaysRequest : List ℕ → Request → Type 0

@@ -17,12 +17,12 @@ use Rattle.mongo_serve.specs.Served.{IsServed}
 use Rattle.mongo_serve.specs.Settings.{AreSettings}
 
 -- the number that the process ends with
-abbrev pub code_of_status : Status → ℕ
-code_of_status Ended = 0
-code_of_status Broken = 1
-code_of_status BadSettings = 2
-code_of_status Usage = 3
-code_of_status NoMemory = 6
+abbrev pub serve_code : Status → ℕ
+serve_code Ended = 0
+serve_code Broken = 1
+serve_code BadSettings = 2
+serve_code Usage = 3
+serve_code NoMemory = 6
 
 -- what a fault of reading is to the line
 abbrev pub line_error_of : ErrorKind → LineError
@@ -38,40 +38,40 @@ pub record IsAfterLine (old new : State) (settings : Settings) : Type 0 where
   pub are_settings : AreSettings line settings
 
 -- the status by how the stream was left
-abbrev pub status_of : Option ServeFault → Status
-status_of None = Ended
-status_of (Some fault.OutOfMemory) = NoMemory
-status_of (Some other) = Broken
+abbrev pub status_of_fault : Option ServeFault → Status
+status_of_fault None = Ended
+status_of_fault (Some fault.OutOfMemory) = NoMemory
+status_of_fault (Some other) = Broken
 
 -- what the link and the report are before a run and after it
-pub record Run : Type 0 where
+pub record ServeRun : Type 0 where
   pub old : State
   pub new : State
   pub report_old : State
   pub report_new : State
 
 -- a front of the text, or all of it, was written to the report
-abbrev pub WritesReport : Run → List ℕ → Type 0
+abbrev pub WritesReport : ServeRun → List ℕ → Type 0
 WritesReport run text = AppendsFront run.report_old.written run.report_new.written text
 
 -- The first line was read as these settings, what follows it was served, and status and report say how that ended.
-pub record Ran (run : Run) (status : Status) : Type 0 where
+pub record Ran (run : ServeRun) (status : Status) : Type 0 where
   pub settings : Settings
   pub between : State
   pub after_line : IsAfterLine run.old between settings
   pub served : Served
   pub is_served : IsServed settings between run.new served
-  pub status_is : status ≡ status_of served.fault
+  pub status_is : status ≡ status_of_fault served.fault
   pub said : WritesReport run (report_text served)
 
 -- nothing was written to the link
-abbrev pub IsSilent : Run → Type 0
-IsSilent run = run.new.written ≡ run.old.written
+abbrev pub SendsNothing : ServeRun → Type 0
+SendsNothing run = run.new.written ≡ run.old.written
 
 -- How a run ends. A run that is out of memory may have been so before it had settings.
-abbrev pub RunEnds : Run → Status → Type 0
+abbrev pub RunEnds : ServeRun → Status → Type 0
 RunEnds run Ended = Ran run Ended
-RunEnds run Broken = Ran run Broken ⊎ (Rose run.old.read_faults run.new.read_faults × IsSilent run)
-RunEnds run BadSettings = IsSilent run × WritesReport run no_settings
-RunEnds run NoMemory = Ran run NoMemory ⊎ IsSilent run
+RunEnds run Broken = Ran run Broken ⊎ (Rose run.old.read_faults run.new.read_faults × SendsNothing run)
+RunEnds run BadSettings = SendsNothing run × WritesReport run no_settings
+RunEnds run NoMemory = Ran run NoMemory ⊎ SendsNothing run
 RunEnds run Usage = ⊥

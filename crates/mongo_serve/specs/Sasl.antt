@@ -1,7 +1,7 @@
 -- What the commands of a login come to (RFC 5802, section 3, as the server sees it): which are answered, by which message, and which are
 -- refused.
 use Rattle.std.specs.Prelude.{◌≡◌, ℕ, ◌⊎◌, Bool, true, false, Option, None, Some, List, [], if◌then◌else◌, IsSomeAnd, option_copied}
-use Rattle.mongo_server.specs.Exchange.{Exchange, open_of, first_of, close_of, final_of}
+use Rattle.mongo_server.specs.Exchange.{Exchange, open_of, first_of, close_of, server_final_of}
 use Rattle.mongo_server.specs.Server.{HasBegun}
 use Rattle.mongo_serve.specs.declared.reply.SaslReply.{SaslReply}
 use Rattle.mongo_serve.specs.declared.request.SaslContinue.{SaslContinue}
@@ -58,12 +58,12 @@ pub record Ends (old : Session) (next : SaslContinue) (login : Login) : Type 0 w
   pub proved : login.is_proved ≡ true
 
 -- the login's user is logged in, and no login goes on
-abbrev pub logged_in : Login → Session
-logged_in login = record { user = Some login.name; login = None }
+abbrev pub session_of_login : Login → Session
+session_of_login login = record { user = Some login.name; login = None }
 
 -- the session once the key is proved
 abbrev pub after_proof : Session → Login → Session
-after_proof old login = if login.skips_empty_exchange then logged_in login else record old { login = Some (record login { is_proved = true }) }
+after_proof old login = if login.skips_empty_exchange then session_of_login login else record old { login = Some (record login { is_proved = true }) }
 
 -- The key is proved: of every exchange that the login has begun this is the client's last message, and the answer the server's last.
 pub record ProvesKey (old : Session) (next : SaslContinue) (new : Session) (answer : SaslReply) : Type 0 where
@@ -71,7 +71,7 @@ pub record ProvesKey (old : Session) (next : SaslContinue) (new : Session) (answ
   pub message : List ℕ
   pub goes_on : GoesOn old next login message
   pub unproved : login.is_proved ≡ false
-  pub closes : (x : Exchange) → HasBegun login.core x → (message ≡ close_of x) × (answer.payload ≡ final_of x)
+  pub closes : (x : Exchange) → HasBegun login.core x → (message ≡ close_of x) × (answer.payload ≡ server_final_of x)
   pub done_is : answer.is_done ≡ login.skips_empty_exchange
   pub new_is : new ≡ after_proof old login
 
@@ -80,7 +80,7 @@ pub record ClosesLogin (old : Session) (next : SaslContinue) (new : Session) (an
   pub login : Login
   pub ends : Ends old next login
   pub answer_is : answer ≡ record { is_done = true; payload = [] }
-  pub new_is : new ≡ logged_in login
+  pub new_is : new ≡ session_of_login login
 
 -- What a `saslContinue` comes to. It is refused exactly where it neither closes an exchange nor ends a login; then no login goes on.
 abbrev pub AnswersContinue : Session → SaslContinue → Session → Option SaslReply → Type 0

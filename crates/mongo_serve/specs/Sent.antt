@@ -9,7 +9,7 @@ use Rattle.mongo_wire.specs.Outside.{State, AppendsFront, IsFlushed, Rose}
 use Rattle.mongo_serve.specs.declared.fault.ServeFault.{ServeFault}
 use Rattle.mongo_serve.specs.declared.fault.ServeFault.TheVariants.{WriteFault, ReplyTooLong, OutOfMemory}
 use Rattle.mongo_serve.specs.declared.reply.Reply.{Reply}
-use Rattle.mongo_serve.specs.Replies.{reply_document}
+use Rattle.mongo_serve.specs.Replies.{document_of_served}
 
 -- MORE_TO_COME, bit 1, is set
 abbrev pub WantsNone : ℕ → Type 0
@@ -34,7 +34,7 @@ query_reply id to document = uint32 (length document + 36) ++ (int32 id ++ (int3
 -- what is sent to an OP_MSG of this id and these flags: a reply, or nothing exactly where the client says that it sends more
 abbrev pub IsAnswerTo : ℤ → ℕ → Reply → ℤ → ℤ → List ℕ → Type 0
 IsAnswerTo to flags reply id later sent =
-    (WantsNone flags × (sent ≡ []) × (later ≡ id)) ⊎ ((WantsNone flags → ⊥) × IsReplyFrame sent id to (reply_document reply) × (later ≡ next_id id))
+    (WantsNone flags × (sent ≡ []) × (later ≡ id)) ⊎ ((WantsNone flags → ⊥) × IsReplyFrame sent id to (document_of_served reply) × (later ≡ next_id id))
 
 -- what answers an OP_MSG of this document
 pub record AnswersMessage (frame : List ℕ) (document : List ℕ) (reply : Reply) (id later : ℤ) (sent : List ℕ) : Type 0 where
@@ -45,7 +45,7 @@ pub record AnswersMessage (frame : List ℕ) (document : List ℕ) (reply : Repl
 
 -- what answers an OP_QUERY: its header has the id
 abbrev pub AnswersQuery : List ℕ → Reply → ℤ → ℤ → List ℕ → Type 0
-AnswersQuery frame reply id later sent = (sent ≡ query_reply id (signed_at 4 (take 16 frame)) (reply_document reply)) × (later ≡ next_id id)
+AnswersQuery frame reply id later sent = (sent ≡ query_reply id (signed_at 4 (take 16 frame)) (document_of_served reply)) × (later ≡ next_id id)
 
 -- some front of the bytes
 abbrev pub IsFrontOf : List ℕ → List ℕ → Type 0
@@ -57,11 +57,11 @@ pub record CutsMessage (frame : List ℕ) (document : List ℕ) (reply : Reply) 
   pub is_frame : IsFrame frame parts
   pub body_is : parts.body ≡ document
   pub wanted : WantsNone parts.flags → ⊥
-  pub front : IsFrontOf sent (message_reply id parts.request_id (reply_document reply))
+  pub front : IsFrontOf sent (message_reply id parts.request_id (document_of_served reply))
 
 -- a front of what answers an OP_QUERY
 abbrev pub CutsQuery : List ℕ → Reply → ℤ → List ℕ → Type 0
-CutsQuery frame reply id sent = IsFrontOf sent (query_reply id (signed_at 4 (take 16 frame)) (reply_document reply))
+CutsQuery frame reply id sent = IsFrontOf sent (query_reply id (signed_at 4 (take 16 frame)) (document_of_served reply))
 
 -- ---- a write
 
@@ -87,11 +87,11 @@ pub record IsReplySent (old new : State) (to : ℤ) (flags : ℕ) (reply : Reply
 -- an answer to an OP_MSG was cut: a front of it is written, if any
 pub record IsSentInPart (old new : State) (to : ℤ) (flags : ℕ) (reply : Reply) (id : ℤ) : Type 0 where
   pub wanted : WantsNone flags → ⊥
-  pub front : AppendsFront old.written new.written (message_reply id to (reply_document reply))
+  pub front : AppendsFront old.written new.written (message_reply id to (document_of_served reply))
 
 -- an OP_QUERY was answered, and the reply flushed
 pub record IsSentToQuery (old new : State) (to : ℤ) (reply : Reply) (id later : ℤ) : Type 0 where
-  pub appended : Appends old.written new.written (query_reply id to (reply_document reply))
+  pub appended : Appends old.written new.written (query_reply id to (document_of_served reply))
   pub flushed : IsFlushed new
   pub drawn : later ≡ next_id id
 

@@ -14,8 +14,8 @@ use Rattle.mongo_serve.specs.declared.settings.Settings.{Settings}
 
 -- ---- what the values of keys mean
 
-abbrev pub text_in : List ℕ → Data → Option (List ℕ)
-text_in key d = option_and_then as_str (get key d)
+abbrev pub text_under : List ℕ → Data → Option (List ℕ)
+text_under key d = option_and_then as_str (get key d)
 
 abbrev pub items_in : List ℕ → Data → Option Items
 items_in key d = option_and_then as_array (get key d)
@@ -24,8 +24,8 @@ items_in key d = option_and_then as_array (get key d)
 abbrev pub version_named : List ℕ → Option ScramVersion
 version_named name = if bytes_eq name (codes "SCRAM-SHA-1") then Some Sha1 else if bytes_eq name (codes "SCRAM-SHA-256") then Some Sha256 else None
 
-abbrev pub version_in : Data → Option ScramVersion
-version_in d = option_and_then version_named (as_str d)
+abbrev pub scram_version_in : Data → Option ScramVersion
+scram_version_in d = option_and_then version_named (as_str d)
 
 -- the bytes of a text of hex
 abbrev pub salt_in : Data → Option (List ℕ)
@@ -45,8 +45,8 @@ item_at (item d others) (suc n) = item_at others n
 
 -- a user of the text has this account: its name, password and count are the user's, and its mechanism and salt stand at the same place
 pub record SaysAccount (user : Data) (a : Account) : Type 0 where
-  pub name : text_in (codes "name") user ≡ Some a.name
-  pub password : text_in (codes "password") user ≡ Some a.password
+  pub name : text_under (codes "name") user ≡ Some a.name
+  pub password : text_under (codes "password") user ≡ Some a.password
   pub count : count_in user ≡ Some a.count
   pub mechanisms : Items
   pub mechanisms_are : items_in (codes "mechanisms") user ≡ Some mechanisms
@@ -55,7 +55,7 @@ pub record SaysAccount (user : Data) (a : Account) : Type 0 where
   pub place : ℕ
   pub mechanism : Data
   pub mechanism_is : item_at mechanisms place ≡ Some mechanism
-  pub version : version_in mechanism ≡ Some a.version
+  pub version : scram_version_in mechanism ≡ Some a.version
   pub salt : Data
   pub salt_is : item_at salts place ≡ Some salt
   pub bytes : salt_in salt ≡ Some a.salt
@@ -75,7 +75,7 @@ pub record AreSettings (text : List ℕ) (settings : Settings) : Type 0 where
   pub value : Data
   pub utf8 : IsUtf8 text
   pub json : read text ≡ Some value
-  pub nonce : text_in (codes "nonce") value ≡ Some settings.suffix
+  pub nonce : text_under (codes "nonce") value ≡ Some settings.suffix
   pub users : Items
   pub users_are : items_in (codes "users") value ≡ Some users
   pub said : AllByRecursion (SaidBy users) settings.accounts.items

@@ -63,9 +63,9 @@ abbrev pub inner_of : RawValue → Option RawDocument
 inner_of (Document inner) = Some inner
 inner_of other = None
 
-abbrev pub IsTruth : RawValue → Type 0
-IsTruth (Boolean truth) = truth ≡ true
-IsTruth other = ⊥
+abbrev pub IsTrueBoolean : RawValue → Type 0
+IsTrueBoolean (Boolean truth) = truth ≡ true
+IsTrueBoolean other = ⊥
 
 abbrev pub SaysOne : RawValue → Type 0
 SaysOne (Int32 number) = number ≡ pos 1

@@ -5,7 +5,7 @@ ghost use Rattle.mongo_bson.specs.Document.{Element};
 ghost use Rattle.mongo_bson.specs.Value.{element_of};
 ghost use Rattle.mongo_command.specs.Literal.{document_of};
 ghost use Rattle.mongo_serve.specs.Faults.{IsOfDocument};
-ghost use Rattle.mongo_serve.specs.Replies.{description, hello_elements, mechanism_elements, speculation_elements, names_document, writable_key};
+ghost use Rattle.mongo_serve.specs.Replies.{description, hello_reply_elements, mechanism_elements, speculation_elements, names_document, writable_key};
 
 use crate::documents::ONE;
 use crate::fault::ServeFault;
@@ -24,7 +24,7 @@ use std::alloc::Global;
 ///
 /// `ReplyTooLong` where it would pass 2147483647 bytes.
 pub fn hello_document(alloc: Global, hello: &HelloReply) -> Result<RawDocumentBuf, ServeFault>
-    ensures document { IfOk result (λ document. document ≡ document_of (hello_elements hello.now)) }
+    ensures document { IfOk result (λ document. document ≡ document_of (hello_reply_elements hello.now)) }
     ensures refused { IfErr result IsOfDocument }
 {
     let mut document = description(alloc)?;

@@ -20,11 +20,11 @@ impl<L: Link> PutBack<L> {
     ghost use Rattle.std.specs.Prelude.{◌≡◌, OnOk, OnErr, IfErr};
     ghost use Rattle.std.specs.Io.KnownBytes.{prepend_known};
     ghost use Rattle.mongo_serve.specs.declared.fault.ServeFault.TheVariants.{OutOfMemory};
-    ghost use Rattle.mongo_serve.specs.PutBack.{state_of};
+    ghost use Rattle.mongo_serve.specs.PutBack.{put_back_state};
 
     /// The link, with nothing put back.
     pub fn new(alloc: Global, link: L) -> PutBack<L>
-        ensures { state_of L.state result ≡ L.state link }
+        ensures { put_back_state L.state result ≡ L.state link }
     {
         PutBack {
             link,
@@ -35,7 +35,7 @@ impl<L: Link> PutBack<L> {
 
     /// Puts bytes back before what is left.
     pub fn put_back(&mut self, alloc: Global, bytes: &[u8]) -> Result<(), ServeFault>
-        ensures put { OnOk result (state_of L.state self.new ≡ record (state_of L.state self.old) { left = prepend_known bytes.now (state_of L.state self.old).left }) }
+        ensures put { OnOk result (put_back_state L.state self.new ≡ record (put_back_state L.state self.old) { left = prepend_known bytes.now (put_back_state L.state self.old).left }) }
         ensures unchanged { OnErr result (self.new ≡ self.old) }
         ensures refused { IfErr result (λ fault. fault ≡ OutOfMemory) }
     {
@@ -54,9 +54,9 @@ impl<L: Link> PutBack<L> {
 }
 
 impl<L: Link> Outside for PutBack<L> {
-    ghost use Rattle.mongo_serve.specs.PutBack.{state_of};
+    ghost use Rattle.mongo_serve.specs.PutBack.{put_back_state};
 
-    ghost state = { λ s. state_of L.state s };
+    ghost state = { λ s. put_back_state L.state s };
 }
 
 impl<L: Link> Source for PutBack<L> {

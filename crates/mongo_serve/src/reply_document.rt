@@ -1,7 +1,7 @@
 //! The documents that say replies.
 
 ghost use Rattle.std.specs.Prelude.{◌≡◌, ℤ, IfOk, IfErr};
-ghost use Rattle.mongo_serve.specs.Replies.{reply_document, done_document, error_document, refusal_document, sasl_document, build_info_document, version_document};
+ghost use Rattle.mongo_serve.specs.Replies.{document_of_served, done_document, error_document, refusal_document, sasl_document, build_info_document, version_document};
 ghost use Rattle.mongo_serve.specs.Faults.{IsOfDocument};
 
 use crate::documents::{ONE, ZERO};
@@ -27,7 +27,7 @@ pub const DOCUMENT_MAXIMUM: i32 = 16_777_216;
 ///
 /// `ReplyTooLong` where it would pass 2147483647 bytes.
 pub fn document_of_reply(alloc: Global, reply: &Reply) -> Result<RawDocumentBuf, ServeFault>
-    ensures document { IfOk result (λ document. document ≡ reply_document reply.now) }
+    ensures document { IfOk result (λ document. document ≡ document_of_served reply.now) }
     ensures refused { IfErr result IsOfDocument }
 {
     match reply {

@@ -4,7 +4,7 @@ ghost use Rattle.std.specs.Prelude.{◌≡◌, ◌↔◌, ℕ, List, MatchOption
 ghost use Rattle.mongo_sasl.specs.Keys.{conversation_id_key, sasl_start_key};
 ghost use Rattle.mongo_serve.specs.Settings.{version_named};
 ghost use Rattle.mongo_serve.specs.Requests.{AsksMechanismsOf, CarriesLogin, HasPayload, IsCommandName, IsCommandNamed, name_without_database, SaysRequest, SaysStart, SaysVersion, SkipsEmptyExchange};
-ghost use Rattle.mongo_serve.specs.Values.{binary_of, HasInside, HasOne, HasText, HasTrue, HoldsIfAny, inner_of, SaysOne, IsTruth, StandsAt, string_of};
+ghost use Rattle.mongo_serve.specs.Values.{binary_of, HasInside, HasOne, HasText, HasTrue, HoldsIfAny, inner_of, SaysOne, IsTrueBoolean, StandsAt, string_of};
 
 use mongo_bson::{RawDocument, RawValue, first_key};
 use mongo_command::keys::{SASL_SUPPORTED_MECHS, SPECULATIVE_AUTHENTICATE};
@@ -227,7 +227,7 @@ fn is_true_in(document: RawDocument<'_>, key: &str) -> bool
     ensures { IsTrue result ↔ HasTrue document.entry.bytes.now key.now }
 {
     match value_in(document, key) {
-        Some(value) => is_truth(value),
+        Some(value) => is_true_boolean(value),
         None => false,
     }
 }
@@ -279,8 +279,8 @@ fn inner_of<'a>(value: RawValue<'a>) -> Option<RawDocument<'a>>
     }
 }
 
-fn is_truth(value: RawValue<'_>) -> bool
-    ensures { IsTrue result ↔ IsTruth value.entry }
+fn is_true_boolean(value: RawValue<'_>) -> bool
+    ensures { IsTrue result ↔ IsTrueBoolean value.entry }
 {
     match value {
         RawValue::Bool(truth) => truth,

@@ -3,7 +3,7 @@
 ghost use Rattle.std.specs.Prelude.{◌≡◌, ◌+◌, ◌^◌, ◌<◌, length, IfOk, IfErr, OnOk, OnErr};
 ghost use Rattle.std.specs.Io.KnownBytes.{Appends};
 ghost use Rattle.mongo_wire.specs.Outside.{AppendsFront, IsFlushed, WritesOn};
-ghost use Rattle.mongo_serve.specs.Replies.{reply_document};
+ghost use Rattle.mongo_serve.specs.Replies.{document_of_served};
 ghost use Rattle.mongo_serve.specs.Sent.{message_reply, query_reply, IsReplySent, IsSentInPart, IsSentToQuery, SendsReply, WriteCause};
 ghost use Rattle.mongo_serve.specs.declared.fault.ServeFault.TheVariants.{OutOfMemory};
 
@@ -84,7 +84,7 @@ pub fn respond_to_query<K: Sink>(
     ids: &mut RequestIds,
 ) -> Result<(), ServeFault>
     ensures sent { OnOk result (IsSentToQuery (K.state sink.old) (K.state sink.new) request_id reply.now ids.old ids.new) }
-    ensures front { OnErr result (AppendsFront (K.state sink.old).written (K.state sink.new).written (query_reply ids.old request_id (reply_document reply.now))) }
+    ensures front { OnErr result (AppendsFront (K.state sink.old).written (K.state sink.new).written (query_reply ids.old request_id (document_of_served reply.now))) }
     ensures on { WritesOn (K.state sink.old) (K.state sink.new) }
     ensures refused { IfErr result (λ fault. WriteCause fault (K.state sink.old) (K.state sink.new)) }
 {

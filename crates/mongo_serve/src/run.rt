@@ -1,9 +1,9 @@
 //! The top call.
 
 ghost use Rattle.std.specs.Prelude.{◌≡◌, ◌<◌};
-ghost use Rattle.mongo_serve.specs.PutBack.{state_of};
+ghost use Rattle.mongo_serve.specs.PutBack.{put_back_state};
 ghost use Rattle.mongo_serve.specs.Report.{report_text};
-ghost use Rattle.mongo_serve.specs.Run.{status_of, RunEnds};
+ghost use Rattle.mongo_serve.specs.Run.{status_of_fault, RunEnds};
 ghost use Rattle.mongo_wire.specs.Outside.{AppendsFront};
 
 #[cfg(test)]
@@ -28,7 +28,7 @@ pub fn run<L: Link, K: Sink, G: Ledger>(
     report: &mut K,
     steps: &mut Steps<G>,
 ) -> Status
-    ensures { RunEnds (record { old = state_of L.state link.old; new = state_of L.state link.new; report_old = K.state report.old; report_new = K.state report.new }) result }
+    ensures { RunEnds (record { old = put_back_state L.state link.old; new = put_back_state L.state link.new; report_old = K.state report.old; report_new = K.state report.new }) result }
 {
     let settings = match read_settings(alloc, link) {
         Ok(settings) => settings,
@@ -60,14 +60,14 @@ pub fn run_counted<L: Link, K: Sink, G: Ledger>(
     requires name { blank.name ≡ G.name }
     requires parts { blank.parts ≡ G.parts }
     requires has_a_part { 0 < G.parts }
-    ensures { RunEnds (record { old = state_of L.state link.old; new = state_of L.state link.new; report_old = K.state report.old; report_new = K.state report.new }) result }
+    ensures { RunEnds (record { old = put_back_state L.state link.old; new = put_back_state L.state link.new; report_old = K.state report.old; report_new = K.state report.new }) result }
 {
     let mut steps = Steps::<G>::new(blank);
     run(alloc, link, report, &mut steps)
 }
 
 fn status_of(fault: Option<ServeFault>) -> Status
-    ensures { result ≡ status_of fault }
+    ensures { result ≡ status_of_fault fault }
 {
     match fault {
         None => Status::Ended,

@@ -4,7 +4,7 @@ ghost use Rattle.std.specs.Prelude.{◌≡◌, ℕ, pos, ◌+◌, ◌≤ℤ◌, 
 ghost use Rattle.mongo_wire.specs.Header.{header_with, signed_at};
 ghost use Rattle.mongo_wire.specs.Outside.{State};
 ghost use Rattle.mongo_serve.specs.Login.{Remembers};
-ghost use Rattle.mongo_serve.specs.PutBack.{state_of};
+ghost use Rattle.mongo_serve.specs.PutBack.{put_back_state};
 ghost use Rattle.mongo_serve.specs.Requests.{IsGreeting};
 ghost use Rattle.mongo_serve.specs.Served.{FollowsHead, IsBackAt, TurnEnds, PartEnds, IsServed};
 ghost use Rattle.mongo_serve.specs.Turns.{IsDocumentAnswered};
@@ -54,7 +54,7 @@ pub fn serve<L: Link, G: Ledger>(
     link: &mut PutBack<L>,
     steps: &mut Steps<G>,
 ) -> Served
-    ensures { IsServed settings.now (state_of L.state link.old) (state_of L.state link.new) result }
+    ensures { IsServed settings.now (put_back_state L.state link.old) (put_back_state L.state link.new) result }
 {
     let mut serving = Serving {
         session: Session::new(),
@@ -93,7 +93,7 @@ fn take_turn<L: Link, G: Ledger>(
     steps: &mut Steps<G>,
 ) -> Result<bool, ServeFault>
     ensures { (requests : List (List ℕ)) → Remembers settings.now requests serving.old.session →
-        TurnEnds settings.now requests (state_of L.state link.old) (state_of L.state link.new) serving.old.session serving.old.ids serving.new.session serving.new.ids result }
+        TurnEnds settings.now requests (put_back_state L.state link.old) (put_back_state L.state link.new) serving.old.session serving.old.ids serving.new.session serving.new.ids result }
 {
     let mut head = [0u8; 16];
     match fill_or_end(link, &mut head) {
@@ -115,8 +115,8 @@ fn take_after<L: Link, G: Ledger>(
     head: &[u8; 16],
     steps: &mut Steps<G>,
 ) -> Result<(), ServeFault>
-    ensures { (requests : List (List ℕ)) (before : State) → Remembers settings.now requests serving.old.session → FollowsHead before (state_of L.state link.old) head.now →
-        PartEnds settings.now requests before (state_of L.state link.new) serving.old.session serving.old.ids serving.new.session serving.new.ids result }
+    ensures { (requests : List (List ℕ)) (before : State) → Remembers settings.now requests serving.old.session → FollowsHead before (put_back_state L.state link.old) head.now →
+        PartEnds settings.now requests before (put_back_state L.state link.new) serving.old.session serving.old.ids serving.new.session serving.new.ids result }
 {
     match Header::decode(head) {
         Ok(header) => match header.op_code {
@@ -139,8 +139,8 @@ fn take_message<L: Link, G: Ledger>(
     serving: &mut Serving,
     steps: &mut Steps<G>,
 ) -> Result<(), ServeFault>
-    ensures { (requests : List (List ℕ)) (before : State) → Remembers settings.now requests serving.old.session → IsBackAt before (state_of L.state link.old) →
-        PartEnds settings.now requests before (state_of L.state link.new) serving.old.session serving.old.ids serving.new.session serving.new.ids result }
+    ensures { (requests : List (List ℕ)) (before : State) → Remembers settings.now requests serving.old.session → IsBackAt before (put_back_state L.state link.old) →
+        PartEnds settings.now requests before (put_back_state L.state link.new) serving.old.session serving.old.ids serving.new.session serving.new.ids result }
 {
     match serving.buffer.take_frame(link, Some(MAXIMUM)) {
         Ok(()) => {}
@@ -187,8 +187,8 @@ fn take_query<L: Link, G: Ledger>(
 ) -> Result<(), ServeFault>
     requires header { header ≡ header_with head.now Query }
     requires code { signed_at 12 head.now ≡ pos 2004 }
-    ensures { (requests : List (List ℕ)) (before : State) → Remembers settings.now requests serving.old.session → FollowsHead before (state_of L.state link.old) head.now →
-        PartEnds settings.now requests before (state_of L.state link.new) serving.old.session serving.old.ids serving.new.session serving.new.ids result }
+    ensures { (requests : List (List ℕ)) (before : State) → Remembers settings.now requests serving.old.session → FollowsHead before (put_back_state L.state link.old) head.now →
+        PartEnds settings.now requests before (put_back_state L.state link.new) serving.old.session serving.old.ids serving.new.session serving.new.ids result }
 {
     let Some(rest) = length_after(header.length) else {
         return Err(ServeFault::NoFrame);

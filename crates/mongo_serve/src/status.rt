@@ -19,9 +19,9 @@ pub enum Status {
 impl From<Status> for ExitCode {
     ghost use Rattle.std.specs.Prelude.{◌≡◌};
     ghost use Rattle.std.specs.Process.{exit_status};
-    ghost use Rattle.mongo_serve.specs.Run.{code_of_status};
+    ghost use Rattle.mongo_serve.specs.Run.{serve_code};
 
-    ghost from_gives = { λ status code. exit_status code ≡ code_of_status status };
+    ghost from_gives = { λ status code. exit_status code ≡ serve_code status };
 
     fn from(status: Status) -> ExitCode {
         ExitCode::from(status as u8)

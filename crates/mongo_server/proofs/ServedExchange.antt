@@ -13,8 +13,8 @@ use Rattle.mongo_server.specs.declared.fault.ServerFault.TheVariants.{Malformed,
 use Rattle.mongo_server.specs.declared.server_core.Conversation.{Conversation}
 use Rattle.mongo_server.specs.declared.server_core.ServerCore.{ServerCore}
 use Rattle.mongo_server.specs.ClientMessages.{IsPrintable, IsNonce, IsClientFirst, IsClientFinal}
-use Rattle.mongo_server.specs.Exchange.{Exchange, joined_of, salted_of, open_of, first_of, auth_message_of, close_of, final_of, IsReadAs}
-use Rattle.mongo_server.specs.Server.{user_of, salt_of, suffix_of, username_of, conversation_of, first_by, conversation_by, ClientFirstRow, IsLastMessageTaken, FinalRefused, Serves, HasBegun}
+use Rattle.mongo_server.specs.Exchange.{Exchange, joined_of, salted_between, open_of, first_of, auth_message_between, close_of, server_final_of, IsReadAs}
+use Rattle.mongo_server.specs.Server.{server_user, salt_of, suffix_of, username_of, held_conversation, first_by, conversation_by, ClientFirstRow, IsLastMessageTaken, FinalRefused, Serves, HasBegun}
 use Rattle.mongo_server.specs.ServerTexts.{server_first, server_final}
 use Rattle.mongo_server.proofs.ClientFinals.{one_final}
 use Rattle.mongo_server.proofs.ClientFirsts.{one_first}
@@ -37,7 +37,7 @@ module _ (core : ServerCore) (x : Exchange) (serves : Serves core x) where
   first_is : (nonce : List ℕ) → nonce ≡ x.nonce → first_by core nonce ≡ first_of x
   first_is nonce same = λ i. server_first (same i ++ serves.suffix i) (serves.user.salt_is i) (serves.user.count_is i)
 
-  conversation_is : (nonce : List ℕ) → nonce ≡ x.nonce → conversation_by core nonce ≡ record { nonce = joined_of x; auth_message = auth_message_of x }
+  conversation_is : (nonce : List ℕ) → nonce ≡ x.nonce → conversation_by core nonce ≡ record { nonce = joined_of x; auth_message = auth_message_between x }
   conversation_is nonce same = λ i. record {
     nonce = same i ++ serves.suffix i;
     auth_message = transcript (bare_message (serves.user.username_is i) (same i)) (first_is nonce same i) (same i ++ serves.suffix i);
@@ -57,7 +57,7 @@ module _ (core : ServerCore) (x : Exchange) (serves : Serves core x) where
         begins = (x.suffix, refl);
       }
 
-  has_begun : (new : ServerCore) (nonce : List ℕ) → nonce ≡ x.nonce → IsNonce x.nonce → IsBytes (salt_of core) → user_of new ≡ user_of core → suffix_of new ≡ suffix_of core → conversation_of new ≡ Some (conversation_by core nonce) → HasBegun new x
+  has_begun : (new : ServerCore) (nonce : List ℕ) → nonce ≡ x.nonce → IsNonce x.nonce → IsBytes (salt_of core) → server_user new ≡ server_user core → suffix_of new ≡ suffix_of core → held_conversation new ≡ Some (conversation_by core nonce) → HasBegun new x
   has_begun new nonce same printable bytes same_user same_suffix begun = record {
     serves = record { user = subst (IsUserOf x.version x.username x.password x.salt x.count) (sym same_user) serves.user; suffix = same_suffix ∙ serves.suffix };
     printable = printable;
@@ -65,7 +65,7 @@ module _ (core : ServerCore) (x : Exchange) (serves : Serves core x) where
     held = begun ∙ ap Some (conversation_is nonce same);
   }
 
-pub accepts_first : (core new : ServerCore) (message text nonce : List ℕ) → IsClientFirst message (username_of core) nonce → text ≡ first_by core nonce → IsBytes (salt_of core) → user_of new ≡ user_of core → suffix_of new ≡ suffix_of core → conversation_of new ≡ Some (conversation_by core nonce)
+pub accepts_first : (core new : ServerCore) (message text nonce : List ℕ) → IsClientFirst message (username_of core) nonce → text ≡ first_by core nonce → IsBytes (salt_of core) → server_user new ≡ server_user core → suffix_of new ≡ suffix_of core → held_conversation new ≡ Some (conversation_by core nonce)
     → (x : Exchange) → Serves core x → IsNonce x.nonce → message ≡ open_of x → IsReadAs text x × HasBegun new x
 accepts_first core new message text nonce first text_is bytes same_user same_suffix begun x serves printable is =
     let same = (one_first message (username_of core) nonce x.username x.nonce first (client_first core x serves message printable is)).nonce_is in
@@ -80,37 +80,37 @@ hears_first core message fault row x serves printable is =
 
 module _ (core : ServerCore) (x : Exchange) (begun : HasBegun core x) where
   abbrev exchange_held : Conversation
-  exchange_held = record { nonce = joined_of x; auth_message = auth_message_of x }
+  exchange_held = record { nonce = joined_of x; auth_message = auth_message_between x }
 
-  held_is : (held : Conversation) → conversation_of core ≡ Some held → held ≡ exchange_held
+  held_is : (held : Conversation) → held_conversation core ≡ Some held → held ≡ exchange_held
   held_is held is = let same : Some held ≡ Some exchange_held = sym is ∙ begun.held in cc
 
-  final_is : (held : Conversation) → conversation_of core ≡ Some held → server_final (verifier_under core.user.keys held.auth_message) ≡ final_of x
+  final_is : (held : Conversation) → held_conversation core ≡ Some held → server_final (verifier_under core.user.keys held.auth_message) ≡ server_final_of x
   final_is held is =
       ap (λ (c : Conversation). server_final (verifier_under core.user.keys c.auth_message)) (held_is held is)
-      ∙ ap server_final (verifier_is core.user.keys x.version (salted_of x) (auth_message_of x) begun.serves.user.version_is begun.serves.user.keys)
+      ∙ ap server_final (verifier_is core.user.keys x.version (salted_between x) (auth_message_between x) begun.serves.user.version_is begun.serves.user.keys)
 
-  owed_is : (held : Conversation) → conversation_of core ≡ Some held → proof_under core.user.keys held.auth_message ≡ proof (digest_of x.version) (salted_of x) (auth_message_of x)
+  owed_is : (held : Conversation) → held_conversation core ≡ Some held → proof_under core.user.keys held.auth_message ≡ proof (digest_of x.version) (salted_between x) (auth_message_between x)
   owed_is held is =
       ap (λ (c : Conversation). proof_under core.user.keys c.auth_message) (held_is held is)
-      ∙ proof_is core.user.keys x.version (salted_of x) (auth_message_of x) begun.serves.user.version_is begun.serves.user.keys
+      ∙ proof_is core.user.keys x.version (salted_between x) (auth_message_between x) begun.serves.user.version_is begun.serves.user.keys
 
-  client_final : (message : List ℕ) → message ≡ close_of x → IsClientFinal message (joined_of x) (proof (digest_of x.version) (salted_of x) (auth_message_of x))
+  client_final : (message : List ℕ) → message ≡ close_of x → IsClientFinal message (joined_of x) (proof (digest_of x.version) (salted_between x) (auth_message_between x))
   unfolding close_message
-  client_final message is = record { message_is = is; bytes = proof_bytes x.version (salted_of x) (auth_message_of x) }
+  client_final message is = record { message_is = is; bytes = proof_bytes x.version (salted_between x) (auth_message_between x) }
 
   -- what it takes is the client's last message
   taken_is : (message : List ℕ) → IsLastMessageTaken core message → message ≡ close_of x
   unfolding close_message
   taken_is message is = is.2.message_is ∙ (λ i. no_proof ((held_is is.0 is.1 i).nonce) ++ (codes ",p=" ++ base64_of (owed_is is.0 is.1 i)))
 
-  accepted_text : (text : List ℕ) (held : Conversation) → conversation_of core ≡ Some held → text ≡ server_final (verifier_under core.user.keys held.auth_message) → (text ≡ final_of x) × Accepts x text
+  accepted_text : (text : List ℕ) (held : Conversation) → held_conversation core ≡ Some held → text ≡ server_final (verifier_under core.user.keys held.auth_message) → (text ≡ server_final_of x) × Accepts x text
   accepted_text text held is text_is =
-      let same : text ≡ final_of x = text_is ∙ final_is held is in
+      let same : text ≡ server_final_of x = text_is ∙ final_is held is in
       (same, accepts x text begun.printable (suffix_printable core x begun.serves) begun.bytes begun.serves.user.within same)
 
-pub accepts_final : (core : ServerCore) (held : Conversation) (r : Result (List ℕ) ServerFault) → conversation_of core ≡ Some held → IfOk r (λ text. text ≡ server_final (verifier_under core.user.keys held.auth_message)) → IfErr r (λ fault. fault ≡ OutOfMemory)
-    → (x : Exchange) → HasBegun core x → MatchResult r (λ text. (text ≡ final_of x) × Accepts x text) (λ fault. fault ≡ OutOfMemory)
+pub accepts_final : (core : ServerCore) (held : Conversation) (r : Result (List ℕ) ServerFault) → held_conversation core ≡ Some held → IfOk r (λ text. text ≡ server_final (verifier_under core.user.keys held.auth_message)) → IfErr r (λ fault. fault ≡ OutOfMemory)
+    → (x : Exchange) → HasBegun core x → MatchResult r (λ text. (text ≡ server_final_of x) × Accepts x text) (λ fault. fault ≡ OutOfMemory)
 accepts_final core held (Ok text) is text_is memory x begun = accepted_text core x begun text held is text_is
 accepts_final core held (Err fault) is text_is memory x begun = memory
 

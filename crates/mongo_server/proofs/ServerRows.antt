@@ -7,7 +7,7 @@ use Rattle.mongo_server.specs.declared.server_core.Conversation.{Conversation}
 use Rattle.mongo_server.specs.declared.server_core.ServerCore.{ServerCore}
 use Rattle.mongo_server.specs.ClientMessages.{IsClientFirst}
 use Rattle.mongo_scram.specs.Keys.{proof_under}
-use Rattle.mongo_server.specs.Server.{username_of, conversation_of, ClientFirstRow, ClientFinalRow, FinalRefused, IsLastMessageTaken}
+use Rattle.mongo_server.specs.Server.{username_of, held_conversation, ClientFirstRow, ClientFinalRow, FinalRefused, IsLastMessageTaken}
 use Rattle.mongo_server.proofs.ClientFirsts.{one_first}
 use Rattle.mongo_server.proofs.UserNames.{escaped_same}
 use Rattle.mongo_server.proofs.ClientFinals.{one_final}
@@ -50,26 +50,26 @@ one_held held c d p q = let same : Some c ≡ Some d = sym p ∙ q in cc
 nonce_and_proof : (core : ServerCore) (message : List ℕ) → ClientFinalRow core message Nonce → ClientFinalRow core message Proof → ⊥
 nonce_and_proof core message p q =
     let same = one_final message p.2.0 p.2.1 q.0.nonce q.2.0 p.2.2 q.2.1 in
-    p.2.3 (same.nonce_is ∙ ap (λ (c : Conversation). c.nonce) (one_held (conversation_of core) q.0 p.0 q.1 p.1))
+    p.2.3 (same.nonce_is ∙ ap (λ (c : Conversation). c.nonce) (one_held (held_conversation core) q.0 p.0 q.1 p.1))
 
 pub one_final_row : (core : ServerCore) (message : List ℕ) (a b : ServerFault) → FinalRefused core message a → ClientFinalRow core message b → (a ≡ b) ⊎ (a ≡ OutOfMemory)
 one_final_row core message OutOfMemory b p q = inr refl
 one_final_row core message NotStarted NotStarted p q = inl refl
-one_final_row core message NotStarted Malformed p q = absurd (started_not (conversation_of core) p q.0)
-one_final_row core message NotStarted Nonce p q = absurd (not_started (conversation_of core) q.0 p q.1)
-one_final_row core message NotStarted Proof p q = absurd (not_started (conversation_of core) q.0 p q.1)
+one_final_row core message NotStarted Malformed p q = absurd (started_not (held_conversation core) p q.0)
+one_final_row core message NotStarted Nonce p q = absurd (not_started (held_conversation core) q.0 p q.1)
+one_final_row core message NotStarted Proof p q = absurd (not_started (held_conversation core) q.0 p q.1)
 one_final_row core message NotStarted b p q = absurd q
-one_final_row core message Malformed NotStarted p q = absurd (started_not (conversation_of core) q p.0)
+one_final_row core message Malformed NotStarted p q = absurd (started_not (held_conversation core) q p.0)
 one_final_row core message Malformed Malformed p q = inl refl
 one_final_row core message Malformed Nonce p q = absurd (p.1 q.2.0 q.2.1 q.2.2)
 one_final_row core message Malformed Proof p q = absurd (p.1 q.0.nonce q.2.0 q.2.1)
 one_final_row core message Malformed b p q = absurd q
-one_final_row core message Nonce NotStarted p q = absurd (not_started (conversation_of core) p.0 q p.1)
+one_final_row core message Nonce NotStarted p q = absurd (not_started (held_conversation core) p.0 q p.1)
 one_final_row core message Nonce Malformed p q = absurd (q.1 p.2.0 p.2.1 p.2.2)
 one_final_row core message Nonce Nonce p q = inl refl
 one_final_row core message Nonce Proof p q = absurd (nonce_and_proof core message p q)
 one_final_row core message Nonce b p q = absurd q
-one_final_row core message Proof NotStarted p q = absurd (not_started (conversation_of core) p.0 q p.1)
+one_final_row core message Proof NotStarted p q = absurd (not_started (held_conversation core) p.0 q p.1)
 one_final_row core message Proof Malformed p q = absurd (q.1 p.0.nonce p.2.0 p.2.1)
 one_final_row core message Proof Nonce p q = absurd (nonce_and_proof core message q p)
 one_final_row core message Proof Proof p q = inl refl
@@ -77,14 +77,14 @@ one_final_row core message Proof b p q = absurd q
 one_final_row core message a b p q = absurd p
 
 taken_no_row : (core : ServerCore) (message : List ℕ) (fault : ServerFault) → IsLastMessageTaken core message → ClientFinalRow core message fault → ⊥
-taken_no_row core message NotStarted is row = not_started (conversation_of core) is.0 row is.1
+taken_no_row core message NotStarted is row = not_started (held_conversation core) is.0 row is.1
 taken_no_row core message Malformed is row = row.1 is.0.nonce (proof_under core.user.keys is.0.auth_message) is.2
 taken_no_row core message Nonce is row =
     let same = one_final message row.2.0 row.2.1 is.0.nonce (proof_under core.user.keys is.0.auth_message) row.2.2 is.2 in
-    row.2.3 (same.nonce_is ∙ ap (λ (c : Conversation). c.nonce) (one_held (conversation_of core) is.0 row.0 is.1 row.1))
+    row.2.3 (same.nonce_is ∙ ap (λ (c : Conversation). c.nonce) (one_held (held_conversation core) is.0 row.0 is.1 row.1))
 taken_no_row core message Proof is row =
     let same = one_final message row.0.nonce row.2.0 is.0.nonce (proof_under core.user.keys is.0.auth_message) row.2.1 is.2 in
-    row.2.2 (same.proof_is ∙ ap (λ (c : Conversation). proof_under core.user.keys c.auth_message) (one_held (conversation_of core) is.0 row.0 is.1 row.1))
+    row.2.2 (same.proof_is ∙ ap (λ (c : Conversation). proof_under core.user.keys c.auth_message) (one_held (held_conversation core) is.0 row.0 is.1 row.1))
 taken_no_row core message fault is row = row
 
 pub exact_taken : {T : Type 0} (core : ServerCore) (message : List ℕ) (r : Result T ServerFault) → IsLastMessageTaken core message → (fault : ServerFault) → ClientFinalRow core message fault → (r ≡ Err fault) ⊎ (r ≡ Err OutOfMemory)

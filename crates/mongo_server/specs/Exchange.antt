@@ -22,8 +22,8 @@ pub record Exchange : Type 0 where
 abbrev pub joined_of : Exchange → List ℕ
 joined_of x = x.nonce ++ x.suffix
 
-abbrev pub salted_of : Exchange → List ℕ
-salted_of x = salted x.version x.username x.password x.salt x.count
+abbrev pub salted_between : Exchange → List ℕ
+salted_between x = salted x.version x.username x.password x.salt x.count
 
 -- client first
 abbrev pub open_of : Exchange → List ℕ
@@ -34,16 +34,16 @@ abbrev pub first_of : Exchange → List ℕ
 first_of x = server_first (joined_of x) x.salt x.count
 
 -- what both sign
-abbrev pub auth_message_of : Exchange → List ℕ
-auth_message_of x = transcript (bare_message x.username x.nonce) (first_of x) (joined_of x)
+abbrev pub auth_message_between : Exchange → List ℕ
+auth_message_between x = transcript (bare_message x.username x.nonce) (first_of x) (joined_of x)
 
 -- client final
 abbrev pub close_of : Exchange → List ℕ
-close_of x = close_message (digest_of x.version) (salted_of x) (auth_message_of x) (joined_of x)
+close_of x = close_message (digest_of x.version) (salted_between x) (auth_message_between x) (joined_of x)
 
 -- server final
-abbrev pub final_of : Exchange → List ℕ
-final_of x = server_final (verifier (digest_of x.version) (salted_of x) (auth_message_of x))
+abbrev pub server_final_of : Exchange → List ℕ
+server_final_of x = server_final (verifier (digest_of x.version) (salted_between x) (auth_message_between x))
 
 -- the text is the server's first message, and a client that sent the nonce reads the exchange's joined nonce, salt and
 -- count in it

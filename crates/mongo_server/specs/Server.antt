@@ -10,14 +10,14 @@ use Rattle.mongo_server.specs.declared.server_core.ServerCore.{ServerCore}
 use Rattle.mongo_server.specs.declared.server_core.Conversation.{Conversation}
 use Rattle.mongo_server.specs.declared.user.ServerUser.{ServerUser}
 use Rattle.mongo_server.specs.ClientMessages.{IsNonce, IsClientFirst, IsClientFinal}
-use Rattle.mongo_server.specs.Exchange.{Exchange, joined_of, auth_message_of}
+use Rattle.mongo_server.specs.Exchange.{Exchange, joined_of, auth_message_between}
 use Rattle.mongo_server.specs.ServerTexts.{server_first, server_final}
 use Rattle.mongo_server.specs.User.{IsUserOf}
 
 -- ---- what it holds
 
-abbrev pub user_of : ServerCore → ServerUser
-user_of core = core.user
+abbrev pub server_user : ServerCore → ServerUser
+server_user core = core.user
 
 abbrev pub username_of : ServerCore → List ℕ
 username_of core = core.user.username
@@ -29,8 +29,8 @@ abbrev pub suffix_of : ServerCore → List ℕ
 suffix_of core = core.suffix
 
 -- the conversation that was begun last
-abbrev pub conversation_of : ServerCore → Option Conversation
-conversation_of core = core.conversation
+abbrev pub held_conversation : ServerCore → Option Conversation
+held_conversation core = core.conversation
 
 -- ---- what it answers
 
@@ -48,8 +48,8 @@ conversation_by core nonce = record { nonce = joined_by core nonce; auth_message
 -- a client of this nonce is answered by the text, and its conversation is held from then on
 pub record BeginsConversation (core : ServerCore) (nonce text : List ℕ) (new : ServerCore) : Type 0 where
   pub text_is : text ≡ first_by core nonce
-  pub begun : conversation_of new ≡ Some (conversation_by core nonce)
-  pub user : user_of new ≡ user_of core
+  pub begun : held_conversation new ≡ Some (conversation_by core nonce)
+  pub user : server_user new ≡ server_user core
   pub suffix : suffix_of new ≡ suffix_of core
 
 -- the client's first message, of the user, and what it says
@@ -59,11 +59,11 @@ pub record HearsFirst (core : ServerCore) (message : List ℕ) (first : FirstMes
 
 -- the text is the last message that it owes in its conversation
 abbrev pub IsOwed : ServerCore → List ℕ → Type 0
-IsOwed core text = (held : Conversation) × (conversation_of core ≡ Some held) × (text ≡ server_final (verifier_under core.user.keys held.auth_message))
+IsOwed core text = (held : Conversation) × (held_conversation core ≡ Some held) × (text ≡ server_final (verifier_under core.user.keys held.auth_message))
 
 -- the message is a client's last one, with the joined nonce and the proof that the client owes
 abbrev pub IsLastMessageTaken : ServerCore → List ℕ → Type 0
-IsLastMessageTaken core message = (held : Conversation) × (conversation_of core ≡ Some held) × IsClientFinal message held.nonce (proof_under core.user.keys held.auth_message)
+IsLastMessageTaken core message = (held : Conversation) × (held_conversation core ≡ Some held) × IsClientFinal message held.nonce (proof_under core.user.keys held.auth_message)
 
 -- ---- why it refuses: the first row that applies
 
@@ -73,22 +73,22 @@ ClientFirstRow core message UnknownUser = (username : List ℕ) × (nonce : List
 ClientFirstRow core message fault = ⊥
 
 abbrev pub ClientFinalRow : ServerCore → List ℕ → ServerFault → Type 0
-ClientFinalRow core message NotStarted = conversation_of core ≡ None
-ClientFinalRow core message Malformed = IsSome (conversation_of core) × ((nonce proof : List ℕ) → IsClientFinal message nonce proof → ⊥)
-ClientFinalRow core message Nonce = (held : Conversation) × (conversation_of core ≡ Some held) × ((nonce : List ℕ) × (proof : List ℕ) × IsClientFinal message nonce proof × (nonce ≢ held.nonce))
-ClientFinalRow core message Proof = (held : Conversation) × (conversation_of core ≡ Some held) × ((proof : List ℕ) × IsClientFinal message held.nonce proof × (proof ≢ proof_under core.user.keys held.auth_message))
+ClientFinalRow core message NotStarted = held_conversation core ≡ None
+ClientFinalRow core message Malformed = IsSome (held_conversation core) × ((nonce proof : List ℕ) → IsClientFinal message nonce proof → ⊥)
+ClientFinalRow core message Nonce = (held : Conversation) × (held_conversation core ≡ Some held) × ((nonce : List ℕ) × (proof : List ℕ) × IsClientFinal message nonce proof × (nonce ≢ held.nonce))
+ClientFinalRow core message Proof = (held : Conversation) × (held_conversation core ≡ Some held) × ((proof : List ℕ) × IsClientFinal message held.nonce proof × (proof ≢ proof_under core.user.keys held.auth_message))
 ClientFinalRow core message fault = ⊥
 
 -- the same, with what is known where memory ran out: a conversation was held
 abbrev pub FinalRefused : ServerCore → List ℕ → ServerFault → Type 0
-FinalRefused core message OutOfMemory = IsSome (conversation_of core)
+FinalRefused core message OutOfMemory = IsSome (held_conversation core)
 FinalRefused core message fault = ClientFinalRow core message fault
 
 -- ---- the server of an exchange
 
 -- it knows the user, and adds the suffix
 pub record Serves (core : ServerCore) (x : Exchange) : Type 0 where
-  pub user : IsUserOf x.version x.username x.password x.salt x.count (user_of core)
+  pub user : IsUserOf x.version x.username x.password x.salt x.count (server_user core)
   pub suffix : suffix_of core ≡ x.suffix
 
 -- its conversation is that of the exchange
@@ -96,4 +96,4 @@ pub record HasBegun (core : ServerCore) (x : Exchange) : Type 0 where
   pub serves : Serves core x
   pub printable : IsNonce x.nonce
   pub bytes : IsBytes x.salt
-  pub held : conversation_of core ≡ Some (record { nonce = joined_of x; auth_message = auth_message_of x })
+  pub held : held_conversation core ≡ Some (record { nonce = joined_of x; auth_message = auth_message_between x })

@@ -46,8 +46,8 @@ impl ServerCore {
     ghost use Rattle.mongo_scram.specs.Messages.{bare_message};
     ghost use Rattle.mongo_server.specs.Acceptance.{Accepts};
     ghost use Rattle.mongo_server.specs.ClientMessages.{IsNonce, IsClientFirst};
-    ghost use Rattle.mongo_server.specs.Exchange.{Exchange, open_of, close_of, final_of, IsReadAs};
-    ghost use Rattle.mongo_server.specs.Server.{user_of, salt_of, suffix_of, username_of, conversation_of, conversation_by, first_by, BeginsConversation, HearsFirst, ClientFirstRow, IsOwed, IsLastMessageTaken, ClientFinalRow, FinalRefused, Serves, HasBegun};
+    ghost use Rattle.mongo_server.specs.Exchange.{Exchange, open_of, close_of, server_final_of, IsReadAs};
+    ghost use Rattle.mongo_server.specs.Server.{server_user, salt_of, suffix_of, username_of, held_conversation, conversation_by, first_by, BeginsConversation, HearsFirst, ClientFirstRow, IsOwed, IsLastMessageTaken, ClientFinalRow, FinalRefused, Serves, HasBegun};
     ghost use Rattle.mongo_server.specs.declared.fault.ServerFault.{ServerFault as Fault};
     ghost use Rattle.mongo_server.specs.declared.fault.ServerFault.TheVariants.{NotStarted, OutOfMemory};
 
@@ -57,9 +57,9 @@ impl ServerCore {
     /// [`is_nonce`]: crate::is_nonce
     pub fn new(user: ServerUser, suffix: Text) -> ServerCore
         requires { IsNonce suffix }
-        ensures user { user_of result ≡ user }
+        ensures user { server_user result ≡ user }
         ensures suffix { suffix_of result ≡ suffix }
-        ensures not_started { conversation_of result ≡ None }
+        ensures not_started { held_conversation result ≡ None }
     {
         ServerCore {
             user,
@@ -110,12 +110,12 @@ impl ServerCore {
     /// `NotStarted` exactly where no `first` has succeeded; want of memory.
     pub fn expected_final(&self, alloc: Global) -> Result<Text, ServerFault>
         ensures owed { IfOk result (IsOwed self.now) }
-        ensures not_started { (result ≡ Err NotStarted) ↔ (conversation_of self.now ≡ None) }
+        ensures not_started { (result ≡ Err NotStarted) ↔ (held_conversation self.now ≡ None) }
         ensures refused { IfErr result (λ fault. (fault ≡ NotStarted) ⊎ (fault ≡ OutOfMemory)) }
 
         // The client of any exchange with this server demands that message, and accepts it.
         ensures accepts { (x : Exchange) → HasBegun self.now x →
-            MatchResult result (λ text. (text ≡ final_of x) × Accepts x text) (λ fault. fault ≡ OutOfMemory) }
+            MatchResult result (λ text. (text ≡ server_final_of x) × Accepts x text) (λ fault. fault ≡ OutOfMemory) }
     {
         match &self.conversation {
             Some(_conversation) => server_final_text(alloc, &self.verifier),
@@ -134,7 +134,7 @@ impl ServerCore {
         ensures taken { OnOk result (IsLastMessageTaken self.old client_final.now) }
         ensures answered { IfOk result (IsOwed self.old) }
         ensures refused { IfErr result (λ fault. ClientFinalRow self.old client_final.now fault ⊎ (fault ≡ OutOfMemory)) }
-        ensures not_started { conversation_of self.old ≡ None → result ≡ Err NotStarted }
+        ensures not_started { held_conversation self.old ≡ None → result ≡ Err NotStarted }
         ensures exact { (fault : Fault) → ClientFinalRow self.old client_final.now fault → (result ≡ Err fault) ⊎ (result ≡ Err OutOfMemory) }
         ensures unchanged { self.new ≡ self.old }
 
@@ -143,7 +143,7 @@ impl ServerCore {
 
         // That message is taken, and the client accepts the answer.
         ensures accepts { (x : Exchange) → HasBegun self.old x → client_final.now ≡ close_of x →
-            MatchResult result (λ text. (text ≡ final_of x) × Accepts x text) (λ fault. fault ≡ OutOfMemory) }
+            MatchResult result (λ text. (text ≡ server_final_of x) × Accepts x text) (λ fault. fault ≡ OutOfMemory) }
     {
         match self.check(alloc, client_final) {
             Ok(()) => self.expected_final(alloc),

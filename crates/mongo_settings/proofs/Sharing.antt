@@ -15,7 +15,7 @@ use Rattle.mongo_settings.specs.declared.rehearsal.Rehearsal.{Rehearsal}
 use Rattle.mongo_settings.specs.declared.rehearsal.RehearsalStatus.{RehearsalStatus}
 use Rattle.mongo_settings.specs.declared.rehearsal.RehearsalStatus.TheVariants.{Accepted, Refused}
 use Rattle.mongo_settings.specs.Rounds.{Derived, logs_in, keys_after}
-use Rattle.mongo_settings.specs.Batch.{Login, IsBatchLogin, keys_with, AreLogins, both, status_of_all, rounds_of_all, counted, rounds_line}
+use Rattle.mongo_settings.specs.Batch.{Login, IsBatchLogin, keys_with, AreLogins, both, status_of_all, rounds_of_all, capped_rounds, rounds_line}
 use Rattle.mongo_settings.specs.Takes.{TakesBy, JoinsReport}
 use Rattle.mongo_settings.specs.Task.{ReportsMany, steps_of}
 
@@ -130,7 +130,7 @@ pub record Shared (start : ℕ) (front : List Settings) (batch : Rehearsal) (now
   pub status_is : batch.status ≡ status_of_all logins
   pub report_is : batch.report.items ≡ flat_map (λ login. login.text) logins
   pub steps_are : now.steps ≡ start + rounds_of_all logins
-  pub rounds_are : rounds_of now.cache ≡ counted (rounds_of_all logins)
+  pub rounds_are : rounds_of now.cache ≡ capped_rounds (rounds_of_all logins)
   pub held : Holds now.cache (all_keys [] logins)
 
 none_are : AreLogins [] []
@@ -165,7 +165,7 @@ shared_more start front settings old new now later s j =
       status_is = j.status ∙ ap (λ a. both a j.rehearsal.status) s.status_is ∙ sym (status-more s.logins login);
       report_is = j.report ∙ ap (λ r. r ++ j.rehearsal.report.items) s.report_is ∙ ap (λ r. flat_map (λ (l : Login). l.text) s.logins ++ r) (sym (append-nil j.rehearsal.report.items)) ∙ sym (flat_map-append (λ (l : Login). l.text) s.logins (login ∷ []));
       steps_are = taken.counts.steps ∙ ap (λ n. n + taken.rounds) s.steps_are ∙ steps-add start (rounds_of_all s.logins) taken.rounds ∙ ap (λ n. start + n) (sym sums);
-      rounds_are = taken.counts.rounds_are ∙ ap (λ n. min (n + taken.rounds) (2 ^ 64 - 1)) s.rounds_are ∙ counted-add (rounds_of_all s.logins) taken.rounds ∙ ap counted (sym sums);
+      rounds_are = taken.counts.rounds_are ∙ ap (λ n. min (n + taken.rounds) (2 ^ 64 - 1)) s.rounds_are ∙ counted-add (rounds_of_all s.logins) taken.rounds ∙ ap capped_rounds (sym sums);
       held = subst (Holds later.cache) (sym (all_keys-more [] s.logins login)) (holds_after (logs_in report.outcome) t.key now later keys t.taken s.held);
     }
 

@@ -10,11 +10,11 @@ use Rattle.mongo_establish.specs.declared.login_state.Nonces.{Nonces}
 use Rattle.mongo_establish.specs.declared.establisher.PendingConnection.{PendingConnection}
 use Rattle.mongo_establish.specs.Speculation.{mechanism_before, SpeaksFor}
 use Rattle.mongo_establish.specs.Spoken.{is_spoken, IsSpoken}
-use Rattle.mongo_settings.specs.Keys.{credential_keys, replies_key, credential_key, nonces_key, first_id_key, max_iterations_key, username_key, source_key, password_key, mechanism_key, properties_key}
+use Rattle.mongo_settings.specs.Keys.{credential_keys, replies_key, credential_key, nonces_key, first_id_key, max_iterations_key, username_key, source_key, password_key, credential_mechanism_key, properties_key}
 use Rattle.mongo_settings.specs.Kinds.{◌>>=◌, optional, optional_in, object_of, joined_hex_in, nonces_in, int32_in, iterations_in}
 use Rattle.mongo_settings.specs.Credential.{mechanism_in, credential_in}
 use Rattle.mongo_settings.specs.Meaning.{default_nonces, default_first_id, default_iterations, settings_in}
-use Rattle.mongo_settings.specs.Options.{options_in}
+use Rattle.mongo_settings.specs.Options.{client_options_in}
 use Rattle.mongo_settings.specs.Pending.{pending_in}
 use Rattle.mongo_settings.specs.Properties.{properties_in}
 use Rattle.mongo_settings.specs.Settings.{mechanism_judged, settings_of, Gives}
@@ -66,20 +66,20 @@ its_mechanism (Some o) (Some u) (Some s) None m x credential is = cc
 its_mechanism (Some o) (Some u) (Some s) (Some p) None x credential is = cc
 its_mechanism (Some o) (Some u) (Some s) (Some p) (Some m) None credential is = cc
 
-mechanism_of : (d : Data) (credential : Credential) → credential_in d ≡ Some credential → optional mechanism_key mechanism_in d ≡ Some credential.mechanism
+mechanism_of : (d : Data) (credential : Credential) → credential_in d ≡ Some credential → optional credential_mechanism_key mechanism_in d ≡ Some credential.mechanism
 unfolding credential_in
 mechanism_of d credential is =
     its_mechanism (object_of credential_keys d)
-    (optional username_key as_str d) (optional source_key as_str d) (optional password_key as_str d) (optional mechanism_key mechanism_in d) (optional properties_key properties_in d) credential is
+    (optional username_key as_str d) (optional source_key as_str d) (optional password_key as_str d) (optional credential_mechanism_key mechanism_in d) (optional properties_key properties_in d) credential is
 
-credential_spoken : (found credential : Option Credential) (d : Data) → found ≡ credential_in d → option_map Some found ≡ Some credential → mechanism_judged (get mechanism_key d >>= mechanism_in) ≡ Ok tt → SpeaksFor credential
+credential_spoken : (found credential : Option Credential) (d : Data) → found ≡ credential_in d → option_map Some found ≡ Some credential → mechanism_judged (get credential_mechanism_key d >>= mechanism_in) ≡ Ok tt → SpeaksFor credential
 credential_spoken None credential d at is judged = let no : ⊥ = cc in absurd no
 credential_spoken (Some one) None d at is judged = tt
 credential_spoken (Some one) (Some other) d at is judged =
     let same : credential_in d ≡ Some other = sym at ∙ cc in
-    given_spoken (get mechanism_key d) other.mechanism (mechanism_of d other same) judged
+    given_spoken (get credential_mechanism_key d) other.mechanism (mechanism_of d other same) judged
 
-optional_spoken : (given : Option Data) (credential : Option Credential) → optional_in credential_in given ≡ Some credential → mechanism_judged (given >>= (λ c. get mechanism_key c >>= mechanism_in)) ≡ Ok tt → SpeaksFor credential
+optional_spoken : (given : Option Data) (credential : Option Credential) → optional_in credential_in given ≡ Some credential → mechanism_judged (given >>= (λ c. get credential_mechanism_key c >>= mechanism_in)) ≡ Ok tt → SpeaksFor credential
 optional_spoken None None is judged = tt
 optional_spoken None (Some credential) is judged = let no : ⊥ = cc in absurd no
 optional_spoken (Some d) credential is judged = credential_spoken (credential_in d) credential d refl is judged
@@ -121,7 +121,7 @@ credential_of : (d : Data) (s : Settings) → settings_in d ≡ Some s → optio
 unfolding settings_in
 credential_of d s is =
     their_credential (pending_in d) (optional replies_key joined_hex_in d) (optional credential_key credential_in d) (optional nonces_key nonces_in d)
-    (optional first_id_key int32_in d) (options_in d) (optional max_iterations_key iterations_in d) s is
+    (optional first_id_key int32_in d) (client_options_in d) (optional max_iterations_key iterations_in d) s is
 
 settings_spoken : (d : Data) (s : Settings) → settings_of d ≡ Ok s → SpeaksFor s.credential
 settings_spoken d s is =

@@ -13,7 +13,7 @@ use Rattle.mongo_settings.specs.declared.rehearsal.Rehearsal.{Rehearsal}
 use Rattle.mongo_settings.specs.Outcome.{asked_of}
 use Rattle.mongo_settings.specs.Rehearsal.{IsRehearsal}
 use Rattle.mongo_settings.specs.Rounds.{is_after_login}
-use Rattle.mongo_settings.specs.Takes.{TakesBy, logged_in, TakesLedgers, IsTaking}
+use Rattle.mongo_settings.specs.Takes.{TakesBy, has_logged_in, TakesLedgers, IsTaking}
 use Rattle.mongo_settings.specs.Telling.{IsReported, Tells}
 use Rattle.mongo_settings.proofs.Rehearsing.{Replayed, Replays}
 
@@ -24,7 +24,7 @@ before_login kind other = refl
 took : (settings : Settings) (accepted : Bool) (first last : Ledgers) → TakesAsLed (asked_of settings) settings.replies (λ key. TakesBy accepted key first last) → TakesLedgers settings accepted first last
 took settings accepted first last t = record { key = t.key; key_is = t.leads; taken = t.taken }
 
-pub takes_over : (settings : Settings) (first last : Ledgers) (ended : Result PooledConnection EstablishError) → CostsOver ended (asked_of settings) settings.replies first last → ((e : EstablishError) → ended ≡ Err e → IsReported e.cause.kind) → TakesLedgers settings (logged_in ended) first last
+pub takes_over : (settings : Settings) (first last : Ledgers) (ended : Result PooledConnection EstablishError) → CostsOver ended (asked_of settings) settings.replies first last → ((e : EstablishError) → ended ≡ Err e → IsReported e.cause.kind) → TakesLedgers settings (has_logged_in ended) first last
 takes_over settings first last (Ok pooled) costs reported = took settings true first last costs
 takes_over settings first last (Err e) (inl memory) reported = absurd (subst IsReported memory (reported e refl))
 takes_over settings first last (Err e) (inr (inl unnamed)) reported = subst (λ b. TakesLedgers settings b first last) (sym (ap is_after_login unnamed.kind_is)) (took settings true first last unnamed.led)

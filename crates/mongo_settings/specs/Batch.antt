@@ -52,15 +52,15 @@ abbrev pub rounds_of_all : List Login → ℕ
 rounds_of_all logins = sum_by (λ login. login.rounds) logins
 
 -- what a cache counts of so many rounds: it stays at its last value
-abbrev pub counted : ℕ → ℕ
-counted rounds = min rounds (2 ^ 64 - 1)
+abbrev pub capped_rounds : ℕ → ℕ
+capped_rounds rounds = min rounds (2 ^ 64 - 1)
 
 unfoldable pub rounds_line : ℕ → List ℕ
 rounds_line rounds = line (codes "rounds") (decimal rounds ∷ [])
 
 -- the reports of the logins alone, joined, and the rounds of them all
 abbrev pub batch_text : List Login → List ℕ
-batch_text logins = flat_map (λ login. login.text) logins ++ rounds_line (counted (rounds_of_all logins))
+batch_text logins = flat_map (λ login. login.text) logins ++ rounds_line (capped_rounds (rounds_of_all logins))
 
 pub record IsBatch (settings : List Settings) (text : List ℕ) : Type 0 where
   pub logins : List Login

@@ -1,5 +1,5 @@
 -- Credentials as settings have them.
-use Rattle.std.specs.Prelude.{ℕ, Bool, Option, Some, option_and_then, List, [], ◌∷◌, bytes_eq}
+use Rattle.std.specs.Prelude.{ℕ, Option, Some, option_and_then, List, [], ◌∷◌, bytes_eq}
 use Rattle.std.specs.List.{find}
 use Rattle.serde_json.specs.Data.{Data}
 use Rattle.serde_json.specs.Find.{get, as_str}
@@ -7,8 +7,7 @@ use Rattle.mongo_sasl.specs.declared.credential.Credential.{Credential}
 use Rattle.mongo_sasl.specs.declared.mechanism.AuthMechanism.{AuthMechanism}
 use Rattle.mongo_sasl.specs.declared.mechanism.AuthMechanism.TheVariants.{MongoDbCr, ScramSha1, ScramSha256, MongoDbX509, Plain, MongoDbAws, MongoDbOidc}
 use Rattle.mongo_sasl.specs.Mechanism.{name_of}
-use Rattle.mongo_establish.specs.Spoken.{is_spoken}
-use Rattle.mongo_settings.specs.Keys.{credential_keys, credential_key, username_key, source_key, password_key, mechanism_key, properties_key}
+use Rattle.mongo_settings.specs.Keys.{credential_keys, credential_key, username_key, source_key, password_key, credential_mechanism_key, properties_key}
 use Rattle.mongo_settings.specs.Kinds.{◌>>=◌, optional, object_of}
 use Rattle.mongo_settings.specs.Properties.{properties_in}
 
@@ -26,12 +25,8 @@ mechanism_in d = option_and_then mechanism_named (as_str d)
 abbrev pub named_mechanism : Data → Option AuthMechanism
 named_mechanism d = do
   credential ← get credential_key d
-  name ← get mechanism_key credential
+  name ← get credential_mechanism_key credential
   mechanism_in name
-
--- a login by it is made, or is refused with its reason
-abbrev pub is_built : AuthMechanism → Bool
-is_built mechanism = is_spoken mechanism
 
 unfoldable pub credential_in : Data → Option Credential
 credential_in d = do
@@ -39,6 +34,6 @@ credential_in d = do
   username ← optional username_key as_str d
   source ← optional source_key as_str d
   password ← optional password_key as_str d
-  mechanism ← optional mechanism_key mechanism_in d
+  mechanism ← optional credential_mechanism_key mechanism_in d
   properties ← optional properties_key properties_in d
   Some (record { username = username; source = source; password = password; mechanism = mechanism; mechanism_properties = properties })

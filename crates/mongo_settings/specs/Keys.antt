@@ -17,8 +17,8 @@ port_key = codes "port"
 abbrev pub unix_key : List ℕ
 unix_key = codes "unix"
 
-abbrev pub id_key : List ℕ
-id_key = codes "id"
+abbrev pub pool_id_key : List ℕ
+pool_id_key = codes "id"
 
 abbrev pub generation_key : List ℕ
 generation_key = codes "generation"
@@ -87,16 +87,16 @@ key_row name reading = record { name = name; reading = reading }
 abbrev pub built : List ℕ → Key
 built name = key_row name Built
 
-abbrev pub later : List ℕ → Key
-later name = key_row name Later
+abbrev pub read_later : List ℕ → Key
+read_later name = key_row name Later
 
 -- the format's keys
 abbrev pub keys : List Key
 keys =
-    built host_key ∷ built replies_key ∷ built port_key ∷ built unix_key ∷ built id_key ∷ built generation_key
+    built host_key ∷ built replies_key ∷ built port_key ∷ built unix_key ∷ built pool_id_key ∷ built generation_key
     ∷ built load_balanced_key ∷ built generations_key ∷ built app_name_key ∷ built driver_info_key ∷ built server_api_key ∷ built os_key
     ∷ built platform_key ∷ built platform_short_key ∷ built environment_key ∷ built dockerenv_key ∷ built credential_key ∷ built nonces_key
-    ∷ later moment_key ∷ built first_id_key ∷ built max_iterations_key ∷ later callback_key ∷ later tokens_key ∷ later aws_key ∷ []
+    ∷ read_later moment_key ∷ built first_id_key ∷ built max_iterations_key ∷ read_later callback_key ∷ read_later tokens_key ∷ read_later aws_key ∷ []
 
 -- whether a key of these names is read; none where it isn't among them
 unfoldable pub reading_in : List Key → List ℕ → Option Reading
@@ -136,14 +136,14 @@ source_key = codes "source"
 abbrev pub password_key : List ℕ
 password_key = codes "password"
 
-abbrev pub mechanism_key : List ℕ
-mechanism_key = codes "mechanism"
+abbrev pub credential_mechanism_key : List ℕ
+credential_mechanism_key = codes "mechanism"
 
 abbrev pub properties_key : List ℕ
 properties_key = codes "properties"
 
 abbrev pub credential_keys : List (List ℕ)
-credential_keys = username_key ∷ source_key ∷ password_key ∷ mechanism_key ∷ properties_key ∷ []
+credential_keys = username_key ∷ source_key ∷ password_key ∷ credential_mechanism_key ∷ properties_key ∷ []
 
 -- ---- keys of `driver_info`, `os` and `server_api`, of which `platform` is one of settings too
 

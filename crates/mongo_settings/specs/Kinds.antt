@@ -17,8 +17,8 @@ None >>= f = None
 Some x >>= f = f x
 
 -- a rule of a kind
-abbrev pub rule : Bool → Option ⊤
-rule holds = if holds then Some tt else None
+abbrev pub holds_or_none : Bool → Option ⊤
+holds_or_none holds = if holds then Some tt else None
 
 -- ---- objects
 
@@ -49,7 +49,7 @@ is_among (one ∷ names) name = bytes_eq one name || is_among names name
 
 -- an object with no keys but these
 abbrev pub object_of : List (List ℕ) → Data → Option ⊤
-object_of names d = option_and_then (λ members. rule (each_key (is_among names) members)) (as_object d)
+object_of names d = option_and_then (λ members. holds_or_none (each_key (is_among names) members)) (as_object d)
 
 -- ---- arrays
 

@@ -16,6 +16,6 @@ text_word [] = codes "empty"
 text_word (byte ∷ bytes) = encode_lower (byte ∷ bytes)
 
 -- the word of a value, or `-` where it is absent
-abbrev pub optional : {A : Type 0} → (A → List ℕ) → Option A → List ℕ
-optional spelled None = codes "-"
-optional spelled (Some value) = spelled value
+abbrev pub spelled_or_dash : {A : Type 0} → (A → List ℕ) → Option A → List ℕ
+spelled_or_dash spelled None = codes "-"
+spelled_or_dash spelled (Some value) = spelled value

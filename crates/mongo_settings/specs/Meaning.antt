@@ -5,7 +5,7 @@ use Rattle.mongo_establish.specs.declared.login_state.Nonces.{Nonces}
 use Rattle.mongo_settings.specs.Keys.{replies_key, credential_key, nonces_key, first_id_key, max_iterations_key}
 use Rattle.mongo_settings.specs.Kinds.{◌>>=◌, optional, joined_hex_in, nonces_in, int32_in, iterations_in}
 use Rattle.mongo_settings.specs.Credential.{credential_in}
-use Rattle.mongo_settings.specs.Options.{options_in}
+use Rattle.mongo_settings.specs.Options.{client_options_in}
 use Rattle.mongo_settings.specs.Pending.{pending_in}
 use Rattle.mongo_settings.specs.declared.settings.Settings.{Settings}
 
@@ -30,7 +30,7 @@ settings_in d = do
   credential ← optional credential_key credential_in d
   nonces ← optional nonces_key nonces_in d
   first_id ← optional first_id_key int32_in d
-  options ← options_in d
+  options ← client_options_in d
   iterations ← optional max_iterations_key iterations_in d
   Some (record {
     pending = pending;

@@ -110,9 +110,9 @@ reason_name (kind.Authentication fault) = Some (auth_name fault)
 reason_name _ = None
 
 -- the server's number for its error
-abbrev pub code_of : ErrorKind → Option ℤ
-code_of (kind.Command error) = Some error.code
-code_of _ = None
+abbrev pub error_code : ErrorKind → Option ℤ
+error_code (kind.Command error) = Some error.code
+error_code _ = None
 
 -- the text that a cause carries
 abbrev pub auth_text : AuthFault → Option (List ℕ)
@@ -120,11 +120,11 @@ auth_text (auth.Refused text) = Some text
 auth_text (auth.ServerError text) = Some text
 auth_text _ = None
 
-abbrev pub text_of : ErrorKind → Option (List ℕ)
-text_of (kind.Command error) = Some error.message
-text_of (kind.Authentication fault) = auth_text fault
-text_of (kind.Callback text) = Some text
-text_of _ = None
+abbrev pub error_text : ErrorKind → Option (List ℕ)
+error_text (kind.Command error) = Some error.message
+error_text (kind.Authentication fault) = auth_text fault
+error_text (kind.Callback text) = Some text
+error_text _ = None
 
 abbrev pub type_name : ServerType → List ℕ
 type_name Standalone = codes "Standalone"

@@ -81,8 +81,8 @@ environment_in d = do
   dockerenv ← optional dockerenv_key as_bool d
   Some (record { variables = unwrap_or variables []; dockerenv = unwrap_or dockerenv false })
 
-unfoldable pub options_in : Data → Option ClientOptions
-options_in d = do
+unfoldable pub client_options_in : Data → Option ClientOptions
+client_options_in d = do
   app_name ← optional app_name_key as_str d
   driver_info ← optional driver_info_key driver_info_in d
   server_api ← optional server_api_key server_api_in d

@@ -11,7 +11,7 @@ use Rattle.mongo_establish.specs.declared.establisher.PendingConnection.{Pending
 use Rattle.mongo_establish.specs.declared.generation.PoolGeneration.{PoolGeneration}
 use Rattle.mongo_establish.specs.declared.generation.PoolGeneration.TheVariants.{Normal, LoadBalanced}
 use Rattle.mongo_establish.specs.Generation.{Numbers, with_number}
-use Rattle.mongo_settings.specs.Keys.{host_key, port_key, unix_key, id_key, generation_key, load_balanced_key, generations_key}
+use Rattle.mongo_settings.specs.Keys.{host_key, port_key, unix_key, pool_id_key, generation_key, load_balanced_key, generations_key}
 use Rattle.mongo_settings.specs.Kinds.{◌>>=◌, optional, port_in, uint32_in}
 
 -- a host, perhaps with a port, or the path of a Unix socket, beside which a port says nothing; one of the two, and not both
@@ -54,6 +54,6 @@ generation_in d = do
 unfoldable pub pending_in : Data → Option PendingConnection
 pending_in d = do
   address ← address_in d
-  id ← optional id_key uint32_in d
+  id ← optional pool_id_key uint32_in d
   generation ← generation_in d
   Some (record { id = unwrap_or id 1; address = address; generation = generation })

@@ -6,7 +6,7 @@ use Rattle.serde_json.specs.Data.{Data, null, boolean, number, string, array, ob
 use Rattle.serde_json.specs.Find.{as_i64, as_object}
 use Rattle.mongo_bson.specs.Framed.{body_of, enclosed}
 use Rattle.mongo_bson.specs.Document.{Element, spell}
-use Rattle.mongo_command.specs.Literal.{text_element, int64_element, document_of}
+use Rattle.mongo_command.specs.Literal.{text_element, array_element, int64_element, document_of}
 use Rattle.mongo_settings.specs.Kinds.{◌>>=◌}
 use Rattle.mongo_settings.specs.declared.settings.SettingsError.{SettingsError}
 use Rattle.mongo_settings.specs.declared.settings.SettingsError.TheVariants.{BadSettings, NotBuilt, OutOfMemory}
@@ -31,9 +31,6 @@ item_elements index (item d others) = do
   element ← plain_element (decimal index) d
   elements ← item_elements (index + 1) others
   Some (element ∷ elements)
-
-abbrev pub array_element : List ℕ → List ℕ → Element
-array_element key document = record { kind = 0x04; key = key; value = document }
 
 -- the document that an array is: its keys are 0, 1 and so on
 abbrev pub array_in : Items → Option (List ℕ)

@@ -11,8 +11,8 @@ use Rattle.mongo_establish.specs.declared.generation.ConnectionGeneration.{Conne
 use Rattle.mongo_establish.specs.declared.generation.ConnectionGeneration.TheVariants.{Normal, LoadBalanced}
 use Rattle.mongo_establish.specs.declared.establisher.HandshakePhase.{HandshakePhase}
 use Rattle.mongo_establish.specs.declared.establisher.HandshakePhase.TheVariants.{PreHello, PostHello}
-use Rattle.mongo_settings.specs.Line.{line, text_word, optional}
-use Rattle.mongo_settings.specs.Names.{type_name, kind_name, reason_name, code_of, text_of}
+use Rattle.mongo_settings.specs.Line.{line, text_word, spelled_or_dash}
+use Rattle.mongo_settings.specs.Names.{type_name, kind_name, reason_name, error_code, error_text}
 
 -- `sent` and a frame in hex
 unfoldable pub sent_line : List ℕ → List ℕ
@@ -43,20 +43,20 @@ unfoldable pub kind_line : ErrorKind → List ℕ
 kind_line kind = line (codes "kind") (kind_name kind ∷ [])
 
 unfoldable pub reason_line : ErrorKind → List ℕ
-reason_line kind = line (codes "reason") (optional (λ name. name) (reason_name kind) ∷ [])
+reason_line kind = line (codes "reason") (spelled_or_dash (λ name. name) (reason_name kind) ∷ [])
 
 unfoldable pub code_line : ErrorKind → List ℕ
-code_line kind = line (codes "code") (optional signed_decimal (code_of kind) ∷ [])
+code_line kind = line (codes "code") (spelled_or_dash signed_decimal (error_code kind) ∷ [])
 
 unfoldable pub text_line : ErrorKind → List ℕ
-text_line kind = line (codes "text") (optional text_word (text_of kind) ∷ [])
+text_line kind = line (codes "text") (spelled_or_dash text_word (error_text kind) ∷ [])
 
 abbrev pub cause_lines : ErrorKind → List ℕ
 cause_lines kind = kind_line kind ++ (reason_line kind ++ (code_line kind ++ text_line kind))
 
 -- the description of the server: its versions of the wire protocol, least and greatest
 unfoldable pub wire_line : Option ℤ → Option ℤ → List ℕ
-wire_line minimum maximum = line (codes "wire") (optional signed_decimal minimum ∷ optional signed_decimal maximum ∷ [])
+wire_line minimum maximum = line (codes "wire") (spelled_or_dash signed_decimal minimum ∷ spelled_or_dash signed_decimal maximum ∷ [])
 
 -- how many login mechanisms the user has, and each
 abbrev pub mechanism_words : Option (List (List ℕ)) → List (List ℕ)
@@ -68,7 +68,7 @@ mechanisms_line names = line (codes "mechs") (mechanism_words names)
 
 -- how long a session lives unused, in seconds
 unfoldable pub session_line : Option ℕ → List ℕ
-session_line seconds = line (codes "session") (optional decimal seconds ∷ [])
+session_line seconds = line (codes "session") (spelled_or_dash decimal seconds ∷ [])
 
 -- the greatest document, number of writes in a batch, and frame
 unfoldable pub sizes_line : ℤ → ℤ → ℤ → List ℕ
@@ -83,7 +83,7 @@ hello_ok_line truth = line (codes "hello-ok") (truth_word truth ∷ [])
 
 -- the service behind a load balancer
 unfoldable pub service_line : Option ObjectId → List ℕ
-service_line id = line (codes "service") (optional (λ service. encode_lower service.0) id ∷ [])
+service_line id = line (codes "service") (spelled_or_dash (λ service. encode_lower service.0) id ∷ [])
 
 -- the generation of a connection that has no service
 unfoldable pub normal_generation_line : ℕ → List ℕ
@@ -91,7 +91,7 @@ normal_generation_line number = line (codes "generation") (codes "normal" ∷ de
 
 -- the server's number for the connection
 unfoldable pub server_id_line : Option ℤ → List ℕ
-server_id_line number = line (codes "server-id") (optional signed_decimal number ∷ [])
+server_id_line number = line (codes "server-id") (spelled_or_dash signed_decimal number ∷ [])
 
 -- the kind of server
 unfoldable pub type_line : ServerType → List ℕ

@@ -6,9 +6,10 @@ use Rattle.serde_json.specs.Read.{read}
 use Rattle.serde_json.specs.Find.{as_object}
 use Rattle.serde_json.specs.Written.{has_float}
 use Rattle.mongo_sasl.specs.declared.mechanism.AuthMechanism.{AuthMechanism}
+use Rattle.mongo_establish.specs.Spoken.{is_spoken}
 use Rattle.mongo_settings.specs.Keys.{is_known, is_built as is_built_key}
 use Rattle.mongo_settings.specs.Kinds.{each_key}
-use Rattle.mongo_settings.specs.Credential.{named_mechanism, is_built}
+use Rattle.mongo_settings.specs.Credential.{named_mechanism}
 use Rattle.mongo_settings.specs.Meaning.{settings_in}
 use Rattle.mongo_settings.specs.declared.settings.Settings.{Settings}
 use Rattle.mongo_settings.specs.declared.settings.SettingsError.{SettingsError}
@@ -25,8 +26,8 @@ Ok x >>= f = f x
 Err e >>= f = Err e
 
 -- a rule of settings, and a value that a rule of settings asks for
-abbrev pub rule : Bool → Result ⊤ SettingsError
-rule holds = if holds then Ok tt else Err BadSettings
+abbrev pub holds_or_bad : Bool → Result ⊤ SettingsError
+holds_or_bad holds = if holds then Ok tt else Err BadSettings
 
 abbrev pub needed : {A : Type 0} → Option A → Result A SettingsError
 needed None = Err BadSettings
@@ -49,7 +50,7 @@ keys_judged d = do
 -- a login by the mechanism is built, or there is none
 abbrev pub mechanism_judged : Option AuthMechanism → Result ⊤ SettingsError
 mechanism_judged None = Ok tt
-mechanism_judged (Some mechanism) = if is_built mechanism then Ok tt else Err NotBuilt
+mechanism_judged (Some mechanism) = if is_spoken mechanism then Ok tt else Err NotBuilt
 
 -- The settings that a value is. What isn't built yet is found before a value of another kind.
 unfoldable pub settings_of : Data → Result Settings SettingsError
@@ -61,9 +62,9 @@ settings_of d = do
 -- The value of a text that isn't too long and holds no float.
 unfoldable pub value_judged : List ℕ → Result Data SettingsError
 value_judged text = do
-  short ← rule (nat_le (length text) limit)
+  short ← holds_or_bad (nat_le (length text) limit)
   d ← json_of text
-  whole ← rule (not (has_float d))
+  whole ← holds_or_bad (not (has_float d))
   Ok d
 
 -- The settings that a text is, or why it is none, judged in this order.

@@ -2,7 +2,7 @@
 ghost use Rattle.std.specs.Prelude.{◌≡◌, IfOk};
 ghost use Rattle.serde_json.specs.View.{view};
 ghost use Rattle.mongo_establish.specs.Speculation.{SpeaksFor};
-ghost use Rattle.mongo_settings.specs.Settings.{rule, json_of, value_judged, judged, settings_of, Gives};
+ghost use Rattle.mongo_settings.specs.Settings.{holds_or_bad, json_of, value_judged, judged, settings_of, Gives};
 
 mod credential;
 mod environment;
@@ -128,7 +128,7 @@ pub fn settings_of(alloc: Global, value: &Value) -> Result<Settings, SettingsErr
 
 // a rule of settings
 fn check(holds: bool) -> Result<(), SettingsError>
-    ensures { result ≡ rule holds }
+    ensures { result ≡ holds_or_bad holds }
 {
     if holds {
         Ok(())

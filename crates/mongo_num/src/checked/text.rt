@@ -1,6 +1,6 @@
 // What a checked number prints.
 ghost use Rattle.std.specs.Prelude.{Some, codes};
-ghost use Rattle.mongo_num.specs.CheckedText.{text_of};
+ghost use Rattle.mongo_num.specs.CheckedText.{shown_text};
 
 use crate::checked::Checked;
 use std::fmt;
@@ -8,7 +8,7 @@ use std::fmt::{Debug, Display, Formatter, Write};
 
 /// The number, or `overflow`.
 impl<T: Display> Display for Checked<T> {
-    ghost output = { λ c. text_of T.output (codes "overflow") c.0 };
+    ghost output = { λ c. shown_text T.output (codes "overflow") c.0 };
 
     fn fmt<W: Write>(&self, f: &mut Formatter<W>) -> fmt::Result {
         match &self.0 {
@@ -20,7 +20,7 @@ impl<T: Display> Display for Checked<T> {
 
 /// The number, or `"overflow"` with its quotation marks.
 impl<T: Debug> Debug for Checked<T> {
-    ghost debug_output = { λ c. text_of T.debug_output (codes "\"overflow\"") c.0 };
+    ghost debug_output = { λ c. shown_text T.debug_output (codes "\"overflow\"") c.0 };
 
     fn fmt<W: Write>(&self, f: &mut Formatter<W>) -> fmt::Result {
         match &self.0 {

@@ -15,7 +15,7 @@ ghost use Rattle.std.specs.Str.{IsUtf8};
 ghost use Rattle.serde_json.specs.Data.{Items};
 ghost use Rattle.serde_json.specs.Read.{read};
 ghost use Rattle.serde_json.specs.View.{view, items_view};
-ghost use Rattle.mongo_serve.specs.Settings.{text_in, items_in, count_in, version_in, salt_in, IsAmong, SaidBy, AreSettings};
+ghost use Rattle.mongo_serve.specs.Settings.{text_under, items_in, count_in, scram_version_in, salt_in, IsAmong, SaidBy, AreSettings};
 ghost use Rattle.mongo_serve.specs.declared.settings.reading.SettingsError.TheVariants.{OutOfMemory};
 
 use super::{Account, Settings};
@@ -130,10 +130,10 @@ fn account_of(
     mechanism: &Value,
     salt: &Value,
 ) -> Result<Account, SettingsError>
-    ensures name { IfOk result (λ a. text_in (codes "name") (view user.now) ≡ Some a.name) }
-    ensures password { IfOk result (λ a. text_in (codes "password") (view user.now) ≡ Some a.password) }
+    ensures name { IfOk result (λ a. text_under (codes "name") (view user.now) ≡ Some a.name) }
+    ensures password { IfOk result (λ a. text_under (codes "password") (view user.now) ≡ Some a.password) }
     ensures count { IfOk result (λ a. count_in (view user.now) ≡ Some a.count) }
-    ensures version { IfOk result (λ a. version_in (view mechanism.now) ≡ Some a.version) }
+    ensures version { IfOk result (λ a. scram_version_in (view mechanism.now) ≡ Some a.version) }
     ensures salt { IfOk result (λ a. salt_in (view salt.now) ≡ Some a.salt) }
 {
     let name = text_in(user, "name")?;
@@ -164,7 +164,7 @@ fn json_of(alloc: Global, text: &[u8]) -> Result<Value, SettingsError>
 
 // The text of a key.
 fn text_in<'a>(value: &'a Value, key: &str) -> Result<&'a str, SettingsError>
-    ensures { IfOk result (λ text. text_in key.now (view value.now) ≡ Some text.now) }
+    ensures { IfOk result (λ text. text_under key.now (view value.now) ≡ Some text.now) }
 {
     match value.get(key) {
         Some(member) => match member.as_str() {
@@ -204,7 +204,7 @@ fn count_in(user: &Value) -> Option<u32>
 
 // The mechanism of this name.
 fn version_of(name: &Value) -> Result<ScramVersion, SettingsError>
-    ensures { IfOk result (λ version. version_in (view name.now) ≡ Some version) }
+    ensures { IfOk result (λ version. scram_version_in (view name.now) ≡ Some version) }
 {
     match name.as_str() {
         Some(name) => match version_named(name) {

@@ -1,7 +1,7 @@
 //! The lines of a server's description.
 ghost use Rattle.std.specs.Prelude.{◌≡◌, ◌++◌, ◌∷◌, OnOk, option_map};
 ghost use Rattle.hex.specs.Hex.{encode_lower};
-ghost use Rattle.mongo_settings.specs.Line.{spaced, optional};
+ghost use Rattle.mongo_settings.specs.Line.{spaced, spelled_or_dash};
 ghost use Rattle.mongo_settings.specs.Report.{wire_line, mechanism_words, mechanisms_line, session_line, sizes_line, truth_word, hello_ok_line, service_line, normal_generation_line, server_id_line};
 
 use crate::report::line::{
@@ -110,7 +110,7 @@ pub fn push_service(out: &mut Vec<u8>, service: Option<ObjectId>) -> Result<(), 
 }
 
 fn push_optional_id(out: &mut Vec<u8>, id: Option<ObjectId>) -> Result<(), AllocError>
-    ensures { OnOk result (out.new.items ≡ out.old.items ++ 32 ∷ optional (λ i. encode_lower i.0) id) }
+    ensures { OnOk result (out.new.items ≡ out.old.items ++ 32 ∷ spelled_or_dash (λ i. encode_lower i.0) id) }
 {
     match id {
         Some(id) => push_hex(out, &id.0),

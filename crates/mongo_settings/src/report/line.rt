@@ -1,7 +1,7 @@
 //! A line of the report: its name, its words, each after one space, and a line feed.
 ghost use Rattle.std.specs.Prelude.{◌≡◌, ◌++◌, [], ◌∷◌, OnOk, option_map};
 ghost use Rattle.hex.specs.Hex.{encode_lower};
-ghost use Rattle.mongo_settings.specs.Line.{text_word, optional};
+ghost use Rattle.mongo_settings.specs.Line.{text_word, spelled_or_dash};
 
 use itoa::{Buffer, Integer};
 use std::alloc::AllocError;
@@ -30,7 +30,7 @@ pub fn push_word(out: &mut Vec<u8>, word: &str) -> Result<(), AllocError>
 
 /// Appends a word, or `-` where it is absent, after a space.
 pub fn push_optional_word(out: &mut Vec<u8>, word: Option<&str>) -> Result<(), AllocError>
-    ensures { OnOk result (out.new.items ≡ out.old.items ++ 32 ∷ optional (λ w. w) (option_map (λ w. w.now) word.entry)) }
+    ensures { OnOk result (out.new.items ≡ out.old.items ++ 32 ∷ spelled_or_dash (λ w. w) (option_map (λ w. w.now) word.entry)) }
 {
     match word {
         Some(word) => push_word(out, word),
@@ -51,7 +51,7 @@ pub fn push_optional_number<I: Integer>(
     out: &mut Vec<u8>,
     number: Option<I>,
 ) -> Result<(), AllocError>
-    ensures { OnOk result (out.new.items ≡ out.old.items ++ 32 ∷ optional I.text number) }
+    ensures { OnOk result (out.new.items ≡ out.old.items ++ 32 ∷ spelled_or_dash I.text number) }
 {
     match number {
         Some(number) => push_number(out, number),
@@ -101,7 +101,7 @@ pub fn push_text(out: &mut Vec<u8>, text: &[u8]) -> Result<(), AllocError>
 
 /// Appends the bytes of a text, or `-` where it is absent, after a space.
 pub fn push_optional_text(out: &mut Vec<u8>, text: Option<&[u8]>) -> Result<(), AllocError>
-    ensures { OnOk result (out.new.items ≡ out.old.items ++ 32 ∷ optional text_word (option_map (λ t. t.now) text.entry)) }
+    ensures { OnOk result (out.new.items ≡ out.old.items ++ 32 ∷ spelled_or_dash text_word (option_map (λ t. t.now) text.entry)) }
 {
     match text {
         Some(text) => push_text(out, text),

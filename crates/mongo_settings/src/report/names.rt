@@ -1,6 +1,6 @@
 //! The words of the report for each cause of a refusal.
 ghost use Rattle.std.specs.Prelude.{◌≡◌, option_map};
-ghost use Rattle.mongo_settings.specs.Names.{kind_name, argument_name, response_name, auth_name, reason_name, code_of, auth_text, text_of};
+ghost use Rattle.mongo_settings.specs.Names.{kind_name, argument_name, response_name, auth_name, reason_name, error_code, auth_text, error_text};
 
 use mongo_wire::{ArgumentFault, AuthFault, ErrorKind, ResponseFault};
 
@@ -39,7 +39,7 @@ pub fn reason_name(kind: &ErrorKind) -> Option<&'static str>
 
 /// The server's number for its error.
 pub fn code_of(kind: &ErrorKind) -> Option<i32>
-    ensures { result ≡ code_of kind.now }
+    ensures { result ≡ error_code kind.now }
 {
     match kind {
         ErrorKind::Command(error) => Some(error.code),
@@ -49,7 +49,7 @@ pub fn code_of(kind: &ErrorKind) -> Option<i32>
 
 /// The text that a cause carries.
 pub fn text_of(kind: &ErrorKind) -> Option<&[u8]>
-    ensures { option_map (λ text. text.now) result ≡ text_of kind.now }
+    ensures { option_map (λ text. text.now) result ≡ error_text kind.now }
 {
     match kind {
         ErrorKind::Command(error) => Some(error.message.as_bytes()),

@@ -16,9 +16,9 @@ use std::alloc::Global;
 
 /// The keys of an object of settings that speak of the client, together.
 impl SettingValue for ClientOptions {
-    ghost use Rattle.mongo_settings.specs.Options.{options_in};
+    ghost use Rattle.mongo_settings.specs.Options.{client_options_in};
 
-    ghost meaning = { options_in };
+    ghost meaning = { client_options_in };
 
     #[tactic(auto, unfolding(crate::specs::Options::options_in))]
     fn read(alloc: Global, value: &Value) -> Result<ClientOptions, SettingsError> {

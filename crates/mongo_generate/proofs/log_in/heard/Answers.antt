@@ -1,6 +1,6 @@
 use Rattle.std.proofs.Common.{◌≡◌, ◌∙◌, ◌^◌, ◌<◌, length, sym, subst}
 use Rattle.mongo_server.specs.Acceptance.{Accepts}
-use Rattle.mongo_server.specs.Exchange.{first_of, final_of, IsReadAs}
+use Rattle.mongo_server.specs.Exchange.{first_of, server_final_of, IsReadAs}
 use Rattle.mongo_generate.specs.Replies.{AreReplies}
 use Rattle.mongo_generate.proofs.ReplySizes.{short_first, short_final}
 use Rattle.mongo_generate.proofs.log_in.heard.Goals as goal
@@ -11,9 +11,9 @@ returns-in-Ok-replies_of-clause-heard c = λ x logs serves.
     let one = c.in-Ok.ensures.accepts x serves logs.possible.printable (c.as_bytes.ensures ∙ logs.first_is) in
     let two = c.in-Ok-expected_final.ensures.accepts x one.1 in
     let first : c.as_bytes-2.result.now ≡ first_of x = c.as_bytes-2.ensures ∙ one.0.text_is in
-    let last : c.as_bytes-3.result.now ≡ final_of x = c.as_bytes-3.ensures ∙ two.0 in
+    let last : c.as_bytes-3.result.now ≡ server_final_of x = c.as_bytes-3.ensures ∙ two.0 in
     record {
-      replies = subst (λ t. AreReplies t (final_of x) bytes) first (subst (λ t. AreReplies c.as_bytes-2.result.now t bytes) last c.in-Ok-replies_of.ensures.replies);
+      replies = subst (λ t. AreReplies t (server_final_of x) bytes) first (subst (λ t. AreReplies c.as_bytes-2.result.now t bytes) last c.in-Ok-replies_of.ensures.replies);
       reads = subst (λ t. IsReadAs t x) one.0.text_is one.0;
       accepts = subst (Accepts x) two.0 two.1;
     }
@@ -24,5 +24,5 @@ returns-clause-heard c = λ x logs serves.
     let one = c.in-Ok.ensures.accepts x serves logs.possible.printable (c.as_bytes.ensures ∙ logs.first_is) in
     let two = c.in-Ok-expected_final.ensures.accepts x one.1 in
     let first : c.as_bytes-2.result.now ≡ first_of x = c.as_bytes-2.ensures ∙ one.0.text_is in
-    let last : c.as_bytes-3.result.now ≡ final_of x = c.as_bytes-3.ensures ∙ two.0 in
+    let last : c.as_bytes-3.result.now ≡ server_final_of x = c.as_bytes-3.ensures ∙ two.0 in
     c.in_default.not-OutOfMemory (c.in-Err-replies_of.ensures.short (subst (λ t. length t < 2 ^ 24) (sym first) (short_first x logs.possible)) (subst (λ t. length t < 2 ^ 24) (sym last) (short_final x)))

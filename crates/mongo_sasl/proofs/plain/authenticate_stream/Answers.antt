@@ -1,7 +1,7 @@
 use Rattle.std.proofs.Common.{◌≡◌, ◌⊎◌, Ok, Err, option_copied, inl, inr}
 use Rattle.mongo_wire.specs.declared.error.ErrorKind.TheVariants.{OutOfMemory}
 use Rattle.mongo_command.specs.Exchange.{frame_maximum}
-use Rattle.mongo_sasl.specs.Plain.{FinishedRow, plain_handed, plain_body, plain_heard, plain_plan, IsPlainLogin, user_of}
+use Rattle.mongo_sasl.specs.Plain.{FinishedRow, plain_handed, plain_body, plain_heard, plain_plan, IsPlainLogin, plain_user_of}
 use Rattle.mongo_sasl.specs.Keys.{sasl_start_key}
 use Rattle.mongo_sasl.proofs.KeptAfter.{kept_after, own_keeps, plain_own, unbuilt_own, finished_own, handed_keeps, row_keeps}
 use Rattle.mongo_sasl.proofs.OneExchange.{exchanged_as, unanswered_as, led, led_handed, completed}
@@ -33,7 +33,7 @@ returns-in_err-login-clause-answers g c kind kept =
 pub returns-in_err-command-clause-refused : goal.returns-in_err-command-clause-refused
 returns-in_err-command-clause-refused g c faultless =
     let handed = plain_handed c.args.credential.now (option_copied c.args.server_api) (frame_maximum c.args.connection.now.stream_description) in
-    handed_stopped c.from_residual-in_err-command.result c.in_err-command.field-0.0 _ _ _ _ _ c.from_residual-in_err-command.ensures.1 (plain_unbuilt handed (user_of c.in_ok-login.login) c.in_ok-login.ensures.user _ _ _ c.in_err-command.ensures.refused)
+    handed_stopped c.from_residual-in_err-command.result c.in_err-command.field-0.0 _ _ _ _ _ c.from_residual-in_err-command.ensures.1 (plain_unbuilt handed (plain_user_of c.in_ok-login.login) c.in_ok-login.ensures.user _ _ _ c.in_err-command.ensures.refused)
 
 pub returns-in_err-command-clause-complete : goal.returns-in_err-command-clause-complete
 returns-in_err-command-clause-complete g c bytes faultless is has unfailed unwritten =
@@ -48,13 +48,13 @@ returns-in_err-command-clause-exact g c bytes taken unread outcome commands faul
 pub returns-in_err-command-clause-answers : goal.returns-in_err-command-clause-answers
 returns-in_err-command-clause-answers g c kind kept =
     let handed = plain_handed c.args.credential.now (option_copied c.args.server_api) (frame_maximum c.args.connection.now.stream_description) in
-    handed_kept c.from_residual-in_err-command.result c.in_err-command.field-0.0 _ _ _ _ c.from_residual-in_err-command.ensures.1 (inr (plain_unbuilt handed (user_of c.in_ok-login.login) c.in_ok-login.ensures.user _ _ _ c.in_err-command.ensures.refused))
+    handed_kept c.from_residual-in_err-command.result c.in_err-command.field-0.0 _ _ _ _ c.from_residual-in_err-command.ensures.1 (inr (plain_unbuilt handed (plain_user_of c.in_ok-login.login) c.in_ok-login.ensures.user _ _ _ c.in_err-command.ensures.refused))
 
 pub returns-in_err-exchange_into-clause-refused : goal.returns-in_err-exchange_into-clause-refused
 returns-in_err-exchange_into-clause-refused g c faultless =
     let handed = plain_handed c.args.credential.now (option_copied c.args.server_api) (frame_maximum c.args.connection.now.stream_description) in
     handed_stopped c.from_residual-in_err-exchange_into.result c.in_err-exchange_into.field-0.0 _ _ _ _ _ c.from_residual-in_err-exchange_into.ensures.1
-    (let user = user_of c.in_ok-login.login in
+    (let user = plain_user_of c.in_ok-login.login in
     user_stopped handed user c.in_ok-login.ensures.user _ _ _ _ _ (unanswered_as sasl_start_key user.source (plain_body user) handed.server_api handed.maximum c.in_ok-command.command plain_heard _ _ _ _ _ _ c.in_ok-command.ensures.command c.in_err-exchange_into.ensures.counts (c.in_err-exchange_into.ensures.refused faultless)))
 
 pub returns-in_err-exchange_into-clause-complete : goal.returns-in_err-exchange_into-clause-complete
@@ -74,7 +74,7 @@ returns-in_err-exchange_into-clause-answers g c kind kept =
 pub returns-clause-accepted : goal.returns-clause-accepted
 returns-clause-accepted g c =
     let handed = plain_handed c.args.credential.now (option_copied c.args.server_api) (frame_maximum c.args.connection.now.stream_description) in
-    let user = user_of c.in_ok-login.login in
+    let user = plain_user_of c.in_ok-login.login in
     plain_reached handed user c.in_ok-login.ensures.user c.finish.result _ _ _ _ _
     (exchanged_as sasl_start_key user.source (plain_body user) handed.server_api handed.maximum c.in_ok-command.command _ _ _ _ _ _ c.in_ok-command.ensures.command c.held_reply.ensures c.in_ok-exchange_into.ensures.exchanged)
     c.in_ok-exchange_into.ensures.counts c.finish.ensures.finished
@@ -82,7 +82,7 @@ returns-clause-accepted g c =
 pub returns-clause-refused : goal.returns-clause-refused
 returns-clause-refused g c faultless =
     let handed = plain_handed c.args.credential.now (option_copied c.args.server_api) (frame_maximum c.args.connection.now.stream_description) in
-    let user = user_of c.in_ok-login.login in
+    let user = plain_user_of c.in_ok-login.login in
     plain_refused handed user c.in_ok-login.ensures.user c.finish.result _ _ _ _ _
     (exchanged_as sasl_start_key user.source (plain_body user) handed.server_api handed.maximum c.in_ok-command.command _ _ _ _ _ _ c.in_ok-command.ensures.command c.held_reply.ensures c.in_ok-exchange_into.ensures.exchanged)
     c.in_ok-exchange_into.ensures.counts c.finish.ensures.refused
@@ -102,7 +102,7 @@ returns-clause-exact g c bytes taken unread outcome commands faultless is leads 
 pub returns-clause-reply : goal.returns-clause-reply
 returns-clause-reply g c =
     let handed = plain_handed c.args.credential.now (option_copied c.args.server_api) (frame_maximum c.args.connection.now.stream_description) in
-    let user = user_of c.in_ok-login.login in
+    let user = plain_user_of c.in_ok-login.login in
     plain_replied handed user c.in_ok-login.ensures.user c.finish.result _ _ _ _ _ _ c.held_reply.ensures
     (exchanged_as sasl_start_key user.source (plain_body user) handed.server_api handed.maximum c.in_ok-command.command _ _ _ _ _ _ c.in_ok-command.ensures.command c.held_reply.ensures c.in_ok-exchange_into.ensures.exchanged)
     c.in_ok-exchange_into.ensures.counts c.finish.ensures.finished
@@ -116,7 +116,7 @@ pub returns-in_err-command-clause-keeps : goal.returns-in_err-command-clause-kee
 returns-in_err-command-clause-keeps g c faultless =
     let e = c.in_err-command.field-0.0 in
     handed_keeps c.from_residual-in_err-command.result e _ c.from_residual-in_err-command.ensures.1
-    (own_keeps e.kind _ (unbuilt_own (plain_body (user_of c.in_ok-login.login)) e.kind c.in_err-command.ensures.refused) faultless)
+    (own_keeps e.kind _ (unbuilt_own (plain_body (plain_user_of c.in_ok-login.login)) e.kind c.in_err-command.ensures.refused) faultless)
 
 pub returns-in_err-exchange_into-clause-keeps : goal.returns-in_err-exchange_into-clause-keeps
 returns-in_err-exchange_into-clause-keeps g c faultless =

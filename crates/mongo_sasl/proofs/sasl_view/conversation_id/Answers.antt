@@ -3,7 +3,7 @@ use Rattle.mongo_bson.proofs.Found.{broken_no_document}
 use Rattle.mongo_command.specs.Field.{field_of, Required}
 use Rattle.mongo_command.specs.Fields.{Answers}
 use Rattle.mongo_sasl.specs.Reply.{ReadsValue}
-use Rattle.mongo_sasl.specs.View.{read_as, value_of}
+use Rattle.mongo_sasl.specs.View.{read_as, owned_value_of}
 use Rattle.mongo_sasl.specs.Keys.{conversation_id_key}
 use Rattle.mongo_sasl.proofs.SaslRead.{id_answer}
 use Rattle.mongo_sasl.proofs.sasl_view.conversation_id.Goals as goal
@@ -13,4 +13,4 @@ returns-in_err-get_bytes c = λ elements is. absurd (broken_no_document c.args.r
 
 pub returns : goal.returns
 returns c = λ elements is.
-    subst (λ answer. Answers (Required ReadsValue) (field_of conversation_id_key elements) (read_as value_of answer)) (sym c.ok_or.ensures.value) (id_answer c.args.response.bytes.now conversation_id_key elements c.in_ok-get_bytes.field-0 is c.in_ok-get_bytes.ensures.found)
+    subst (λ answer. Answers (Required ReadsValue) (field_of conversation_id_key elements) (read_as owned_value_of answer)) (sym c.ok_or.ensures.value) (id_answer c.args.response.bytes.now conversation_id_key elements c.in_ok-get_bytes.field-0 is c.in_ok-get_bytes.ensures.found)

@@ -1,7 +1,7 @@
 use Rattle.std.proofs.Common.{◌≡◌, ◌⊎◌, inl, inr}
 use Rattle.mongo_wire.specs.declared.error.ErrorKind.TheVariants.{OutOfMemory}
 use Rattle.mongo_sasl.specs.Commands.{continue_body}
-use Rattle.mongo_scram.specs.Client.{final_of, auth_message_of, conversation_of}
+use Rattle.mongo_scram.specs.Client.{final_of, auth_message_of, final_conversation}
 use Rattle.mongo_scram.specs.Messages.{verifier}
 use Rattle.mongo_scram.specs.Rounds.{LastRefusal}
 use Rattle.mongo_scram.specs.Version.{digest_of}
@@ -49,7 +49,7 @@ pub returns-in_err-command-clause-keeps : goal.returns-in_err-command-clause-kee
 returns-in_err-command-clause-keeps g c faultless =
     let e = c.in_err-command.field-0.0 in
     let final = c.args.client_final.now in
-    handed_keeps c.from_residual.result e _ c.from_residual.ensures.1 (own_keeps e.kind _ (unbuilt_own (continue_body (conversation_of final) (final_of final)) e.kind c.in_err-command.ensures.refused) faultless)
+    handed_keeps c.from_residual.result e _ c.from_residual.ensures.1 (own_keeps e.kind _ (unbuilt_own (continue_body (final_conversation final) (final_of final)) e.kind c.in_err-command.ensures.refused) faultless)
 
 pub returns-in_err-exchange_into-clause-keeps : goal.returns-in_err-exchange_into-clause-keeps
 returns-in_err-exchange_into-clause-keeps g c faultless =
@@ -58,7 +58,7 @@ returns-in_err-exchange_into-clause-keeps g c faultless =
 
 pub returns-clause-keeps : goal.returns-clause-keeps
 returns-clause-keeps g c faultless =
-    let conversation = conversation_of c.args.client_final.now in
+    let conversation = final_conversation c.args.client_final.now in
     let owed = verifier (digest_of c.args.version) c.args.salted.now (auth_message_of c.args.client_final.now) in
     let reply = c.held_reply.result.bytes.now in
     row_keeps c.take_last.result (λ kind. LastRefusal conversation owed reply kind ⊎ (kind ≡ OutOfMemory)) _ (last_own conversation owed reply) c.take_last.ensures.refused c.in_ok-exchange_into.ensures.faultless

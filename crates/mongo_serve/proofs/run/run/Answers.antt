@@ -1,21 +1,21 @@
 use Rattle.std.proofs.Common.{refl, sym, subst}
-use Rattle.mongo_serve.specs.PutBack.{state_of}
-use Rattle.mongo_serve.specs.Run.{Run, status_of, Ran, RunEnds}
+use Rattle.mongo_serve.specs.PutBack.{put_back_state}
+use Rattle.mongo_serve.specs.Run.{ServeRun, status_of_fault, Ran, RunEnds}
 use Rattle.mongo_serve.proofs.Ran.{ran_ends}
 use Rattle.mongo_serve.proofs.run.run.Goals as goal
 
 pub returns : goal.returns
 returns g c =
-    let run : Run = record {
-      old = state_of g.L.Outside.state c.args.link.now;
-      new = state_of g.L.Outside.state c.serve-served.new.link;
+    let run : ServeRun = record {
+      old = put_back_state g.L.Outside.state c.args.link.now;
+      new = put_back_state g.L.Outside.state c.serve-served.new.link;
       report_old = g.K.Outside.state c.args.report.now;
       report_new = g.K.Outside.state c.tell.new.report;
     } in
     let fault = c.serve-served.result.fault in
-    let ran : Ran run (status_of fault) = record {
+    let ran : Ran run (status_of_fault fault) = record {
       settings = c.in-Ok.settings;
-      between = state_of g.L.Outside.state c.read_settings.new.source;
+      between = put_back_state g.L.Outside.state c.read_settings.new.source;
       after_line = c.in-Ok.ensures.line;
       served = c.serve-served.result;
       is_served = c.serve-served.ensures;

@@ -1,5 +1,5 @@
 use Rattle.std.proofs.Common.{◌≡◌, true, false, Ok, ap, ◌∙◌, subst, ◌-◌, ◌^◌, arith}
-use Rattle.mongo_serve.specs.PutBack.{state_of}
+use Rattle.mongo_serve.specs.PutBack.{put_back_state}
 use Rattle.mongo_serve.specs.Served.{TurnEnds}
 use Rattle.mongo_serve.specs.Turns.{documents}
 use Rattle.mongo_serve.proofs.Stream.{begun, one_more, has_ended, was_cut, went_on}
@@ -7,9 +7,9 @@ use Rattle.mongo_serve.proofs.serve.serve.Goals as goal
 
 pub returns-in-Ok-false : goal.returns-in-Ok-false
 returns-in-Ok-false g c =
-    let old = state_of g.L.Outside.state c.args.link.now in
-    let mid = state_of g.L.Outside.state c.serving.link in
-    let new = state_of g.L.Outside.state c.take_turn.new.link in
+    let old = put_back_state g.L.Outside.state c.args.link.now in
+    let mid = put_back_state g.L.Outside.state c.serving.link in
+    let new = put_back_state g.L.Outside.state c.take_turn.new.link in
     let before = c.serving.serving.session in
     let after = c.take_turn.new.serving.session in
     let id = c.serving.serving.ids in
@@ -21,9 +21,9 @@ returns-in-Ok-false g c =
 
 pub returns-in-Err : goal.returns-in-Err
 returns-in-Err g c =
-    let old = state_of g.L.Outside.state c.args.link.now in
-    let mid = state_of g.L.Outside.state c.serving.link in
-    let new = state_of g.L.Outside.state c.take_turn.new.link in
+    let old = put_back_state g.L.Outside.state c.args.link.now in
+    let mid = put_back_state g.L.Outside.state c.serving.link in
+    let new = put_back_state g.L.Outside.state c.take_turn.new.link in
     let before = c.serving.serving.session in
     let after = c.take_turn.new.serving.session in
     let id = c.serving.serving.ids in
@@ -34,9 +34,9 @@ returns-in-Err g c =
 
 pub serving-preserved : goal.serving-preserved
 serving-preserved g c =
-    let old = state_of g.L.Outside.state c.args.link.now in
-    let mid = state_of g.L.Outside.state c.serving.link in
-    let new = state_of g.L.Outside.state c.take_turn.new.link in
+    let old = put_back_state g.L.Outside.state c.args.link.now in
+    let mid = put_back_state g.L.Outside.state c.serving.link in
+    let new = put_back_state g.L.Outside.state c.take_turn.new.link in
     let before = c.serving.serving.session in
     let after = c.take_turn.new.serving.session in
     let id = c.serving.serving.ids in
@@ -49,7 +49,7 @@ serving-preserved g c =
 pub returns : goal.returns
 returns g c =
     let all : c.serving._turn ≡ 2 ^ 64 - 1 = omega arith in
-    went_on c.args.settings.now (state_of g.L.Outside.state c.args.link.now) (state_of g.L.Outside.state c.serving.link) c.serving.serving.session c.serving.serving.ids c.serving._turn all c.serving.invariant
+    went_on c.args.settings.now (put_back_state g.L.Outside.state c.args.link.now) (put_back_state g.L.Outside.state c.serving.link) c.serving.serving.session c.serving.serving.ids c.serving._turn all c.serving.invariant
 
 pub serving-init : goal.serving-init
-serving-init g c = begun c.args.settings.now (state_of g.L.Outside.state c.args.link.now) c.new.result c.new-3.result c.new.ensures.nobody c.new.ensures.none c.new-3.ensures
+serving-init g c = begun c.args.settings.now (put_back_state g.L.Outside.state c.args.link.now) c.new.result c.new-3.result c.new.ensures.nobody c.new.ensures.none c.new-3.ensures

@@ -1,7 +1,7 @@
 use Rattle.std.proofs.Common.{[], ◌≡◌, length, ◌∙◌, ap, refl, sym, subst, rules, arith}
 use Rattle.std.specs.Io.KnownBytes.{Consumes}
 use Rattle.mongo_serve.specs.Cut.{HasCause}
-use Rattle.mongo_serve.specs.PutBack.{state_of}
+use Rattle.mongo_serve.specs.PutBack.{put_back_state}
 use Rattle.mongo_serve.specs.Served.{Lasts}
 use Rattle.mongo_serve.proofs.Causes.{header_part}
 use Rattle.mongo_serve.proofs.Turns.{none_taken}
@@ -12,25 +12,25 @@ use Rattle.mongo_serve.proofs.serve.take_after.Goals as goal
 pub returns-in-Ok-put_back : goal.returns-in-Ok-put_back
 returns-in-Ok-put_back g c = λ requests before h f.
     let sixteen : length c.args.head.now ≡ 16 = search rules in
-    c.take_message.ensures requests before h (back_at before (state_of g.L.Outside.state c.args.link.now) (state_of g.L.Outside.state c.put_back.new.self) c.args.head.now sixteen f c.in-Ok-put_back.ensures.put)
+    c.take_message.ensures requests before h (back_at before (put_back_state g.L.Outside.state c.args.link.now) (put_back_state g.L.Outside.state c.put_back.new.self) c.args.head.now sixteen f c.in-Ok-put_back.ensures.put)
 
 pub returns-in-Err-put_back : goal.returns-in-Err-put_back
 returns-in-Err-put_back g c = λ requests before h f.
     let same = c.in-Err-put_back.ensures.unchanged in
     let head = c.args.head.now in
     let session = c.args.serving.now.session in
-    let new = state_of g.L.Outside.state c.put_back.new.self in
+    let new = put_back_state g.L.Outside.state c.put_back.new.self in
     let sixteen : length head ≡ 16 = search rules in
     none_taken c.args.settings.now requests before new session c.args.serving.now.ids session.user c.in-Err-put_back.fault head refl (header_part head (omega (arith, sixteen)))
-    (subst (λ link. Consumes before.left (state_of g.L.Outside.state link).left head) (sym same) f.taken) (ap (λ link. (state_of g.L.Outside.state link).written) same ∙ f.unwritten) h.user
-    (subst (λ fault. HasCause fault before new [] head) (sym c.in-Err-put_back.ensures.refused) tt) (subst (λ link. Lasts before (state_of g.L.Outside.state link)) (sym same) f.lasts)
+    (subst (λ link. Consumes before.left (put_back_state g.L.Outside.state link).left head) (sym same) f.taken) (ap (λ link. (put_back_state g.L.Outside.state link).written) same ∙ f.unwritten) h.user
+    (subst (λ fault. HasCause fault before new [] head) (sym c.in-Err-put_back.ensures.refused) tt) (subst (λ link. Lasts before (put_back_state g.L.Outside.state link)) (sym same) f.lasts)
 
 pub returns-in_default : goal.returns-in_default
 returns-in_default g c = λ requests before h f.
     let head = c.args.head.now in
     let session = c.args.serving.now.session in
     let sixteen : length head ≡ 16 = search rules in
-    none_taken c.args.settings.now requests before (state_of g.L.Outside.state c.args.link.now) session c.args.serving.now.ids session.user NoFrame head refl (header_part head (omega (arith, sixteen))) f.taken f.unwritten h.user
+    none_taken c.args.settings.now requests before (put_back_state g.L.Outside.state c.args.link.now) session c.args.serving.now.ids session.user NoFrame head refl (header_part head (omega (arith, sixteen))) f.taken f.unwritten h.user
     (refl, omega (arith, sixteen)) f.lasts
 
 pub returns-in-Err : goal.returns-in-Err
@@ -38,5 +38,5 @@ returns-in-Err g c = λ requests before h f.
     let head = c.args.head.now in
     let session = c.args.serving.now.session in
     let sixteen : length head ≡ 16 = search rules in
-    none_taken c.args.settings.now requests before (state_of g.L.Outside.state c.args.link.now) session c.args.serving.now.ids session.user NoFrame head refl (header_part head (omega (arith, sixteen))) f.taken f.unwritten h.user
+    none_taken c.args.settings.now requests before (put_back_state g.L.Outside.state c.args.link.now) session c.args.serving.now.ids session.user NoFrame head refl (header_part head (omega (arith, sixteen))) f.taken f.unwritten h.user
     (refl, omega (arith, sixteen)) f.lasts

@@ -4,7 +4,7 @@ use Rattle.std.proofs.lemmas.Bool.{false≢true}
 use Rattle.std.proofs.lemmas.Int.{to_z-of_z}
 use Rattle.std.specs.Io.KnownBytes.{Consumes}
 use Rattle.mongo_serve.specs.Cut.{HasCause, IsCut}
-use Rattle.mongo_serve.specs.PutBack.{state_of}
+use Rattle.mongo_serve.specs.PutBack.{put_back_state}
 use Rattle.mongo_serve.proofs.Causes.{refused}
 use Rattle.mongo_serve.proofs.Lasts.{lasts_on, lasts_read}
 use Rattle.mongo_serve.proofs.Turns.{none_taken}
@@ -13,8 +13,8 @@ use Rattle.mongo_serve.proofs.serve.take_message.Goals as goal
 
 pub returns-in-Err : goal.returns-in-Err
 returns-in-Err g c = λ requests before h back.
-    let s = state_of g.L.Outside.state c.args.link.now in
-    let t = state_of g.L.Outside.state c.take_frame.new.source in
+    let s = put_back_state g.L.Outside.state c.args.link.now in
+    let t = put_back_state g.L.Outside.state c.take_frame.new.source in
     let session = c.args.serving.now.session in
     let id = c.args.serving.now.ids in
     let on = c.in-Err.ensures.on in
@@ -28,9 +28,9 @@ unreachable-requires g c = let taken = c.in-Ok.ensures.taken in false≢true (c.
 
 pub returns-in-Ok-answer_document : goal.returns-in-Ok-answer_document
 returns-in-Ok-answer_document g c = λ requests before h back.
-    let s = state_of g.L.Outside.state c.args.link.now in
-    let t = state_of g.L.Outside.state c.take_frame.new.source in
-    let new = state_of g.L.Outside.state c.respond.new.sink in
+    let s = put_back_state g.L.Outside.state c.args.link.now in
+    let t = put_back_state g.L.Outside.state c.take_frame.new.source in
+    let new = put_back_state g.L.Outside.state c.respond.new.sink in
     let taken = c.in-Ok.ensures.taken in
     let message = c.in-Some.message in
     let shown = c.in-Some.ensures.shown taken.frame taken.parts taken.holds in
@@ -44,8 +44,8 @@ returns-in-Ok-answer_document g c = λ requests before h back.
 
 pub returns-in-Err-answer_document : goal.returns-in-Err-answer_document
 returns-in-Err-answer_document g c = λ requests before h back.
-    let s = state_of g.L.Outside.state c.args.link.now in
-    let t = state_of g.L.Outside.state c.take_frame.new.source in
+    let s = put_back_state g.L.Outside.state c.args.link.now in
+    let t = put_back_state g.L.Outside.state c.take_frame.new.source in
     let taken = c.in-Ok.ensures.taken in
     let message = c.in-Some.message in
     let shown = c.in-Some.ensures.shown taken.frame taken.parts taken.holds in

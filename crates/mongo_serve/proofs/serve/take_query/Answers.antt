@@ -4,7 +4,7 @@ use Rattle.std.proofs.KnownBytes.{Consumes-trans}
 use Rattle.std.proofs.lemmas.Int.{to_z-of_z}
 use Rattle.mongo_wire.specs.Header.{signed_at}
 use Rattle.mongo_serve.specs.Cut.{IsCut}
-use Rattle.mongo_serve.specs.PutBack.{state_of}
+use Rattle.mongo_serve.specs.PutBack.{put_back_state}
 use Rattle.mongo_serve.specs.Taken.{IsQueryBody}
 use Rattle.mongo_serve.specs.declared.fault.ServeFault.TheVariants.{NoFrame}
 use Rattle.mongo_serve.proofs.Causes.{header_part, query_front, some_before, stopped, unasked}
@@ -18,13 +18,13 @@ returns-in_default g c = λ requests before h f.
     let head = c.args.head.now in
     let session = c.args.serving.now.session in
     let sixteen : length head ≡ 16 = search rules in
-    none_taken c.args.settings.now requests before (state_of g.L.Outside.state c.args.link.now) session c.args.serving.now.ids session.user NoFrame head refl (header_part head (omega (arith, sixteen))) f.taken f.unwritten h.user
+    none_taken c.args.settings.now requests before (put_back_state g.L.Outside.state c.args.link.now) session c.args.serving.now.ids session.user NoFrame head refl (header_part head (omega (arith, sixteen))) f.taken f.unwritten h.user
     (refl, omega (arith, sixteen)) f.lasts
 
 pub returns-in-Err : goal.returns-in-Err
 returns-in-Err g c = λ requests before h f.
-    let s = state_of g.L.Outside.state c.args.link.now in
-    let t = state_of g.L.Outside.state c.take_bytes.new.source in
+    let s = put_back_state g.L.Outside.state c.args.link.now in
+    let t = put_back_state g.L.Outside.state c.take_bytes.new.source in
     let session = c.args.serving.now.session in
     let id = c.args.serving.now.ids in
     let head = c.args.head.now in
@@ -39,8 +39,8 @@ returns-in-Err g c = λ requests before h f.
 
 pub returns-in_default-command_of_query : goal.returns-in_default-command_of_query
 returns-in_default-command_of_query g c = λ requests before h f.
-    let s = state_of g.L.Outside.state c.args.link.now in
-    let t = state_of g.L.Outside.state c.take_bytes.new.source in
+    let s = put_back_state g.L.Outside.state c.args.link.now in
+    let t = put_back_state g.L.Outside.state c.take_bytes.new.source in
     let session = c.args.serving.now.session in
     let head = c.args.head.now in
     let body = c.in-Ok.body.items in
@@ -53,9 +53,9 @@ returns-in_default-command_of_query g c = λ requests before h f.
 
 pub returns-in-Ok-greet_query : goal.returns-in-Ok-greet_query
 returns-in-Ok-greet_query g c = λ requests before h f.
-    let s = state_of g.L.Outside.state c.args.link.now in
-    let t = state_of g.L.Outside.state c.take_bytes.new.source in
-    let new = state_of g.L.Outside.state c.respond_to_query.new.sink in
+    let s = put_back_state g.L.Outside.state c.args.link.now in
+    let t = put_back_state g.L.Outside.state c.take_bytes.new.source in
+    let new = put_back_state g.L.Outside.state c.respond_to_query.new.sink in
     let head = c.args.head.now in
     let body = c.in-Ok.body.items in
     let command = c.in-Some-command_of_query.command.bytes.now in
@@ -73,8 +73,8 @@ returns-in-Ok-greet_query g c = λ requests before h f.
 
 pub returns : goal.returns
 returns g c = λ requests before h f.
-    let s = state_of g.L.Outside.state c.args.link.now in
-    let t = state_of g.L.Outside.state c.take_bytes.new.source in
+    let s = put_back_state g.L.Outside.state c.args.link.now in
+    let t = put_back_state g.L.Outside.state c.take_bytes.new.source in
     let head = c.args.head.now in
     let body = c.in-Ok.body.items in
     let command = c.in-Some-command_of_query.command.bytes.now in

@@ -1,7 +1,7 @@
 use Rattle.std.proofs.Common.{[], refl, sym, subst}
 use Rattle.std.proofs.KnownBytes.{Consumes-nil}
 use Rattle.mongo_serve.specs.Cut.{IsCut}
-use Rattle.mongo_serve.specs.PutBack.{state_of}
+use Rattle.mongo_serve.specs.PutBack.{put_back_state}
 use Rattle.mongo_serve.proofs.Causes.{header_part, stopped}
 use Rattle.mongo_serve.proofs.Lasts.{lasts_all, lasts_read}
 use Rattle.mongo_serve.proofs.Turns.{none_taken}
@@ -9,8 +9,8 @@ use Rattle.mongo_serve.proofs.serve.take_turn.Goals as goal
 
 pub returns-in-Err : goal.returns-in-Err
 returns-in-Err g c = λ requests h.
-    let s = state_of g.L.Outside.state c.args.link.now in
-    let t = state_of g.L.Outside.state c.fill_or_end.new.source in
+    let s = put_back_state g.L.Outside.state c.args.link.now in
+    let t = put_back_state g.L.Outside.state c.fill_or_end.new.source in
     let session = c.args.serving.now.session in
     let id = c.args.serving.now.ids in
     let on = c.in-Err.ensures.on in

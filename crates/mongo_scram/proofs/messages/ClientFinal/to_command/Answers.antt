@@ -4,7 +4,7 @@ use Rattle.mongo_command.specs.declared.server_api.ServerApi.{ServerApi}
 use Rattle.mongo_sasl.specs.declared.sasl_continue.SaslContinue.{SaslContinue}
 use Rattle.mongo_sasl.specs.Commands.{continue_body, IsNotBuilt}
 use Rattle.mongo_sasl.specs.Sent.{continue_command}
-use Rattle.mongo_scram.specs.Client.{final_of, conversation_of, final_source_of, final_api_of}
+use Rattle.mongo_scram.specs.Client.{final_of, final_conversation, final_source_of, final_api_of}
 use Rattle.mongo_scram.proofs.messages.ClientFinal.to_command.Goals as goal
 
 abbrev step : List ℕ → OwnedValue → List ℕ → Option ServerApi → SaslContinue
@@ -14,7 +14,7 @@ same_step : (a b : List ℕ) (c d : OwnedValue) (e f : List ℕ) (api : Option S
 same_step a b c d e f api p q r = λ i. step (p i) (q i) (r i) api
 
 -- the step is that of the message
-step_is : (c : goal.After-into_command) → c.new.result ≡ step (final_source_of c.args.self.now) (conversation_of c.args.self.now) (final_of c.args.self.now) (final_api_of c.args.self.now)
+step_is : (c : goal.After-into_command) → c.new.result ≡ step (final_source_of c.args.self.now) (final_conversation c.args.self.now) (final_of c.args.self.now) (final_api_of c.args.self.now)
 step_is c =
     c.new.ensures
     ∙ same_step _ _ _ _ _ _ _ c.in_ok-source.ensures.copied c.in_ok-conversation_id.ensures.copied (c.in_ok-payload.ensures.copied ∙ c.as_bytes.ensures.value)

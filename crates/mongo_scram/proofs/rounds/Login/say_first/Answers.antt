@@ -1,7 +1,7 @@
 use Rattle.std.proofs.Common.{None, refl, ◌∙◌, inl, inr}
 use Rattle.mongo_command.specs.Exchange.{frame_maximum}
 use Rattle.mongo_command.proofs.Steps.{stopped_memory}
-use Rattle.mongo_scram.specs.Client.{message_of, source_of, includes_db, user_of}
+use Rattle.mongo_scram.specs.Client.{message_of, first_source, includes_db, user_of}
 use Rattle.mongo_scram.specs.Commands.{first_body}
 use Rattle.mongo_scram.specs.Rounds.{handed_by}
 use Rattle.mongo_scram.proofs.FirstRounds.{IsStart, start_unbuilt, start_unanswered, start_exchanged, start_refused, start_opens}
@@ -82,7 +82,7 @@ returns-in_err-command-clause-keeps g c faultless =
     let e = c.in_err-command.field-0.0 in
     let first = c.in_ok-client_first.client_first in
     handed_keeps c.from_residual-in_err-command.result e _ c.from_residual-in_err-command.ensures.1
-    (own_keeps e.kind _ (unbuilt_own (first_body c.args.self.version (includes_db first) (source_of first) (message_of first)) e.kind c.in_err-command.ensures.refused) faultless)
+    (own_keeps e.kind _ (unbuilt_own (first_body c.args.self.version (includes_db first) (first_source first) (message_of first)) e.kind c.in_err-command.ensures.refused) faultless)
 
 pub returns-in_err-exchange_into-clause-keeps : goal.returns-in_err-exchange_into-clause-keeps
 returns-in_err-exchange_into-clause-keeps g c faultless =
