@@ -46,7 +46,7 @@ handed_same : (version : ScramVersion) (asked : Asked) (credential : Credential)
     → handed_to version credential api begun (base64_of asked.nonces.second) asked.options.max_iterations (frame_maximum held) ≡ scram_handed_by version asked credential greeting
 handed_same version asked credential greeting api round begun held p b went d =
     let q = ap speculated_of b ∙ went.scram tt in
-    λ i. let h : Handed = record { version = version; credential = credential; server_api = p i; speculated = q i; nonce = base64_of asked.nonces.second; most = asked.options.max_iterations; maximum = frame_maximum (d i) } in h
+    λ i. let h : Handed = record { version = version; credential = credential; server_api = p i; speculated = q i; nonce = base64_of asked.nonces.second; max_iterations = asked.options.max_iterations; maximum = frame_maximum (d i) } in h
 
 scram_accepted : (version : ScramVersion) (asked : Asked) (credential : Credential) (greeting : Greeting) (document : List ℕ) (old new : State) (before after : ℤ) (early late : Ledgers) → Accepted (scram_handed_by version asked credential greeting) document old new before after early late → Conversed (Scram version) asked credential greeting old new before after early late
 unfolding conversation_plan

@@ -63,7 +63,7 @@ scram_handed_by version asked credential greeting = record {
   server_api = asked.options.auth_options.server_api;
   speculated = speculated_by credential asked greeting;
   nonce = base64_of asked.nonces.second;
-  most = asked.options.max_iterations;
+  max_iterations = asked.options.max_iterations;
   maximum = greeting.description.max_message_size_bytes;
 }
 

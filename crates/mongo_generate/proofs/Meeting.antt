@@ -150,13 +150,12 @@ module _ (pending : PendingConnection) (x : Exchange) (nonces : Nonces) (bytes :
   is_user : IsUser credential user
   is_user = record { username = refl; password = refl; properties = refl; source = refl }
 
-  most : handed.most ≡ 10000000
+  max_iterations : handed.max_iterations ≡ 10000000
   unfolding handshaker_options
-  most = refl
+  max_iterations = refl
 
   is_client : IsClientOf x handed user
   is_client =
-      let ceiling = most in
       let within = possible.within in
       record {
         version = refl;

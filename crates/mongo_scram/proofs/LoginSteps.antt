@@ -35,12 +35,12 @@ pub record IsBetween (handed : Handed) (user : User) (o : Opened) (key : SaltedK
   pub is_user : IsUser handed.credential user
   pub opens : Opens handed user o old middle before between
   pub key_is : key ≡ key_for handed.version user o.server_first
-  pub answered : IsAnswered o.server_first (nonce_of o.client_first) handed.most key tag first last
+  pub answered : IsAnswered o.server_first (nonce_of o.client_first) handed.max_iterations key tag first last
 
 pub between_by : (handed : Handed) (user : User) (o : Opened) (key : SaltedKey) (tag nonce : List ℕ) (old middle : State) (before between : ℤ) (first last : Ledgers) → IsUser handed.credential user → Opens handed user o old middle before between → nonce ≡ nonce_of o.client_first → key ≡ key_for handed.version user o.server_first
-    → IsAnswered o.server_first nonce handed.most key tag first last → IsBetween handed user o key tag old middle before between first last
+    → IsAnswered o.server_first nonce handed.max_iterations key tag first last → IsBetween handed user o key tag old middle before between first last
 between_by handed user o key tag nonce old middle before between first last is_user opens same key_is answered =
-    record { is_user = is_user; opens = opens; key_is = key_is; answered = subst (λ n. IsAnswered o.server_first n handed.most key tag first last) same answered }
+    record { is_user = is_user; opens = opens; key_is = key_is; answered = subst (λ n. IsAnswered o.server_first n handed.max_iterations key tag first last) same answered }
 
 pub between_tag : (handed : Handed) (user : User) (o : Opened) (key : SaltedKey) (tag : List ℕ) (old middle : State) (before between : ℤ) (first last : Ledgers) → IsBetween handed user o key tag old middle before between first last → tag ≡ salted_by handed (challenge_of user o.server_first)
 between_tag handed user o key tag old middle before between first last is = is.answered.tag_is ∙ ap salted_of is.key_is

@@ -61,20 +61,20 @@ none_else first second p q x is = elim is [ inl a ↦ p x a | inr b ↦ q x b.1 
 
 -- ---- the server's first message
 
-pub valid_first : (first : ServerFirst) (nonce : List ℕ) (most : ℕ) → HasNone (ServerFirstRow first nonce most) → IsValidFirst first nonce most
-valid_first first nonce most none =
+pub valid_first : (first : ServerFirst) (nonce : List ℕ) (max_iterations : ℕ) → HasNone (ServerFirstRow first nonce max_iterations) → IsValidFirst first nonce max_iterations
+valid_first first nonce max_iterations none =
     let goes_on = not_true first.done (λ is. none (Authentication EndedEarly) is) in
     let begins = begun first.nonce nonce (λ other. none (Authentication Nonce) (goes_on, other)) in
     let enough = not_less first.i least_count (λ low. none (Authentication CountLow) (goes_on, begins, low)) in
-    let within = not_less most first.i (λ high. none (Authentication CountHigh) (goes_on, begins, enough, high)) in
+    let within = not_less max_iterations first.i (λ high. none (Authentication CountHigh) (goes_on, begins, enough, high)) in
     record { goes_on = goes_on; begins = begins; enough = enough; within = within }
 
-pub valid_first_row : (first : ServerFirst) (nonce : List ℕ) (most : ℕ) → IsValidFirst first nonce most → HasNone (ServerFirstRow first nonce most)
-valid_first_row first nonce most valid (Authentication EndedEarly) row = let no : true ≡ false = sym row ∙ valid.goes_on in cc
-valid_first_row first nonce most valid (Authentication Nonce) row = row.1 valid.begins
-valid_first_row first nonce most valid (Authentication CountLow) row = omega (arith, row.2, valid.enough)
-valid_first_row first nonce most valid (Authentication CountHigh) row = omega (arith, row.3, valid.within)
-valid_first_row first nonce most valid kind row = row
+pub valid_first_row : (first : ServerFirst) (nonce : List ℕ) (max_iterations : ℕ) → IsValidFirst first nonce max_iterations → HasNone (ServerFirstRow first nonce max_iterations)
+valid_first_row first nonce max_iterations valid (Authentication EndedEarly) row = let no : true ≡ false = sym row ∙ valid.goes_on in cc
+valid_first_row first nonce max_iterations valid (Authentication Nonce) row = row.1 valid.begins
+valid_first_row first nonce max_iterations valid (Authentication CountLow) row = omega (arith, row.2, valid.enough)
+valid_first_row first nonce max_iterations valid (Authentication CountHigh) row = omega (arith, row.3, valid.within)
+valid_first_row first nonce max_iterations valid kind row = row
 
 -- ---- the server's last message
 

@@ -104,36 +104,36 @@ one_password_row version password = λ a b p q. one_password_kind version passwo
 true_false : (done : Bool) → done ≡ true → done ≡ false → ⊥
 true_false done p q = false≢true (sym q ∙ p)
 
-one_first_fault : (first : ServerFirst) (nonce : List ℕ) (most : ℕ) (a b : AuthFault) → ServerFirstRow first nonce most (Authentication a) → ServerFirstRow first nonce most (Authentication b) → a ≡ b
-one_first_fault first nonce most EndedEarly EndedEarly p q = refl
-one_first_fault first nonce most EndedEarly Nonce p q = absurd (true_false first.done p q.0)
-one_first_fault first nonce most EndedEarly CountLow p q = absurd (true_false first.done p q.0)
-one_first_fault first nonce most EndedEarly CountHigh p q = absurd (true_false first.done p q.0)
-one_first_fault first nonce most Nonce EndedEarly p q = absurd (true_false first.done q p.0)
-one_first_fault first nonce most Nonce Nonce p q = refl
-one_first_fault first nonce most Nonce CountLow p q = absurd (p.1 q.1)
-one_first_fault first nonce most Nonce CountHigh p q = absurd (p.1 q.1)
-one_first_fault first nonce most CountLow EndedEarly p q = absurd (true_false first.done q p.0)
-one_first_fault first nonce most CountLow Nonce p q = absurd (q.1 p.1)
-one_first_fault first nonce most CountLow CountLow p q = refl
-one_first_fault first nonce most CountLow CountHigh p q = absurd (omega (arith, p.2, q.2))
-one_first_fault first nonce most CountHigh EndedEarly p q = absurd (true_false first.done q p.0)
-one_first_fault first nonce most CountHigh Nonce p q = absurd (q.1 p.1)
-one_first_fault first nonce most CountHigh CountLow p q = absurd (omega (arith, p.2, q.2))
-one_first_fault first nonce most CountHigh CountHigh p q = refl
-one_first_fault first nonce most EndedEarly b p q = absurd q
-one_first_fault first nonce most Nonce b p q = absurd q
-one_first_fault first nonce most CountLow b p q = absurd q
-one_first_fault first nonce most CountHigh b p q = absurd q
-one_first_fault first nonce most a b p q = absurd p
+one_first_fault : (first : ServerFirst) (nonce : List ℕ) (max_iterations : ℕ) (a b : AuthFault) → ServerFirstRow first nonce max_iterations (Authentication a) → ServerFirstRow first nonce max_iterations (Authentication b) → a ≡ b
+one_first_fault first nonce max_iterations EndedEarly EndedEarly p q = refl
+one_first_fault first nonce max_iterations EndedEarly Nonce p q = absurd (true_false first.done p q.0)
+one_first_fault first nonce max_iterations EndedEarly CountLow p q = absurd (true_false first.done p q.0)
+one_first_fault first nonce max_iterations EndedEarly CountHigh p q = absurd (true_false first.done p q.0)
+one_first_fault first nonce max_iterations Nonce EndedEarly p q = absurd (true_false first.done q p.0)
+one_first_fault first nonce max_iterations Nonce Nonce p q = refl
+one_first_fault first nonce max_iterations Nonce CountLow p q = absurd (p.1 q.1)
+one_first_fault first nonce max_iterations Nonce CountHigh p q = absurd (p.1 q.1)
+one_first_fault first nonce max_iterations CountLow EndedEarly p q = absurd (true_false first.done q p.0)
+one_first_fault first nonce max_iterations CountLow Nonce p q = absurd (q.1 p.1)
+one_first_fault first nonce max_iterations CountLow CountLow p q = refl
+one_first_fault first nonce max_iterations CountLow CountHigh p q = absurd (omega (arith, p.2, q.2))
+one_first_fault first nonce max_iterations CountHigh EndedEarly p q = absurd (true_false first.done q p.0)
+one_first_fault first nonce max_iterations CountHigh Nonce p q = absurd (q.1 p.1)
+one_first_fault first nonce max_iterations CountHigh CountLow p q = absurd (omega (arith, p.2, q.2))
+one_first_fault first nonce max_iterations CountHigh CountHigh p q = refl
+one_first_fault first nonce max_iterations EndedEarly b p q = absurd q
+one_first_fault first nonce max_iterations Nonce b p q = absurd q
+one_first_fault first nonce max_iterations CountLow b p q = absurd q
+one_first_fault first nonce max_iterations CountHigh b p q = absurd q
+one_first_fault first nonce max_iterations a b p q = absurd p
 
-one_first_kind : (first : ServerFirst) (nonce : List ℕ) (most : ℕ) (a b : ErrorKind) → ServerFirstRow first nonce most a → ServerFirstRow first nonce most b → a ≡ b
-one_first_kind first nonce most (Authentication a) (Authentication b) p q = ap Authentication (one_first_fault first nonce most a b p q)
-one_first_kind first nonce most (Authentication a) b p q = absurd q
-one_first_kind first nonce most a b p q = absurd p
+one_first_kind : (first : ServerFirst) (nonce : List ℕ) (max_iterations : ℕ) (a b : ErrorKind) → ServerFirstRow first nonce max_iterations a → ServerFirstRow first nonce max_iterations b → a ≡ b
+one_first_kind first nonce max_iterations (Authentication a) (Authentication b) p q = ap Authentication (one_first_fault first nonce max_iterations a b p q)
+one_first_kind first nonce max_iterations (Authentication a) b p q = absurd q
+one_first_kind first nonce max_iterations a b p q = absurd p
 
-pub one_valid_first_row : (first : ServerFirst) (nonce : List ℕ) (most : ℕ) → IsOne (ServerFirstRow first nonce most)
-one_valid_first_row first nonce most = λ a b p q. one_first_kind first nonce most a b p q
+pub one_valid_first_row : (first : ServerFirst) (nonce : List ℕ) (max_iterations : ℕ) → IsOne (ServerFirstRow first nonce max_iterations)
+one_valid_first_row first nonce max_iterations = λ a b p q. one_first_kind first nonce max_iterations a b p q
 
 -- ---- whether the server has proved itself
 

@@ -16,7 +16,7 @@ use Rattle.mongo_scram.proofs.ScramPlan.{challenge_of}
 -- the reply asks this of a user, who goes on
 pub record IsChallenged (handed : Handed) (reply : List ℕ) (c : Challenge) : Type 0 where
   pub carries : CarriesFirst reply c.first
-  pub valid : IsValidFirst c.first (nonce_by handed) handed.most
+  pub valid : IsValidFirst c.first (nonce_by handed) handed.max_iterations
   pub usable : HasNone (PasswordRow handed.version c.user.password)
 
 -- ---- after the reply
@@ -29,14 +29,14 @@ challenged_ended handed user reply events c e =
     let end = ends_ending made events c passed.1 in
     let asked : IsChallenged handed reply made = record {
       carries = read.1;
-      valid = valid_first read.0 (nonce_by handed) handed.most (none_first (ServerFirstRow read.0 (nonce_by handed) handed.most) (PasswordRow handed.version user.password) passed.0);
-      usable = none_second (ServerFirstRow read.0 (nonce_by handed) handed.most) (PasswordRow handed.version user.password) passed.0;
+      valid = valid_first read.0 (nonce_by handed) handed.max_iterations (none_first (ServerFirstRow read.0 (nonce_by handed) handed.max_iterations) (PasswordRow handed.version user.password) passed.0);
+      usable = none_second (ServerFirstRow read.0 (nonce_by handed) handed.max_iterations) (PasswordRow handed.version user.password) passed.0;
     } in
     (end.0, ap (λ x. x.user) end.1, subst (IsChallenged handed reply) (sym end.1) asked)
 
 challenged_turn : (handed : Handed) (reply : List ℕ) (c : Challenge) → IsChallenged handed reply c → challenged handed c.user reply [] (ends c)
 challenged_turn handed reply c is =
-    let none = none_else (ServerFirstRow c.first (nonce_by handed) handed.most) (PasswordRow handed.version c.user.password) (valid_first_row c.first (nonce_by handed) handed.most is.valid) is.usable in
+    let none = none_else (ServerFirstRow c.first (nonce_by handed) handed.max_iterations) (PasswordRow handed.version c.user.password) (valid_first_row c.first (nonce_by handed) handed.max_iterations is.valid) is.usable in
     inr (no_first_row reply c.first is.carries, (c.first, is.carries, inr (none, refl)))
 
 -- ---- the first command, unless it went with the hello

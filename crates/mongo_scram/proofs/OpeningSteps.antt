@@ -43,13 +43,13 @@ pub user_stopped : (handed : Handed) (user : User) (kind : ErrorKind) (old new :
 user_stopped handed user kind old new before after is r =
     stopped_unless (CredentialRow handed.credential) _ kind old new before after (no_credential_row handed.credential user is) (stopped_reading (IsUser handed.credential) (opened handed.speculated handed) user kind old new before after is r)
 
-challenge_none : (handed : Handed) (user : User) (first : ServerFirst) → IsValidFirst first (nonce_by handed) handed.most → HasNone (PasswordRow handed.version user.password) → HasNone (ChallengeRow handed (challenge_of user first))
-challenge_none handed user first valid usable = none_else (ServerFirstRow first (nonce_by handed) handed.most) (PasswordRow handed.version user.password) (valid_first_row first (nonce_by handed) handed.most valid) usable
+challenge_none : (handed : Handed) (user : User) (first : ServerFirst) → IsValidFirst first (nonce_by handed) handed.max_iterations → HasNone (PasswordRow handed.version user.password) → HasNone (ChallengeRow handed (challenge_of user first))
+challenge_none handed user first valid usable = none_else (ServerFirstRow first (nonce_by handed) handed.max_iterations) (PasswordRow handed.version user.password) (valid_first_row first (nonce_by handed) handed.max_iterations valid) usable
 
-pub opening_reached : (handed : Handed) (user : User) (o : Opened) (old new : State) (before after : ℤ) → IsUser handed.credential user → Opens handed user o old new before after → IsValidFirst o.server_first (nonce_of o.client_first) handed.most → HasNone (PasswordRow handed.version user.password) → Reached (opening handed) (challenge_of user o.server_first) old new before after
+pub opening_reached : (handed : Handed) (user : User) (o : Opened) (old new : State) (before after : ℤ) → IsUser handed.credential user → Opens handed user o old new before after → IsValidFirst o.server_first (nonce_of o.client_first) handed.max_iterations → HasNone (PasswordRow handed.version user.password) → Reached (opening handed) (challenge_of user o.server_first) old new before after
 opening_reached handed user o old new before after is opens valid usable =
     let c = challenge_of user o.server_first in
-    let none = challenge_none handed user o.server_first (subst (λ nonce. IsValidFirst o.server_first nonce handed.most) opens.nonce valid) usable in
+    let none = challenge_none handed user o.server_first (subst (λ nonce. IsValidFirst o.server_first nonce handed.max_iterations) opens.nonce valid) usable in
     reached_unless (CredentialRow handed.credential) _ c old new before after (no_credential_row handed.credential user is)
     (reached_reading (IsUser handed.credential) (opened handed.speculated handed) user c old new before after is
     (opened_reached handed.speculated handed user opens.reply c old new before after opens.replied
@@ -57,15 +57,15 @@ opening_reached handed user o old new before after is opens valid usable =
     (reached_reading (CarriesFirst opens.reply) _ o.server_first c new new after after opens.carries
     (reached_unless (ChallengeRow handed c) (ending c) c new new after after none (reached_ending c new after))))))
 
-answer_row : (handed : Handed) (user : User) (first : ServerFirst) (kind : ErrorKind) (new : State) (after : ℤ) → AnswerRow first (nonce_by handed) handed.most handed.version user.password kind ⊎ (kind ≡ OutOfMemory)
+answer_row : (handed : Handed) (user : User) (first : ServerFirst) (kind : ErrorKind) (new : State) (after : ℤ) → AnswerRow first (nonce_by handed) handed.max_iterations handed.version user.password kind ⊎ (kind ≡ OutOfMemory)
     → let c = challenge_of user first in Stopped {A = Challenge} (unless (ChallengeRow handed c) (ending c)) kind new new after after
 answer_row handed user first kind new after (inl row) = stopped_row (ChallengeRow handed (challenge_of user first)) (ending (challenge_of user first)) kind new after row
 answer_row handed user first kind new after (inr memory) = stopped_memory _ kind new after memory
 
 -- a stop before anything was derived
-pub answer_stopped : (handed : Handed) (user : User) (o : Opened) (nonce : List ℕ) (kind : ErrorKind) (old new : State) (before after : ℤ) → IsUser handed.credential user → Opens handed user o old new before after → nonce ≡ nonce_of o.client_first → AnswerRow o.server_first nonce handed.most handed.version user.password kind ⊎ (kind ≡ OutOfMemory) → Stopped (opening handed) kind old new before after
+pub answer_stopped : (handed : Handed) (user : User) (o : Opened) (nonce : List ℕ) (kind : ErrorKind) (old new : State) (before after : ℤ) → IsUser handed.credential user → Opens handed user o old new before after → nonce ≡ nonce_of o.client_first → AnswerRow o.server_first nonce handed.max_iterations handed.version user.password kind ⊎ (kind ≡ OutOfMemory) → Stopped (opening handed) kind old new before after
 answer_stopped handed user o nonce kind old new before after is opens same row =
-    let here = answer_row handed user o.server_first kind new after (subst (λ n. AnswerRow o.server_first n handed.most handed.version user.password kind ⊎ (kind ≡ OutOfMemory)) (same ∙ opens.nonce) row) in
+    let here = answer_row handed user o.server_first kind new after (subst (λ n. AnswerRow o.server_first n handed.max_iterations handed.version user.password kind ⊎ (kind ≡ OutOfMemory)) (same ∙ opens.nonce) row) in
     user_stopped handed user kind old new before after is
     (opened_stopped handed.speculated handed user opens.reply kind old new before after opens.replied
     (stopped_unless (FirstReplyRow opens.reply) _ kind new new after after (no_first_row opens.reply o.server_first opens.carries)

@@ -33,9 +33,9 @@ first_reply_own reply kind (inr memory) = inr memory
 
 -- ---- the derivation
 
-first_own : (first : ServerFirst) (nonce : List ℕ) (most : ℕ) (kind : ErrorKind) → ServerFirstRow first nonce most kind → IsOwn kind
-first_own first nonce most (Authentication fault) row = inl refl
-first_own first nonce most kind row = absurd row
+first_own : (first : ServerFirst) (nonce : List ℕ) (max_iterations : ℕ) (kind : ErrorKind) → ServerFirstRow first nonce max_iterations kind → IsOwn kind
+first_own first nonce max_iterations (Authentication fault) row = inl refl
+first_own first nonce max_iterations kind row = absurd row
 
 password_own : (version : ScramVersion) (password : List ℕ) (kind : ErrorKind) → PasswordRow version password kind → IsOwn kind
 password_own Sha256 password PasswordNotAscii row = inl refl
@@ -43,10 +43,10 @@ password_own Sha256 password (Authentication fault) row = inl refl
 password_own Sha256 password kind row = absurd row
 password_own Sha1 password kind row = absurd row
 
-pub answer_own : (first : ServerFirst) (nonce : List ℕ) (most : ℕ) (version : ScramVersion) (password : List ℕ) (kind : ErrorKind) → AnswerRow first nonce most version password kind ⊎ (kind ≡ OutOfMemory) → IsOwn kind
-answer_own first nonce most version password kind (inl (inl row)) = first_own first nonce most kind row
-answer_own first nonce most version password kind (inl (inr row)) = password_own version password kind row.1
-answer_own first nonce most version password kind (inr memory) = inr memory
+pub answer_own : (first : ServerFirst) (nonce : List ℕ) (max_iterations : ℕ) (version : ScramVersion) (password : List ℕ) (kind : ErrorKind) → AnswerRow first nonce max_iterations version password kind ⊎ (kind ≡ OutOfMemory) → IsOwn kind
+answer_own first nonce max_iterations version password kind (inl (inl row)) = first_own first nonce max_iterations kind row
+answer_own first nonce max_iterations version password kind (inl (inr row)) = password_own version password kind row.1
+answer_own first nonce max_iterations version password kind (inr memory) = inr memory
 
 -- ---- the server's last message
 

@@ -16,7 +16,7 @@ abbrev pub challenge_of : User → ServerFirst → Challenge
 challenge_of user first = record { user = user; first = first }
 
 one_challenge_row : (handed : Handed) (c : Challenge) → IsOne (ChallengeRow handed c)
-one_challenge_row handed c = one_else _ _ (one_valid_first_row c.first (nonce_by handed) handed.most) (one_password_row handed.version c.user.password)
+one_challenge_row handed c = one_else _ _ (one_valid_first_row c.first (nonce_by handed) handed.max_iterations) (one_password_row handed.version c.user.password)
 
 one_challenged : (handed : Handed) (user : User) (reply : List ℕ) → HasOneTurn (challenged handed user reply)
 one_challenged handed user reply =

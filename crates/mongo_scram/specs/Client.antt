@@ -55,7 +55,7 @@ speculated_of (Some round) = Some (record { message = message_of round.client_fi
 
 -- what a login is handed by these
 abbrev pub handed_to : ScramVersion → Credential → Option ServerApi → Option FirstRound → List ℕ → ℕ → ℤ → Handed
-handed_to version credential api round nonce most maximum = record { version = version; credential = credential; server_api = api; speculated = speculated_of round; nonce = nonce; most = most; maximum = maximum }
+handed_to version credential api round nonce max_iterations maximum = record { version = version; credential = credential; server_api = api; speculated = speculated_of round; nonce = nonce; max_iterations = max_iterations; maximum = maximum }
 
 -- the count of a buffer's frames after the replies of a login: one, where a first round went with the hello, or two
 abbrev pub frames_after : Option FirstRound → ℕ → ℕ

@@ -34,7 +34,7 @@ pub record Handed : Type 0 where
   -- the nonce of a first message of its own
   pub nonce : List ℕ
   -- the most iterations that it derives by
-  pub most : ℕ
+  pub max_iterations : ℕ
   -- the greatest frame
   pub maximum : ℤ
 
@@ -84,7 +84,7 @@ close_said handed c = record { maximum = handed.maximum; document = command_docu
 
 -- why the server's first message isn't gone on from: its rows, and then those of the password
 abbrev pub ChallengeRow : Handed → Challenge → ErrorKind → Type 0
-ChallengeRow handed c = or_else (ServerFirstRow c.first (nonce_by handed) handed.most) (PasswordRow handed.version c.user.password)
+ChallengeRow handed c = or_else (ServerFirstRow c.first (nonce_by handed) handed.max_iterations) (PasswordRow handed.version c.user.password)
 
 -- after the reply with the server's first message
 abbrev pub challenged : Handed → User → List ℕ → Plan Challenge

@@ -27,7 +27,7 @@ use Rattle.mongo_scram.specs.Validity.{IsValidFirst, ServerFirstRow, ServerFinal
 
 -- what a login is handed, with a first round or without, over a link of this maximum
 abbrev pub handed_by : Login → Option FirstRound → ℤ → Handed
-handed_by login round maximum = handed_to login.version login.credential.now (option_copied login.server_api) round (base64_of login.nonce.now) login.most maximum
+handed_by login round maximum = handed_to login.version login.credential.now (option_copied login.server_api) round (base64_of login.nonce.now) login.max_iterations maximum
 
 -- ---- the first round
 
@@ -57,8 +57,8 @@ key_for version user first = record { version = version; username = user.usernam
 
 -- A client of this nonce and ceiling goes on from the message, by the salted password of its key, which was derived where
 -- it had no entry.
-pub record IsAnswered (first : ServerFirst) (nonce : List ℕ) (most : ℕ) (key : SaltedKey) (tag : List ℕ) (old new : Ledgers) : Type 0 where
-  pub valid : IsValidFirst first nonce most
+pub record IsAnswered (first : ServerFirst) (nonce : List ℕ) (max_iterations : ℕ) (key : SaltedKey) (tag : List ℕ) (old new : Ledgers) : Type 0 where
+  pub valid : IsValidFirst first nonce max_iterations
   pub usable : IsUsable key
   pub tag_is : tag ≡ salted_of key
   pub derived : Derives key old new
@@ -66,7 +66,7 @@ pub record IsAnswered (first : ServerFirst) (nonce : List ℕ) (most : ℕ) (key
 
 -- why it doesn't: a row of the message, and then one of the password
 abbrev pub AnswerRow : ServerFirst → List ℕ → ℕ → ScramVersion → List ℕ → ErrorKind → Type 0
-AnswerRow first nonce most version password = or_else (ServerFirstRow first nonce most) (PasswordRow version password)
+AnswerRow first nonce max_iterations version password = or_else (ServerFirstRow first nonce max_iterations) (PasswordRow version password)
 
 -- ---- the last round
 

@@ -23,7 +23,7 @@ pub record IsConversation (handed : Handed) (user : User) (first_reply command l
   pub is_count : IsIterationCount count challenge.first.i
   pub begins : BeginsWith challenge.first.nonce (nonce_by handed)
   pub enough : least_count ≤ challenge.first.i
-  pub within : challenge.first.i ≤ handed.most
+  pub within : challenge.first.i ≤ handed.max_iterations
   -- the password is one that a key is derived from
   pub usable : (kind : ErrorKind) → PasswordRow handed.version user.password kind → ⊥
   -- the client proves the key, and the server does

@@ -17,19 +17,19 @@ abbrev pub least_count : ℕ
 least_count = 4096
 
 -- a client with this nonce and this ceiling goes on
-pub record IsValidFirst (first : ServerFirst) (nonce : List ℕ) (most : ℕ) : Type 0 where
+pub record IsValidFirst (first : ServerFirst) (nonce : List ℕ) (max_iterations : ℕ) : Type 0 where
   pub goes_on : first.done ≡ false
   pub begins : BeginsWith first.nonce nonce
   pub enough : least_count ≤ first.i
-  pub within : first.i ≤ most
+  pub within : first.i ≤ max_iterations
 
 -- why it doesn't: the first row that applies
 abbrev pub ServerFirstRow : ServerFirst → List ℕ → ℕ → ErrorKind → Type 0
-ServerFirstRow first nonce most (Authentication EndedEarly) = first.done ≡ true
-ServerFirstRow first nonce most (Authentication Nonce) = (first.done ≡ false) × (BeginsWith first.nonce nonce → ⊥)
-ServerFirstRow first nonce most (Authentication CountLow) = (first.done ≡ false) × BeginsWith first.nonce nonce × (first.i < least_count)
-ServerFirstRow first nonce most (Authentication CountHigh) = (first.done ≡ false) × BeginsWith first.nonce nonce × (least_count ≤ first.i) × (most < first.i)
-ServerFirstRow first nonce most kind = ⊥
+ServerFirstRow first nonce max_iterations (Authentication EndedEarly) = first.done ≡ true
+ServerFirstRow first nonce max_iterations (Authentication Nonce) = (first.done ≡ false) × (BeginsWith first.nonce nonce → ⊥)
+ServerFirstRow first nonce max_iterations (Authentication CountLow) = (first.done ≡ false) × BeginsWith first.nonce nonce × (first.i < least_count)
+ServerFirstRow first nonce max_iterations (Authentication CountHigh) = (first.done ≡ false) × BeginsWith first.nonce nonce × (least_count ≤ first.i) × (max_iterations < first.i)
+ServerFirstRow first nonce max_iterations kind = ⊥
 
 -- the server has proved that it knows the key: it answers in this conversation with the verifier that it owes, all of it
 pub record IsValidFinal (last : ServerFinal) (conversation : OwnedValue) (owed : List ℕ) : Type 0 where

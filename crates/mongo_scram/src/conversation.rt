@@ -65,27 +65,27 @@ impl ScramVersion {
         server_api: Option<&ServerApi>,
         first_round: Option<FirstRound>,
         nonce: &[u8; 32],
-        most: u32,
+        max_iterations: u32,
         salted: &mut SaltedCache,
         steps: &mut Steps<G>,
     ) -> Result<(), Error>
         // Exactly a SCRAM login's commands were written and its replies taken, the verifier was equal as a whole, the buffer
         // holds the reply of the last exchange, and the key has an entry.
-        ensures accepted { OnOk result (Accepted (handed_to self.now credential.now (option_copied server_api.entry) first_round (base64_of nonce.now) most (frame_maximum connection.old.stream_description)) (held_document buffer.new)
+        ensures accepted { OnOk result (Accepted (handed_to self.now credential.now (option_copied server_api.entry) first_round (base64_of nonce.now) max_iterations (frame_maximum connection.old.stream_description)) (held_document buffer.new)
             (L.state link.old) (L.state link.new) ids.old ids.new (ledgers steps.old salted.old) (ledgers steps.new salted.new)) }
 
         // A refusal says why it comes, what it left, and whether the key was derived before it.
-        ensures refused { kept_fault connection.old ≡ None → IfErr result (λ e. StoppedScram (handed_to self.now credential.now (option_copied server_api.entry) first_round (base64_of nonce.now) most (frame_maximum connection.old.stream_description)) e.kind
+        ensures refused { kept_fault connection.old ≡ None → IfErr result (λ e. StoppedScram (handed_to self.now credential.now (option_copied server_api.entry) first_round (base64_of nonce.now) max_iterations (frame_maximum connection.old.stream_description)) e.kind
             (L.state link.old) (L.state link.new) ids.old ids.new (ledgers steps.old salted.old) (ledgers steps.new salted.new)) }
 
         // Where the link doesn't fail, bytes left that lead to the login's end are accepted, and those that lead to a refusal get
         // just that one; the link is left as they say, or memory runs out.
         ensures exact { (bytes taken unread : List ℕ) (outcome : Turn Challenge) (commands : List Said) → kept_fault connection.old ≡ None → (L.state link.old).left ≡ Some bytes →
-            Leads (scram_plan (handed_to self.now credential.now (option_copied server_api.entry) first_round (base64_of nonce.now) most (frame_maximum connection.old.stream_description))) bytes outcome commands taken unread →
+            Leads (scram_plan (handed_to self.now credential.now (option_copied server_api.entry) first_round (base64_of nonce.now) max_iterations (frame_maximum connection.old.stream_description))) bytes outcome commands taken unread →
             (Rose (L.state link.old).read_faults (L.state link.new).read_faults → ⊥) → (Rose (L.state link.old).write_faults (L.state link.new).write_faults → ⊥) →
             AnswersLed result outcome commands unread (L.state link.old) (L.state link.new) ids.old ids.new }
         ensures complete { (bytes taken unread : List ℕ) (challenge : Challenge) (commands : List Said) → kept_fault connection.old ≡ None → (L.state link.old).left ≡ Some bytes →
-            Leads (scram_plan (handed_to self.now credential.now (option_copied server_api.entry) first_round (base64_of nonce.now) most (frame_maximum connection.old.stream_description))) bytes (ends challenge) commands taken unread →
+            Leads (scram_plan (handed_to self.now credential.now (option_copied server_api.entry) first_round (base64_of nonce.now) max_iterations (frame_maximum connection.old.stream_description))) bytes (ends challenge) commands taken unread →
             (Rose (L.state link.old).read_faults (L.state link.new).read_faults → ⊥) → (Rose (L.state link.old).write_faults (L.state link.new).write_faults → ⊥) →
             IfErr result (λ e. e.kind ≡ OutOfMemory) }
 
@@ -105,9 +105,9 @@ impl ScramVersion {
         ensures kept { (kind : ErrorKind) → kept_fault connection.old ≡ Some kind → OnOk result ⊥ × (link.new ≡ link.old) × (ids.new ≡ ids.old) × (kept_fault connection.new ≡ Some kind) }
         // It answers the fault in place of its first exchange, unless it is stopped before that. Where that is its first
         // message's, nothing was derived, counted or put in.
-        ensures answers { (kind : ErrorKind) → kept_fault connection.old ≡ Some kind → IfErr result (λ e. ((e.kind ≡ kind) × FaultCosts (handed_to self.now credential.now (option_copied server_api.entry) first_round (base64_of nonce.now) most (frame_maximum connection.old.stream_description))
+        ensures answers { (kind : ErrorKind) → kept_fault connection.old ≡ Some kind → IfErr result (λ e. ((e.kind ≡ kind) × FaultCosts (handed_to self.now credential.now (option_copied server_api.entry) first_round (base64_of nonce.now) max_iterations (frame_maximum connection.old.stream_description))
             (L.state link.old) ids.old (ledgers steps.old salted.old) (ledgers steps.new salted.new))
-            ⊎ StoppedScram (handed_to self.now credential.now (option_copied server_api.entry) first_round (base64_of nonce.now) most (frame_maximum connection.old.stream_description)) e.kind
+            ⊎ StoppedScram (handed_to self.now credential.now (option_copied server_api.entry) first_round (base64_of nonce.now) max_iterations (frame_maximum connection.old.stream_description)) e.kind
             (L.state link.old) (L.state link.old) ids.old ids.old (ledgers steps.old salted.old) (ledgers steps.new salted.new)) }
         ensures counts { CountsStay (L.state link.old) (L.state link.new) }
     {
@@ -116,7 +116,7 @@ impl ScramVersion {
             credential,
             server_api,
             nonce,
-            most,
+            max_iterations,
         };
         let user = self.client_auth_info(credential)?;
         let opened = login.open(alloc, connection, link, ids, buffer, &user, first_round)?;
@@ -125,7 +125,7 @@ impl ScramVersion {
             *self,
             &user,
             opened.client_first.nonce(),
-            most,
+            max_iterations,
             &opened.server_first,
             salted,
             steps,

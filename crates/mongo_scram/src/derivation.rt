@@ -39,17 +39,17 @@ pub fn answer<G: Ledger>(
     version: ScramVersion,
     user: &ClientAuthInfo<'_>,
     nonce: &str,
-    most: u32,
+    max_iterations: u32,
     server_first: &ServerFirst,
     cache: &mut SaltedCache,
     steps: &mut Steps<G>,
 ) -> Result<Derived, Error>
     ensures key { IfOk result (λ derived. derived.key ≡ key_for version (user_of user.now) server_first.now) }
-    ensures answered { IfOk result (λ derived. IsAnswered server_first.now nonce.now most derived.key derived.salted (ledgers steps.old cache.old) (ledgers steps.new cache.new)) }
-    ensures refused { IfErr result (λ e. AnswerRow server_first.now nonce.now most version (user_of user.now).password e.kind ⊎ (e.kind ≡ OutOfMemory)) }
+    ensures answered { IfOk result (λ derived. IsAnswered server_first.now nonce.now max_iterations derived.key derived.salted (ledgers steps.old cache.old) (ledgers steps.new cache.new)) }
+    ensures refused { IfErr result (λ e. AnswerRow server_first.now nonce.now max_iterations version (user_of user.now).password e.kind ⊎ (e.kind ≡ OutOfMemory)) }
     ensures no_cost { OnErr result (CostsNothing (ledgers steps.old cache.old) (ledgers steps.new cache.new)) }
 {
-    server_first.validate(nonce, most)?;
+    server_first.validate(nonce, max_iterations)?;
     let key = key_of(alloc, version, user, server_first)?;
     let salted = salted_password(&key, cache, steps)?;
     Ok(Derived { key, salted })

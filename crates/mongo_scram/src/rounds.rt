@@ -42,7 +42,7 @@ pub struct Login<'a> {
     /// The nonce of a first message of its own.
     pub nonce: &'a [u8; 32],
     /// The most iterations that it derives by.
-    pub most: u32,
+    pub max_iterations: u32,
 }
 
 /// The first messages of both sides.

@@ -54,9 +54,9 @@ impl ServerFirst {
     ///
     /// In this order: `EndedEarly` where the conversation is done, `Nonce` where the server's nonce doesn't begin with the
     /// client's, `CountLow` where the iteration count is below 4096, `CountHigh` where it is above `most`.
-    pub fn validate(&self, nonce: &str, most: u32) -> Result<(), Error>
-        ensures valid { OnOk result (IsValidFirst self.now nonce.now most) }
-        ensures refused { IfErr result (λ e. ServerFirstRow self.now nonce.now most e.kind) }
+    pub fn validate(&self, nonce: &str, max_iterations: u32) -> Result<(), Error>
+        ensures valid { OnOk result (IsValidFirst self.now nonce.now max_iterations) }
+        ensures refused { IfErr result (λ e. ServerFirstRow self.now nonce.now max_iterations e.kind) }
     {
         if self.done {
             Err(refused(AuthFault::EndedEarly))
@@ -64,7 +64,7 @@ impl ServerFirst {
             Err(refused(AuthFault::Nonce))
         } else if self.i < MIN_ITERATION_COUNT {
             Err(refused(AuthFault::CountLow))
-        } else if self.i > most {
+        } else if self.i > max_iterations {
             Err(refused(AuthFault::CountHigh))
         } else {
             Ok(())

@@ -20,7 +20,7 @@ pub record IsClientOf (x : Exchange) (handed : Handed) (user : User) : Type 0 wh
   pub said : message_by handed user ≡ open_of x
   pub nonce : nonce_by handed ≡ x.nonce
   pub enough : least_count ≤ x.count
-  pub within : x.count ≤ handed.most
+  pub within : x.count ≤ handed.max_iterations
   pub usable : (kind : ErrorKind) → PasswordRow x.version x.password kind → ⊥
 
 -- two replies of one conversation carry these payloads, and the second ends it

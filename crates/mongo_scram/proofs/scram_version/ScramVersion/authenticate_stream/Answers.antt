@@ -19,25 +19,25 @@ use Rattle.mongo_scram.proofs.scram_version.ScramVersion.authenticate_stream.Goa
 
 pub returns-in_err-user-clause-refused : goal.returns-in_err-user-clause-refused
 returns-in_err-user-clause-refused g c faultless =
-    let handed = handed_to c.args.self.now c.args.credential.now (option_copied c.args.server_api) c.args.first_round (base64_of c.args.nonce.now) c.args.most (frame_maximum c.args.connection.now.stream_description) in
+    let handed = handed_to c.args.self.now c.args.credential.now (option_copied c.args.server_api) c.args.first_round (base64_of c.args.nonce.now) c.args.max_iterations (frame_maximum c.args.connection.now.stream_description) in
     stopped_early handed c.in_err-user.field-0.0 c.from_residual.result _ _ _ _ _ _ c.from_residual.ensures.1 (credential_stopped handed _ _ _ c.in_err-user.ensures.refused) (costs_nothing c.args.steps.now c.args.salted.now)
 
 pub returns-in_err-opened-clause-refused : goal.returns-in_err-opened-clause-refused
 returns-in_err-opened-clause-refused g c faultless =
-    let handed = handed_to c.args.self.now c.args.credential.now (option_copied c.args.server_api) c.args.first_round (base64_of c.args.nonce.now) c.args.most (frame_maximum c.args.connection.now.stream_description) in
+    let handed = handed_to c.args.self.now c.args.credential.now (option_copied c.args.server_api) c.args.first_round (base64_of c.args.nonce.now) c.args.max_iterations (frame_maximum c.args.connection.now.stream_description) in
     let user = user_of c.in_ok-user.user in
     stopped_early handed c.in_err-opened.field-0.0 c.from_residual-in_err-opened.result _ _ _ _ _ _ c.from_residual-in_err-opened.ensures.1 (user_stopped handed user _ _ _ _ _ c.in_ok-user.ensures.user (c.in_err-opened.ensures.refused faultless)) (costs_nothing c.args.steps.now c.args.salted.now)
 
 pub returns-in_err-derived-clause-refused : goal.returns-in_err-derived-clause-refused
 returns-in_err-derived-clause-refused g c faultless =
-    let handed = handed_to c.args.self.now c.args.credential.now (option_copied c.args.server_api) c.args.first_round (base64_of c.args.nonce.now) c.args.most (frame_maximum c.args.connection.now.stream_description) in
+    let handed = handed_to c.args.self.now c.args.credential.now (option_copied c.args.server_api) c.args.first_round (base64_of c.args.nonce.now) c.args.max_iterations (frame_maximum c.args.connection.now.stream_description) in
     let user = user_of c.in_ok-user.user in
     stopped_early handed c.in_err-derived.field-0.0 c.from_residual-in_err-derived.result _ _ _ _ _ _ c.from_residual-in_err-derived.ensures.1
     (answer_stopped handed user c.in_ok-opened.opened c.nonce.result.now _ _ _ _ _ c.in_ok-user.ensures.user c.in_ok-opened.ensures.opened c.nonce.ensures c.in_err-derived.ensures.refused) c.in_err-derived.ensures.no_cost
 
 pub returns-in_err-client_final-clause-refused : goal.returns-in_err-client_final-clause-refused
 returns-in_err-client_final-clause-refused g c faultless =
-    let handed = handed_to c.args.self.now c.args.credential.now (option_copied c.args.server_api) c.args.first_round (base64_of c.args.nonce.now) c.args.most (frame_maximum c.args.connection.now.stream_description) in
+    let handed = handed_to c.args.self.now c.args.credential.now (option_copied c.args.server_api) c.args.first_round (base64_of c.args.nonce.now) c.args.max_iterations (frame_maximum c.args.connection.now.stream_description) in
     let user = user_of c.in_ok-user.user in
     let o = c.in_ok-opened.opened in
     let derived = c.in_ok-derived.derived in
@@ -47,7 +47,7 @@ returns-in_err-client_final-clause-refused g c faultless =
 
 pub returns-in_err-close-clause-refused : goal.returns-in_err-close-clause-refused
 returns-in_err-close-clause-refused g c faultless =
-    let handed = handed_to c.args.self.now c.args.credential.now (option_copied c.args.server_api) c.args.first_round (base64_of c.args.nonce.now) c.args.most (frame_maximum c.args.connection.now.stream_description) in
+    let handed = handed_to c.args.self.now c.args.credential.now (option_copied c.args.server_api) c.args.first_round (base64_of c.args.nonce.now) c.args.max_iterations (frame_maximum c.args.connection.now.stream_description) in
     let user = user_of c.in_ok-user.user in
     let o = c.in_ok-opened.opened in
     let derived = c.in_ok-derived.derived in
@@ -68,7 +68,7 @@ returns-in_err-close-clause-kept g c kind kept =
 
 pub returns-clause-accepted : goal.returns-clause-accepted
 returns-clause-accepted g c =
-    let handed = handed_to c.args.self.now c.args.credential.now (option_copied c.args.server_api) c.args.first_round (base64_of c.args.nonce.now) c.args.most (frame_maximum c.args.connection.now.stream_description) in
+    let handed = handed_to c.args.self.now c.args.credential.now (option_copied c.args.server_api) c.args.first_round (base64_of c.args.nonce.now) c.args.max_iterations (frame_maximum c.args.connection.now.stream_description) in
     let user = user_of c.in_ok-user.user in
     let o = c.in_ok-opened.opened in
     let derived = c.in_ok-derived.derived in
@@ -84,7 +84,7 @@ returns-clause-accepted g c =
 
 pub returns-clause-refused : goal.returns-clause-refused
 returns-clause-refused g c faultless =
-    let handed = handed_to c.args.self.now c.args.credential.now (option_copied c.args.server_api) c.args.first_round (base64_of c.args.nonce.now) c.args.most (frame_maximum c.args.connection.now.stream_description) in
+    let handed = handed_to c.args.self.now c.args.credential.now (option_copied c.args.server_api) c.args.first_round (base64_of c.args.nonce.now) c.args.max_iterations (frame_maximum c.args.connection.now.stream_description) in
     let user = user_of c.in_ok-user.user in
     let o = c.in_ok-opened.opened in
     let derived = c.in_ok-derived.derived in
@@ -107,13 +107,13 @@ returns-clause-kept g c kind kept =
 
 pub returns-in_err-user-clause-answers : goal.returns-in_err-user-clause-answers
 returns-in_err-user-clause-answers g c kind kept =
-    let handed = handed_to c.args.self.now c.args.credential.now (option_copied c.args.server_api) c.args.first_round (base64_of c.args.nonce.now) c.args.most (frame_maximum c.args.connection.now.stream_description) in
+    let handed = handed_to c.args.self.now c.args.credential.now (option_copied c.args.server_api) c.args.first_round (base64_of c.args.nonce.now) c.args.max_iterations (frame_maximum c.args.connection.now.stream_description) in
     kept_stopped c.from_residual.result handed kind _ _ _ _ _ _ refl refl
     (stopped_early handed c.in_err-user.field-0.0 c.from_residual.result _ _ _ _ _ _ c.from_residual.ensures.1 (credential_stopped handed _ _ _ c.in_err-user.ensures.refused) (costs_nothing c.args.steps.now c.args.salted.now))
 
 pub returns-in_err-opened-clause-answers : goal.returns-in_err-opened-clause-answers
 returns-in_err-opened-clause-answers g c kind kept =
-    let handed = handed_to c.args.self.now c.args.credential.now (option_copied c.args.server_api) c.args.first_round (base64_of c.args.nonce.now) c.args.most (frame_maximum c.args.connection.now.stream_description) in
+    let handed = handed_to c.args.self.now c.args.credential.now (option_copied c.args.server_api) c.args.first_round (base64_of c.args.nonce.now) c.args.max_iterations (frame_maximum c.args.connection.now.stream_description) in
     let user = user_of c.in_ok-user.user in
     let r = c.from_residual-in_err-opened.result in
     let e = c.in_err-opened.field-0.0 in
@@ -125,7 +125,7 @@ returns-in_err-opened-clause-answers g c kind kept =
 
 pub returns-in_err-derived-clause-answers : goal.returns-in_err-derived-clause-answers
 returns-in_err-derived-clause-answers g c kind kept =
-    let handed = handed_to c.args.self.now c.args.credential.now (option_copied c.args.server_api) c.args.first_round (base64_of c.args.nonce.now) c.args.most (frame_maximum c.args.connection.now.stream_description) in
+    let handed = handed_to c.args.self.now c.args.credential.now (option_copied c.args.server_api) c.args.first_round (base64_of c.args.nonce.now) c.args.max_iterations (frame_maximum c.args.connection.now.stream_description) in
     let user = user_of c.in_ok-user.user in
     let still = c.in_ok-opened.ensures.kept kind kept in
     kept_stopped c.from_residual-in_err-derived.result handed kind _ _ _ _ _ _ (ap g.L.Outside.state still.0) still.1
@@ -134,7 +134,7 @@ returns-in_err-derived-clause-answers g c kind kept =
 
 pub returns-in_err-client_final-clause-answers : goal.returns-in_err-client_final-clause-answers
 returns-in_err-client_final-clause-answers g c kind kept =
-    let handed = handed_to c.args.self.now c.args.credential.now (option_copied c.args.server_api) c.args.first_round (base64_of c.args.nonce.now) c.args.most (frame_maximum c.args.connection.now.stream_description) in
+    let handed = handed_to c.args.self.now c.args.credential.now (option_copied c.args.server_api) c.args.first_round (base64_of c.args.nonce.now) c.args.max_iterations (frame_maximum c.args.connection.now.stream_description) in
     let user = user_of c.in_ok-user.user in
     let o = c.in_ok-opened.opened in
     let derived = c.in_ok-derived.derived in
@@ -146,7 +146,7 @@ returns-in_err-client_final-clause-answers g c kind kept =
 
 pub returns-in_err-close-clause-answers : goal.returns-in_err-close-clause-answers
 returns-in_err-close-clause-answers g c kind kept =
-    let handed = handed_to c.args.self.now c.args.credential.now (option_copied c.args.server_api) c.args.first_round (base64_of c.args.nonce.now) c.args.most (frame_maximum c.args.connection.now.stream_description) in
+    let handed = handed_to c.args.self.now c.args.credential.now (option_copied c.args.server_api) c.args.first_round (base64_of c.args.nonce.now) c.args.max_iterations (frame_maximum c.args.connection.now.stream_description) in
     let user = user_of c.in_ok-user.user in
     let o = c.in_ok-opened.opened in
     let derived = c.in_ok-derived.derived in
@@ -174,7 +174,7 @@ returns-clause-answers g c kind kept =
 
 pub returns-in_err-user-clause-exact : goal.returns-in_err-user-clause-exact
 returns-in_err-user-clause-exact g c bytes taken unread outcome commands faultless is leads unfailed unwritten =
-    refusal_led c.from_residual.result c.in_err-user.field-0.0 (handed_to c.args.self.now c.args.credential.now (option_copied c.args.server_api) c.args.first_round (base64_of c.args.nonce.now) c.args.most (frame_maximum c.args.connection.now.stream_description)) _ _ _ _ _ _ bytes taken unread outcome commands c.from_residual.ensures.1 (returns-in_err-user-clause-refused g c faultless) is leads unfailed unwritten
+    refusal_led c.from_residual.result c.in_err-user.field-0.0 (handed_to c.args.self.now c.args.credential.now (option_copied c.args.server_api) c.args.first_round (base64_of c.args.nonce.now) c.args.max_iterations (frame_maximum c.args.connection.now.stream_description)) _ _ _ _ _ _ bytes taken unread outcome commands c.from_residual.ensures.1 (returns-in_err-user-clause-refused g c faultless) is leads unfailed unwritten
 
 pub returns-in_err-user-clause-complete : goal.returns-in_err-user-clause-complete
 returns-in_err-user-clause-complete g c bytes taken unread challenge commands faultless is leads unfailed unwritten =
@@ -182,7 +182,7 @@ returns-in_err-user-clause-complete g c bytes taken unread challenge commands fa
 
 pub returns-in_err-opened-clause-exact : goal.returns-in_err-opened-clause-exact
 returns-in_err-opened-clause-exact g c bytes taken unread outcome commands faultless is leads unfailed unwritten =
-    refusal_led c.from_residual-in_err-opened.result c.in_err-opened.field-0.0 (handed_to c.args.self.now c.args.credential.now (option_copied c.args.server_api) c.args.first_round (base64_of c.args.nonce.now) c.args.most (frame_maximum c.args.connection.now.stream_description)) _ _ _ _ _ _ bytes taken unread outcome commands c.from_residual-in_err-opened.ensures.1 (returns-in_err-opened-clause-refused g c faultless) is leads unfailed unwritten
+    refusal_led c.from_residual-in_err-opened.result c.in_err-opened.field-0.0 (handed_to c.args.self.now c.args.credential.now (option_copied c.args.server_api) c.args.first_round (base64_of c.args.nonce.now) c.args.max_iterations (frame_maximum c.args.connection.now.stream_description)) _ _ _ _ _ _ bytes taken unread outcome commands c.from_residual-in_err-opened.ensures.1 (returns-in_err-opened-clause-refused g c faultless) is leads unfailed unwritten
 
 pub returns-in_err-opened-clause-complete : goal.returns-in_err-opened-clause-complete
 returns-in_err-opened-clause-complete g c bytes taken unread challenge commands faultless is leads unfailed unwritten =
@@ -190,7 +190,7 @@ returns-in_err-opened-clause-complete g c bytes taken unread challenge commands 
 
 pub returns-in_err-derived-clause-exact : goal.returns-in_err-derived-clause-exact
 returns-in_err-derived-clause-exact g c bytes taken unread outcome commands faultless is leads unfailed unwritten =
-    refusal_led c.from_residual-in_err-derived.result c.in_err-derived.field-0.0 (handed_to c.args.self.now c.args.credential.now (option_copied c.args.server_api) c.args.first_round (base64_of c.args.nonce.now) c.args.most (frame_maximum c.args.connection.now.stream_description)) _ _ _ _ _ _ bytes taken unread outcome commands c.from_residual-in_err-derived.ensures.1 (returns-in_err-derived-clause-refused g c faultless) is leads unfailed unwritten
+    refusal_led c.from_residual-in_err-derived.result c.in_err-derived.field-0.0 (handed_to c.args.self.now c.args.credential.now (option_copied c.args.server_api) c.args.first_round (base64_of c.args.nonce.now) c.args.max_iterations (frame_maximum c.args.connection.now.stream_description)) _ _ _ _ _ _ bytes taken unread outcome commands c.from_residual-in_err-derived.ensures.1 (returns-in_err-derived-clause-refused g c faultless) is leads unfailed unwritten
 
 pub returns-in_err-derived-clause-complete : goal.returns-in_err-derived-clause-complete
 returns-in_err-derived-clause-complete g c bytes taken unread challenge commands faultless is leads unfailed unwritten =
@@ -198,7 +198,7 @@ returns-in_err-derived-clause-complete g c bytes taken unread challenge commands
 
 pub returns-in_err-client_final-clause-exact : goal.returns-in_err-client_final-clause-exact
 returns-in_err-client_final-clause-exact g c bytes taken unread outcome commands faultless is leads unfailed unwritten =
-    refusal_led c.from_residual-in_err-client_final.result c.in_err-client_final.field-0.0 (handed_to c.args.self.now c.args.credential.now (option_copied c.args.server_api) c.args.first_round (base64_of c.args.nonce.now) c.args.most (frame_maximum c.args.connection.now.stream_description)) _ _ _ _ _ _ bytes taken unread outcome commands c.from_residual-in_err-client_final.ensures.1 (returns-in_err-client_final-clause-refused g c faultless) is leads unfailed unwritten
+    refusal_led c.from_residual-in_err-client_final.result c.in_err-client_final.field-0.0 (handed_to c.args.self.now c.args.credential.now (option_copied c.args.server_api) c.args.first_round (base64_of c.args.nonce.now) c.args.max_iterations (frame_maximum c.args.connection.now.stream_description)) _ _ _ _ _ _ bytes taken unread outcome commands c.from_residual-in_err-client_final.ensures.1 (returns-in_err-client_final-clause-refused g c faultless) is leads unfailed unwritten
 
 pub returns-in_err-client_final-clause-complete : goal.returns-in_err-client_final-clause-complete
 returns-in_err-client_final-clause-complete g c bytes taken unread challenge commands faultless is leads unfailed unwritten =
@@ -206,7 +206,7 @@ returns-in_err-client_final-clause-complete g c bytes taken unread challenge com
 
 pub returns-in_err-close-clause-exact : goal.returns-in_err-close-clause-exact
 returns-in_err-close-clause-exact g c bytes taken unread outcome commands faultless is leads unfailed unwritten =
-    refusal_led c.from_residual-in_err-close.result c.in_err-close.field-0.0 (handed_to c.args.self.now c.args.credential.now (option_copied c.args.server_api) c.args.first_round (base64_of c.args.nonce.now) c.args.most (frame_maximum c.args.connection.now.stream_description)) _ _ _ _ _ _ bytes taken unread outcome commands c.from_residual-in_err-close.ensures.1 (returns-in_err-close-clause-refused g c faultless) is leads unfailed unwritten
+    refusal_led c.from_residual-in_err-close.result c.in_err-close.field-0.0 (handed_to c.args.self.now c.args.credential.now (option_copied c.args.server_api) c.args.first_round (base64_of c.args.nonce.now) c.args.max_iterations (frame_maximum c.args.connection.now.stream_description)) _ _ _ _ _ _ bytes taken unread outcome commands c.from_residual-in_err-close.ensures.1 (returns-in_err-close-clause-refused g c faultless) is leads unfailed unwritten
 
 pub returns-in_err-close-clause-complete : goal.returns-in_err-close-clause-complete
 returns-in_err-close-clause-complete g c bytes taken unread challenge commands faultless is leads unfailed unwritten =
@@ -214,7 +214,7 @@ returns-in_err-close-clause-complete g c bytes taken unread challenge commands f
 
 pub returns-clause-exact : goal.returns-clause-exact
 returns-clause-exact g c bytes taken unread outcome commands faultless is leads unfailed unwritten =
-    answer_led c.keep.result (handed_to c.args.self.now c.args.credential.now (option_copied c.args.server_api) c.args.first_round (base64_of c.args.nonce.now) c.args.most (frame_maximum c.args.connection.now.stream_description)) _ _ _ _ _ _ _ bytes taken unread outcome commands (returns-clause-accepted g c) (returns-clause-refused g c faultless) is leads unfailed unwritten
+    answer_led c.keep.result (handed_to c.args.self.now c.args.credential.now (option_copied c.args.server_api) c.args.first_round (base64_of c.args.nonce.now) c.args.max_iterations (frame_maximum c.args.connection.now.stream_description)) _ _ _ _ _ _ _ bytes taken unread outcome commands (returns-clause-accepted g c) (returns-clause-refused g c faultless) is leads unfailed unwritten
 
 pub returns-clause-complete : goal.returns-clause-complete
 returns-clause-complete g c bytes taken unread challenge commands faultless is leads unfailed unwritten =
@@ -235,7 +235,7 @@ pub returns-in_err-derived-clause-keeps : goal.returns-in_err-derived-clause-kee
 returns-in_err-derived-clause-keeps g c faultless =
     let e = c.in_err-derived.field-0.0 in
     handed_keeps c.from_residual-in_err-derived.result e _ c.from_residual-in_err-derived.ensures.1
-    (own_keeps e.kind _ (answer_own c.in_ok-opened.opened.server_first c.nonce.result.now c.args.most c.args.self.now (user_of c.in_ok-user.user).password e.kind c.in_err-derived.ensures.refused) (c.in_ok-opened.ensures.faultless faultless))
+    (own_keeps e.kind _ (answer_own c.in_ok-opened.opened.server_first c.nonce.result.now c.args.max_iterations c.args.self.now (user_of c.in_ok-user.user).password e.kind c.in_err-derived.ensures.refused) (c.in_ok-opened.ensures.faultless faultless))
 
 pub returns-in_err-client_final-clause-keeps : goal.returns-in_err-client_final-clause-keeps
 returns-in_err-client_final-clause-keeps g c faultless =
