@@ -7,7 +7,8 @@ use Rattle.mongo_scram.specs.Replies.{CarriesFinal}
 use Rattle.mongo_scram.specs.Validity.{IsValidFinal, ServerFinalRow}
 use Rattle.mongo_scram.specs.Plan.{Handed, Challenge, verifier_by, close_said, NotCompletedRow, LastRow, closed, closing}
 use Rattle.mongo_scram.proofs.OneMessage.{one_final, no_final_row}
-use Rattle.mongo_scram.proofs.NoRows.{none_first, none_second, none_else, valid_final, valid_final_row, completed, not_completed}
+use Rattle.mongo_command.proofs.Plans.{none_first, none_second, none_else}
+use Rattle.mongo_scram.proofs.NoRows.{valid_final, valid_final_row, completed, not_completed}
 
 -- the reply carries the verifier that the server owes, and the conversation is done
 pub record IsProved (handed : Handed) (c : Challenge) (reply : List ℕ) : Type 0 where

@@ -7,7 +7,7 @@ use Rattle.mongo_bson.specs.declared.owned_value.OwnedValue.{OwnedValue}
 use Rattle.mongo_wire.specs.declared.error.ErrorKind.{ErrorKind}
 use Rattle.mongo_wire.specs.declared.error.ErrorKind.TheVariants.{Authentication}
 use Rattle.mongo_wire.specs.declared.auth_fault.AuthFault.TheVariants.{EndedEarly, Nonce, CountLow, CountHigh, Conversation, ServerError, Malformed, NotCompleted, Verifier as WrongVerifier}
-use Rattle.mongo_command.specs.Conversation.{HasNone, or_else}
+use Rattle.mongo_command.specs.Conversation.{HasNone}
 use Rattle.mongo_scram.specs.declared.server_first.ServerFirst.{ServerFirst}
 use Rattle.mongo_scram.specs.declared.server_final.ServerFinal.{ServerFinal}
 use Rattle.mongo_scram.specs.declared.server_final.ServerFinalBody.{ServerFinalBody}
@@ -47,17 +47,6 @@ same_value a b h =
     let kinds : a.kind ≡ b.kind = stable _ (Decides-eqb a.kind b.kind) (λ other. h (λ is. other (ap (λ v. v.kind) is))) in
     let bytes : a.bytes ≡ b.bytes = same_bytes a.bytes b.bytes (λ other. h (λ is. other (ap (λ v. v.bytes) is))) in
     ap (λ (k : ℕ). let v : OwnedValue = record { kind = k; bytes = a.bytes } in v) kinds ∙ ap (λ (bs : List ℕ). let v : OwnedValue = record { kind = b.kind; bytes = bs } in v) bytes
-
--- ---- either of two rows
-
-pub none_first : {X : Type 0} (first second : X → Type 0) → HasNone (or_else first second) → HasNone first
-none_first first second none x is = none x (inl is)
-
-pub none_second : {X : Type 0} (first second : X → Type 0) → HasNone (or_else first second) → HasNone second
-none_second first second none x is = none x (inr (none_first first second none, is))
-
-pub none_else : {X : Type 0} (first second : X → Type 0) → HasNone first → HasNone second → HasNone (or_else first second)
-none_else first second p q x is = elim is [ inl a ↦ p x a | inr b ↦ q x b.1 ]
 
 -- ---- the server's first message
 

@@ -10,7 +10,8 @@ use Rattle.mongo_scram.specs.Validity.{IsValidFirst, ServerFirstRow}
 use Rattle.mongo_scram.specs.Plan.{Speculated, Handed, Challenge, nonce_by, start_said, ChallengeRow, challenged, opened, opening}
 use Rattle.mongo_scram.proofs.OneMessage.{one_first, no_first_row}
 use Rattle.mongo_scram.proofs.OneRow.{one_user, no_credential_row}
-use Rattle.mongo_scram.proofs.NoRows.{none_first, none_second, none_else, valid_first, valid_first_row}
+use Rattle.mongo_command.proofs.Plans.{none_first, none_second, none_else}
+use Rattle.mongo_scram.proofs.NoRows.{valid_first, valid_first_row}
 use Rattle.mongo_scram.proofs.ScramPlan.{challenge_of}
 
 -- the reply asks this of a user, who goes on

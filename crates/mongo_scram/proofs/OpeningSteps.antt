@@ -14,7 +14,8 @@ use Rattle.mongo_scram.specs.Replies.{CarriesFirst, FirstReplyRow}
 use Rattle.mongo_scram.specs.Rounds.{Replies, Opens, AnswerRow}
 use Rattle.mongo_scram.specs.User.{User, IsUser, CredentialRow}
 use Rattle.mongo_scram.specs.Validity.{IsValidFirst, ServerFirstRow}
-use Rattle.mongo_scram.proofs.NoRows.{none_else, valid_first_row}
+use Rattle.mongo_command.proofs.Plans.{none_else}
+use Rattle.mongo_scram.proofs.NoRows.{valid_first_row}
 use Rattle.mongo_scram.proofs.OneMessage.{no_first_row}
 use Rattle.mongo_scram.proofs.OneRow.{no_credential_row}
 use Rattle.mongo_scram.proofs.ScramPlan.{challenge_of}
