@@ -11,6 +11,7 @@ pub mod X509Plan
 pub mod X509Steps
 mod Foreign
 mod SaslRead
+mod SuccessRead
 mod MechanismNames
 mod Judged
 mod Negotiated
