@@ -15,7 +15,7 @@ use crate::answer::{answer, greet};
 use crate::fault::ServeFault;
 use crate::put_back::PutBack;
 use crate::query::command_of_query;
-use crate::reading::{fill_or_end, take_bytes};
+use crate::reading::take_bytes;
 use crate::reply::Reply;
 use crate::request::{Request, request_of};
 use crate::respond::{respond, respond_to_query};
@@ -23,7 +23,7 @@ use crate::session::Session;
 use crate::settings::Settings;
 use mongo_bson::{RawDocument, Text};
 use mongo_mac::Steps;
-use mongo_wire::{FrameBuffer, Header, Link, OpCode, RequestIds};
+use mongo_wire::{FrameBuffer, Header, Link, OpCode, RequestIds, fill_or_end};
 use std::alloc::Global;
 use std::sync::ledger::Ledger;
 
