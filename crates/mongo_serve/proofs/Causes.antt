@@ -5,7 +5,7 @@ use Rattle.std.proofs.lemmas.Int.{ints}
 use Rattle.std.specs.Io.KnownBytes.{Consumes}
 use Rattle.mongo_wire.proofs.ReadStopped.{rose_after}
 use Rattle.mongo_wire.specs.Error.{kind_of_frame_fault}
-use Rattle.mongo_wire.specs.Header.{signed_at}
+use Rattle.mongo_wire.specs.Header.{code_number, signed_at}
 use Rattle.mongo_wire.specs.Message.{ReadRefused}
 use Rattle.mongo_wire.specs.Outside.{State, ReadStops, RanOut}
 use Rattle.mongo_wire.specs.Rows.{IsRow, IsStarted, IsUnfinished, IsEmptied}
@@ -13,6 +13,7 @@ use Rattle.mongo_wire.specs.declared.error.ErrorKind.{ErrorKind}
 use Rattle.mongo_wire.specs.declared.error.ErrorKind.TheVariants.{InvalidArgument, InvalidResponse, EndOfInput}
 use Rattle.mongo_wire.specs.declared.fault.FrameFault.{FrameFault}
 use Rattle.mongo_wire.specs.declared.fault.FrameFault.TheVariants as frame
+use Rattle.mongo_wire.specs.declared.op_code.OpCode.TheVariants.{Query}
 use Rattle.mongo_serve.specs.declared.fault.ServeFault.{ServeFault}
 use Rattle.mongo_serve.specs.declared.fault.ServeFault.TheVariants.{ReadFault, WriteFault, CutFrame, NoFrame, NoHello, ReplyTooLong, TooManyRequests, OutOfMemory}
 use Rattle.mongo_serve.specs.Cut.{HasCause, IsPart, TookSome}
@@ -127,7 +128,7 @@ refused (frame.InvalidResponse f) old mid new lasts same some h =
 pub header_part : (head : List ℕ) → length head ≤ 16 → IsPart head
 header_part head short = inl (inl short)
 
-pub query_front : (head rest : List ℕ) (wanted : ℕ) → length head ≡ 16 → signed_at 12 head ≡ pos 2004 → pos (16 + wanted) ≡ signed_at 0 head → pos (16 + wanted) ≤ℤ pos 48000000 → length rest ≤ wanted → IsPart (head ++ rest)
+pub query_front : (head rest : List ℕ) (wanted : ℕ) → length head ≡ 16 → signed_at 12 head ≡ code_number Query → pos (16 + wanted) ≡ signed_at 0 head → pos (16 + wanted) ≤ℤ pos 48000000 → length rest ≤ wanted → IsPart (head ++ rest)
 query_front head rest wanted sixteen code counted within short =
     inr (inl (record {
       head = head;

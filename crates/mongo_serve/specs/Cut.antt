@@ -2,9 +2,10 @@
 use Rattle.std.specs.Prelude.{◌≡◌, ℕ, ℤ, pos, ◌<◌, ◌≤◌, ◌≤ℤ◌, ◌⊎◌, Option, List, [], ◌++◌, length, IfSome, ⊤}
 use Rattle.std.specs.List.{AllByRecursion}
 use Rattle.std.specs.Io.KnownBytes.{Consumes, Appends}
-use Rattle.mongo_wire.specs.Header.{signed_at}
+use Rattle.mongo_wire.specs.Header.{code_number, signed_at}
 use Rattle.mongo_wire.specs.Outside.{State, Rose}
 use Rattle.mongo_wire.specs.Rows.{IsStarted, IsEmptied}
+use Rattle.mongo_wire.specs.declared.op_code.OpCode.TheVariants.{Query}
 use Rattle.mongo_serve.specs.declared.fault.ServeFault.{ServeFault}
 use Rattle.mongo_serve.specs.declared.fault.ServeFault.TheVariants.{ReadFault, WriteFault, CutFrame, NoFrame, NoHello, ReplyTooLong, TooManyRequests, OutOfMemory}
 use Rattle.mongo_serve.specs.declared.reply.Reply.{Reply}
@@ -40,7 +41,7 @@ pub record IsQueryFront (bytes : List ℕ) : Type 0 where
   pub rest : List ℕ
   pub spelled : bytes ≡ head ++ rest
   pub sixteen : length head ≡ 16
-  pub code : signed_at 12 head ≡ pos 2004
+  pub code : signed_at 12 head ≡ code_number Query
   pub front : pos (length bytes) ≤ℤ signed_at 0 head
   pub within : signed_at 0 head ≤ℤ pos 48000000
 

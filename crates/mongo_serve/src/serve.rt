@@ -1,7 +1,7 @@
 //! The server: requests are read one after another, and each is answered before the next is read.
 
 ghost use Rattle.std.specs.Prelude.{◌≡◌, ℕ, pos, ◌+◌, ◌≤ℤ◌, ◌⊎◌, List, [], ◌∷◌, ◌++◌, IfSome, IfOk, IfErr, OnOk, OnErr};
-ghost use Rattle.mongo_wire.specs.Header.{header_with, signed_at};
+ghost use Rattle.mongo_wire.specs.Header.{code_number, header_with, signed_at};
 ghost use Rattle.mongo_wire.specs.Outside.{State};
 ghost use Rattle.mongo_serve.specs.Login.{Remembers};
 ghost use Rattle.mongo_serve.specs.PutBack.{put_back_state};
@@ -186,7 +186,7 @@ fn take_query<L: Link, G: Ledger>(
     steps: &mut Steps<G>,
 ) -> Result<(), ServeFault>
     requires header { header ≡ header_with head.now Query }
-    requires code { signed_at 12 head.now ≡ pos 2004 }
+    requires code { signed_at 12 head.now ≡ code_number Query }
     ensures { (requests : List (List ℕ)) (before : State) → Remembers settings.now requests serving.old.session → FollowsHead before (put_back_state L.state link.old) head.now →
         PartEnds settings.now requests before (put_back_state L.state link.new) serving.old.session serving.old.ids serving.new.session serving.new.ids result }
 {
