@@ -15,6 +15,13 @@ use Rattle.mongo_serve.specs.declared.reply.Mechanisms.TheVariants.{Sha1, Sha256
 use Rattle.mongo_serve.specs.declared.reply.Refusal.{Refusal}
 use Rattle.mongo_serve.specs.declared.reply.Refusal.TheVariants.{AuthenticationFailed, Unauthorized, CommandNotFound}
 
+-- the greatest document and the greatest frame, in bytes
+abbrev pub document_maximum : ℤ
+document_maximum = pos 16777216
+
+abbrev pub frame_maximum : ℤ
+frame_maximum = pos 48000000
+
 -- ---- elements
 
 -- a double by its 64 bits (IEEE 754 binary64)
@@ -52,7 +59,7 @@ build_info_document =
     text_element (codes "version") (codes "7.0.0")
     ∷ text_element (codes "gitVersion") []
     ∷ array_element (codes "versionArray") version_document
-    ∷ int32_element max_bson_object_size_key (pos 16777216)
+    ∷ int32_element max_bson_object_size_key document_maximum
     ∷ ok_element
     ∷ [])
 
@@ -62,8 +69,8 @@ build_info_document =
 abbrev pub description : List Element
 description =
     boolean_element hello_ok_key true
-    ∷ int32_element max_bson_object_size_key (pos 16777216)
-    ∷ int32_element max_message_size_bytes_key (pos 48000000)
+    ∷ int32_element max_bson_object_size_key document_maximum
+    ∷ int32_element max_message_size_bytes_key frame_maximum
     ∷ int32_element max_write_batch_size_key (pos 100000)
     ∷ date_element (codes "localTime") (pos 0)
     ∷ int32_element logical_session_timeout_minutes_key (pos 30)

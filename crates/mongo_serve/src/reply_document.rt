@@ -23,6 +23,9 @@ const GENERIC: u8 = 0;
 /// The greatest document, in bytes.
 pub const DOCUMENT_MAXIMUM: i32 = 16_777_216;
 
+/// The greatest frame that is read, in bytes, and the greatest document of an OP_REPLY.
+pub const FRAME_MAXIMUM: i32 = 48_000_000;
+
 /// The document that says a reply.
 ///
 /// `ReplyTooLong` where it would pass 2147483647 bytes.
