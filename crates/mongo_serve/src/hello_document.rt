@@ -7,10 +7,9 @@ ghost use Rattle.mongo_command.specs.Literal.{document_of};
 ghost use Rattle.mongo_serve.specs.Faults.{IsOfDocument};
 ghost use Rattle.mongo_serve.specs.Replies.{description, hello_reply_elements, mechanism_elements, speculation_elements, names_document, writable_key};
 
-use crate::documents::ONE;
 use crate::fault::ServeFault;
 use crate::reply::{HelloReply, Mechanisms, SaslReply};
-use crate::reply_document::{DOCUMENT_MAXIMUM, FRAME_MAXIMUM, sasl_document};
+use crate::reply_document::{DOCUMENT_MAXIMUM, FRAME_MAXIMUM, ONE, sasl_document};
 use mongo_bson::{RawDocument, RawDocumentBuf, RawValue};
 use mongo_command::keys::{
     CONNECTION_ID, HELLO_OK, IS_MASTER, IS_WRITABLE_PRIMARY, LOGICAL_SESSION_TIMEOUT_MINUTES,
