@@ -20,9 +20,21 @@ const CUT: &str =
     "{\"host\":\"localhost\",\"replies\":[\"560000000100000000000000dd070000000000000041000000016f6b00000000000000f03f106d617842736f6e4f626a65637453697a650000000001106d61784d65737361676553697a65427974657300006cdc02\"]}";
 
 fn link(alloc: Global, input: &[u8], failing: &[u8]) -> Result<FailingLink, BsonFault> {
+    link_by(alloc, input, failing, 4096)
+}
+
+// A link of which a call moves so many bytes at most.
+fn link_by(
+    alloc: Global,
+    input: &[u8],
+    failing: &[u8],
+    most: usize,
+) -> Result<FailingLink, BsonFault>
+    requires { 0 < most }
+{
     let input = Bytes::from_slice(alloc, input)?;
     let failing = Bytes::from_slice(alloc, failing)?;
-    Ok(FailingLink::new(alloc, input, failing, 4096))
+    Ok(FailingLink::new(alloc, input, failing, most))
 }
 
 fn words_of(alloc: Global, list: &[&str]) -> Result<Vec<String>, AllocError> {
@@ -100,20 +112,35 @@ fn blanks_to_the_limit_are_settings(rt: HostRuntime) -> Result<(), Fail> {
 fn faults_and_words_decide_too(rt: HostRuntime) -> Result<(), Fail> {
     let alloc = rt.alloc();
     let text = STANDALONE.as_bytes();
-    for (list, source_fails, sink_fails, want) in [
-        (&["rehearse", "x"][..], &[][..], &[][..], Status::Usage),
-        (&[][..], &[][..], &[][..], Status::Usage),
-        (&["rehearse"][..], &[1][..], &[][..], Status::SourceFault),
-        (&["rehearse"][..], &[0, 1][..], &[][..], Status::SourceFault),
-        (&["rehearse"][..], &[][..], &[1][..], Status::SinkFault),
-        (&["rehearse"][..], &[][..], &[0, 1][..], Status::SinkFault),
+    let all = text.len();
+    // and how much of the text was read then: nothing after a fault
+    for (list, source_fails, sink_fails, want, read) in [
+        (&["rehearse", "x"][..], &[][..], &[][..], Status::Usage, 0),
+        (&[][..], &[][..], &[][..], Status::Usage, 0),
+        (&["rehearse"][..], &[1][..], &[][..], Status::SourceFault, 0),
+        (
+            &["rehearse"][..],
+            &[0, 1][..],
+            &[][..],
+            Status::SourceFault,
+            16,
+        ),
+        (&["rehearse"][..], &[][..], &[1][..], Status::SinkFault, all),
+        (
+            &["rehearse"][..],
+            &[][..],
+            &[0, 1][..],
+            Status::SinkFault,
+            all,
+        ),
     ] {
-        let mut source = link(alloc, text, source_fails)?;
-        let mut sink = link(alloc, &[], sink_fails)?;
+        let mut source = link_by(alloc, text, source_fails, 16)?;
+        let mut sink = link_by(alloc, &[], sink_fails, 16)?;
         assert_eq!(rt;
             status_of(alloc, words_of(alloc, list)?, &mut source, &mut sink),
             want
         );
+        assert_eq!(rt; source.left().len() + read, all);
     }
     Ok(())
 }
