@@ -5,7 +5,7 @@ use Rattle.std.proofs.lemmas.Int.{ints}
 use Rattle.std.specs.Io.KnownBytes.{Consumes}
 use Rattle.mongo_wire.proofs.ReadStopped.{rose_after}
 use Rattle.mongo_wire.specs.Error.{kind_of_frame_fault}
-use Rattle.mongo_wire.specs.Header.{signed_at}
+use Rattle.mongo_wire.specs.Header.{code_number, signed_at}
 use Rattle.mongo_wire.specs.Message.{ReadRefused}
 use Rattle.mongo_wire.specs.Outside.{State, ReadStops, RanOut}
 use Rattle.mongo_wire.specs.Rows.{IsRow, IsStarted, IsUnfinished, IsEmptied}
@@ -13,10 +13,12 @@ use Rattle.mongo_wire.specs.declared.error.ErrorKind.{ErrorKind}
 use Rattle.mongo_wire.specs.declared.error.ErrorKind.TheVariants.{InvalidArgument, InvalidResponse, EndOfInput}
 use Rattle.mongo_wire.specs.declared.fault.FrameFault.{FrameFault}
 use Rattle.mongo_wire.specs.declared.fault.FrameFault.TheVariants as frame
+use Rattle.mongo_wire.specs.declared.op_code.OpCode.TheVariants.{Query}
 use Rattle.mongo_serve.specs.declared.fault.ServeFault.{ServeFault}
 use Rattle.mongo_serve.specs.declared.fault.ServeFault.TheVariants.{ReadFault, WriteFault, CutFrame, NoFrame, NoHello, ReplyTooLong, TooManyRequests, OutOfMemory}
 use Rattle.mongo_serve.specs.Cut.{HasCause, IsPart, TookSome}
 use Rattle.mongo_serve.specs.Faults.{fault_of_frame, IsOfDocument}
+use Rattle.mongo_serve.specs.Replies.{frame_maximum}
 use Rattle.mongo_serve.specs.Sent.{WriteCause}
 use Rattle.mongo_serve.specs.Requests.{IsGreeting}
 use Rattle.mongo_serve.specs.Served.{HasCauseAfter, Lasts}
@@ -110,24 +112,24 @@ emptied_some (Some xs) mid (Some ys) taken same some p empty =
     let q : xs ≡ taken ++ ys = subst (λ m. Consumes m (Some ys) taken) same p in
     omega (arith, some, ap length q, length-append taken ys, ap length empty)
 
-pub refused : (fault : FrameFault) (old mid new : State) → Lasts old mid → mid.left ≡ old.left → IfSome old.left (λ bytes. 0 < length bytes) → ReadRefused (kind_of_frame_fault fault) (pos 48000000) mid new
+pub refused : (fault : FrameFault) (old mid new : State) → Lasts old mid → mid.left ≡ old.left → IfSome old.left (λ bytes. 0 < length bytes) → ReadRefused (kind_of_frame_fault fault) frame_maximum mid new
     → Refused (fault_of_frame fault) old mid new
 refused frame.ReadFault old mid new lasts same some h =
-    record { taken = h.1.0; part = inl (started (pos 48000000) h.1.0 h.1.2); consumed = h.1.1; cause = (rose_after old.read_faults mid.read_faults new.read_faults lasts.reads h.0, refl) }
+    record { taken = h.1.0; part = inl (started frame_maximum h.1.0 h.1.2); consumed = h.1.1; cause = (rose_after old.read_faults mid.read_faults new.read_faults lasts.reads h.0, refl) }
 refused frame.EndOfInput old mid new lasts same some h =
-    record { taken = h.1.0; part = inl (row_started (pos 48000000) h.1.0 EndOfInput h.1.2); consumed = h.1.1; cause = (rose_after old.ends mid.ends new.ends lasts.ends h.0, h.2, refl, emptied_some old.left mid.left new.left h.1.0 same some h.1.1 h.2) }
+    record { taken = h.1.0; part = inl (row_started frame_maximum h.1.0 EndOfInput h.1.2); consumed = h.1.1; cause = (rose_after old.ends mid.ends new.ends lasts.ends h.0, h.2, refl, emptied_some old.left mid.left new.left h.1.0 same some h.1.1 h.2) }
 refused frame.OutOfMemory old mid new lasts same some h = record { taken = h.0; part = inl h.2; consumed = h.1; cause = tt }
 refused (frame.InvalidArgument f) old mid new lasts same some h =
-    record { taken = h.0; part = inl (row_started (pos 48000000) h.0 (InvalidArgument f) h.2); consumed = h.1; cause = (refl, row_whole (pos 48000000) h.0 (InvalidArgument f) (λ e. cc) h.2) }
+    record { taken = h.0; part = inl (row_started frame_maximum h.0 (InvalidArgument f) h.2); consumed = h.1; cause = (refl, row_whole frame_maximum h.0 (InvalidArgument f) (λ e. cc) h.2) }
 refused (frame.InvalidResponse f) old mid new lasts same some h =
-    record { taken = h.0; part = inl (row_started (pos 48000000) h.0 (InvalidResponse f) h.2); consumed = h.1; cause = (refl, row_whole (pos 48000000) h.0 (InvalidResponse f) (λ e. cc) h.2) }
+    record { taken = h.0; part = inl (row_started frame_maximum h.0 (InvalidResponse f) h.2); consumed = h.1; cause = (refl, row_whole frame_maximum h.0 (InvalidResponse f) (λ e. cc) h.2) }
 
 -- ---- fronts
 
 pub header_part : (head : List ℕ) → length head ≤ 16 → IsPart head
 header_part head short = inl (inl short)
 
-pub query_front : (head rest : List ℕ) (wanted : ℕ) → length head ≡ 16 → signed_at 12 head ≡ pos 2004 → pos (16 + wanted) ≡ signed_at 0 head → pos (16 + wanted) ≤ℤ pos 48000000 → length rest ≤ wanted → IsPart (head ++ rest)
+pub query_front : (head rest : List ℕ) (wanted : ℕ) → length head ≡ 16 → signed_at 12 head ≡ code_number Query → pos (16 + wanted) ≡ signed_at 0 head → pos (16 + wanted) ≤ℤ frame_maximum → length rest ≤ wanted → IsPart (head ++ rest)
 query_front head rest wanted sixteen code counted within short =
     inr (inl (record {
       head = head;
@@ -136,7 +138,7 @@ query_front head rest wanted sixteen code counted within short =
       sixteen = sixteen;
       code = code;
       front = subst (λ z. pos (length (head ++ rest)) ≤ℤ z) counted (omega (arith, ints, length-append head rest, sixteen, short));
-      within = subst (λ z. z ≤ℤ pos 48000000) counted within;
+      within = subst (λ z. z ≤ℤ frame_maximum) counted within;
     }))
 
 -- ---- a write was refused

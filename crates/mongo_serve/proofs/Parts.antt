@@ -5,8 +5,9 @@ use Rattle.std.proofs.KnownBytes.{Consumes-trans}
 use Rattle.std.specs.Prelude.{⊤}
 use Rattle.std.specs.Io.KnownBytes.{Consumes, prepend_known}
 use Rattle.mongo_wire.specs.Frame.{Frame, IsFrame}
-use Rattle.mongo_wire.specs.Header.{signed_at}
+use Rattle.mongo_wire.specs.Header.{code_number, signed_at}
 use Rattle.mongo_wire.specs.Outside.{State, AppendsFront, WritesOn}
+use Rattle.mongo_wire.specs.declared.op_code.OpCode.TheVariants.{Query}
 use Rattle.mongo_serve.specs.declared.fault.ServeFault.{ServeFault}
 use Rattle.mongo_serve.specs.declared.reply.Reply.{Reply}
 use Rattle.mongo_serve.specs.declared.session.Session.{Session}
@@ -81,7 +82,7 @@ query_part settings requests old mid new before id after later head body command
     consumed unwritten lasts on front.1 cause remembers.user
 
 -- a header and what follows it are an OP_QUERY
-pub query_of : (head body command : List ℕ) (rest : ℕ) → length head ≡ 16 → signed_at 12 head ≡ pos 2004 → pos (16 + rest) ≡ signed_at 0 head → length body ≡ rest → IsQueryBody body command → IsQuery (head ++ body) command
+pub query_of : (head body command : List ℕ) (rest : ℕ) → length head ≡ 16 → signed_at 12 head ≡ code_number Query → pos (16 + rest) ≡ signed_at 0 head → length body ≡ rest → IsQueryBody body command → IsQuery (head ++ body) command
 query_of head body command rest sixteen code counted whole is_body = record {
   header = head;
   body = body;

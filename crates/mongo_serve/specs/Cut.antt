@@ -2,15 +2,17 @@
 use Rattle.std.specs.Prelude.{◌≡◌, ℕ, ℤ, pos, ◌<◌, ◌≤◌, ◌≤ℤ◌, ◌⊎◌, Option, List, [], ◌++◌, length, IfSome, ⊤}
 use Rattle.std.specs.List.{AllByRecursion}
 use Rattle.std.specs.Io.KnownBytes.{Consumes, Appends}
-use Rattle.mongo_wire.specs.Header.{signed_at}
+use Rattle.mongo_wire.specs.Header.{code_number, signed_at}
 use Rattle.mongo_wire.specs.Outside.{State, Rose}
 use Rattle.mongo_wire.specs.Rows.{IsStarted, IsEmptied}
+use Rattle.mongo_wire.specs.declared.op_code.OpCode.TheVariants.{Query}
 use Rattle.mongo_serve.specs.declared.fault.ServeFault.{ServeFault}
 use Rattle.mongo_serve.specs.declared.fault.ServeFault.TheVariants.{ReadFault, WriteFault, CutFrame, NoFrame, NoHello, ReplyTooLong, TooManyRequests, OutOfMemory}
 use Rattle.mongo_serve.specs.declared.reply.Reply.{Reply}
 use Rattle.mongo_serve.specs.declared.session.Session.{Session}
 use Rattle.mongo_serve.specs.declared.settings.Settings.{Settings}
 use Rattle.mongo_serve.specs.Login.{HasLoggedIn}
+use Rattle.mongo_serve.specs.Replies.{frame_maximum}
 use Rattle.mongo_serve.specs.Requests.{IsGreeting}
 use Rattle.mongo_serve.specs.Sent.{CutsMessage, CutsQuery}
 use Rattle.mongo_serve.specs.Taken.{CarriesRequest, IsQuery}
@@ -34,19 +36,19 @@ pub record IsCutTurn (settings : Settings) (before : Session) (id : ℤ) (user :
 
 -- ---- bytes that were taken and not answered
 
--- a front of an OP_QUERY of at most 48000000 bytes
+-- a front of an OP_QUERY that is no longer than the greatest frame
 pub record IsQueryFront (bytes : List ℕ) : Type 0 where
   pub head : List ℕ
   pub rest : List ℕ
   pub spelled : bytes ≡ head ++ rest
   pub sixteen : length head ≡ 16
-  pub code : signed_at 12 head ≡ pos 2004
+  pub code : signed_at 12 head ≡ code_number Query
   pub front : pos (length bytes) ≤ℤ signed_at 0 head
-  pub within : signed_at 0 head ≤ℤ pos 48000000
+  pub within : signed_at 0 head ≤ℤ frame_maximum
 
 -- a front of a header or of a frame that is read, or one frame
 abbrev pub IsPart : List ℕ → Type 0
-IsPart bytes = IsStarted (pos 48000000) bytes ⊎ (IsQueryFront bytes ⊎ ((document : List ℕ) × CarriesRequest bytes document))
+IsPart bytes = IsStarted frame_maximum bytes ⊎ (IsQueryFront bytes ⊎ ((document : List ℕ) × CarriesRequest bytes document))
 
 -- ---- why
 

@@ -6,6 +6,8 @@ use Rattle.mongo_command.specs.Literal.{text_element, document_element, array_el
 use Rattle.mongo_command.specs.Keys.{code_key, code_name_key, connection_id_key, errmsg_key, hello_ok_key, is_master_key, is_writable_primary_key, logical_session_timeout_minutes_key, max_bson_object_size_key, max_message_size_bytes_key, max_wire_version_key, max_write_batch_size_key, min_wire_version_key, ok_key, sasl_supported_mechs_key, speculative_authenticate_key}
 use Rattle.mongo_sasl.specs.Commands.{generic_element}
 use Rattle.mongo_sasl.specs.Keys.{conversation_id_key, done_key, payload_key}
+use Rattle.mongo_scram.specs.Version.{version_name}
+use Rattle.mongo_scram.specs.declared.scram_version.ScramVersion.TheVariants as version
 use Rattle.mongo_serve.specs.declared.reply.Reply.{Reply}
 use Rattle.mongo_serve.specs.declared.reply.Reply.TheVariants.{Hello, Sasl, BuildInfo, Done, Refused}
 use Rattle.mongo_serve.specs.declared.reply.HelloReply.{HelloReply}
@@ -14,6 +16,13 @@ use Rattle.mongo_serve.specs.declared.reply.Mechanisms.{Mechanisms}
 use Rattle.mongo_serve.specs.declared.reply.Mechanisms.TheVariants.{Sha1, Sha256, Both}
 use Rattle.mongo_serve.specs.declared.reply.Refusal.{Refusal}
 use Rattle.mongo_serve.specs.declared.reply.Refusal.TheVariants.{AuthenticationFailed, Unauthorized, CommandNotFound}
+
+-- the greatest document and the greatest frame, in bytes
+abbrev pub document_maximum : ℤ
+document_maximum = pos 16777216
+
+abbrev pub frame_maximum : ℤ
+frame_maximum = pos 48000000
 
 -- ---- elements
 
@@ -52,7 +61,7 @@ build_info_document =
     text_element (codes "version") (codes "7.0.0")
     ∷ text_element (codes "gitVersion") []
     ∷ array_element (codes "versionArray") version_document
-    ∷ int32_element max_bson_object_size_key (pos 16777216)
+    ∷ int32_element max_bson_object_size_key document_maximum
     ∷ ok_element
     ∷ [])
 
@@ -62,8 +71,8 @@ build_info_document =
 abbrev pub description : List Element
 description =
     boolean_element hello_ok_key true
-    ∷ int32_element max_bson_object_size_key (pos 16777216)
-    ∷ int32_element max_message_size_bytes_key (pos 48000000)
+    ∷ int32_element max_bson_object_size_key document_maximum
+    ∷ int32_element max_message_size_bytes_key frame_maximum
     ∷ int32_element max_write_batch_size_key (pos 100000)
     ∷ date_element (codes "localTime") (pos 0)
     ∷ int32_element logical_session_timeout_minutes_key (pos 30)
@@ -80,9 +89,9 @@ writable_key false = is_writable_primary_key
 
 -- an array of the mechanisms' names
 abbrev pub names_document : Mechanisms → List ℕ
-names_document Sha1 = document_of (text_element (codes "0") (codes "SCRAM-SHA-1") ∷ [])
-names_document Sha256 = document_of (text_element (codes "0") (codes "SCRAM-SHA-256") ∷ [])
-names_document Both = document_of (text_element (codes "0") (codes "SCRAM-SHA-1") ∷ text_element (codes "1") (codes "SCRAM-SHA-256") ∷ [])
+names_document Sha1 = document_of (text_element (codes "0") (version_name version.Sha1) ∷ [])
+names_document Sha256 = document_of (text_element (codes "0") (version_name version.Sha256) ∷ [])
+names_document Both = document_of (text_element (codes "0") (version_name version.Sha1) ∷ text_element (codes "1") (version_name version.Sha256) ∷ [])
 
 abbrev pub mechanism_elements : Option Mechanisms → List Element
 mechanism_elements None = []

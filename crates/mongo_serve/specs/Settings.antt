@@ -7,6 +7,7 @@ use Rattle.hex.specs.Hex.{decode_of}
 use Rattle.serde_json.specs.Data.{Data, Items, no_items, item}
 use Rattle.serde_json.specs.Find.{get, as_number, as_u64, as_str, as_array}
 use Rattle.serde_json.specs.Read.{read}
+use Rattle.mongo_scram.specs.Version.{version_name}
 use Rattle.mongo_scram.specs.declared.scram_version.ScramVersion.{ScramVersion}
 use Rattle.mongo_scram.specs.declared.scram_version.ScramVersion.TheVariants.{Sha1, Sha256}
 use Rattle.mongo_serve.specs.declared.settings.Account.{Account}
@@ -22,7 +23,7 @@ items_in key d = option_and_then as_array (get key d)
 
 -- the mechanism of this name
 abbrev pub version_named : List ℕ → Option ScramVersion
-version_named name = if bytes_eq name (codes "SCRAM-SHA-1") then Some Sha1 else if bytes_eq name (codes "SCRAM-SHA-256") then Some Sha256 else None
+version_named name = if bytes_eq name (version_name Sha1) then Some Sha1 else if bytes_eq name (version_name Sha256) then Some Sha256 else None
 
 abbrev pub scram_version_in : Data → Option ScramVersion
 scram_version_in d = option_and_then version_named (as_str d)

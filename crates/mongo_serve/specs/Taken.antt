@@ -3,7 +3,8 @@ use Rattle.std.specs.Prelude.{◌≡◌, ℕ, pos, ◌⊎◌, List, ◌∷◌, �
 use Rattle.mongo_bson.specs.Document.{IsCstring}
 use Rattle.mongo_bson.specs.Framed.{IsFramed}
 use Rattle.mongo_wire.specs.Frame.{Frame, IsFrame}
-use Rattle.mongo_wire.specs.Header.{signed_at}
+use Rattle.mongo_wire.specs.Header.{code_number, signed_at}
+use Rattle.mongo_wire.specs.declared.op_code.OpCode.TheVariants.{Query}
 use Rattle.mongo_serve.specs.Requests.{IsCommandNamed}
 use Rattle.mongo_serve.specs.Values.{HasInside}
 
@@ -28,14 +29,14 @@ pub record IsQueryBody (body command : List ℕ) : Type 0 where
   pub framed : IsFramed document
   pub command_is : IsCommandOf document command
 
--- an OP_QUERY, op code 2004, whose length field is its length
+-- an OP_QUERY whose length field is its length
 pub record IsQuery (frame command : List ℕ) : Type 0 where
   pub header : List ℕ
   pub body : List ℕ
   pub spelled : frame ≡ header ++ body
   pub sixteen : length header ≡ 16
   pub counted : signed_at 0 header ≡ pos (length frame)
-  pub code : signed_at 12 header ≡ pos 2004
+  pub code : signed_at 12 header ≡ code_number Query
   pub is_body : IsQueryBody body command
 
 -- an OP_MSG whose body is the document

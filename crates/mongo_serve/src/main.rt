@@ -6,7 +6,6 @@
 #![tactic(auto)]
 
 mod answer;
-mod documents;
 mod fault;
 mod hello_document;
 mod open;

@@ -1,60 +1,16 @@
 //! Reads of so many bytes.
 
-ghost use Rattle.std.specs.Prelude.{◌≡◌, ◌<◌, ◌≤◌, true, false, length, IfOk, IfErr, OnOk};
+ghost use Rattle.std.specs.Prelude.{◌≡◌, length, IfOk, IfErr};
 ghost use Rattle.std.specs.Io.KnownBytes.{Consumes};
 ghost use Rattle.mongo_wire.specs.Error.{kind_of_frame_fault};
-ghost use Rattle.mongo_wire.specs.Outside.{ReadsOn, ReadStops, HasEnded, HasMore};
+ghost use Rattle.mongo_wire.specs.Outside.{ReadsOn, ReadStops};
 
-use mongo_wire::{FrameFault, Source};
+use mongo_wire::{FrameFault, Source, take_into};
 use std::alloc::Global;
-
-// How many bytes are read ahead of the memory for them at most.
-const PIECE: usize = 4096;
-
-/// Fills the buffer with the next bytes of the source.
-///
-/// `ReadFault` where the source failed, `EndOfInput` where it ended before the buffer was full.
-pub fn fill<S: Source>(source: &mut S, buf: &mut [u8]) -> Result<(), FrameFault>
-    ensures filled { OnOk result (Consumes (S.state source.old).left (S.state source.new).left buf.new) }
-    ensures refused { IfErr result (λ fault. ReadStops (kind_of_frame_fault fault) (S.state source.old) (S.state source.new) (length buf.old)) }
-    ensures on { ReadsOn (S.state source.old) (S.state source.new) }
-{
-    let mut at = 0;
-    'filling: while at < buf.len() {
-        match source.read(&mut buf[at..]) {
-            Ok(0) => return Err(FrameFault::EndOfInput),
-            Ok(count) => at += count,
-            Err(_) => return Err(FrameFault::ReadFault),
-        }
-    }
-    Ok(())
-}
-
-/// Fills the buffer with the next bytes of the source, and says whether there was one: not where the source ended before
-/// the first.
-///
-/// `ReadFault` where the source failed, `EndOfInput` where it ended after the first byte and before the buffer was full.
-pub fn fill_or_end<S: Source>(source: &mut S, buf: &mut [u8]) -> Result<bool, FrameFault>
-    requires { 0 < length buf.old }
-    ensures filled { IfOk result (λ found. found ≡ true → Consumes (S.state source.old).left (S.state source.new).left buf.new) }
-    ensures ended { IfOk result (λ found. found ≡ false → HasEnded (S.state source.old) (S.state source.new)) }
-    ensures refused { IfErr result (λ fault. ReadStops (kind_of_frame_fault fault) (S.state source.old) (S.state source.new) (length buf.old)) }
-    ensures more { IfErr result (λ fault. HasMore (kind_of_frame_fault fault) (S.state source.old).left) }
-    ensures on { ReadsOn (S.state source.old) (S.state source.new) }
-{
-    match source.read(buf) {
-        Ok(0) => Ok(false),
-        Ok(count) => match fill(source, &mut buf[count..]) {
-            Ok(()) => Ok(true),
-            Err(fault) => Err(fault),
-        },
-        Err(_) => Err(FrameFault::ReadFault),
-    }
-}
 
 /// The next bytes of the source, as many as are wanted. Memory grows as they come.
 ///
-/// `ReadFault` where the source failed, `EndOfInput` where it ended before.
+/// `ReadFault` where the source failed, `EndOfInput` where it ended before, `OutOfMemory`.
 pub fn take_bytes<S: Source>(
     alloc: Global,
     source: &mut S,
@@ -66,14 +22,8 @@ pub fn take_bytes<S: Source>(
     ensures on { ReadsOn (S.state source.old) (S.state source.new) }
 {
     let mut held = Vec::new(alloc);
-    'taking: while held.len() < wanted {
-        let mut piece = [0u8; PIECE];
-        let room = (wanted - held.len()).min(PIECE);
-        match source.read(&mut piece[..room]) {
-            Ok(0) => return Err(FrameFault::EndOfInput),
-            Ok(count) => held.extend_from_slice(&piece[..count])?,
-            Err(_) => return Err(FrameFault::ReadFault),
-        }
+    match take_into(source, &mut held, 0, wanted) {
+        Ok(()) => Ok(held),
+        Err(fault) => Err(fault),
     }
-    Ok(held)
 }

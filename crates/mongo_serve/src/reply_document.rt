@@ -4,7 +4,6 @@ ghost use Rattle.std.specs.Prelude.{◌≡◌, ℤ, IfOk, IfErr};
 ghost use Rattle.mongo_serve.specs.Replies.{document_of_served, done_document, error_document, refusal_document, sasl_document, build_info_document, version_document};
 ghost use Rattle.mongo_serve.specs.Faults.{IsOfDocument};
 
-use crate::documents::{ONE, ZERO};
 use crate::fault::ServeFault;
 use crate::hello_document::hello_document;
 use crate::reply::{Refusal, Reply, SaslReply};
@@ -14,6 +13,12 @@ use mongo_sasl::document_of;
 use mongo_sasl::keys::{CONVERSATION_ID, DONE, PAYLOAD};
 use std::alloc::Global;
 
+// The bits of the double 0.0.
+const ZERO: u64 = 0;
+
+/// The bits of the double 1.0 (IEEE 754 binary64).
+pub const ONE: u64 = 0x3FF0_0000_0000_0000;
+
 // The number of each conversation: there is one at a time.
 const CONVERSATION: i32 = 1;
 
@@ -22,6 +27,9 @@ const GENERIC: u8 = 0;
 
 /// The greatest document, in bytes.
 pub const DOCUMENT_MAXIMUM: i32 = 16_777_216;
+
+/// The greatest frame that is read, in bytes, and the greatest document of an OP_REPLY.
+pub const FRAME_MAXIMUM: i32 = 48_000_000;
 
 /// The document that says a reply.
 ///

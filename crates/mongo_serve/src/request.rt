@@ -8,7 +8,8 @@ ghost use Rattle.mongo_serve.specs.Values.{binary_of, HasInside, HasOne, HasText
 
 use mongo_bson::{RawDocument, RawValue, first_key};
 use mongo_command::keys::{SASL_SUPPORTED_MECHS, SPECULATIVE_AUTHENTICATE};
-use mongo_sasl::keys::{CONVERSATION_ID, MECHANISM, OPTIONS, PAYLOAD};
+use mongo_command::{LEGACY_HELLO_COMMAND_NAME, LEGACY_HELLO_COMMAND_NAME_LOWERCASE};
+use mongo_sasl::keys::{CONVERSATION_ID, MECHANISM, OPTIONS, PAYLOAD, SASL_CONTINUE, SASL_START};
 use mongo_scram::ScramVersion;
 
 /// A command that a client asks for. What is borrowed lies in its document.
@@ -67,10 +68,10 @@ pub fn request_of<'a>(document: RawDocument<'a>) -> Request<'a>
 {
     match command_name(document) {
         "hello" => Request::Hello(hello_of(document, false)),
-        "isMaster" => Request::Hello(hello_of(document, true)),
-        "ismaster" => Request::Hello(hello_of(document, true)),
-        "saslStart" => Request::SaslStart(start_of(document)),
-        "saslContinue" => Request::SaslContinue(continue_of(document)),
+        LEGACY_HELLO_COMMAND_NAME => Request::Hello(hello_of(document, true)),
+        LEGACY_HELLO_COMMAND_NAME_LOWERCASE => Request::Hello(hello_of(document, true)),
+        SASL_START => Request::SaslStart(start_of(document)),
+        SASL_CONTINUE => Request::SaslContinue(continue_of(document)),
         "ping" => Request::Ping,
         "buildInfo" => Request::BuildInfo,
         "buildinfo" => Request::BuildInfo,
@@ -126,7 +127,7 @@ fn speculation_of<'a>(document: RawDocument<'a>) -> Option<SaslStart<'a>>
     ensures { MatchOption result (IsCommandNamed document.entry.bytes.now sasl_start_key → ⊥) (SaysStart document.entry.bytes.now) }
 {
     match command_name(document) {
-        "saslStart" => Some(start_of(document)),
+        SASL_START => Some(start_of(document)),
         _ => None,
     }
 }

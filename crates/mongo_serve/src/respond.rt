@@ -9,7 +9,7 @@ ghost use Rattle.mongo_serve.specs.declared.fault.ServeFault.TheVariants.{OutOfM
 
 use crate::fault::ServeFault;
 use crate::reply::Reply;
-use crate::reply_document::document_of_reply;
+use crate::reply_document::{FRAME_MAXIMUM, document_of_reply};
 use bitflags::Flags;
 use mongo_bson::RawDocumentBuf;
 use mongo_wire::{Message, MessageFlags, RequestIds, Sequences, Sink, write_all};
@@ -72,9 +72,6 @@ const REPLY_START: [u8; 24] = [
     1, 0, 0, 0, 8, 0, 0, 0, 0, 0, 0, 0, 0, 0, 0, 0, 0, 0, 0, 0, 1, 0, 0, 0,
 ];
 
-// The greatest document of an OP_REPLY.
-const MAXIMUM: usize = 48_000_000;
-
 /// Answers an OP_QUERY of this id: writes the reply as an OP_REPLY, and flushes it.
 pub fn respond_to_query<K: Sink>(
     alloc: Global,
@@ -92,7 +89,7 @@ pub fn respond_to_query<K: Sink>(
         Ok(document) => document,
         Err(fault) => return Err(fault),
     };
-    if document.as_bytes().len() > MAXIMUM {
+    if document.as_bytes().len() > FRAME_MAXIMUM as usize {
         return Err(ServeFault::ReplyTooLong);
     }
     let frame = match frame_of_reply(alloc, ids.draw(), request_id, document.as_bytes()) {

@@ -1,10 +1,11 @@
 //! The server: requests are read one after another, and each is answered before the next is read.
 
 ghost use Rattle.std.specs.Prelude.{◌≡◌, ℕ, pos, ◌+◌, ◌≤ℤ◌, ◌⊎◌, List, [], ◌∷◌, ◌++◌, IfSome, IfOk, IfErr, OnOk, OnErr};
-ghost use Rattle.mongo_wire.specs.Header.{header_with, signed_at};
+ghost use Rattle.mongo_wire.specs.Header.{code_number, header_with, signed_at};
 ghost use Rattle.mongo_wire.specs.Outside.{State};
 ghost use Rattle.mongo_serve.specs.Login.{Remembers};
 ghost use Rattle.mongo_serve.specs.PutBack.{put_back_state};
+ghost use Rattle.mongo_serve.specs.Replies.{frame_maximum};
 ghost use Rattle.mongo_serve.specs.Requests.{IsGreeting};
 ghost use Rattle.mongo_serve.specs.Served.{FollowsHead, IsBackAt, TurnEnds, PartEnds, IsServed};
 ghost use Rattle.mongo_serve.specs.Turns.{IsDocumentAnswered};
@@ -15,20 +16,18 @@ use crate::answer::{answer, greet};
 use crate::fault::ServeFault;
 use crate::put_back::PutBack;
 use crate::query::command_of_query;
-use crate::reading::{fill_or_end, take_bytes};
+use crate::reading::take_bytes;
 use crate::reply::Reply;
+use crate::reply_document::FRAME_MAXIMUM;
 use crate::request::{Request, request_of};
 use crate::respond::{respond, respond_to_query};
 use crate::session::Session;
 use crate::settings::Settings;
 use mongo_bson::{RawDocument, Text};
 use mongo_mac::Steps;
-use mongo_wire::{FrameBuffer, Header, Link, OpCode, RequestIds};
+use mongo_wire::{FrameBuffer, Header, Link, OpCode, RequestIds, fill_or_end};
 use std::alloc::Global;
 use std::sync::ledger::Ledger;
-
-/// The greatest frame that is read, in bytes.
-pub const MAXIMUM: i32 = 48_000_000;
 
 /// How a stream ended, and who was logged in then.
 #[derive(Drop)]
@@ -142,7 +141,7 @@ fn take_message<L: Link, G: Ledger>(
     ensures { (requests : List (List ℕ)) (before : State) → Remembers settings.now requests serving.old.session → IsBackAt before (put_back_state L.state link.old) →
         PartEnds settings.now requests before (put_back_state L.state link.new) serving.old.session serving.old.ids serving.new.session serving.new.ids result }
 {
-    match serving.buffer.take_frame(link, Some(MAXIMUM)) {
+    match serving.buffer.take_frame(link, Some(FRAME_MAXIMUM)) {
         Ok(()) => {}
         Err(fault) => return Err(fault.into()),
     }
@@ -186,7 +185,7 @@ fn take_query<L: Link, G: Ledger>(
     steps: &mut Steps<G>,
 ) -> Result<(), ServeFault>
     requires header { header ≡ header_with head.now Query }
-    requires code { signed_at 12 head.now ≡ pos 2004 }
+    requires code { signed_at 12 head.now ≡ code_number Query }
     ensures { (requests : List (List ℕ)) (before : State) → Remembers settings.now requests serving.old.session → FollowsHead before (put_back_state L.state link.old) head.now →
         PartEnds settings.now requests before (put_back_state L.state link.new) serving.old.session serving.old.ids serving.new.session serving.new.ids result }
 {
@@ -209,9 +208,9 @@ fn take_query<L: Link, G: Ledger>(
 // How many bytes follow the header of a frame of this length, which is 16 to the maximum.
 fn length_after(length: i32) -> Option<usize>
     ensures counted { IfSome result (λ rest. pos (16 + rest) ≡ length) }
-    ensures within { IfSome result (λ rest. pos (16 + rest) ≤ℤ pos 48000000) }
+    ensures within { IfSome result (λ rest. pos (16 + rest) ≤ℤ frame_maximum) }
 {
-    if length < 16 || length > MAXIMUM {
+    if length < 16 || length > FRAME_MAXIMUM {
         None
     } else {
         Some(length as usize - 16)
