@@ -10,6 +10,7 @@ use Rattle.mongo_command.specs.Exchange.{frame_maximum}
 use Rattle.mongo_command.proofs.Steps.{reached_ending}
 use Rattle.mongo_command.proofs.FollowedBy.{reached_both, stopped_first}
 use Rattle.mongo_sasl.specs.declared.credential.Credential.{Credential}
+use Rattle.mongo_sasl.specs.Kept.{KeepsAfter}
 use Rattle.mongo_sasl.specs.Plain.{plain_handed, plain_plan}
 use Rattle.mongo_sasl.specs.X509.{x509_handed, x509_plan}
 use Rattle.mongo_scram.specs.declared.conversation.FirstRound.{FirstRound as ScramRound}
@@ -66,19 +67,21 @@ module _ (version : ScramVersion) (asked : Asked) (credential : Credential) (hel
   abbrev handed : Handed
   handed = handed_to version credential api begun (base64_of asked.nonces.second) asked.options.max_iterations (frame_maximum held)
 
-  pub scram_converses : (r : Result (Unit {0}) Error) (document : List ℕ) (old new : State) (before after : ℤ) (early late : Ledgers) → OnOk r (Accepted handed document old new before after early late) → IfErr r (λ e. StoppedScram handed e.kind old new before after early late)
-      → Converses r (Scram version) asked credential held round old new before after early late
-  scram_converses (Ok done) document old new before after early late accepted stopped = record {
+  pub scram_converses : (r : Result (Unit {0}) Error) (kept : Option ErrorKind) (document : List ℕ) (old new : State) (before after : ℤ) (early late : Ledgers) → OnOk r (Accepted handed document old new before after early late) → IfErr r (λ e. StoppedScram handed e.kind old new before after early late) → IfErr r (λ e. KeepsAfter e.kind kept)
+      → Converses r (Scram version) asked credential held round kept old new before after early late
+  scram_converses (Ok done) kept document old new before after early late accepted stopped keeps = record {
     accepted = λ greeting described went.
         let is = handed_same version asked credential greeting api round begun held same begins went described in
         scram_accepted version asked credential greeting document old new before after early late (subst (λ h. Accepted h document old new before after early late) is accepted);
     refused = λ greeting described went. tt;
+    keeps = keeps;
   }
-  scram_converses (Err e) document old new before after early late accepted stopped = record {
+  scram_converses (Err e) kept document old new before after early late accepted stopped keeps = record {
     accepted = λ greeting described went. tt;
     refused = λ greeting described went.
         let is = handed_same version asked credential greeting api round begun held same begins went described in
         scram_stopped version asked credential greeting e.kind old new before after early late (subst (λ h. StoppedScram h e.kind old new before after early late) is stopped);
+    keeps = keeps;
   }
 
 -- ---- PLAIN
@@ -87,27 +90,29 @@ module _ (asked : Asked) (credential : Credential) (held : Option StreamDescript
   plain_same : (greeting : Greeting) → held ≡ Some greeting.description → plain_handed credential api (frame_maximum held) ≡ plain_by asked credential greeting
   plain_same greeting d = λ i. plain_handed credential (same i) (frame_maximum (d i))
 
-  plain_answered : (r : Result (Unit {0}) Error) (old new : State) (before after : ℤ) (ledgers : Ledgers) → CostsNothing ledgers ledgers → OnOk r (Reached (plain_plan (plain_handed credential api (frame_maximum held))) tt old new before after) → IfErr r (λ e. Stopped (plain_plan (plain_handed credential api (frame_maximum held))) e.kind old new before after)
-      → Converses r PlainText asked credential held round old new before after ledgers ledgers
+  plain_answered : (r : Result (Unit {0}) Error) (kept : Option ErrorKind) (old new : State) (before after : ℤ) (ledgers : Ledgers) → CostsNothing ledgers ledgers → OnOk r (Reached (plain_plan (plain_handed credential api (frame_maximum held))) tt old new before after) → IfErr r (λ e. Stopped (plain_plan (plain_handed credential api (frame_maximum held))) e.kind old new before after) → IfErr r (λ e. KeepsAfter e.kind kept)
+      → Converses r PlainText asked credential held round kept old new before after ledgers ledgers
   unfolding conversation_plan
-  plain_answered (Ok done) old new before after ledgers nothing reached stopped = record {
+  plain_answered (Ok done) kept old new before after ledgers nothing reached stopped keeps = record {
     accepted = λ greeting described went. record {
       reached = then_reached (plain_plan (plain_by asked credential greeting)) tt greeting old new before after (subst (λ h. Reached (plain_plan h) tt old new before after) (plain_same greeting described) reached);
       costs = nothing;
     };
     refused = λ greeting described went. tt;
+    keeps = keeps;
   }
-  plain_answered (Err e) old new before after ledgers nothing reached stopped = record {
+  plain_answered (Err e) kept old new before after ledgers nothing reached stopped keeps = record {
     accepted = λ greeting described went. tt;
     refused = λ greeting described went. record {
       stopped = then_stopped (plain_plan (plain_by asked credential greeting)) greeting e.kind old new before after (subst (λ h. Stopped (plain_plan h) e.kind old new before after) (plain_same greeting described) stopped);
       costs = nothing;
     };
+    keeps = keeps;
   }
 
-  pub plain_converses : (conversation : Conversation) (r : Result (Unit {0}) Error) (old new : State) (before after : ℤ) (ledgers : Ledgers) → conversation ≡ PlainText → CostsNothing ledgers ledgers → OnOk r (Reached (plain_plan (plain_handed credential api (frame_maximum held))) tt old new before after) → IfErr r (λ e. Stopped (plain_plan (plain_handed credential api (frame_maximum held))) e.kind old new before after)
-      → Converses r conversation asked credential held round old new before after ledgers ledgers
-  plain_converses conversation r old new before after ledgers is nothing reached stopped = subst (λ c. Converses r c asked credential held round old new before after ledgers ledgers) (sym is) (plain_answered r old new before after ledgers nothing reached stopped)
+  pub plain_converses : (conversation : Conversation) (r : Result (Unit {0}) Error) (kept : Option ErrorKind) (old new : State) (before after : ℤ) (ledgers : Ledgers) → conversation ≡ PlainText → CostsNothing ledgers ledgers → OnOk r (Reached (plain_plan (plain_handed credential api (frame_maximum held))) tt old new before after) → IfErr r (λ e. Stopped (plain_plan (plain_handed credential api (frame_maximum held))) e.kind old new before after) → IfErr r (λ e. KeepsAfter e.kind kept)
+      → Converses r conversation asked credential held round kept old new before after ledgers ledgers
+  plain_converses conversation r kept old new before after ledgers is nothing reached stopped keeps = subst (λ c. Converses r c asked credential held round kept old new before after ledgers ledgers) (sym is) (plain_answered r kept old new before after ledgers nothing reached stopped keeps)
 
   -- ---- X.509
 
@@ -116,24 +121,26 @@ module _ (asked : Asked) (credential : Credential) (held : Option StreamDescript
       let there = is ∙ went.there in
       λ i. x509_handed credential (same i) (there i) (frame_maximum (d i))
 
-  x509_answered : (r : Result (Unit {0}) Error) (speculated : Bool) (old new : State) (before after : ℤ) (ledgers : Ledgers) → speculated ≡ is_some round → CostsNothing ledgers ledgers → OnOk r (Reached (x509_plan (x509_handed credential api speculated (frame_maximum held))) tt old new before after) → IfErr r (λ e. Stopped (x509_plan (x509_handed credential api speculated (frame_maximum held))) e.kind old new before after)
-      → Converses r X509 asked credential held round old new before after ledgers ledgers
+  x509_answered : (r : Result (Unit {0}) Error) (kept : Option ErrorKind) (speculated : Bool) (old new : State) (before after : ℤ) (ledgers : Ledgers) → speculated ≡ is_some round → CostsNothing ledgers ledgers → OnOk r (Reached (x509_plan (x509_handed credential api speculated (frame_maximum held))) tt old new before after) → IfErr r (λ e. Stopped (x509_plan (x509_handed credential api speculated (frame_maximum held))) e.kind old new before after) → IfErr r (λ e. KeepsAfter e.kind kept)
+      → Converses r X509 asked credential held round kept old new before after ledgers ledgers
   unfolding conversation_plan
-  x509_answered (Ok done) speculated old new before after ledgers is nothing reached stopped = record {
+  x509_answered (Ok done) kept speculated old new before after ledgers is nothing reached stopped keeps = record {
     accepted = λ greeting described went. record {
       reached = then_reached (x509_plan (x509_by asked credential greeting)) tt greeting old new before after (subst (λ h. Reached (x509_plan h) tt old new before after) (x509_same greeting speculated described is went) reached);
       costs = nothing;
     };
     refused = λ greeting described went. tt;
+    keeps = keeps;
   }
-  x509_answered (Err e) speculated old new before after ledgers is nothing reached stopped = record {
+  x509_answered (Err e) kept speculated old new before after ledgers is nothing reached stopped keeps = record {
     accepted = λ greeting described went. tt;
     refused = λ greeting described went. record {
       stopped = then_stopped (x509_plan (x509_by asked credential greeting)) greeting e.kind old new before after (subst (λ h. Stopped (x509_plan h) e.kind old new before after) (x509_same greeting speculated described is went) stopped);
       costs = nothing;
     };
+    keeps = keeps;
   }
 
-  pub x509_converses : (conversation : Conversation) (r : Result (Unit {0}) Error) (speculated : Bool) (old new : State) (before after : ℤ) (ledgers : Ledgers) → conversation ≡ X509 → speculated ≡ is_some round → CostsNothing ledgers ledgers
-      → OnOk r (Reached (x509_plan (x509_handed credential api speculated (frame_maximum held))) tt old new before after) → IfErr r (λ e. Stopped (x509_plan (x509_handed credential api speculated (frame_maximum held))) e.kind old new before after) → Converses r conversation asked credential held round old new before after ledgers ledgers
-  x509_converses conversation r speculated old new before after ledgers is there nothing reached stopped = subst (λ c. Converses r c asked credential held round old new before after ledgers ledgers) (sym is) (x509_answered r speculated old new before after ledgers there nothing reached stopped)
+  pub x509_converses : (conversation : Conversation) (r : Result (Unit {0}) Error) (kept : Option ErrorKind) (speculated : Bool) (old new : State) (before after : ℤ) (ledgers : Ledgers) → conversation ≡ X509 → speculated ≡ is_some round → CostsNothing ledgers ledgers
+      → OnOk r (Reached (x509_plan (x509_handed credential api speculated (frame_maximum held))) tt old new before after) → IfErr r (λ e. Stopped (x509_plan (x509_handed credential api speculated (frame_maximum held))) e.kind old new before after) → IfErr r (λ e. KeepsAfter e.kind kept) → Converses r conversation asked credential held round kept old new before after ledgers ledgers
+  x509_converses conversation r kept speculated old new before after ledgers is there nothing reached stopped keeps = subst (λ c. Converses r c asked credential held round kept old new before after ledgers ledgers) (sym is) (x509_answered r kept speculated old new before after ledgers there nothing reached stopped keeps)
