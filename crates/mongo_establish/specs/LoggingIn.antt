@@ -17,18 +17,19 @@ use Rattle.mongo_establish.specs.Costs.{AcceptedCosts, StoppedCosts, LoginCosts,
 use Rattle.mongo_establish.specs.First.{IsRoundBy, IsRoundOf}
 use Rattle.mongo_establish.specs.Greeting.{Greeting}
 use Rattle.mongo_establish.specs.Plan.{conversation_plan, login_plan}
+use Rattle.mongo_establish.specs.Spoken.{scram_in}
 
 -- ---- a conversation
 
 -- it was followed to its end, and cost this
 pub record Conversed (conversation : Conversation) (asked : Asked) (credential : Credential) (greeting : Greeting) (old new : State) (before after : ℤ) (first last : Ledgers) : Type 0 where
   pub reached : Reached (conversation_plan conversation asked credential greeting) greeting old new before after
-  pub costs : AcceptedCosts (Some conversation) asked credential greeting old new before after first last
+  pub costs : AcceptedCosts (scram_in (Some conversation)) asked credential greeting old new before after first last
 
 -- it was stopped
 pub record ConversationStopped (conversation : Conversation) (asked : Asked) (credential : Credential) (greeting : Greeting) (kind : ErrorKind) (old new : State) (before after : ℤ) (first last : Ledgers) : Type 0 where
   pub stopped : Stopped (conversation_plan conversation asked credential greeting) kind old new before after
-  pub costs : StoppedCosts (Some conversation) asked credential greeting kind old new before after first last
+  pub costs : StoppedCosts (scram_in (Some conversation)) asked credential greeting kind old new before after first last
 
 -- what an answer means, by each greeting that says what the connection holds and what the first round is, and what a refusal
 -- leaves the connection to keep
