@@ -9,6 +9,9 @@ pub mod PlainPlan
 pub mod PlainSteps
 pub mod X509Plan
 pub mod X509Steps
+pub mod Joining
+pub mod PlainJoins
+pub mod X509Joins
 mod Foreign
 mod SaslRead
 mod MechanismNames
