@@ -1,11 +1,13 @@
--- What a conversation owes so that a login may be it, and that each of the table does: a further one is a case of `joins`.
-use Rattle.std.proofs.Common.{◌≡◌, ℕ, ℤ, ◌∙◌, refl, ap, subst, sym, Option, None, Some, List, [], ◌++◌, append-nil}
+-- What a conversation owes so that a login may be it, and that each of the table does: a further one is a case of `part_joins`.
+use Rattle.std.proofs.Common.{◌≡◌, ℕ, ℤ, ◌∙◌, refl, ap, subst, sym, Option, None, Some, is_some, List, [], ◌++◌, append-nil}
 use Rattle.mongo_wire.specs.declared.error.ErrorKind.TheVariants.{IncompatibleServer}
 use Rattle.mongo_command.specs.Conversation.{Event, Plan, HasOneTurn, ending, followed_by}
 use Rattle.mongo_command.proofs.Ends.{Ends, ends_ending, ends_followed, ends_both}
 use Rattle.mongo_command.proofs.Leads.{never_ending}
 use Rattle.mongo_command.proofs.Plans.{one_ending, one_followed}
 use Rattle.mongo_sasl.specs.declared.credential.Credential.{Credential}
+use Rattle.mongo_sasl.specs.Plain.{plain_handed}
+use Rattle.mongo_sasl.specs.X509.{x509_handed}
 use Rattle.mongo_sasl.proofs.Joining.{JoinsLogin}
 use Rattle.mongo_sasl.proofs.LoginEvents.{replies_in, documents_in, AreWithin, LoginEnd, EndsBy}
 use Rattle.mongo_sasl.proofs.PlainJoins.{plain_joins}
@@ -18,8 +20,9 @@ use Rattle.mongo_scram.proofs.ScramScript.{login_scram, scram_login as scram_scr
 use Rattle.mongo_establish.specs.declared.conversation.Conversation.{Conversation}
 use Rattle.mongo_establish.specs.declared.conversation.Conversation.TheVariants.{Scram, Plain as PlainText, X509}
 use Rattle.mongo_establish.specs.Asked.{Asked}
+use Rattle.mongo_establish.specs.Conversations.{login_part}
 use Rattle.mongo_establish.specs.Greeting.{Greeting}
-use Rattle.mongo_establish.specs.Login.{scram_handed_by, plain_by, x509_by}
+use Rattle.mongo_establish.specs.Login.{LoginHanded, login_handed, scram_handed}
 use Rattle.mongo_establish.specs.Plan.{conversation_plan}
 use Rattle.mongo_establish.specs.Script.{HoldsConversation}
 use Rattle.mongo_establish.proofs.Fitting.{Fits, fits_followed, fits_scram}
@@ -103,8 +106,11 @@ scram_joins handed = record {
 
 -- ---- the table's
 
+part_joins : (conversation : Conversation) (handed : LoginHanded) → JoinsLogin (login_part conversation handed).plan (login_part conversation handed).holds handed.maximum
+part_joins (Scram version) handed = scram_joins (scram_handed version handed)
+part_joins PlainText handed = plain_joins (plain_handed handed.credential handed.options.auth_options.server_api handed.maximum)
+part_joins X509 handed = x509_joins (x509_handed handed.credential handed.options.auth_options.server_api (is_some handed.reply) handed.maximum)
+
 pub joins : (conversation : Conversation) (asked : Asked) (credential : Credential) (greeting : Greeting) → Joins (conversation_plan conversation asked credential greeting) (HoldsConversation conversation asked credential greeting) greeting
 unfolding conversation_plan
-joins (Scram version) asked credential greeting = then_joins greeting (scram_joins (scram_handed_by version asked credential greeting))
-joins PlainText asked credential greeting = then_joins greeting (plain_joins (plain_by asked credential greeting))
-joins X509 asked credential greeting = then_joins greeting (x509_joins (x509_by asked credential greeting))
+joins conversation asked credential greeting = then_joins greeting (part_joins conversation (login_handed asked credential greeting))

@@ -10,7 +10,6 @@ use Rattle.mongo_sasl.specs.declared.mechanism.AuthMechanism.{AuthMechanism}
 use Rattle.mongo_scram.specs.declared.scram_version.ScramVersion.{ScramVersion}
 use Rattle.mongo_scram.specs.Costs.{Ledgers}
 use Rattle.mongo_establish.specs.declared.conversation.Conversation.{Conversation}
-use Rattle.mongo_establish.specs.declared.conversation.Conversation.TheVariants.{Scram, Plain as PlainText, X509}
 use Rattle.mongo_establish.specs.declared.establisher.PendingConnection.{PendingConnection}
 use Rattle.mongo_establish.specs.declared.generation.PoolGeneration.TheVariants.{Normal}
 use Rattle.mongo_establish.specs.declared.login_state.Nonces.{Nonces}
@@ -35,9 +34,7 @@ module _ (first second : PendingConnection) (options : HandshakerOptions) (crede
 
   conversation_alike : (conversation : Conversation) (c : Credential) (greeting : Greeting) (past : List Event) (turn : Turn Greeting) → conversation_plan conversation this c greeting past turn → conversation_plan conversation that c greeting past turn
   unfolding conversation_plan
-  conversation_alike (Scram version) c greeting past turn h = h
-  conversation_alike PlainText c greeting past turn h = h
-  conversation_alike X509 c greeting past turn h = h
+  conversation_alike conversation c greeting past turn h = h
 
   mechanism_alike : (mechanism : AuthMechanism) (c : Credential) (greeting : Greeting) (past : List Event) (turn : Turn Greeting) → mechanism_plan mechanism this c greeting past turn → mechanism_plan mechanism that c greeting past turn
   unfolding mechanism_plan
