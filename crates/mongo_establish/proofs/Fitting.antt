@@ -4,7 +4,7 @@ use Rattle.std.proofs.Common.{◌≡◌, ℕ, ap, sym, subst, inl, inr, Option, 
 use Rattle.mongo_wire.specs.declared.error.ErrorKind.{ErrorKind}
 use Rattle.mongo_wire.specs.declared.error.ErrorKind.TheVariants.{Authentication, IncompatibleServer}
 use Rattle.mongo_wire.specs.declared.auth_fault.AuthFault.TheVariants.{Malformed, NotCompleted}
-use Rattle.mongo_command.specs.Conversation.{Turn, says, asks, refuses, ends, Plan, later, passed_on, passed_later, followed_by, ending, reading, unless, saying}
+use Rattle.mongo_command.specs.Conversation.{Turn, says, asks, refuses, ends, Plan, later, passed_on, passed_later, followed_by, ending, reading, unless}
 use Rattle.mongo_command.proofs.Leads.{Never, never_ending, never_unless, never_reading, never_saying}
 use Rattle.mongo_scram.specs.declared.scram_version.ScramVersion.{ScramVersion}
 use Rattle.mongo_scram.specs.declared.scram_version.ScramVersion.TheVariants.{Sha1, Sha256}

@@ -141,7 +141,7 @@ module _ (asked : Asked) (greeting : Greeting) (credential : Credential) (round 
 
   module _ (taken : IsCredentialTaken (is_some round) mechanism credential) where
     no_row : HasNone (InvalidRow (speculative_reply asked greeting) mechanism credential)
-    no_row = taken_no_row (speculative_reply asked greeting) mechanism conversation credential has (takes_it (speculative_reply asked greeting) (is_some round) mechanism credential went.there taken)
+    no_row = taken_no_row (speculative_reply asked greeting) mechanism credential (takes_it (speculative_reply asked greeting) (is_some round) mechanism credential went.there taken)
 
     pub conversed_reached : (old new : State) (before after : ℤ) (early late : Ledgers) → Conversed conversation asked credential greeting old new before after early late → Reached (login_plan asked greeting) greeting old new before after
     conversed_reached old new before after early late h = login_reached old new before after (validated_reached mechanism conversation asked credential greeting old new before after has no_row h.reached)

@@ -94,7 +94,7 @@ module _ (opened : Connection) (options : HandshakerOptions) (given : Option Cre
   -- and leaves a connection without a fault
   pub invalid_keeps : {T : Type 0} (r : Result T Error) (kept : Option ErrorKind) → IfErr r (λ e. (is_some round ≡ false) × InvalidRow None mechanism credential e.kind) → kept ≡ None → IfErr r (λ e. KeepsAfter e.kind kept)
   invalid_keeps (Ok x) kept h none = tt
-  invalid_keeps (Err e) kept h none = own_keeps e.kind kept (invalid_own mechanism found.0 credential e.kind found.1 h.1) none
+  invalid_keeps (Err e) kept h none = own_keeps e.kind kept (invalid_own mechanism credential e.kind h.1) none
 
   module _ (taken : IsCredentialTaken (is_some round) mechanism credential) (conversation : Conversation) (has : HasConversation mechanism conversation) where
     -- its round is the conversation's

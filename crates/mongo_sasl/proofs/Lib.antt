@@ -12,6 +12,7 @@ pub mod X509Steps
 pub mod Joining
 pub mod PlainJoins
 pub mod X509Joins
+pub mod CredentialAnswers
 mod Foreign
 mod SaslRead
 mod MechanismNames

@@ -1,7 +1,6 @@
 -- A login may be by PLAIN.
 use Rattle.std.proofs.Common.{◌≡◌, ℕ, List}
 use Rattle.mongo_wire.specs.declared.auth_fault.AuthFault.TheVariants.{Malformed}
-use Rattle.mongo_wire.specs.declared.error.ErrorKind.{ErrorKind}
 use Rattle.mongo_wire.specs.declared.error.ErrorKind.TheVariants.{Authentication, IncompatibleServer}
 use Rattle.mongo_command.specs.Conversation.{ending, reading, unless, saying}
 use Rattle.mongo_command.proofs.Leads.{Never, never_ending, never_unless, never_reading, never_saying}
