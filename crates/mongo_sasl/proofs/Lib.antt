@@ -15,6 +15,7 @@ pub mod X509Joins
 pub mod CredentialAnswers
 mod Foreign
 mod SaslRead
+mod SuccessRead
 mod MechanismNames
 mod Judged
 mod Negotiated
