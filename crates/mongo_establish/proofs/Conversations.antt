@@ -1,17 +1,17 @@
--- What a conversation owes so that a login may be it, and that each of the table does: a further one is a case of `joins`.
-use Rattle.std.proofs.Common.{◌≡◌, ℕ, ℤ, ◌∙◌, refl, ap, subst, sym, Option, None, Some, List, [], ◌++◌, append-nil}
+-- What a conversation owes so that a login may be it, and that each of the table does: a further one is a case of `part_joins`.
+use Rattle.std.proofs.Common.{◌≡◌, ℕ, ℤ, ◌∙◌, refl, ap, subst, sym, Option, None, Some, is_some, List, [], ◌++◌, append-nil}
 use Rattle.mongo_wire.specs.declared.error.ErrorKind.TheVariants.{IncompatibleServer}
 use Rattle.mongo_command.specs.Conversation.{Event, Plan, HasOneTurn, ending, followed_by}
 use Rattle.mongo_command.proofs.Ends.{Ends, ends_ending, ends_followed, ends_both}
 use Rattle.mongo_command.proofs.Leads.{never_ending}
 use Rattle.mongo_command.proofs.Plans.{one_ending, one_followed}
 use Rattle.mongo_sasl.specs.declared.credential.Credential.{Credential}
-use Rattle.mongo_sasl.specs.Plain.{plain_plan, IsPlainLogin}
-use Rattle.mongo_sasl.specs.X509.{x509_plan, IsX509Login}
+use Rattle.mongo_sasl.specs.Plain.{plain_handed}
+use Rattle.mongo_sasl.specs.X509.{x509_handed}
+use Rattle.mongo_sasl.proofs.Joining.{JoinsLogin}
 use Rattle.mongo_sasl.proofs.LoginEvents.{replies_in, documents_in, AreWithin, LoginEnd, EndsBy}
-use Rattle.mongo_sasl.proofs.PlainPlan.{one_plain, plain_ended, plain_ends}
-use Rattle.mongo_sasl.proofs.X509Plan.{one_x509, x509_ended, x509_ends}
-use Rattle.mongo_scram.specs.declared.scram_version.ScramVersion.{ScramVersion}
+use Rattle.mongo_sasl.proofs.PlainJoins.{plain_joins}
+use Rattle.mongo_sasl.proofs.X509Joins.{x509_joins}
 use Rattle.mongo_scram.specs.Plan.{Speculated, Handed, Challenge, scram_plan}
 use Rattle.mongo_scram.specs.Script.{IsScramLogin}
 use Rattle.mongo_scram.proofs.ScramPlan.{one_scram}
@@ -20,11 +20,12 @@ use Rattle.mongo_scram.proofs.ScramScript.{login_scram, scram_login as scram_scr
 use Rattle.mongo_establish.specs.declared.conversation.Conversation.{Conversation}
 use Rattle.mongo_establish.specs.declared.conversation.Conversation.TheVariants.{Scram, Plain as PlainText, X509}
 use Rattle.mongo_establish.specs.Asked.{Asked}
+use Rattle.mongo_establish.specs.Conversations.{login_part}
 use Rattle.mongo_establish.specs.Greeting.{Greeting}
-use Rattle.mongo_establish.specs.Login.{scram_handed_by, plain_by, x509_by}
-use Rattle.mongo_establish.specs.Plan.{scram_login, plain_login, x509_login, conversation_plan}
+use Rattle.mongo_establish.specs.Login.{LoginHanded, login_handed, scram_handed}
+use Rattle.mongo_establish.specs.Plan.{conversation_plan}
 use Rattle.mongo_establish.specs.Script.{HoldsConversation}
-use Rattle.mongo_establish.proofs.Fitting.{Fits, fits_followed, fits_scram, fits_plain, fits_x509}
+use Rattle.mongo_establish.proofs.Fitting.{Fits, fits_followed, fits_scram}
 
 -- the server's maximum
 abbrev pub maximum_of : Greeting → ℤ
@@ -39,17 +40,16 @@ pub record Joins (plan : Plan Greeting) (login : List (List ℕ) → List (List 
   pub ends : (commands replies : List (List ℕ)) → login commands replies → LoginEnd plan greeting (maximum_of greeting) commands replies
 
 -- a conversation whose answer isn't looked at joins by what its own crate says of its plan
-module _ {A : Type 0} (plan : Plan A) (login : List (List ℕ) → List (List ℕ) → Type 0) (greeting : Greeting) where
+module _ {A : Type 0} {plan : Plan A} {login : List (List ℕ) → List (List ℕ) → Type 0} (greeting : Greeting) (own : JoinsLogin plan login (maximum_of greeting)) where
   abbrev then_greeting : Plan Greeting
   then_greeting = followed_by plan (λ done. ending greeting)
 
-  then_ended : HasOneTurn plan → ((events : List Event) (answer : A) → Ends plan events answer → login (documents_in events) (replies_in events) × AreWithin (maximum_of greeting) events)
-      → (events : List Event) (answer : Greeting) → Ends then_greeting events answer → EndsBy login greeting (maximum_of greeting) events answer
-  then_ended one ended events answer e =
-      let split = ends_followed plan (λ done. ending greeting) events answer one e in
+  then_ended : (events : List Event) (answer : Greeting) → Ends then_greeting events answer → EndsBy login greeting (maximum_of greeting) events answer
+  then_ended events answer e =
+      let split = ends_followed plan (λ done. ending greeting) events answer own.one e in
       let last = ends_ending greeting split.more answer split.second in
       let same : split.front ≡ events = sym (split.events_are ∙ ap (λ x. split.front ++ x) last.0 ∙ append-nil split.front) in
-      let found = ended split.front split.answer split.first in
+      let found = own.ended split.front split.answer split.first in
       (last.1, subst (λ x. login (documents_in x) (replies_in x)) same found.0, subst (AreWithin (maximum_of greeting)) same found.1)
 
   then_ends : (answer : A) (commands replies : List (List ℕ)) → LoginEnd plan answer (maximum_of greeting) commands replies → LoginEnd then_greeting greeting (maximum_of greeting) commands replies
@@ -63,13 +63,12 @@ module _ {A : Type 0} (plan : Plan A) (login : List (List ℕ) → List (List �
         subst (λ x. Ends then_greeting x greeting) (append-nil l.events) both;
   }
 
-  then_joins : HasOneTurn plan → Fits plan → ((events : List Event) (answer : A) → Ends plan events answer → login (documents_in events) (replies_in events) × AreWithin (maximum_of greeting) events)
-      → ((commands replies : List (List ℕ)) → login commands replies → (answer : A) × LoginEnd plan answer (maximum_of greeting) commands replies) → Joins then_greeting login greeting
-  then_joins one fits ended ends = record {
-    one = one_followed plan (λ done. ending greeting) one (λ done. one_ending greeting);
-    fits = fits_followed plan (λ done. ending greeting) fits (λ done. never_ending IncompatibleServer greeting);
-    ended = then_ended one ended;
-    ends = λ commands replies is. let found = ends commands replies is in then_ends found.0 commands replies found.1;
+  then_joins : Joins then_greeting login greeting
+  then_joins = record {
+    one = one_followed plan (λ done. ending greeting) own.one (λ done. one_ending greeting);
+    fits = fits_followed plan (λ done. ending greeting) own.fits (λ done. never_ending IncompatibleServer greeting);
+    ended = then_ended;
+    ends = λ commands replies is. let found = own.ends commands replies is in then_ends found.0 commands replies found.1;
   }
 
 -- ---- SCRAM
@@ -97,27 +96,21 @@ scram_end handed commands replies is =
       },
     )
 
-scram_joins : (version : ScramVersion) (asked : Asked) (credential : Credential) (greeting : Greeting) → Joins (scram_login version asked credential greeting) (IsScramLogin (scram_handed_by version asked credential greeting)) greeting
-scram_joins version asked credential greeting =
-    let handed = scram_handed_by version asked credential greeting in
-    then_joins (scram_plan handed) (IsScramLogin handed) greeting (one_scram handed) (fits_scram handed) (λ events c e. scram_found handed events c (scram_ended handed events c e)) (scram_end handed)
-
--- ---- PLAIN and X.509
-
-plain_joins : (asked : Asked) (credential : Credential) (greeting : Greeting) → Joins (plain_login asked credential greeting) (IsPlainLogin (plain_by asked credential greeting)) greeting
-plain_joins asked credential greeting =
-    let handed = plain_by asked credential greeting in
-    then_joins (plain_plan handed) (IsPlainLogin handed) greeting (one_plain handed) (fits_plain handed) (λ events done e. let found = plain_ended handed events done e in (found.1, found.2)) (λ commands replies is. (tt, plain_ends handed commands replies is))
-
-x509_joins : (asked : Asked) (credential : Credential) (greeting : Greeting) → Joins (x509_login asked credential greeting) (IsX509Login (x509_by asked credential greeting)) greeting
-x509_joins asked credential greeting =
-    let handed = x509_by asked credential greeting in
-    then_joins (x509_plan handed) (IsX509Login handed) greeting (one_x509 handed) (fits_x509 handed) (λ events done e. let found = x509_ended handed events done e in (found.1, found.2)) (λ commands replies is. (tt, x509_ends handed commands replies is))
+scram_joins : (handed : Handed) → JoinsLogin (scram_plan handed) (IsScramLogin handed) handed.maximum
+scram_joins handed = record {
+  one = one_scram handed;
+  fits = fits_scram handed;
+  ended = λ events c e. scram_found handed events c (scram_ended handed events c e);
+  ends = scram_end handed;
+}
 
 -- ---- the table's
 
+part_joins : (conversation : Conversation) (handed : LoginHanded) → JoinsLogin (login_part conversation handed).plan (login_part conversation handed).holds handed.maximum
+part_joins (Scram version) handed = scram_joins (scram_handed version handed)
+part_joins PlainText handed = plain_joins (plain_handed handed.credential handed.options.auth_options.server_api handed.maximum)
+part_joins X509 handed = x509_joins (x509_handed handed.credential handed.options.auth_options.server_api (is_some handed.reply) handed.maximum)
+
 pub joins : (conversation : Conversation) (asked : Asked) (credential : Credential) (greeting : Greeting) → Joins (conversation_plan conversation asked credential greeting) (HoldsConversation conversation asked credential greeting) greeting
 unfolding conversation_plan
-joins (Scram version) asked credential greeting = scram_joins version asked credential greeting
-joins PlainText asked credential greeting = plain_joins asked credential greeting
-joins X509 asked credential greeting = x509_joins asked credential greeting
+joins conversation asked credential greeting = then_joins greeting (part_joins conversation (login_handed asked credential greeting))

@@ -1,15 +1,16 @@
 -- What a mechanism's conversation answers, as a part of its login's plan.
-use Rattle.std.proofs.Common.{◌≡◌, ℕ, ℤ, ◌∙◌, ap, subst, sym, Bool, Option, Some, Result, Ok, Err, List, is_some, IfErr, OnOk}
+use Rattle.std.proofs.Common.{◌≡◌, ℕ, ℤ, ◌∙◌, ap, subst, sym, Bool, Option, None, Some, Result, Ok, Err, List, is_some, IfErr, OnOk}
 use Rattle.mongo_wire.specs.declared.error.Error.{Error}
 use Rattle.mongo_wire.specs.declared.error.ErrorKind.{ErrorKind}
 use Rattle.mongo_wire.specs.Outside.{State}
 use Rattle.mongo_command.specs.declared.server_api.ServerApi.{ServerApi}
 use Rattle.mongo_command.specs.declared.stream_description.StreamDescription.{StreamDescription}
-use Rattle.mongo_command.specs.Conversation.{Plan, ending, followed_by, Reached, Stopped}
+use Rattle.mongo_command.specs.Conversation.{Event, Turn, Plan, ending, followed_by, Reached, Stopped}
 use Rattle.mongo_command.specs.Exchange.{frame_maximum}
-use Rattle.mongo_command.proofs.Steps.{reached_ending}
+use Rattle.mongo_command.proofs.Steps.{reached_ending, reached_more, stopped_more}
 use Rattle.mongo_command.proofs.FollowedBy.{reached_both, stopped_first}
 use Rattle.mongo_sasl.specs.declared.credential.Credential.{Credential}
+use Rattle.mongo_sasl.specs.Kept.{KeepsAfter}
 use Rattle.mongo_sasl.specs.Plain.{plain_handed, plain_plan}
 use Rattle.mongo_sasl.specs.X509.{x509_handed, x509_plan}
 use Rattle.mongo_scram.specs.declared.conversation.FirstRound.{FirstRound as ScramRound}
@@ -23,11 +24,13 @@ use Rattle.mongo_establish.specs.declared.conversation.Conversation.{Conversatio
 use Rattle.mongo_establish.specs.declared.conversation.Conversation.TheVariants.{Scram, Plain as PlainText, X509}
 use Rattle.mongo_establish.specs.declared.first_round.FirstRound.{FirstRound}
 use Rattle.mongo_establish.specs.Asked.{Asked}
+use Rattle.mongo_establish.specs.Costs.{AcceptedCosts, StoppedCosts}
 use Rattle.mongo_establish.specs.First.{IsRoundBy, scram_round}
 use Rattle.mongo_establish.specs.Greeting.{Greeting}
 use Rattle.mongo_establish.specs.LoggingIn.{Conversed, ConversationStopped, Converses}
-use Rattle.mongo_establish.specs.Login.{scram_handed_by, plain_by, x509_by}
+use Rattle.mongo_establish.specs.Login.{scram_handed_by}
 use Rattle.mongo_establish.specs.Plan.{conversation_plan}
+use Rattle.mongo_establish.specs.Spoken.{scram_in}
 
 abbrev followed : {A : Type 0} → Plan A → Greeting → Plan Greeting
 followed plan greeting = followed_by plan (λ done. ending greeting)
@@ -66,74 +69,71 @@ module _ (version : ScramVersion) (asked : Asked) (credential : Credential) (hel
   abbrev handed : Handed
   handed = handed_to version credential api begun (base64_of asked.nonces.second) asked.options.max_iterations (frame_maximum held)
 
-  pub scram_converses : (r : Result (Unit {0}) Error) (document : List ℕ) (old new : State) (before after : ℤ) (early late : Ledgers) → OnOk r (Accepted handed document old new before after early late) → IfErr r (λ e. StoppedScram handed e.kind old new before after early late)
-      → Converses r (Scram version) asked credential held round old new before after early late
-  scram_converses (Ok done) document old new before after early late accepted stopped = record {
+  pub scram_converses : (r : Result (Unit {0}) Error) (kept : Option ErrorKind) (document : List ℕ) (old new : State) (before after : ℤ) (early late : Ledgers) → OnOk r (Accepted handed document old new before after early late) → IfErr r (λ e. StoppedScram handed e.kind old new before after early late) → IfErr r (λ e. KeepsAfter e.kind kept)
+      → Converses r (Scram version) asked credential held round kept old new before after early late
+  scram_converses (Ok done) kept document old new before after early late accepted stopped keeps = record {
     accepted = λ greeting described went.
         let is = handed_same version asked credential greeting api round begun held same begins went described in
         scram_accepted version asked credential greeting document old new before after early late (subst (λ h. Accepted h document old new before after early late) is accepted);
     refused = λ greeting described went. tt;
+    keeps = keeps;
   }
-  scram_converses (Err e) document old new before after early late accepted stopped = record {
+  scram_converses (Err e) kept document old new before after early late accepted stopped keeps = record {
     accepted = λ greeting described went. tt;
     refused = λ greeting described went.
         let is = handed_same version asked credential greeting api round begun held same begins went described in
         scram_stopped version asked credential greeting e.kind old new before after early late (subst (λ h. StoppedScram h e.kind old new before after early late) is stopped);
+    keeps = keeps;
   }
 
--- ---- PLAIN
+-- ---- a conversation that costs nothing
+
+-- The steps of what it was handed are those of its plan, by each greeting that says what the connection holds and what the first
+-- round is.
+abbrev pub IsPartBy : {A : Type 0} → Plan A → Conversation → Asked → Credential → Option StreamDescription → Option FirstRound → Type 0
+IsPartBy plan conversation asked credential held round =
+    (greeting : Greeting) → held ≡ Some greeting.description → IsRoundBy (Some conversation) credential asked greeting round → (past : List Event) (turn : Turn Greeting) → followed plan greeting past turn → conversation_plan conversation asked credential greeting past turn
+
+module _ (own conversation : Conversation) (is : conversation ≡ own) (free : scram_in (Some own) ≡ None) (asked : Asked) (credential : Credential) (held : Option StreamDescription) (round : Option FirstRound) {A : Type 0} (plan : Plan A) (answer : A) (part : IsPartBy plan own asked credential held round) where
+  free_accepted : (greeting : Greeting) (old new : State) (before after : ℤ) (ledgers : Ledgers) → CostsNothing ledgers ledgers → AcceptedCosts (scram_in (Some own)) asked credential greeting old new before after ledgers ledgers
+  free_accepted greeting old new before after ledgers nothing = subst (λ version. AcceptedCosts version asked credential greeting old new before after ledgers ledgers) (sym free) nothing
+
+  free_stopped : (greeting : Greeting) (kind : ErrorKind) (old new : State) (before after : ℤ) (ledgers : Ledgers) → CostsNothing ledgers ledgers → StoppedCosts (scram_in (Some own)) asked credential greeting kind old new before after ledgers ledgers
+  free_stopped greeting kind old new before after ledgers nothing = subst (λ version. StoppedCosts version asked credential greeting kind old new before after ledgers ledgers) (sym free) nothing
+
+  free_answered : (r : Result (Unit {0}) Error) (kept : Option ErrorKind) (old new : State) (before after : ℤ) (ledgers : Ledgers) → CostsNothing ledgers ledgers → OnOk r (Reached plan answer old new before after) → IfErr r (λ e. Stopped plan e.kind old new before after) → IfErr r (λ e. KeepsAfter e.kind kept)
+      → Converses r own asked credential held round kept old new before after ledgers ledgers
+  free_answered (Ok done) kept old new before after ledgers nothing reached stopped keeps = record {
+    accepted = λ greeting described went. record {
+      reached = reached_more (followed plan greeting) (conversation_plan own asked credential greeting) greeting old new before after (part greeting described went) (then_reached plan answer greeting old new before after reached);
+      costs = free_accepted greeting old new before after ledgers nothing;
+    };
+    refused = λ greeting described went. tt;
+    keeps = keeps;
+  }
+  free_answered (Err e) kept old new before after ledgers nothing reached stopped keeps = record {
+    accepted = λ greeting described went. tt;
+    refused = λ greeting described went. record {
+      stopped = stopped_more (followed plan greeting) (conversation_plan own asked credential greeting) e.kind old new before after (part greeting described went) (then_stopped plan greeting e.kind old new before after stopped);
+      costs = free_stopped greeting e.kind old new before after ledgers nothing;
+    };
+    keeps = keeps;
+  }
+
+  pub free_converses : (r : Result (Unit {0}) Error) (kept : Option ErrorKind) (old new : State) (before after : ℤ) (ledgers : Ledgers) → CostsNothing ledgers ledgers → OnOk r (Reached plan answer old new before after) → IfErr r (λ e. Stopped plan e.kind old new before after) → IfErr r (λ e. KeepsAfter e.kind kept)
+      → Converses r conversation asked credential held round kept old new before after ledgers ledgers
+  free_converses r kept old new before after ledgers nothing reached stopped keeps =
+      subst (λ c. Converses r c asked credential held round kept old new before after ledgers ledgers) (sym is) (free_answered r kept old new before after ledgers nothing reached stopped keeps)
+
+-- ---- PLAIN and X.509
 
 module _ (asked : Asked) (credential : Credential) (held : Option StreamDescription) (round : Option FirstRound) (api : Option ServerApi) (same : api ≡ asked.options.auth_options.server_api) where
-  plain_same : (greeting : Greeting) → held ≡ Some greeting.description → plain_handed credential api (frame_maximum held) ≡ plain_by asked credential greeting
-  plain_same greeting d = λ i. plain_handed credential (same i) (frame_maximum (d i))
-
-  plain_answered : (r : Result (Unit {0}) Error) (old new : State) (before after : ℤ) (ledgers : Ledgers) → CostsNothing ledgers ledgers → OnOk r (Reached (plain_plan (plain_handed credential api (frame_maximum held))) tt old new before after) → IfErr r (λ e. Stopped (plain_plan (plain_handed credential api (frame_maximum held))) e.kind old new before after)
-      → Converses r PlainText asked credential held round old new before after ledgers ledgers
+  pub plain_part : IsPartBy (plain_plan (plain_handed credential api (frame_maximum held))) PlainText asked credential held round
   unfolding conversation_plan
-  plain_answered (Ok done) old new before after ledgers nothing reached stopped = record {
-    accepted = λ greeting described went. record {
-      reached = then_reached (plain_plan (plain_by asked credential greeting)) tt greeting old new before after (subst (λ h. Reached (plain_plan h) tt old new before after) (plain_same greeting described) reached);
-      costs = nothing;
-    };
-    refused = λ greeting described went. tt;
-  }
-  plain_answered (Err e) old new before after ledgers nothing reached stopped = record {
-    accepted = λ greeting described went. tt;
-    refused = λ greeting described went. record {
-      stopped = then_stopped (plain_plan (plain_by asked credential greeting)) greeting e.kind old new before after (subst (λ h. Stopped (plain_plan h) e.kind old new before after) (plain_same greeting described) stopped);
-      costs = nothing;
-    };
-  }
+  plain_part greeting described went past turn h = subst (λ x. followed (plain_plan x) greeting past turn) (λ i. plain_handed credential (same i) (frame_maximum (described i))) h
 
-  pub plain_converses : (conversation : Conversation) (r : Result (Unit {0}) Error) (old new : State) (before after : ℤ) (ledgers : Ledgers) → conversation ≡ PlainText → CostsNothing ledgers ledgers → OnOk r (Reached (plain_plan (plain_handed credential api (frame_maximum held))) tt old new before after) → IfErr r (λ e. Stopped (plain_plan (plain_handed credential api (frame_maximum held))) e.kind old new before after)
-      → Converses r conversation asked credential held round old new before after ledgers ledgers
-  plain_converses conversation r old new before after ledgers is nothing reached stopped = subst (λ c. Converses r c asked credential held round old new before after ledgers ledgers) (sym is) (plain_answered r old new before after ledgers nothing reached stopped)
-
-  -- ---- X.509
-
-  x509_same : (greeting : Greeting) (speculated : Bool) → held ≡ Some greeting.description → speculated ≡ is_some round → IsRoundBy (Some X509) credential asked greeting round → x509_handed credential api speculated (frame_maximum held) ≡ x509_by asked credential greeting
-  x509_same greeting speculated d is went =
+  pub x509_part : (speculated : Bool) → speculated ≡ is_some round → IsPartBy (x509_plan (x509_handed credential api speculated (frame_maximum held))) X509 asked credential held round
+  unfolding conversation_plan
+  x509_part speculated is greeting described went past turn h =
       let there = is ∙ went.there in
-      λ i. x509_handed credential (same i) (there i) (frame_maximum (d i))
-
-  x509_answered : (r : Result (Unit {0}) Error) (speculated : Bool) (old new : State) (before after : ℤ) (ledgers : Ledgers) → speculated ≡ is_some round → CostsNothing ledgers ledgers → OnOk r (Reached (x509_plan (x509_handed credential api speculated (frame_maximum held))) tt old new before after) → IfErr r (λ e. Stopped (x509_plan (x509_handed credential api speculated (frame_maximum held))) e.kind old new before after)
-      → Converses r X509 asked credential held round old new before after ledgers ledgers
-  unfolding conversation_plan
-  x509_answered (Ok done) speculated old new before after ledgers is nothing reached stopped = record {
-    accepted = λ greeting described went. record {
-      reached = then_reached (x509_plan (x509_by asked credential greeting)) tt greeting old new before after (subst (λ h. Reached (x509_plan h) tt old new before after) (x509_same greeting speculated described is went) reached);
-      costs = nothing;
-    };
-    refused = λ greeting described went. tt;
-  }
-  x509_answered (Err e) speculated old new before after ledgers is nothing reached stopped = record {
-    accepted = λ greeting described went. tt;
-    refused = λ greeting described went. record {
-      stopped = then_stopped (x509_plan (x509_by asked credential greeting)) greeting e.kind old new before after (subst (λ h. Stopped (x509_plan h) e.kind old new before after) (x509_same greeting speculated described is went) stopped);
-      costs = nothing;
-    };
-  }
-
-  pub x509_converses : (conversation : Conversation) (r : Result (Unit {0}) Error) (speculated : Bool) (old new : State) (before after : ℤ) (ledgers : Ledgers) → conversation ≡ X509 → speculated ≡ is_some round → CostsNothing ledgers ledgers
-      → OnOk r (Reached (x509_plan (x509_handed credential api speculated (frame_maximum held))) tt old new before after) → IfErr r (λ e. Stopped (x509_plan (x509_handed credential api speculated (frame_maximum held))) e.kind old new before after) → Converses r conversation asked credential held round old new before after ledgers ledgers
-  x509_converses conversation r speculated old new before after ledgers is there nothing reached stopped = subst (λ c. Converses r c asked credential held round old new before after ledgers ledgers) (sym is) (x509_answered r speculated old new before after ledgers there nothing reached stopped)
+      subst (λ x. followed (x509_plan x) greeting past turn) (λ i. x509_handed credential (same i) (there i) (frame_maximum (described i))) h

@@ -1,5 +1,5 @@
 -- The plan of a login's key has one turn, so that reply bytes lead to one key.
-use Rattle.std.proofs.Common.{◌≡◌, ℕ, ◌∙◌, refl, ap, sym, Option, None, Some, List}
+use Rattle.std.proofs.Common.{◌≡◌, ℕ, ◌∙◌, ap, sym, Option, None, Some, List}
 use Rattle.mongo_command.specs.Conversation.{HasOneTurn, ending}
 use Rattle.mongo_command.proofs.Plans.{one_ending, one_unless, one_reading, one_followed}
 use Rattle.mongo_command.proofs.Leads.{one_way}
@@ -29,15 +29,15 @@ one_scram_derivation version asked credential greeting =
     let handed = scram_handed_by version asked credential greeting in
     one_followed (opening handed) (λ challenge. ending (Some (key_by handed challenge))) (one_opening handed) (λ challenge. one_ending (Some (key_by handed challenge)))
 
-one_derivation_by : (conversation : Option Conversation) (mechanism : AuthMechanism) (asked : Asked) (credential : Credential) (greeting : Greeting) → conversation_of mechanism ≡ conversation → HasOneTurn (derivation_by conversation mechanism asked credential greeting)
+one_derivation_by : (conversation : Option Conversation) (mechanism : AuthMechanism) (asked : Asked) (credential : Credential) (greeting : Greeting) → HasOneTurn (derivation_by conversation mechanism asked credential greeting)
 unfolding derivation_by
-one_derivation_by (Some (Scram version)) mechanism asked credential greeting has = one_unless _ _ (one_invalid_row (speculative_reply asked greeting) mechanism (Scram version) credential has) (one_scram_derivation version asked credential greeting)
-one_derivation_by conversation mechanism asked credential greeting has = one_ending None
+one_derivation_by (Some (Scram version)) mechanism asked credential greeting = one_unless _ _ (one_invalid_row (speculative_reply asked greeting) mechanism credential) (one_scram_derivation version asked credential greeting)
+one_derivation_by conversation mechanism asked credential greeting = one_ending None
 
 one_derivation_of : (who : Option Credential) (asked : Asked) (greeting : Greeting) → HasOneTurn (derivation_of who asked greeting)
 one_derivation_of None asked greeting = one_ending None
 one_derivation_of (Some credential) asked greeting =
-    one_reading _ _ (one_mechanism credential.mechanism (speculative_reply asked greeting) greeting.description) (λ mechanism. one_derivation_by (conversation_of mechanism) mechanism asked credential greeting refl)
+    one_reading _ _ (one_mechanism credential.mechanism (speculative_reply asked greeting) greeting.description) (λ mechanism. one_derivation_by (conversation_of mechanism) mechanism asked credential greeting)
 
 pub one_derivation : (asked : Asked) → HasOneTurn (derivation_plan asked)
 unfolding derivation_plan login_derivation

@@ -1,13 +1,11 @@
--- No conversation refuses by `IncompatibleServer`, which is the establishment's own refusal of a server that names no service.
-use Rattle.std.proofs.Common.{◌≡◌, ℕ, ap, sym, subst, inl, inr, Bool, true, false, Option, None, Some, List, [], ◌∷◌}
+-- SCRAM doesn't refuse by `IncompatibleServer`, which is the establishment's own refusal of a server that names no service, nor
+-- does what two plans make that don't.
+use Rattle.std.proofs.Common.{◌≡◌, ℕ, ap, sym, subst, inl, inr, Option, None, Some, List, [], ◌∷◌}
 use Rattle.mongo_wire.specs.declared.error.ErrorKind.{ErrorKind}
 use Rattle.mongo_wire.specs.declared.error.ErrorKind.TheVariants.{Authentication, IncompatibleServer}
 use Rattle.mongo_wire.specs.declared.auth_fault.AuthFault.TheVariants.{Malformed, NotCompleted}
-use Rattle.mongo_command.specs.Conversation.{Turn, says, asks, refuses, ends, Plan, later, passed_on, passed_later, followed_by, ending, reading, unless, saying}
+use Rattle.mongo_command.specs.Conversation.{Turn, says, asks, refuses, ends, Plan, later, passed_on, passed_later, followed_by, ending, reading, unless}
 use Rattle.mongo_command.proofs.Leads.{Never, never_ending, never_unless, never_reading, never_saying}
-use Rattle.mongo_sasl.specs.Plain.{PlainHanded, PlainRow, IsPlainUser, UnfinishedRow, plain_said, plain_heard, plain_plan}
-use Rattle.mongo_sasl.specs.Reply.{IsSaslReply, SaslRow}
-use Rattle.mongo_sasl.specs.X509.{X509Handed, X509Row, Takes, x509_said, x509_heard, x509_plan_from, x509_plan}
 use Rattle.mongo_scram.specs.declared.scram_version.ScramVersion.{ScramVersion}
 use Rattle.mongo_scram.specs.declared.scram_version.ScramVersion.TheVariants.{Sha1, Sha256}
 use Rattle.mongo_scram.specs.declared.server_first.ServerFirst.{ServerFirst}
@@ -93,24 +91,3 @@ fits_closed handed c reply =
 
 pub fits_scram : (handed : Handed) → Fits (scram_plan handed)
 fits_scram handed = fits_followed (opening handed) (closing handed) (fits_opening handed) (λ c. never_saying IncompatibleServer (close_said handed c) (closed handed c) (fits_closed handed c))
-
--- ---- PLAIN and X.509
-
-fits_plain_heard : (reply : List ℕ) → Fits (plain_heard reply)
-fits_plain_heard reply =
-    never_unless IncompatibleServer (SaslRow reply) (reading (IsSaslReply reply) (λ sasl. unless (UnfinishedRow sasl) (ending tt))) (λ row. row) (never_reading IncompatibleServer (IsSaslReply reply) (λ sasl. unless (UnfinishedRow sasl) (ending tt)) (λ sasl.
-    never_unless IncompatibleServer (UnfinishedRow sasl) (ending tt) (λ row. malformed row.0) (never_ending IncompatibleServer tt)))
-
-pub fits_plain : (handed : PlainHanded) → Fits (plain_plan handed)
-fits_plain handed =
-    never_unless IncompatibleServer (PlainRow handed.credential) (reading (IsPlainUser handed.credential) (λ user. saying (plain_said handed user) plain_heard)) (λ row. row)
-    (never_reading IncompatibleServer (IsPlainUser handed.credential) (λ user. saying (plain_said handed user) plain_heard) (λ user. never_saying IncompatibleServer (plain_said handed user) plain_heard fits_plain_heard))
-
-fits_x509_from : (speculated : Bool) (handed : X509Handed) → Fits (x509_plan_from speculated handed)
-fits_x509_from true handed = never_ending IncompatibleServer tt
-fits_x509_from false handed =
-    never_saying IncompatibleServer (x509_said handed) x509_heard (λ reply.
-    never_unless IncompatibleServer (X509Row reply) (reading (Takes reply) (λ elements. ending tt)) (λ row. row) (never_reading IncompatibleServer (Takes reply) (λ elements. ending tt) (λ elements. never_ending IncompatibleServer tt)))
-
-pub fits_x509 : (handed : X509Handed) → Fits (x509_plan handed)
-fits_x509 handed = fits_x509_from handed.speculated handed

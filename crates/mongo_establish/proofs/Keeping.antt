@@ -1,10 +1,9 @@
 -- What a refused handshake leaves its connection to keep.
-use Rattle.std.proofs.Common.{◌≡◌, ℕ, ℤ, ◌∙◌, refl, ap, inl, inr, Bool, true, false, Option, None, Some, is_some, is_none, Result, Ok, Err, List, codes, if◌then◌else◌}
+use Rattle.std.proofs.Common.{ℕ, ℤ, refl, ap, inl, inr, false, Option, None, Some, List}
 use Rattle.mongo_bson.specs.declared.fault.BsonFault.TheVariants.{TooLong}
 use Rattle.mongo_wire.specs.declared.error.ErrorKind.{ErrorKind}
 use Rattle.mongo_wire.specs.declared.error.ErrorKind.TheVariants.{InvalidArgument, InvalidResponse, Authentication, Command as CommandFailed, OutOfMemory}
-use Rattle.mongo_wire.specs.declared.fault.ArgumentFault.{ArgumentFault}
-use Rattle.mongo_wire.specs.declared.fault.ArgumentFault.TheVariants.{Bson, ScramUsername, X509Password, X509Source, PlainUsername, PlainUsernameEmpty, PlainPassword}
+use Rattle.mongo_wire.specs.declared.fault.ArgumentFault.TheVariants.{Bson}
 use Rattle.mongo_wire.specs.declared.fault.ResponseFault.TheVariants.{Hello as HelloFault, SessionTimeout}
 use Rattle.mongo_wire.specs.declared.message.Message.{Message}
 use Rattle.mongo_wire.specs.Outside.{State}
@@ -17,18 +16,16 @@ use Rattle.mongo_sasl.specs.declared.credential.Credential.{Credential}
 use Rattle.mongo_sasl.specs.declared.mechanism.AuthMechanism.{AuthMechanism}
 use Rattle.mongo_sasl.specs.declared.mechanism.AuthMechanism.TheVariants.{MongoDbCr}
 use Rattle.mongo_sasl.specs.Kept.{KeepsAfter}
-use Rattle.mongo_sasl.specs.Rules.{first_broken, is_other_than, is_given}
-use Rattle.mongo_sasl.specs.Validation.{scram_rules, x509_rules, plain_rules}
+use Rattle.mongo_sasl.proofs.CredentialAnswers.{fault_ends_none}
 use Rattle.mongo_sasl.proofs.KeptAfter.{IsOwn, own_keeps, unbuilt_own, kept_after}
 use Rattle.mongo_scram.specs.User.{CredentialRow}
 use Rattle.mongo_establish.specs.declared.conversation.Conversation.{Conversation}
-use Rattle.mongo_establish.specs.declared.conversation.Conversation.TheVariants.{Scram, Plain as PlainText, X509}
+use Rattle.mongo_establish.specs.declared.conversation.Conversation.TheVariants.{Scram}
 use Rattle.mongo_establish.specs.First.{IsUnmade}
 use Rattle.mongo_establish.specs.HelloBody.{HelloBodyRefused}
 use Rattle.mongo_establish.specs.Login.{InvalidRow}
 use Rattle.mongo_establish.specs.Speculation.{mechanism_before, ConversationRow, MechanismRow, HelloRow}
-use Rattle.mongo_establish.specs.Spoken.{conversation_of, HasConversation}
-use Rattle.mongo_establish.proofs.Validated.{answer_of, by_rules}
+use Rattle.mongo_establish.specs.Spoken.{conversation_of}
 
 -- ---- before the hello was said
 
@@ -84,39 +81,6 @@ description_own response kind row = absurd row
 
 -- ---- a mechanism that doesn't take the credential
 
-same_fault : (a b : ArgumentFault) → ◌≡◌ {A = Result (Unit {0}) ArgumentFault} (Err a) (Err b) → a ≡ b
-same_fault a b e = cc
-
-abbrev EndsNone : ArgumentFault → Type 0
-EndsNone fault = is_kept (InvalidArgument fault) ≡ false
-
-unbroken : (fault : ArgumentFault) → ◌≡◌ {A = Result (Unit {0}) ArgumentFault} (Err fault) (Ok tt) → EndsNone fault
-unbroken fault is = let no : ⊥ = cc in absurd no
-
--- by a rule and those after it
-by_rule : (broken : Bool) (own fault : ArgumentFault) (later : Result (Unit {0}) ArgumentFault) → EndsNone own → (Err fault ≡ later → EndsNone fault) → Err fault ≡ (if broken then Err own else later) → EndsNone fault
-by_rule true own fault later row rest is = ap (λ f. is_kept (InvalidArgument f)) (same_fault fault own is) ∙ row
-by_rule false own fault later row rest is = rest is
-
-scram_fault : (credential : Credential) (fault : ArgumentFault) → Err fault ≡ first_broken (scram_rules credential) → EndsNone fault
-scram_fault credential fault is = by_rule (is_none credential.username) ScramUsername fault (Ok tt) refl (unbroken fault) is
-
-x509_fault : (credential : Credential) (fault : ArgumentFault) → Err fault ≡ first_broken (x509_rules credential) → EndsNone fault
-x509_fault credential fault is =
-    by_rule (is_some credential.password) X509Password fault _ refl (λ later.
-    by_rule (is_other_than (codes "$external") credential.source) X509Source fault (Ok tt) refl (unbroken fault) later) is
-
-plain_fault : (credential : Credential) (fault : ArgumentFault) → Err fault ≡ first_broken (plain_rules credential) → EndsNone fault
-plain_fault credential fault is =
-    by_rule (is_none credential.username) PlainUsername fault _ refl (λ named.
-    by_rule (is_given (codes "") credential.username) PlainUsernameEmpty fault _ refl (λ later.
-    by_rule (is_none credential.password) PlainPassword fault (Ok tt) refl (unbroken fault) later) named) is
-
-answer_fault : (conversation : Conversation) (credential : Credential) (fault : ArgumentFault) → Err fault ≡ answer_of conversation credential → EndsNone fault
-answer_fault (Scram version) credential fault is = scram_fault credential fault is
-answer_fault PlainText credential fault is = plain_fault credential fault is
-answer_fault X509 credential fault is = x509_fault credential fault is
-
-pub invalid_own : (mechanism : AuthMechanism) (conversation : Conversation) (credential : Credential) (kind : ErrorKind) → HasConversation mechanism conversation → InvalidRow None mechanism credential kind → IsOwn kind
-invalid_own mechanism conversation credential (InvalidArgument fault) has row = inl (answer_fault conversation credential fault (by_rules mechanism conversation credential (Err fault) has row))
-invalid_own mechanism conversation credential kind has row = absurd row
+pub invalid_own : (mechanism : AuthMechanism) (credential : Credential) (kind : ErrorKind) → InvalidRow None mechanism credential kind → IsOwn kind
+invalid_own mechanism credential (InvalidArgument fault) row = inl (fault_ends_none mechanism credential false fault row)
+invalid_own mechanism credential kind row = absurd row

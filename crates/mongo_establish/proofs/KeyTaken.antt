@@ -36,7 +36,7 @@ use Rattle.mongo_establish.specs.Login.{holds_users, logging_in, speculative_rep
 use Rattle.mongo_establish.specs.Plan.{hello_plan}
 use Rattle.mongo_establish.specs.Pooled.{UnnamedService}
 use Rattle.mongo_establish.specs.Speculation.{mechanism_before, ConversationRow, MechanismRow, HelloRow}
-use Rattle.mongo_establish.specs.Spoken.{conversation_of, IsScram}
+use Rattle.mongo_establish.specs.Spoken.{conversation_of, scram_in, IsScram}
 use Rattle.mongo_establish.proofs.Compatible.{compatible}
 use Rattle.mongo_establish.proofs.DerivationSteps.{KeyTaken, KeySpent, taken_more, spent_more, taken_after, spent_after}
 use Rattle.mongo_establish.proofs.HelloPlan.{greeted}
@@ -162,13 +162,13 @@ nothing_spent : (kind : ErrorKind) (old new : State) (before after : ℤ) (first
 nothing_spent kind old new before after first last nothing = inr (record { key = None; middle = old; between = before; reached = reached_ending None old before; takes = inl nothing })
 
 taken_by : (conversation : Option Conversation) (mechanism : AuthMechanism) (asked : Asked) (credential : Credential) (greeting : Greeting) (old new : State) (before after : ℤ) (first last : Ledgers) → (IsScram conversation → HasNone (InvalidRow (speculative_reply asked greeting) mechanism credential))
-    → AcceptedCosts conversation asked credential greeting old new before after first last → KeyTaken (derivation_by conversation mechanism asked credential greeting) old before first last
+    → AcceptedCosts (scram_in conversation) asked credential greeting old new before after first last → KeyTaken (derivation_by conversation mechanism asked credential greeting) old before first last
 unfolding derivation_by
 taken_by (Some (Scram version)) mechanism asked credential greeting old new before after first last none c = scram_takes version mechanism asked credential greeting (none tt) c.document old new before after first last c.accepted
 taken_by conversation mechanism asked credential greeting old new before after first last none c = nothing_taken old before first last c
 
 spent_by : (conversation : Option Conversation) (mechanism : AuthMechanism) (asked : Asked) (credential : Credential) (greeting : Greeting) (kind : ErrorKind) (old new : State) (before after : ℤ) (first last : Ledgers) → (IsScram conversation → HasNone (InvalidRow (speculative_reply asked greeting) mechanism credential))
-    → StoppedCosts conversation asked credential greeting kind old new before after first last → KeySpent (derivation_by conversation mechanism asked credential greeting) kind old new before after first last
+    → StoppedCosts (scram_in conversation) asked credential greeting kind old new before after first last → KeySpent (derivation_by conversation mechanism asked credential greeting) kind old new before after first last
 unfolding derivation_by
 spent_by (Some (Scram version)) mechanism asked credential greeting kind old new before after first last none c = scram_spends version mechanism asked credential greeting (none tt) kind old new before after first last c
 spent_by conversation mechanism asked credential greeting kind old new before after first last none c = nothing_spent kind old new before after first last c

@@ -23,7 +23,7 @@ use Rattle.mongo_establish.specs.LoggingIn.{IsCredentialTaken, Conversed, Conver
 use Rattle.mongo_establish.specs.Login.{holds_users, logging_in, speculative_reply, IsMechanism, InvalidRow, TakesCredential}
 use Rattle.mongo_establish.specs.Plan.{conversation_plan, validated, mechanism_plan, login_by, login_plan}
 use Rattle.mongo_establish.specs.Speculation.{mechanism_before, MechanismRow, SpeaksFor, HelloRow}
-use Rattle.mongo_establish.specs.Spoken.{conversation_of, HasConversation, IsScram, IsSpoken}
+use Rattle.mongo_establish.specs.Spoken.{conversation_of, HasConversation, scram_in, IsScram, IsSpoken}
 use Rattle.mongo_establish.proofs.Validated.{taken_no_row}
 
 -- ---- who logs in
@@ -141,7 +141,7 @@ module _ (asked : Asked) (greeting : Greeting) (credential : Credential) (round 
 
   module _ (taken : IsCredentialTaken (is_some round) mechanism credential) where
     no_row : HasNone (InvalidRow (speculative_reply asked greeting) mechanism credential)
-    no_row = taken_no_row (speculative_reply asked greeting) mechanism conversation credential has (takes_it (speculative_reply asked greeting) (is_some round) mechanism credential went.there taken)
+    no_row = taken_no_row (speculative_reply asked greeting) mechanism credential (takes_it (speculative_reply asked greeting) (is_some round) mechanism credential went.there taken)
 
     pub conversed_reached : (old new : State) (before after : ℤ) (early late : Ledgers) → Conversed conversation asked credential greeting old new before after early late → Reached (login_plan asked greeting) greeting old new before after
     conversed_reached old new before after early late h = login_reached old new before after (validated_reached mechanism conversation asked credential greeting old new before after has no_row h.reached)
@@ -151,7 +151,7 @@ module _ (asked : Asked) (greeting : Greeting) (credential : Credential) (round 
         subst (λ w. LoginCostsOf w asked greeting old new before after early late) (sym (a_user asked greeting credential holds who)) (record {
           mechanism = mechanism;
           is_mechanism = by_mechanism;
-          costs = subst (λ o. AcceptedCosts o asked credential greeting old new before after early late) (sym has) h.costs;
+          costs = subst (λ o. AcceptedCosts (scram_in o) asked credential greeting old new before after early late) (sym has) h.costs;
         })
 
     pub stopped_stopped : (kind : ErrorKind) (old new : State) (before after : ℤ) (early late : Ledgers) → ConversationStopped conversation asked credential greeting kind old new before after early late → Stopped (login_plan asked greeting) kind old new before after
@@ -162,5 +162,5 @@ module _ (asked : Asked) (greeting : Greeting) (credential : Credential) (round 
         subst (λ w. StoppedLoginCostsOf w asked greeting kind old new before after early late) (sym (a_user asked greeting credential holds who)) (record {
           mechanism = mechanism;
           is_mechanism = by_mechanism;
-          costs = inr (subst (λ o. StoppedCosts o asked credential greeting kind old new before after early late) (sym has) h.costs);
+          costs = inr (subst (λ o. StoppedCosts (scram_in o) asked credential greeting kind old new before after early late) (sym has) h.costs);
         })

@@ -94,7 +94,7 @@ module _ (opened : Connection) (options : HandshakerOptions) (given : Option Cre
   -- and leaves a connection without a fault
   pub invalid_keeps : {T : Type 0} (r : Result T Error) (kept : Option ErrorKind) → IfErr r (λ e. (is_some round ≡ false) × InvalidRow None mechanism credential e.kind) → kept ≡ None → IfErr r (λ e. KeepsAfter e.kind kept)
   invalid_keeps (Ok x) kept h none = tt
-  invalid_keeps (Err e) kept h none = own_keeps e.kind kept (invalid_own mechanism found.0 credential e.kind found.1 h.1) none
+  invalid_keeps (Err e) kept h none = own_keeps e.kind kept (invalid_own mechanism credential e.kind h.1) none
 
   module _ (taken : IsCredentialTaken (is_some round) mechanism credential) (conversation : Conversation) (has : HasConversation mechanism conversation) where
     -- its round is the conversation's
@@ -104,24 +104,24 @@ module _ (opened : Connection) (options : HandshakerOptions) (given : Option Cre
     abbrev this : Option Credential → Asked
     this c = asked_over opened options c nonces id
 
-    here : (r : Result (Unit {0}) Error) (old new : State) (before after : ℤ) (early late : Ledgers) → Converses r conversation (this (Some credential)) credential held round old new before after early late → Converses r conversation asked credential held round old new before after early late
-    here r old new before after early late h = subst (λ c. Converses r conversation (this c) credential held round old new before after early late) (sym who) h
+    here : (r : Result (Unit {0}) Error) (kept : Option ErrorKind) (old new : State) (before after : ℤ) (early late : Ledgers) → Converses r conversation (this (Some credential)) credential held round kept old new before after early late → Converses r conversation asked credential held round kept old new before after early late
+    here r kept old new before after early late h = subst (λ c. Converses r conversation (this c) credential held round kept old new before after early late) (sym who) h
 
     -- its conversation was followed to its end
-    pub log_in_accepted : (r : Result (Unit {0}) Error) (old new : State) (before after : ℤ) (early late : Ledgers) → Converses r conversation (this (Some credential)) credential held round old new before after early late → OnOk r (LogsIn asked held round old new before after early late)
-    log_in_accepted (Ok done) old new before after early late h =
-        let conversed = (here (Ok done) old new before after early late h).accepted in
+    pub log_in_accepted : (r : Result (Unit {0}) Error) (kept : Option ErrorKind) (old new : State) (before after : ℤ) (early late : Ledgers) → Converses r conversation (this (Some credential)) credential held round kept old new before after early late → OnOk r (LogsIn asked held round old new before after early late)
+    log_in_accepted (Ok done) kept old new before after early late h =
+        let conversed = (here (Ok done) kept old new before after early late h).accepted in
         record {
           reached = λ greeting described r. conversed_reached asked greeting credential round mechanism who (users greeting described) (went greeting r) (mechanisms greeting described) conversation has taken old new before after early late (conversed greeting described (by_it greeting described r));
           costs = λ greeting described r. conversed_costs asked greeting credential round mechanism who (users greeting described) (went greeting r) (mechanisms greeting described) conversation has taken old new before after early late (conversed greeting described (by_it greeting described r));
         }
-    log_in_accepted (Err e) old new before after early late h = tt
+    log_in_accepted (Err e) kept old new before after early late h = tt
 
     -- it was stopped
-    pub log_in_stopped : (r : Result (Unit {0}) Error) (old new : State) (before after : ℤ) (early late : Ledgers) → Converses r conversation (this (Some credential)) credential held round old new before after early late → IfErr r (λ e. LoginStops asked held round e.kind old new before after early late)
-    log_in_stopped (Ok done) old new before after early late h = tt
-    log_in_stopped (Err e) old new before after early late h =
-        let stopped = (here (Err e) old new before after early late h).refused in
+    pub log_in_stopped : (r : Result (Unit {0}) Error) (kept : Option ErrorKind) (old new : State) (before after : ℤ) (early late : Ledgers) → Converses r conversation (this (Some credential)) credential held round kept old new before after early late → IfErr r (λ e. LoginStops asked held round e.kind old new before after early late)
+    log_in_stopped (Ok done) kept old new before after early late h = tt
+    log_in_stopped (Err e) kept old new before after early late h =
+        let stopped = (here (Err e) kept old new before after early late h).refused in
         record {
           stopped = λ greeting described r. stopped_stopped asked greeting credential round mechanism who (users greeting described) (went greeting r) (mechanisms greeting described) conversation has taken e.kind old new before after early late (stopped greeting described (by_it greeting described r));
           costs = λ greeting described r. stopped_costs asked greeting credential round mechanism who (users greeting described) (went greeting r) (mechanisms greeting described) conversation has taken e.kind old new before after early late (stopped greeting described (by_it greeting described r));

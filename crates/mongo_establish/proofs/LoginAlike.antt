@@ -10,7 +10,6 @@ use Rattle.mongo_sasl.specs.declared.mechanism.AuthMechanism.{AuthMechanism}
 use Rattle.mongo_scram.specs.declared.scram_version.ScramVersion.{ScramVersion}
 use Rattle.mongo_scram.specs.Costs.{Ledgers}
 use Rattle.mongo_establish.specs.declared.conversation.Conversation.{Conversation}
-use Rattle.mongo_establish.specs.declared.conversation.Conversation.TheVariants.{Scram, Plain as PlainText, X509}
 use Rattle.mongo_establish.specs.declared.establisher.PendingConnection.{PendingConnection}
 use Rattle.mongo_establish.specs.declared.generation.PoolGeneration.TheVariants.{Normal}
 use Rattle.mongo_establish.specs.declared.login_state.Nonces.{Nonces}
@@ -20,7 +19,7 @@ use Rattle.mongo_establish.specs.Costs.{ScramAccepted, AcceptedCosts, StoppedCos
 use Rattle.mongo_establish.specs.Greeting.{Greeting}
 use Rattle.mongo_establish.specs.Login.{logging_in}
 use Rattle.mongo_establish.specs.Plan.{conversation_plan, mechanism_plan, login_by, login_plan}
-use Rattle.mongo_establish.specs.Spoken.{conversation_of}
+use Rattle.mongo_establish.specs.Spoken.{conversation_of, scram_in}
 
 -- what a handshake over a connection knows of it
 abbrev pub pending_over : Connection → PendingConnection
@@ -35,9 +34,7 @@ module _ (first second : PendingConnection) (options : HandshakerOptions) (crede
 
   conversation_alike : (conversation : Conversation) (c : Credential) (greeting : Greeting) (past : List Event) (turn : Turn Greeting) → conversation_plan conversation this c greeting past turn → conversation_plan conversation that c greeting past turn
   unfolding conversation_plan
-  conversation_alike (Scram version) c greeting past turn h = h
-  conversation_alike PlainText c greeting past turn h = h
-  conversation_alike X509 c greeting past turn h = h
+  conversation_alike conversation c greeting past turn h = h
 
   mechanism_alike : (mechanism : AuthMechanism) (c : Credential) (greeting : Greeting) (past : List Event) (turn : Turn Greeting) → mechanism_plan mechanism this c greeting past turn → mechanism_plan mechanism that c greeting past turn
   unfolding mechanism_plan
@@ -60,17 +57,17 @@ module _ (first second : PendingConnection) (options : HandshakerOptions) (crede
   scram_costs_alike : (version : ScramVersion) (c : Credential) (greeting : Greeting) (old new : State) (before after : ℤ) (early late : Ledgers) → ScramAccepted version this c greeting old new before after early late → ScramAccepted version that c greeting old new before after early late
   scram_costs_alike version c greeting old new before after early late h = record { document = h.document; accepted = h.accepted }
 
-  accepted_costs_alike : (conversation : Option Conversation) (c : Credential) (greeting : Greeting) (old new : State) (before after : ℤ) (early late : Ledgers) → AcceptedCosts conversation this c greeting old new before after early late → AcceptedCosts conversation that c greeting old new before after early late
-  accepted_costs_alike (Some (Scram version)) c greeting old new before after early late h = scram_costs_alike version c greeting old new before after early late h
-  accepted_costs_alike conversation c greeting old new before after early late h = h
+  accepted_costs_alike : (version : Option ScramVersion) (c : Credential) (greeting : Greeting) (old new : State) (before after : ℤ) (early late : Ledgers) → AcceptedCosts version this c greeting old new before after early late → AcceptedCosts version that c greeting old new before after early late
+  accepted_costs_alike (Some version) c greeting old new before after early late h = scram_costs_alike version c greeting old new before after early late h
+  accepted_costs_alike None c greeting old new before after early late h = h
 
-  stopped_costs_alike : (conversation : Option Conversation) (c : Credential) (greeting : Greeting) (kind : ErrorKind) (old new : State) (before after : ℤ) (early late : Ledgers) → StoppedCosts conversation this c greeting kind old new before after early late → StoppedCosts conversation that c greeting kind old new before after early late
-  stopped_costs_alike (Some (Scram version)) c greeting kind old new before after early late h = h
-  stopped_costs_alike conversation c greeting kind old new before after early late h = h
+  stopped_costs_alike : (version : Option ScramVersion) (c : Credential) (greeting : Greeting) (kind : ErrorKind) (old new : State) (before after : ℤ) (early late : Ledgers) → StoppedCosts version this c greeting kind old new before after early late → StoppedCosts version that c greeting kind old new before after early late
+  stopped_costs_alike (Some version) c greeting kind old new before after early late h = h
+  stopped_costs_alike None c greeting kind old new before after early late h = h
 
   costs_of_alike : (who : Option Credential) (greeting : Greeting) (old new : State) (before after : ℤ) (early late : Ledgers) → LoginCostsOf who this greeting old new before after early late → LoginCostsOf who that greeting old new before after early late
   costs_of_alike None greeting old new before after early late h = h
-  costs_of_alike (Some c) greeting old new before after early late h = record { mechanism = h.mechanism; is_mechanism = h.is_mechanism; costs = accepted_costs_alike (conversation_of h.mechanism) c greeting old new before after early late h.costs }
+  costs_of_alike (Some c) greeting old new before after early late h = record { mechanism = h.mechanism; is_mechanism = h.is_mechanism; costs = accepted_costs_alike (scram_in (conversation_of h.mechanism)) c greeting old new before after early late h.costs }
 
   pub costs_alike : (greeting : Greeting) (old new : State) (before after : ℤ) (early late : Ledgers) → LoginCosts this greeting old new before after early late → LoginCosts that greeting old new before after early late
   costs_alike greeting old new before after early late h = costs_of_alike (logging_in that greeting) greeting old new before after early late h
@@ -80,7 +77,7 @@ module _ (first second : PendingConnection) (options : HandshakerOptions) (crede
   stopped_costs_of_alike (Some c) greeting kind old new before after early late h = record {
     mechanism = h.mechanism;
     is_mechanism = h.is_mechanism;
-    costs = elim h.costs [ inl row ↦ inl row | inr stopped ↦ inr (stopped_costs_alike (conversation_of h.mechanism) c greeting kind old new before after early late stopped) ];
+    costs = elim h.costs [ inl row ↦ inl row | inr stopped ↦ inr (stopped_costs_alike (scram_in (conversation_of h.mechanism)) c greeting kind old new before after early late stopped) ];
   }
 
   pub stopped_login_costs_alike : (greeting : Greeting) (kind : ErrorKind) (old new : State) (before after : ℤ) (early late : Ledgers) → StoppedLoginCosts this greeting kind old new before after early late → StoppedLoginCosts that greeting kind old new before after early late

@@ -59,7 +59,7 @@ mechanism_ends : (mechanism : AuthMechanism) (asked : Asked) (credential : Crede
 unfolding mechanism_plan
 mechanism_ends mechanism asked credential greeting commands replies is =
     reading_end (HasConversation mechanism) (validated mechanism asked credential greeting) is.conversation greeting commands replies is.has_conversation
-    (unless_end _ _ greeting commands replies (taken_no_row (speculative_reply asked greeting) mechanism is.conversation credential is.has_conversation is.taken) ((joins is.conversation asked credential greeting).ends commands replies is.holds))
+    (unless_end _ _ greeting commands replies (taken_no_row (speculative_reply asked greeting) mechanism credential is.taken) ((joins is.conversation asked credential greeting).ends commands replies is.holds))
 
 -- ---- a login
 

@@ -48,7 +48,7 @@ one_mechanism_plan : (mechanism : AuthMechanism) (asked : Asked) (credential : C
 unfolding mechanism_plan
 one_mechanism_plan mechanism asked credential greeting =
     one_reading_it (HasConversation mechanism) (validated mechanism asked credential greeting) (one_conversation mechanism) (λ conversation has.
-    one_unless _ _ (one_invalid_row (speculative_reply asked greeting) mechanism conversation credential has) (joins conversation asked credential greeting).one)
+    one_unless _ _ (one_invalid_row (speculative_reply asked greeting) mechanism credential) (joins conversation asked credential greeting).one)
 
 one_login_by : (who : Option Credential) (asked : Asked) (greeting : Greeting) → HasOneTurn (login_by who asked greeting)
 one_login_by None asked greeting = one_ending greeting

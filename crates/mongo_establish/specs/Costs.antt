@@ -9,14 +9,12 @@ use Rattle.mongo_sasl.specs.declared.credential.Credential.{Credential}
 use Rattle.mongo_sasl.specs.declared.mechanism.AuthMechanism.{AuthMechanism}
 use Rattle.mongo_scram.specs.declared.scram_version.ScramVersion.{ScramVersion}
 use Rattle.mongo_scram.specs.Costs.{Ledgers, CostsNothing, Accepted, StoppedScram}
-use Rattle.mongo_establish.specs.declared.conversation.Conversation.{Conversation}
-use Rattle.mongo_establish.specs.declared.conversation.Conversation.TheVariants.{Scram}
 use Rattle.mongo_establish.specs.declared.establisher.EstablishError.{EstablishError}
 use Rattle.mongo_establish.specs.Asked.{Asked}
 use Rattle.mongo_establish.specs.Greeting.{Greeting}
 use Rattle.mongo_establish.specs.Login.{logging_in, speculative_reply, IsMechanism, InvalidRow, scram_handed_by}
 use Rattle.mongo_establish.specs.Plan.{hello_plan}
-use Rattle.mongo_establish.specs.Spoken.{conversation_of}
+use Rattle.mongo_establish.specs.Spoken.{conversation_of, scram_in}
 
 -- ---- a login's conversation
 
@@ -25,15 +23,15 @@ pub record ScramAccepted (version : ScramVersion) (asked : Asked) (credential : 
   pub document : List ℕ
   pub accepted : Accepted (scram_handed_by version asked credential greeting) document old new before after first last
 
--- what a login costs that was accepted
-abbrev pub AcceptedCosts : Option Conversation → Asked → Credential → Greeting → State → State → ℤ → ℤ → Ledgers → Ledgers → Type 0
-AcceptedCosts (Some (Scram version)) asked credential greeting old new before after first last = ScramAccepted version asked credential greeting old new before after first last
-AcceptedCosts conversation asked credential greeting old new before after first last = CostsNothing first last
+-- what a login costs that was accepted, by its version of SCRAM if it is one
+abbrev pub AcceptedCosts : Option ScramVersion → Asked → Credential → Greeting → State → State → ℤ → ℤ → Ledgers → Ledgers → Type 0
+AcceptedCosts (Some version) asked credential greeting old new before after first last = ScramAccepted version asked credential greeting old new before after first last
+AcceptedCosts None asked credential greeting old new before after first last = CostsNothing first last
 
 -- that was stopped: SCRAM derived its key where the opening had ended and the key had no entry; the entries stay
-abbrev pub StoppedCosts : Option Conversation → Asked → Credential → Greeting → ErrorKind → State → State → ℤ → ℤ → Ledgers → Ledgers → Type 0
-StoppedCosts (Some (Scram version)) asked credential greeting kind old new before after first last = StoppedScram (scram_handed_by version asked credential greeting) kind old new before after first last
-StoppedCosts conversation asked credential greeting kind old new before after first last = CostsNothing first last
+abbrev pub StoppedCosts : Option ScramVersion → Asked → Credential → Greeting → ErrorKind → State → State → ℤ → ℤ → Ledgers → Ledgers → Type 0
+StoppedCosts (Some version) asked credential greeting kind old new before after first last = StoppedScram (scram_handed_by version asked credential greeting) kind old new before after first last
+StoppedCosts None asked credential greeting kind old new before after first last = CostsNothing first last
 
 -- ---- a login
 
@@ -41,13 +39,13 @@ StoppedCosts conversation asked credential greeting kind old new before after fi
 pub record MechanismCosts (credential : Credential) (asked : Asked) (greeting : Greeting) (old new : State) (before after : ℤ) (first last : Ledgers) : Type 0 where
   pub mechanism : AuthMechanism
   pub is_mechanism : IsMechanism credential.mechanism (speculative_reply asked greeting) greeting.description mechanism
-  pub costs : AcceptedCosts (conversation_of mechanism) asked credential greeting old new before after first last
+  pub costs : AcceptedCosts (scram_in (conversation_of mechanism)) asked credential greeting old new before after first last
 
 -- of one that was stopped; nothing, where the mechanism didn't take the credential
 pub record StoppedMechanismCosts (credential : Credential) (asked : Asked) (greeting : Greeting) (kind : ErrorKind) (old new : State) (before after : ℤ) (first last : Ledgers) : Type 0 where
   pub mechanism : AuthMechanism
   pub is_mechanism : IsMechanism credential.mechanism (speculative_reply asked greeting) greeting.description mechanism
-  pub costs : (InvalidRow (speculative_reply asked greeting) mechanism credential kind × CostsNothing first last) ⊎ StoppedCosts (conversation_of mechanism) asked credential greeting kind old new before after first last
+  pub costs : (InvalidRow (speculative_reply asked greeting) mechanism credential kind × CostsNothing first last) ⊎ StoppedCosts (scram_in (conversation_of mechanism)) asked credential greeting kind old new before after first last
 
 -- nothing, where nobody logs in
 abbrev pub LoginCostsOf : Option Credential → Asked → Greeting → State → State → ℤ → ℤ → Ledgers → Ledgers → Type 0

@@ -7,6 +7,7 @@ use Rattle.mongo_command.specs.declared.stream_description.StreamDescription.{St
 use Rattle.mongo_command.specs.Conversation.{Reached, Stopped}
 use Rattle.mongo_sasl.specs.declared.credential.Credential.{Credential}
 use Rattle.mongo_sasl.specs.declared.mechanism.AuthMechanism.{AuthMechanism}
+use Rattle.mongo_sasl.specs.Kept.{KeepsAfter}
 use Rattle.mongo_sasl.specs.Validation.{IsValidated}
 use Rattle.mongo_scram.specs.Costs.{Ledgers}
 use Rattle.mongo_establish.specs.declared.conversation.Conversation.{Conversation}
@@ -16,23 +17,26 @@ use Rattle.mongo_establish.specs.Costs.{AcceptedCosts, StoppedCosts, LoginCosts,
 use Rattle.mongo_establish.specs.First.{IsRoundBy, IsRoundOf}
 use Rattle.mongo_establish.specs.Greeting.{Greeting}
 use Rattle.mongo_establish.specs.Plan.{conversation_plan, login_plan}
+use Rattle.mongo_establish.specs.Spoken.{scram_in}
 
 -- ---- a conversation
 
 -- it was followed to its end, and cost this
 pub record Conversed (conversation : Conversation) (asked : Asked) (credential : Credential) (greeting : Greeting) (old new : State) (before after : ℤ) (first last : Ledgers) : Type 0 where
   pub reached : Reached (conversation_plan conversation asked credential greeting) greeting old new before after
-  pub costs : AcceptedCosts (Some conversation) asked credential greeting old new before after first last
+  pub costs : AcceptedCosts (scram_in (Some conversation)) asked credential greeting old new before after first last
 
 -- it was stopped
 pub record ConversationStopped (conversation : Conversation) (asked : Asked) (credential : Credential) (greeting : Greeting) (kind : ErrorKind) (old new : State) (before after : ℤ) (first last : Ledgers) : Type 0 where
   pub stopped : Stopped (conversation_plan conversation asked credential greeting) kind old new before after
-  pub costs : StoppedCosts (Some conversation) asked credential greeting kind old new before after first last
+  pub costs : StoppedCosts (scram_in (Some conversation)) asked credential greeting kind old new before after first last
 
--- what an answer means, by each greeting that says what the connection holds and what the first round is
-pub record Converses (result : Result (Unit {0}) Error) (conversation : Conversation) (asked : Asked) (credential : Credential) (held : Option StreamDescription) (round : Option FirstRound) (old new : State) (before after : ℤ) (first last : Ledgers) : Type 0 where
+-- what an answer means, by each greeting that says what the connection holds and what the first round is, and what a refusal
+-- leaves the connection to keep
+pub record Converses (result : Result (Unit {0}) Error) (conversation : Conversation) (asked : Asked) (credential : Credential) (held : Option StreamDescription) (round : Option FirstRound) (kept : Option ErrorKind) (old new : State) (before after : ℤ) (first last : Ledgers) : Type 0 where
   pub accepted : (greeting : Greeting) → held ≡ Some greeting.description → IsRoundBy (Some conversation) credential asked greeting round → OnOk result (Conversed conversation asked credential greeting old new before after first last)
   pub refused : (greeting : Greeting) → held ≡ Some greeting.description → IsRoundBy (Some conversation) credential asked greeting round → IfErr result (λ e. ConversationStopped conversation asked credential greeting e.kind old new before after first last)
+  pub keeps : IfErr result (λ e. KeepsAfter e.kind kept)
 
 -- ---- a login
 

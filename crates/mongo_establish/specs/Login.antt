@@ -1,5 +1,5 @@
 -- The login that follows a hello, by the authentication specification: by which mechanism, and from where it goes on.
-use Rattle.std.specs.Prelude.{◌≡◌, ℕ, Bool, true, false, Option, None, Some, is_some, option_map, List, Ok, Err, if◌then◌else◌, ⊤}
+use Rattle.std.specs.Prelude.{◌≡◌, ℕ, ℤ, Bool, true, false, Option, None, Some, option_map, List, Ok, Err, if◌then◌else◌, ⊤}
 use Rattle.mongo_wire.specs.declared.error.ErrorKind.{ErrorKind}
 use Rattle.mongo_wire.specs.declared.error.ErrorKind.TheVariants.{InvalidArgument}
 use Rattle.mongo_command.specs.declared.server_type.ServerType.{ServerType}
@@ -9,12 +9,12 @@ use Rattle.mongo_sasl.specs.declared.credential.Credential.{Credential}
 use Rattle.mongo_sasl.specs.declared.mechanism.AuthMechanism.{AuthMechanism}
 use Rattle.mongo_sasl.specs.declared.mechanism.AuthMechanism.TheVariants.{ScramSha256}
 use Rattle.mongo_sasl.specs.Mechanism.{IsNegotiated}
-use Rattle.mongo_sasl.specs.Plain.{PlainHanded, plain_handed}
 use Rattle.mongo_sasl.specs.Validation.{IsValidated}
-use Rattle.mongo_sasl.specs.X509.{X509Handed, x509_handed}
 use Rattle.mongo_scram.specs.declared.scram_version.ScramVersion.{ScramVersion}
 use Rattle.mongo_scram.specs.Base64.{base64_of}
 use Rattle.mongo_scram.specs.Plan.{Handed, Speculated}
+use Rattle.mongo_establish.specs.declared.login_state.Nonces.{Nonces}
+use Rattle.mongo_establish.specs.declared.options.HandshakerOptions.{HandshakerOptions}
 use Rattle.mongo_establish.specs.Asked.{Asked}
 use Rattle.mongo_establish.specs.Greeting.{Greeting}
 use Rattle.mongo_establish.specs.Speculation.{speculation, speculative_message, speculative_nonce, answer_to}
@@ -49,28 +49,46 @@ abbrev pub TakesCredential : Option (List ℕ) → AuthMechanism → Credential 
 TakesCredential None mechanism credential = IsValidated mechanism credential false (Ok tt)
 TakesCredential (Some reply) mechanism credential = ⊤
 
--- ---- what each conversation is handed
+-- ---- what a conversation is handed
 
--- the first round that went with the hello, where the server answered it
-abbrev pub speculated_by : Credential → Asked → Greeting → Option Speculated
-speculated_by credential asked greeting = option_map (λ reply. let s : Speculated = record { message = speculative_message credential asked.nonces.first; nonce = speculative_nonce asked.nonces.first; reply = reply } in s) (speculative_reply asked greeting)
+-- of what is asked and what the server said, the same for all connections
+pub record LoginHanded : Type 0 where
+  -- who logs in
+  pub credential : Credential
+  pub options : HandshakerOptions
+  pub nonces : Nonces
+  -- what the server answered to the login that went with the hello
+  pub reply : Option (List ℕ)
+  -- the greatest frame
+  pub maximum : ℤ
 
--- what SCRAM is handed: that first round, and for a message after the hello the second nonce
-abbrev pub scram_handed_by : ScramVersion → Asked → Credential → Greeting → Handed
-scram_handed_by version asked credential greeting = record {
-  version = version;
+abbrev pub login_handed : Asked → Credential → Greeting → LoginHanded
+login_handed asked credential greeting = record {
   credential = credential;
-  server_api = asked.options.auth_options.server_api;
-  speculated = speculated_by credential asked greeting;
-  nonce = base64_of asked.nonces.second;
-  max_iterations = asked.options.max_iterations;
+  options = asked.options;
+  nonces = asked.nonces;
+  reply = speculative_reply asked greeting;
   maximum = greeting.description.max_message_size_bytes;
 }
 
--- what PLAIN is handed
-abbrev pub plain_by : Asked → Credential → Greeting → PlainHanded
-plain_by asked credential greeting = plain_handed credential asked.options.auth_options.server_api greeting.description.max_message_size_bytes
+-- the first round that went with the hello, where the server answered it
+abbrev pub speculated_in : LoginHanded → Option Speculated
+speculated_in handed = option_map (λ reply. let s : Speculated = record { message = speculative_message handed.credential handed.nonces.first; nonce = speculative_nonce handed.nonces.first; reply = reply } in s) handed.reply
 
--- what X.509 is handed: whether the server answered its body in the hello
-abbrev pub x509_by : Asked → Credential → Greeting → X509Handed
-x509_by asked credential greeting = x509_handed credential asked.options.auth_options.server_api (is_some (speculative_reply asked greeting)) greeting.description.max_message_size_bytes
+-- what SCRAM is handed: that first round, and for a message after the hello the second nonce
+abbrev pub scram_handed : ScramVersion → LoginHanded → Handed
+scram_handed version handed = record {
+  version = version;
+  credential = handed.credential;
+  server_api = handed.options.auth_options.server_api;
+  speculated = speculated_in handed;
+  nonce = base64_of handed.nonces.second;
+  max_iterations = handed.options.max_iterations;
+  maximum = handed.maximum;
+}
+
+abbrev pub speculated_by : Credential → Asked → Greeting → Option Speculated
+speculated_by credential asked greeting = speculated_in (login_handed asked credential greeting)
+
+abbrev pub scram_handed_by : ScramVersion → Asked → Credential → Greeting → Handed
+scram_handed_by version asked credential greeting = scram_handed version (login_handed asked credential greeting)

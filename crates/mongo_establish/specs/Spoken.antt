@@ -2,6 +2,7 @@
 use Rattle.std.specs.Prelude.{◌≡◌, Bool, true, is_some, IsTrue, Option, None, Some, ⊤}
 use Rattle.mongo_sasl.specs.declared.mechanism.AuthMechanism.{AuthMechanism}
 use Rattle.mongo_sasl.specs.declared.mechanism.AuthMechanism.TheVariants.{MongoDbCr, ScramSha1, ScramSha256, MongoDbX509, Plain, MongoDbAws, MongoDbOidc}
+use Rattle.mongo_scram.specs.declared.scram_version.ScramVersion.{ScramVersion}
 use Rattle.mongo_scram.specs.declared.scram_version.ScramVersion.TheVariants.{Sha1, Sha256}
 use Rattle.mongo_establish.specs.declared.conversation.Conversation.{Conversation}
 use Rattle.mongo_establish.specs.declared.conversation.Conversation.TheVariants.{Scram, Plain as PlainText, X509}
@@ -18,6 +19,11 @@ conversation_of MongoDbOidc = None
 
 abbrev pub HasConversation : AuthMechanism → Conversation → Type 0
 HasConversation mechanism conversation = conversation_of mechanism ≡ Some conversation
+
+-- the version of SCRAM, where the conversation is that of SCRAM
+abbrev pub scram_in : Option Conversation → Option ScramVersion
+scram_in (Some (Scram version)) = Some version
+scram_in conversation = None
 
 -- that of SCRAM, of either version
 abbrev pub IsScram : Option Conversation → Type 0

@@ -82,7 +82,7 @@ fn conversation_first(
         Some(Conversation::X509) => Ok(Some(ClientFirst::X509(x509::build_client_first(
             alloc, credential, None,
         )?))),
-        Some(Conversation::Plain) | None => Ok(None),
+        _ => Ok(None),
     }
 }
 

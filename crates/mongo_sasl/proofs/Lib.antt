@@ -9,6 +9,10 @@ pub mod PlainPlan
 pub mod PlainSteps
 pub mod X509Plan
 pub mod X509Steps
+pub mod Joining
+pub mod PlainJoins
+pub mod X509Joins
+pub mod CredentialAnswers
 mod Foreign
 mod SaslRead
 mod SuccessRead

@@ -4,16 +4,15 @@ use Rattle.mongo_wire.specs.declared.error.ErrorKind.{ErrorKind}
 use Rattle.mongo_wire.specs.Outside.{State}
 use Rattle.mongo_sasl.specs.declared.credential.Credential.{Credential}
 use Rattle.mongo_scram.specs.declared.cache.SaltedKey.{SaltedKey}
+use Rattle.mongo_scram.specs.declared.scram_version.ScramVersion.{ScramVersion}
 use Rattle.mongo_scram.specs.Costs.{Ledgers, Counts, Derives, StoppedScram}
 use Rattle.mongo_scram.specs.Plan.{Handed}
-use Rattle.mongo_establish.specs.declared.conversation.Conversation.{Conversation}
-use Rattle.mongo_establish.specs.declared.conversation.Conversation.TheVariants.{Scram, Plain, X509}
 use Rattle.mongo_establish.specs.declared.establisher.EstablishError.{EstablishError}
 use Rattle.mongo_establish.specs.Asked.{Asked}
 use Rattle.mongo_establish.specs.Greeting.{Greeting}
 use Rattle.mongo_establish.specs.Costs.{AcceptedCosts, StoppedCosts, StoppedMechanismCosts, LoginCostsOf, StoppedLoginCostsOf, HandshakeCosts, StoppedHandshakeCosts, StoppedEstablishmentCosts, EstablishmentCosts}
 use Rattle.mongo_establish.specs.Login.{logging_in}
-use Rattle.mongo_establish.specs.Spoken.{conversation_of}
+use Rattle.mongo_establish.specs.Spoken.{conversation_of, scram_in}
 
 module _ (first last : Ledgers) where
   counted : (rounds : ℕ) → Counts rounds first last → first.steps ≤ last.steps
@@ -25,10 +24,8 @@ module _ (first last : Ledgers) where
 
   -- ---- a conversation
 
-  accepted : (conversation : Option Conversation) (asked : Asked) (credential : Credential) (greeting : Greeting) (old new : State) (before after : ℤ) → AcceptedCosts conversation asked credential greeting old new before after first last → first.steps ≤ last.steps
-  accepted (Some (Scram version)) asked credential greeting old new before after c = derived _ c.accepted.derived
-  accepted (Some Plain) asked credential greeting old new before after c = counted 0 c.counts
-  accepted (Some X509) asked credential greeting old new before after c = counted 0 c.counts
+  accepted : (version : Option ScramVersion) (asked : Asked) (credential : Credential) (greeting : Greeting) (old new : State) (before after : ℤ) → AcceptedCosts version asked credential greeting old new before after first last → first.steps ≤ last.steps
+  accepted (Some version) asked credential greeting old new before after c = derived _ c.accepted.derived
   accepted None asked credential greeting old new before after c = counted 0 c.counts
 
   stopped_scram : (handed : Handed) (kind : ErrorKind) (old new : State) (before after : ℤ) → StoppedScram handed kind old new before after first last → first.steps ≤ last.steps
@@ -39,23 +36,21 @@ module _ (first last : Ledgers) where
         | inr memory ↦ counted 0 memory.1
       ]
 
-  stopped : (conversation : Option Conversation) (asked : Asked) (credential : Credential) (greeting : Greeting) (kind : ErrorKind) (old new : State) (before after : ℤ) → StoppedCosts conversation asked credential greeting kind old new before after first last → first.steps ≤ last.steps
-  stopped (Some (Scram version)) asked credential greeting kind old new before after s = stopped_scram _ kind old new before after s
-  stopped (Some Plain) asked credential greeting kind old new before after s = counted 0 s.counts
-  stopped (Some X509) asked credential greeting kind old new before after s = counted 0 s.counts
+  stopped : (version : Option ScramVersion) (asked : Asked) (credential : Credential) (greeting : Greeting) (kind : ErrorKind) (old new : State) (before after : ℤ) → StoppedCosts version asked credential greeting kind old new before after first last → first.steps ≤ last.steps
+  stopped (Some version) asked credential greeting kind old new before after s = stopped_scram _ kind old new before after s
   stopped None asked credential greeting kind old new before after s = counted 0 s.counts
 
   -- ---- a login
 
   login : (who : Option Credential) (asked : Asked) (greeting : Greeting) (old new : State) (before after : ℤ) → LoginCostsOf who asked greeting old new before after first last → first.steps ≤ last.steps
   login None asked greeting old new before after c = counted 0 c.counts
-  login (Some credential) asked greeting old new before after c = accepted (conversation_of c.mechanism) asked credential greeting old new before after c.costs
+  login (Some credential) asked greeting old new before after c = accepted (scram_in (conversation_of c.mechanism)) asked credential greeting old new before after c.costs
 
   stopped_mechanism : (credential : Credential) (asked : Asked) (greeting : Greeting) (kind : ErrorKind) (old new : State) (before after : ℤ) → StoppedMechanismCosts credential asked greeting kind old new before after first last → first.steps ≤ last.steps
   stopped_mechanism credential asked greeting kind old new before after s =
       elim s.costs [
         | inl invalid ↦ counted 0 invalid.1.counts
-        | inr c ↦ stopped (conversation_of s.mechanism) asked credential greeting kind old new before after c
+        | inr c ↦ stopped (scram_in (conversation_of s.mechanism)) asked credential greeting kind old new before after c
       ]
 
   stopped_login : (who : Option Credential) (asked : Asked) (greeting : Greeting) (kind : ErrorKind) (old new : State) (before after : ℤ) → StoppedLoginCostsOf who asked greeting kind old new before after first last → first.steps ≤ last.steps

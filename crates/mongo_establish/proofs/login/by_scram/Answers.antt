@@ -6,7 +6,4 @@ use Rattle.mongo_establish.proofs.login.by_scram.Goals as goal
 pub returns-clause-converses : goal.returns-clause-converses
 returns-clause-converses g c =
     scram_converses c.args.version (asked_over c.args.connection.now c.args.options.now (Some c.args.credential.now) c.args.inputs.now.nonces c.args.state.now.ids) c.args.credential.now c.args.connection.now.stream_description c.args.round
-    _ (search rules) c.scram_round.result c.scram_round.ensures c.authenticate_stream.result _ _ _ _ _ _ _ c.authenticate_stream.ensures.accepted (c.authenticate_stream.ensures.refused c.requires.faultless)
-
-pub returns-clause-keeps : goal.returns-clause-keeps
-returns-clause-keeps g c = c.authenticate_stream.ensures.keeps c.requires.faultless
+    _ (search rules) c.scram_round.result c.scram_round.ensures c.authenticate_stream.result _ _ _ _ _ _ _ _ c.authenticate_stream.ensures.accepted (c.authenticate_stream.ensures.refused c.requires.faultless) (c.authenticate_stream.ensures.keeps c.requires.faultless)

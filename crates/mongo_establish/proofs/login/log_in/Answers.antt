@@ -30,10 +30,13 @@ pub returns-clause-logged_in : goal.returns-clause-logged_in
 returns-clause-logged_in g c =
     log_in_accepted c.args.connection.now c.args.options.now (option_copied c.args.credential) c.args.inputs.now.nonces c.args.state.now.ids c.in-Some.credential.now (ap option_copied c.in-Some.is) c.args.round c.in-Some-mechanism_at.mechanism c.in-Some-stream_description.description c.in-Some-stream_description.is
     (c.in-Some-mechanism_at.ensures.0, λ reply like. c.in-Some-mechanism_at.ensures.1 reply (like ∙ sym c.is_some.ensures)) c.requires.spoken c.requires.made
-    (search rules) c.in-Some-conversation_of.conversation (sym c.conversation_of.ensures ∙ c.in-Some-conversation_of.is) c.converse.result _ _ _ _ _ _ c.converse.ensures.converses
+    (search rules) c.in-Some-conversation_of.conversation (sym c.conversation_of.ensures ∙ c.in-Some-conversation_of.is) c.converse.result _ _ _ _ _ _ _ c.converse.ensures.converses
 
 pub returns-clause-refused : goal.returns-clause-refused
 returns-clause-refused g c =
     log_in_stopped c.args.connection.now c.args.options.now (option_copied c.args.credential) c.args.inputs.now.nonces c.args.state.now.ids c.in-Some.credential.now (ap option_copied c.in-Some.is) c.args.round c.in-Some-mechanism_at.mechanism c.in-Some-stream_description.description c.in-Some-stream_description.is
     (c.in-Some-mechanism_at.ensures.0, λ reply like. c.in-Some-mechanism_at.ensures.1 reply (like ∙ sym c.is_some.ensures)) c.requires.spoken c.requires.made
-    (search rules) c.in-Some-conversation_of.conversation (sym c.conversation_of.ensures ∙ c.in-Some-conversation_of.is) c.converse.result _ _ _ _ _ _ c.converse.ensures.converses
+    (search rules) c.in-Some-conversation_of.conversation (sym c.conversation_of.ensures ∙ c.in-Some-conversation_of.is) c.converse.result _ _ _ _ _ _ _ c.converse.ensures.converses
+
+pub returns-clause-keeps : goal.returns-clause-keeps
+returns-clause-keeps g c = c.converse.ensures.converses.keeps
