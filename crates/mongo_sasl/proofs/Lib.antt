@@ -5,6 +5,7 @@ pub mod KeptAfter
 pub mod LastReply
 pub mod LoginEvents
 pub mod OneExchange
+pub mod NoUser
 pub mod PlainPlan
 pub mod PlainSteps
 pub mod X509Plan
