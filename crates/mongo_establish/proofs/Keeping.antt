@@ -2,7 +2,7 @@
 use Rattle.std.proofs.Common.{◌≡◌, ℕ, ℤ, ◌∙◌, refl, ap, inl, inr, Bool, true, false, Option, None, Some, is_some, is_none, Result, Ok, Err, List, codes, if◌then◌else◌}
 use Rattle.mongo_bson.specs.declared.fault.BsonFault.TheVariants.{TooLong}
 use Rattle.mongo_wire.specs.declared.error.ErrorKind.{ErrorKind}
-use Rattle.mongo_wire.specs.declared.error.ErrorKind.TheVariants.{InvalidArgument, InvalidResponse, Authentication, Command as CommandFailed, OutOfMemory}
+use Rattle.mongo_wire.specs.declared.error.ErrorKind.TheVariants.{InvalidArgument, InvalidResponse, Command as CommandFailed, OutOfMemory}
 use Rattle.mongo_wire.specs.declared.fault.ArgumentFault.{ArgumentFault}
 use Rattle.mongo_wire.specs.declared.fault.ArgumentFault.TheVariants.{Bson, ScramUsername, X509Password, X509Source, PlainUsername, PlainUsernameEmpty, PlainPassword}
 use Rattle.mongo_wire.specs.declared.fault.ResponseFault.TheVariants.{Hello as HelloFault, SessionTimeout}
@@ -20,7 +20,7 @@ use Rattle.mongo_sasl.specs.Kept.{KeepsAfter}
 use Rattle.mongo_sasl.specs.Rules.{first_broken, is_other_than, is_given}
 use Rattle.mongo_sasl.specs.Validation.{scram_rules, x509_rules, plain_rules}
 use Rattle.mongo_sasl.proofs.KeptAfter.{IsOwn, own_keeps, unbuilt_own, kept_after}
-use Rattle.mongo_scram.specs.User.{CredentialRow}
+use Rattle.mongo_scram.proofs.OwnRows.{credential_own}
 use Rattle.mongo_establish.specs.declared.conversation.Conversation.{Conversation}
 use Rattle.mongo_establish.specs.declared.conversation.Conversation.TheVariants.{Scram, Plain as PlainText, X509}
 use Rattle.mongo_establish.specs.First.{IsUnmade}
@@ -31,10 +31,6 @@ use Rattle.mongo_establish.specs.Spoken.{conversation_of, HasConversation}
 use Rattle.mongo_establish.proofs.Validated.{answer_of, by_rules}
 
 -- ---- before the hello was said
-
-credential_own : (credential : Credential) (kind : ErrorKind) → CredentialRow credential kind → IsOwn kind
-credential_own credential (Authentication fault) row = inl refl
-credential_own credential kind row = absurd row
 
 conversation_own : (conversation : Option Conversation) (credential : Credential) (kind : ErrorKind) → ConversationRow conversation credential kind → IsOwn kind
 conversation_own (Some (Scram version)) credential kind row = credential_own credential kind row
