@@ -1,18 +1,24 @@
 -- SCRAM doesn't refuse by `IncompatibleServer`, which is the establishment's own refusal of a server that names no service, nor
 -- does what two plans make that don't.
-use Rattle.std.proofs.Common.{◌≡◌, ℕ, ap, sym, subst, inl, inr, Option, None, Some, List, [], ◌∷◌}
+use Rattle.std.proofs.Common.{◌≡◌, ℕ, ap, refl, sym, ◌∙◌, subst, inl, inr, Bool, true, false, Option, None, Some, List, [], ◌∷◌}
+use Rattle.mongo_bson.specs.declared.owned_value.OwnedValue.{OwnedValue}
 use Rattle.mongo_wire.specs.declared.error.ErrorKind.{ErrorKind}
-use Rattle.mongo_wire.specs.declared.error.ErrorKind.TheVariants.{Authentication, IncompatibleServer}
-use Rattle.mongo_wire.specs.declared.auth_fault.AuthFault.TheVariants.{Malformed, NotCompleted}
-use Rattle.mongo_command.specs.Conversation.{Turn, says, asks, refuses, ends, Plan, later, passed_on, passed_later, followed_by, ending, reading, unless}
+use Rattle.mongo_wire.specs.declared.error.ErrorKind.TheVariants.{Authentication, PasswordNotAscii, IncompatibleServer}
+use Rattle.mongo_wire.specs.declared.auth_fault.AuthFault.{AuthFault}
+use Rattle.mongo_wire.specs.declared.auth_fault.AuthFault.TheVariants.{Malformed, ServerError}
+use Rattle.mongo_command.specs.Conversation.{Turn, says, asks, refuses, ends, Plan, later, passed_on, passed_later, followed_by, row_for, ending, reading, unless}
 use Rattle.mongo_command.proofs.Leads.{Never, never_ending, never_unless, never_reading, never_saying}
+use Rattle.mongo_command.proofs.Plans.{all_else, all_row}
+use Rattle.mongo_sasl.specs.declared.credential.Credential.{Credential}
+use Rattle.mongo_sasl.proofs.OtherRows.{IsOther, other, other_row, no_user_other}
 use Rattle.mongo_scram.specs.declared.scram_version.ScramVersion.{ScramVersion}
 use Rattle.mongo_scram.specs.declared.scram_version.ScramVersion.TheVariants.{Sha1, Sha256}
 use Rattle.mongo_scram.specs.declared.server_first.ServerFirst.{ServerFirst}
 use Rattle.mongo_scram.specs.declared.server_final.ServerFinal.{ServerFinal}
 use Rattle.mongo_scram.specs.User.{User, IsUser, CredentialRow}
 use Rattle.mongo_scram.specs.Key.{PasswordRow}
-use Rattle.mongo_scram.specs.Plan.{Speculated, Handed, Challenge, start_said, close_said, ChallengeRow, challenged, opened, opening, LastRow, closed, closing, scram_plan}
+use Rattle.mongo_scram.specs.Plan.{Speculated, Handed, Challenge, nonce_by, verifier_by, start_said, close_said, ChallengeRow, challenged, opened, opening, LastRow, closed, closing, scram_plan}
+use Rattle.mongo_scram.specs.Validity.{ServerFirstRow, ServerFinalRow}
 use Rattle.mongo_scram.specs.Replies.{CarriesFirst, FirstReplyRow, CarriesFinal, FinalReplyRow}
 use Rattle.mongo_scram.proofs.ScramPlan.{challenge_of}
 
@@ -41,17 +47,33 @@ fits_followed plan next p q [] h = fits_passed (λ answer. next answer []) h.0 (
 fits_followed plan next p q (event ∷ events) h =
     fits_later (λ answer. next answer (event ∷ events)) (followed_by (later plan event) next events) h.0 (fits_followed (later plan event) next (λ past. p (event ∷ past)) q events) (λ answer. q answer (event ∷ events)) h.2
 
+-- ---- rows
+
+credential_other : (credential : Credential) (kind : ErrorKind) → CredentialRow credential kind → IsOther kind
+credential_other credential = all_else IsOther _ _ (no_user_other credential) (other_row _ _)
+
+first_other : (first : ServerFirst) (nonce : List ℕ) (max_iterations : ℕ) (kind : ErrorKind) → ServerFirstRow first nonce max_iterations kind → IsOther kind
+first_other first nonce max_iterations =
+    all_else IsOther _ _ (other_row _ _) (all_else IsOther _ _ (other_row _ _) (all_else IsOther _ _ (other_row _ _) (other_row _ _)))
+
+no_ascii : IsOther PasswordNotAscii
+no_ascii is = cc
+
+password_other : (version : ScramVersion) (password : List ℕ) (kind : ErrorKind) → PasswordRow version password kind → IsOther kind
+password_other Sha1 password = λ kind row. absurd row
+password_other Sha256 password = all_else IsOther _ _ (all_row IsOther PasswordNotAscii _ no_ascii) (other_row _ _)
+
+final_other : (last : ServerFinal) (conversation : OwnedValue) (owed : List ℕ) (kind : ErrorKind) → ServerFinalRow last conversation owed kind → IsOther kind
+final_other last conversation owed =
+    all_else IsOther _ _ (other_row _ _) (all_else IsOther _ _ (λ kind row is. other (ServerError row.0) (sym row.1 ∙ is)) (all_else IsOther _ _ (other_row _ _) (other_row _ _)))
+
 -- ---- SCRAM
 
 no_first_reply : (reply : List ℕ) → FirstReplyRow reply IncompatibleServer → ⊥
 no_first_reply reply row = elim row [ inl x ↦ x | inr x ↦ x.1 ]
 
-no_password : (version : ScramVersion) (password : List ℕ) → PasswordRow version password IncompatibleServer → ⊥
-no_password Sha1 password row = row
-no_password Sha256 password row = row
-
 no_challenge : (handed : Handed) (c : Challenge) → ChallengeRow handed c IncompatibleServer → ⊥
-no_challenge handed c row = elim row [ inl x ↦ x | inr x ↦ no_password handed.version c.user.password x.1 ]
+no_challenge handed c row = all_else IsOther _ _ (first_other c.first (nonce_by handed) handed.max_iterations) (password_other handed.version c.user.password) IncompatibleServer row refl
 
 -- after the server's first message and its last
 abbrev judged : Handed → User → ServerFirst → Plan Challenge
@@ -70,19 +92,13 @@ fits_opened None handed user = never_saying IncompatibleServer (start_said hande
 fits_opened (Some speculated) handed user = fits_challenged handed user speculated.reply
 
 fits_opening : (handed : Handed) → Fits (opening handed)
-fits_opening handed = never_unless IncompatibleServer (CredentialRow handed.credential) (reading (IsUser handed.credential) (opened handed.speculated handed)) (λ row. row) (never_reading IncompatibleServer (IsUser handed.credential) (opened handed.speculated handed) (fits_opened handed.speculated handed))
-
-malformed : IncompatibleServer ≡ Authentication Malformed → ⊥
-malformed is = cc
-
-undone : IncompatibleServer ≡ Authentication NotCompleted → ⊥
-undone is = cc
+fits_opening handed = never_unless IncompatibleServer (CredentialRow handed.credential) (reading (IsUser handed.credential) (opened handed.speculated handed)) (λ row. credential_other handed.credential IncompatibleServer row refl) (never_reading IncompatibleServer (IsUser handed.credential) (opened handed.speculated handed) (fits_opened handed.speculated handed))
 
 no_final_reply : (reply : List ℕ) → FinalReplyRow reply IncompatibleServer → ⊥
-no_final_reply reply row = elim row [ inl x ↦ x | inr x ↦ malformed x.1.0 ]
+no_final_reply reply row = elim row [ inl x ↦ x | inr x ↦ other Malformed (sym x.1.0) ]
 
 no_last : (handed : Handed) (c : Challenge) (last : ServerFinal) → LastRow handed c last IncompatibleServer → ⊥
-no_last handed c last row = elim row [ inl x ↦ x | inr x ↦ undone x.1.0 ]
+no_last handed c last row = all_else IsOther _ _ (final_other last c.first.conversation_id (verifier_by handed c)) (other_row _ _) IncompatibleServer row refl
 
 fits_closed : (handed : Handed) (c : Challenge) (reply : List ℕ) → Fits (closed handed c reply)
 fits_closed handed c reply =

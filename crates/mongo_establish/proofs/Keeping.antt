@@ -2,7 +2,7 @@
 use Rattle.std.proofs.Common.{ℕ, ℤ, refl, ap, inl, inr, false, Option, None, Some, List}
 use Rattle.mongo_bson.specs.declared.fault.BsonFault.TheVariants.{TooLong}
 use Rattle.mongo_wire.specs.declared.error.ErrorKind.{ErrorKind}
-use Rattle.mongo_wire.specs.declared.error.ErrorKind.TheVariants.{InvalidArgument, InvalidResponse, Authentication, Command as CommandFailed, OutOfMemory}
+use Rattle.mongo_wire.specs.declared.error.ErrorKind.TheVariants.{InvalidArgument, InvalidResponse, Command as CommandFailed, OutOfMemory}
 use Rattle.mongo_wire.specs.declared.fault.ArgumentFault.TheVariants.{Bson}
 use Rattle.mongo_wire.specs.declared.fault.ResponseFault.TheVariants.{Hello as HelloFault, SessionTimeout}
 use Rattle.mongo_wire.specs.declared.message.Message.{Message}
@@ -18,7 +18,7 @@ use Rattle.mongo_sasl.specs.declared.mechanism.AuthMechanism.TheVariants.{MongoD
 use Rattle.mongo_sasl.specs.Kept.{KeepsAfter}
 use Rattle.mongo_sasl.proofs.CredentialAnswers.{fault_ends_none}
 use Rattle.mongo_sasl.proofs.KeptAfter.{IsOwn, own_keeps, unbuilt_own, kept_after}
-use Rattle.mongo_scram.specs.User.{CredentialRow}
+use Rattle.mongo_scram.proofs.OwnRows.{credential_own}
 use Rattle.mongo_establish.specs.declared.conversation.Conversation.{Conversation}
 use Rattle.mongo_establish.specs.declared.conversation.Conversation.TheVariants.{Scram}
 use Rattle.mongo_establish.specs.First.{IsUnmade}
@@ -28,10 +28,6 @@ use Rattle.mongo_establish.specs.Speculation.{mechanism_before, ConversationRow,
 use Rattle.mongo_establish.specs.Spoken.{conversation_of}
 
 -- ---- before the hello was said
-
-credential_own : (credential : Credential) (kind : ErrorKind) → CredentialRow credential kind → IsOwn kind
-credential_own credential (Authentication fault) row = inl refl
-credential_own credential kind row = absurd row
 
 conversation_own : (conversation : Option Conversation) (credential : Credential) (kind : ErrorKind) → ConversationRow conversation credential kind → IsOwn kind
 conversation_own (Some (Scram version)) credential kind row = credential_own credential kind row

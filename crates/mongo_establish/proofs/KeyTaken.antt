@@ -2,14 +2,14 @@
 use Rattle.std.proofs.Common.{◌≡◌, ◌⊎◌, ◌∙◌, ℕ, ℤ, refl, ap, subst, sym, inl, inr, Bool, true, false, Option, None, Some, Result, Ok, Err, List, Contains, codes, unwrap_or, if◌then◌else◌, IsSome, IfErr}
 use Rattle.mongo_wire.specs.declared.error.Error.{Error}
 use Rattle.mongo_wire.specs.declared.error.ErrorKind.{ErrorKind}
-use Rattle.mongo_wire.specs.declared.error.ErrorKind.TheVariants.{Authentication, IncompatibleServer, OutOfMemory}
-use Rattle.mongo_wire.specs.declared.auth_fault.AuthFault.TheVariants.{NoUsername, NoPassword, PropertiesGiven}
+use Rattle.mongo_wire.specs.declared.error.ErrorKind.TheVariants.{IncompatibleServer, OutOfMemory}
 use Rattle.mongo_wire.specs.Outside.{State, Rose}
 use Rattle.mongo_command.specs.declared.connection.Connection.{Connection}
 use Rattle.mongo_command.specs.declared.stream_description.StreamDescription.{StreamDescription}
 use Rattle.mongo_command.specs.Conversation.{refuses, ends, HasNone, ending, Reached, Stopped}
 use Rattle.mongo_command.proofs.FollowedBy.{reached_both, stopped_first}
 use Rattle.mongo_command.proofs.Leads.{reached_led, stopped_led}
+use Rattle.mongo_command.proofs.Plans.{none_first, none_second, row_denied}
 use Rattle.mongo_command.proofs.Steps.{reached_ending, reached_unless, stopped_unless}
 use Rattle.mongo_sasl.specs.declared.credential.Credential.{Credential}
 use Rattle.mongo_sasl.specs.declared.mechanism.AuthMechanism.{AuthMechanism}
@@ -114,9 +114,6 @@ there : {X : Type 0} (o : Option X) → (o ≡ None → ⊥) → (x : X) × (o �
 there None some = absurd (some refl)
 there (Some x) some = (x, refl)
 
-is_there : {X : Type 0} (o : Option X) (x : X) → o ≡ Some x → IsSome o
-is_there o x is = subst IsSome (sym is) refl
-
 absent : {X : Type 0} (o : Option X) → (IsSome o → ⊥) → o ≡ None
 absent None none = refl
 absent (Some x) none = absurd (none refl)
@@ -124,10 +121,10 @@ absent (Some x) none = absurd (none refl)
 -- a credential without a row has a user
 user_in : (credential : Credential) → HasNone (CredentialRow credential) → (user : User) × IsUser credential user
 user_in credential none =
-    let username = there credential.username (none (Authentication NoUsername)) in
-    let named = is_there credential.username username.0 username.1 in
-    let password = there credential.password (λ is. none (Authentication NoPassword) (named, is)) in
-    let properties = absent credential.mechanism_properties (λ given. none (Authentication PropertiesGiven) (named, is_there credential.password password.0 password.1, given)) in
+    let named = none_first _ _ none in
+    let username = there credential.username (row_denied _ _ (none_first _ _ named)) in
+    let password = there credential.password (row_denied _ _ (none_second _ _ named)) in
+    let properties = absent credential.mechanism_properties (row_denied _ _ (none_second _ _ none)) in
     let user : User = record { username = username.0; password = password.0; source = unwrap_or credential.source (codes "admin") } in
     (user, record { username = username.1; password = password.1; properties = properties; source = refl })
 

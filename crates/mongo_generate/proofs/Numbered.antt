@@ -1,14 +1,15 @@
 -- The login of a number is the client's side of a possible exchange.
-use Rattle.std.proofs.Common.{◌≡◌, ◌⊎◌, ℕ, zero, suc, ◌+◌, ◌%◌, ◌<◌, ◌≤◌, Result, Ok, Err, IfOk, List, [], ◌∷◌, ◌++◌, length, replicate, codes, decimal, inl, inr, get_or, ap, ◌∙◌, subst, arith}
+use Rattle.std.proofs.Common.{◌≡◌, ◌⊎◌, ℕ, zero, suc, ◌+◌, ◌%◌, ◌<◌, ◌≤◌, Result, Ok, Err, IfOk, List, [], ◌∷◌, ◌++◌, length, replicate, codes, decimal, inl, inr, get_or, ap, ◌∙◌, subst, arith, Any}
 use Rattle.std.proofs.lemmas.Fmt.{decimal_digit}
 use Rattle.std.proofs.lemmas.List.{length-replicate}
-use Rattle.mongo_wire.specs.declared.auth_fault.AuthFault.TheVariants.{PasswordControl}
 use Rattle.mongo_wire.specs.declared.error.ErrorKind.{ErrorKind}
-use Rattle.mongo_wire.specs.declared.error.ErrorKind.TheVariants.{Authentication, PasswordNotAscii, OutOfMemory}
+use Rattle.mongo_wire.specs.declared.error.ErrorKind.TheVariants.{OutOfMemory}
+use Rattle.mongo_command.specs.Conversation.{HasNone}
+use Rattle.mongo_command.proofs.Plans.{none_else, no_row}
 use Rattle.mongo_scram.specs.declared.scram_version.ScramVersion.{ScramVersion}
 use Rattle.mongo_scram.specs.declared.scram_version.ScramVersion.TheVariants.{Sha1, Sha256}
 use Rattle.mongo_scram.specs.Base64.{base64_of}
-use Rattle.mongo_scram.specs.Key.{PasswordRow}
+use Rattle.mongo_scram.specs.Key.{IsControl, PasswordRow}
 use Rattle.mongo_scram.specs.Messages.{open_message}
 use Rattle.mongo_generate.specs.declared.user_login.Login.{Login}
 use Rattle.mongo_generate.specs.Generated.{version_at, exchange_at}
@@ -22,17 +23,20 @@ at_most d zero x few within at = let e : 112 ≡ x = at in (omega arith, omega a
 at_most d (suc zero) x few within at = let e : 48 + d ≡ x = at in (omega arith, omega arith)
 at_most d (suc (suc k)) x few within at = absurd (omega arith)
 
-no_row : (version : ScramVersion) (d : ℕ) → d < 10 → (kind : ErrorKind) → PasswordRow version (112 ∷ (48 + d) ∷ []) kind → ⊥
-no_row Sha1 d few kind row = absurd row
-no_row Sha256 d few PasswordNotAscii row = let b = at_most d row.0 row.1 few row.2 row.3 in let high = row.4 in absurd (omega (arith, b.0, b.1))
-no_row Sha256 d few (Authentication PasswordControl) row =
-    let any = row.1 in
+no_high : (d : ℕ) → d < 10 → Any (λ byte. 128 ≤ byte) (112 ∷ (48 + d) ∷ []) → ⊥
+no_high d few any = let b = at_most d any.0 any.1 few any.2 any.3 in let high = any.4 in absurd (omega (arith, b.0, b.1))
+
+no_control : (d : ℕ) → d < 10 → Any IsControl (112 ∷ (48 + d) ∷ []) → ⊥
+no_control d few any =
     let b = at_most d any.0 any.1 few any.2 any.3 in
     elim any.4 [ inl low ↦ absurd (omega (arith, b.0)) | inr last ↦ absurd (omega (arith, b.1)) ]
-no_row Sha256 d few kind row = absurd row
+
+none_applies : (version : ScramVersion) (d : ℕ) → d < 10 → HasNone (PasswordRow version (112 ∷ (48 + d) ∷ []))
+none_applies Sha1 d few = λ kind row. absurd row
+none_applies Sha256 d few = none_else _ _ (no_row _ _ (no_high d few)) (no_row _ _ (no_control d few))
 
 usable : (version : ScramVersion) (d : ℕ) → d < 10 → (kind : ErrorKind) → PasswordRow version (112 ∷ decimal d) kind → ⊥
-usable version d few kind row = no_row version d few kind (subst (λ digits. PasswordRow version (112 ∷ digits) kind) (decimal_digit d few) row)
+usable version d few kind row = none_applies version d few kind (subst (λ digits. PasswordRow version (112 ∷ digits) kind) (decimal_digit d few) row)
 
 -- a user of its password is refused for want of memory alone
 pub only_memory : (k : ℕ) (version : ScramVersion) (password : List ℕ) (kind : ErrorKind) → version ≡ version_at k → password ≡ codes "p" ++ decimal (k % 3) → PasswordRow version password kind ⊎ (kind ≡ OutOfMemory) → kind ≡ OutOfMemory

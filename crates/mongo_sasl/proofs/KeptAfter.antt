@@ -2,19 +2,23 @@
 use Rattle.std.proofs.Common.{◌≡◌, ◌⊎◌, ℤ, true, false, refl, ap, sym, subst, inl, inr, Option, None, Some, Result, Ok, Err, List, ℕ, IfErr, if◌then◌else◌}
 use Rattle.std.specs.Result.{IsErrAnd}
 use Rattle.mongo_bson.specs.declared.fault.BsonFault.TheVariants.{TooLong}
+use Rattle.mongo_wire.specs.declared.auth_fault.AuthFault.{AuthFault}
 use Rattle.mongo_wire.specs.declared.error.Error.{Error}
 use Rattle.mongo_wire.specs.declared.error.ErrorKind.{ErrorKind}
 use Rattle.mongo_wire.specs.declared.error.ErrorKind.TheVariants.{InvalidArgument, Authentication, WriteFault, OutOfMemory}
 use Rattle.mongo_wire.specs.declared.fault.ArgumentFault.TheVariants.{Bson, CheckedFailure}
 use Rattle.mongo_wire.specs.declared.message.Message.{Message}
 use Rattle.mongo_wire.specs.Outside.{State}
+use Rattle.mongo_command.specs.Conversation.{row_for}
 use Rattle.mongo_command.specs.Exchange.{SendRefused, ExchangeRefused}
 use Rattle.mongo_command.specs.Fault.{is_kept}
 use Rattle.mongo_command.proofs.Kept.{received_kept}
+use Rattle.mongo_command.proofs.Plans.{all_else, all_row}
 use Rattle.mongo_sasl.specs.declared.credential.Credential.{Credential}
 use Rattle.mongo_sasl.specs.Commands.{IsNotBuilt}
+use Rattle.mongo_sasl.specs.Credential.{NoUserRow}
 use Rattle.mongo_sasl.specs.Kept.{KeepsAfter}
-use Rattle.mongo_sasl.specs.Plain.{PlainRow, FinishedRow}
+use Rattle.mongo_sasl.specs.Plain.{FinishedRow}
 use Rattle.mongo_sasl.specs.Reply.{SaslRow}
 use Rattle.mongo_sasl.specs.X509.{X509Row}
 
@@ -52,9 +56,11 @@ own_keeps OutOfMemory kept own none = inl none
 own_keeps kind kept (inl row) none = subst (λ ends. kept ≡ (if ends then Some kind else None)) (sym row) none
 own_keeps kind kept (inr memory) none = subst (λ k. KeepsAfter k kept) (sym memory) (inl none)
 
-pub plain_own : (credential : Credential) (kind : ErrorKind) → PlainRow credential kind → IsOwn kind
-plain_own credential (Authentication fault) row = inl refl
-plain_own credential kind row = absurd row
+pub refused_own : (fault : AuthFault) (Holds : Type 0) (kind : ErrorKind) → row_for (Authentication fault) Holds kind → IsOwn kind
+refused_own fault Holds = all_row IsOwn (Authentication fault) Holds (inl refl)
+
+pub no_user_own : (credential : Credential) (kind : ErrorKind) → NoUserRow credential kind → IsOwn kind
+no_user_own credential = all_else IsOwn _ _ (refused_own _ _) (refused_own _ _)
 
 pub unbuilt_own : (body : List ℕ) (kind : ErrorKind) → IsNotBuilt body kind → IsOwn kind
 unbuilt_own body (InvalidArgument (Bson TooLong)) row = inl refl

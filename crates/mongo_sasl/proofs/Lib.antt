@@ -5,10 +5,12 @@ pub mod KeptAfter
 pub mod LastReply
 pub mod LoginEvents
 pub mod OneExchange
+pub mod NoUser
 pub mod PlainPlan
 pub mod PlainSteps
 pub mod X509Plan
 pub mod X509Steps
+pub mod OtherRows
 pub mod Joining
 pub mod PlainJoins
 pub mod X509Joins

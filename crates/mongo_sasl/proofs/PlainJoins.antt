@@ -1,25 +1,23 @@
 -- A login may be by PLAIN.
-use Rattle.std.proofs.Common.{◌≡◌, ℕ, List}
+use Rattle.std.proofs.Common.{ℕ, List, refl, sym}
 use Rattle.mongo_wire.specs.declared.auth_fault.AuthFault.TheVariants.{Malformed}
-use Rattle.mongo_wire.specs.declared.error.ErrorKind.TheVariants.{Authentication, IncompatibleServer}
+use Rattle.mongo_wire.specs.declared.error.ErrorKind.TheVariants.{IncompatibleServer}
 use Rattle.mongo_command.specs.Conversation.{ending, reading, unless, saying}
 use Rattle.mongo_command.proofs.Leads.{Never, never_ending, never_unless, never_reading, never_saying}
 use Rattle.mongo_sasl.specs.Plain.{PlainHanded, PlainRow, IsPlainUser, UnfinishedRow, plain_said, plain_heard, plain_plan, IsPlainLogin}
 use Rattle.mongo_sasl.specs.Reply.{IsSaslReply, SaslRow}
 use Rattle.mongo_sasl.proofs.Joining.{JoinsLogin}
+use Rattle.mongo_sasl.proofs.OtherRows.{other, no_user_other}
 use Rattle.mongo_sasl.proofs.PlainPlan.{one_plain, plain_ended, plain_ends}
-
-malformed : IncompatibleServer ≡ Authentication Malformed → ⊥
-malformed is = cc
 
 never_heard : (reply : List ℕ) → Never IncompatibleServer (plain_heard reply)
 never_heard reply =
     never_unless IncompatibleServer (SaslRow reply) (reading (IsSaslReply reply) (λ sasl. unless (UnfinishedRow sasl) (ending tt))) (λ row. row) (never_reading IncompatibleServer (IsSaslReply reply) (λ sasl. unless (UnfinishedRow sasl) (ending tt)) (λ sasl.
-    never_unless IncompatibleServer (UnfinishedRow sasl) (ending tt) (λ row. malformed row.0) (never_ending IncompatibleServer tt)))
+    never_unless IncompatibleServer (UnfinishedRow sasl) (ending tt) (λ row. other Malformed (sym row.0)) (never_ending IncompatibleServer tt)))
 
 never_plain : (handed : PlainHanded) → Never IncompatibleServer (plain_plan handed)
 never_plain handed =
-    never_unless IncompatibleServer (PlainRow handed.credential) (reading (IsPlainUser handed.credential) (λ user. saying (plain_said handed user) plain_heard)) (λ row. row)
+    never_unless IncompatibleServer (PlainRow handed.credential) (reading (IsPlainUser handed.credential) (λ user. saying (plain_said handed user) plain_heard)) (λ row. no_user_other handed.credential IncompatibleServer row refl)
     (never_reading IncompatibleServer (IsPlainUser handed.credential) (λ user. saying (plain_said handed user) plain_heard) (λ user. never_saying IncompatibleServer (plain_said handed user) plain_heard never_heard))
 
 pub plain_joins : (handed : PlainHanded) → JoinsLogin (plain_plan handed) (IsPlainLogin handed) handed.maximum

@@ -1,7 +1,6 @@
 -- The plan of a PLAIN login has one turn, and its end is a login by the script, and the other way round.
-use Rattle.std.proofs.Common.{◌≡◌, ℕ, Bool, true, false, refl, ap, sym, ◌∙◌, subst, inr, Option, None, Some, IsSome, List, [], ◌∷◌}
-use Rattle.std.proofs.lemmas.Bool.{false≢true}
-use Rattle.mongo_wire.specs.declared.auth_fault.AuthFault.TheVariants.{NoUsername, NoPassword, Malformed}
+use Rattle.std.proofs.Common.{◌≡◌, ℕ, Bool, true, false, refl, ap, sym, ◌∙◌, subst, inr, Some, List, [], ◌∷◌}
+use Rattle.mongo_wire.specs.declared.auth_fault.AuthFault.TheVariants.{Malformed}
 use Rattle.mongo_wire.specs.declared.error.ErrorKind.{ErrorKind}
 use Rattle.mongo_wire.specs.declared.error.ErrorKind.TheVariants.{Authentication}
 use Rattle.mongo_command.specs.Conversation.{Event, exchanged, ends, IsOne, HasNone, HasOneTurn, ending}
@@ -12,6 +11,7 @@ use Rattle.mongo_sasl.specs.declared.sasl_response.SaslResponse.{SaslResponse}
 use Rattle.mongo_sasl.specs.Plain.{PlainUser, IsPlainUser, PlainRow, PlainHanded, plain_said, UnfinishedRow, plain_heard, plain_plan, IsPlainLogin, IsFinished}
 use Rattle.mongo_sasl.specs.Reply.{IsSaslReply, SaslRow}
 use Rattle.mongo_sasl.proofs.LoginEvents.{replies_in, documents_in, AreWithin, LoginEnd, EndsBy}
+use Rattle.mongo_sasl.proofs.NoUser.{one_no_user, user_named}
 use Rattle.mongo_sasl.proofs.OneReply.{one_sasl_reply, one_sasl_row, sasl_reply_no_row}
 
 -- ---- the credential
@@ -30,26 +30,8 @@ one_plain_user credential = λ a b p q.
     let sources = p.source ∙ sym q.source in
     λ i. user_by (names i) (passwords i) (sources i)
 
-not_none : (given : Option (List ℕ)) → IsSome given → given ≡ None → ⊥
-not_none None some is = false≢true some
-not_none (Some text) some is = cc
-
-one_plain_row : (credential : Credential) → IsOne (PlainRow credential)
-one_plain_row credential (Authentication NoUsername) (Authentication NoUsername) p q = refl
-one_plain_row credential (Authentication NoUsername) (Authentication NoPassword) p q = absurd (not_none credential.username q.0 p)
-one_plain_row credential (Authentication NoPassword) (Authentication NoUsername) p q = absurd (not_none credential.username p.0 q)
-one_plain_row credential (Authentication NoPassword) (Authentication NoPassword) p q = refl
-one_plain_row credential (Authentication NoUsername) other p q = absurd q
-one_plain_row credential (Authentication NoPassword) other p q = absurd q
-one_plain_row credential kind other p q = absurd p
-
-there : (given : Option (List ℕ)) (text : List ℕ) → given ≡ Some text → given ≡ None → ⊥
-there given text is none = let no : Some text ≡ None = sym is ∙ none in cc
-
 pub no_plain_row : (credential : Credential) (user : PlainUser) → IsPlainUser credential user → HasNone (PlainRow credential)
-no_plain_row credential user is (Authentication NoUsername) row = there credential.username user.username is.username row
-no_plain_row credential user is (Authentication NoPassword) row = there credential.password user.password is.password row.1
-no_plain_row credential user is kind row = row
+no_plain_row credential user is = user_named credential user.username user.password is.username is.password
 
 -- ---- the reply
 
@@ -69,7 +51,7 @@ one_heard : (reply : List ℕ) → HasOneTurn (plain_heard reply)
 one_heard reply = one_unless _ _ (one_sasl_row reply) (one_reading _ _ (one_sasl_reply reply) (λ sasl. one_unless _ _ (one_unfinished sasl) (one_ending tt)))
 
 pub one_plain : (handed : PlainHanded) → HasOneTurn (plain_plan handed)
-one_plain handed = one_unless _ _ (one_plain_row handed.credential) (one_reading _ _ (one_plain_user handed.credential) (λ user. one_saying (plain_said handed user) plain_heard one_heard))
+one_plain handed = one_unless _ _ (one_no_user handed.credential) (one_reading _ _ (one_plain_user handed.credential) (λ user. one_saying (plain_said handed user) plain_heard one_heard))
 
 -- ---- an end is a login
 

@@ -4,13 +4,21 @@ use Rattle.mongo_bson.specs.Document.{Element, spell}
 use Rattle.mongo_bson.specs.Framed.{body_of, enclosed}
 use Rattle.mongo_bson.specs.declared.fault.BsonFault.TheVariants.{TooLong}
 use Rattle.mongo_wire.specs.declared.error.ErrorKind.{ErrorKind}
-use Rattle.mongo_wire.specs.declared.error.ErrorKind.TheVariants.{InvalidArgument, OutOfMemory}
+use Rattle.mongo_wire.specs.declared.error.ErrorKind.TheVariants.{InvalidArgument, Authentication, OutOfMemory}
+use Rattle.mongo_wire.specs.declared.auth_fault.AuthFault.TheVariants.{NoUsername, NoPassword}
 use Rattle.mongo_wire.specs.declared.fault.ArgumentFault.TheVariants.{Bson}
+use Rattle.mongo_command.specs.Conversation.{or_else, row_for}
 use Rattle.mongo_command.specs.Literal.{text_element}
 use Rattle.mongo_command.specs.Keys.{sasl_supported_mechs_key}
 use Rattle.mongo_sasl.specs.declared.mechanism.AuthMechanism.{AuthMechanism}
 use Rattle.mongo_sasl.specs.declared.credential.Credential.{Credential}
 use Rattle.mongo_sasl.specs.Mechanism.{source_of}
+
+-- why a credential names no user with a password: the first row that applies
+abbrev pub NoUserRow : Credential → ErrorKind → Type 0
+NoUserRow credential =
+    or_else (row_for (Authentication NoUsername) (credential.username ≡ None))
+    (row_for (Authentication NoPassword) (credential.password ≡ None))
 
 -- the database of a credential's mechanism, whatever database the credential names
 abbrev pub resolved_source : Option AuthMechanism → List ℕ

@@ -1,8 +1,8 @@
 -- PLAIN, RFC 4616: one command carries the user name and the password as they are, and its reply ends the login.
-use Rattle.std.specs.Prelude.{◌≡◌, ℕ, ℤ, ◌⊎◌, true, false, Option, None, Some, IsSome, unwrap_or, List, [], ◌∷◌, ◌++◌, codes}
+use Rattle.std.specs.Prelude.{◌≡◌, ℕ, ℤ, ◌⊎◌, true, false, Option, Some, unwrap_or, List, [], ◌∷◌, ◌++◌, codes}
 use Rattle.mongo_wire.specs.declared.error.ErrorKind.{ErrorKind}
 use Rattle.mongo_wire.specs.declared.error.ErrorKind.TheVariants.{Authentication}
-use Rattle.mongo_wire.specs.declared.auth_fault.AuthFault.TheVariants.{NoUsername, NoPassword, Malformed}
+use Rattle.mongo_wire.specs.declared.auth_fault.AuthFault.TheVariants.{Malformed}
 use Rattle.mongo_command.specs.declared.command.Command.{Command}
 use Rattle.mongo_command.specs.declared.server_api.ServerApi.{ServerApi}
 use Rattle.mongo_command.specs.Command.{command_of, command_document}
@@ -12,6 +12,7 @@ use Rattle.mongo_sasl.specs.declared.mechanism.AuthMechanism.TheVariants.{Plain}
 use Rattle.mongo_sasl.specs.declared.plain.Login.{Login}
 use Rattle.mongo_sasl.specs.declared.sasl_response.SaslResponse.{SaslResponse}
 use Rattle.mongo_sasl.specs.Commands.{start_body}
+use Rattle.mongo_sasl.specs.Credential.{NoUserRow}
 use Rattle.mongo_sasl.specs.Reply.{IsSaslReply, SaslRow}
 use Rattle.mongo_sasl.specs.Keys.{sasl_start_key}
 
@@ -34,11 +35,9 @@ pub record IsPlainUser (credential : Credential) (user : PlainUser) : Type 0 whe
   pub password : credential.password ≡ Some user.password
   pub source : user.source ≡ unwrap_or credential.source (codes "$external")
 
--- why a credential has no login by PLAIN: the first row that applies
+-- why a credential has no login by PLAIN
 abbrev pub PlainRow : Credential → ErrorKind → Type 0
-PlainRow credential (Authentication NoUsername) = credential.username ≡ None
-PlainRow credential (Authentication NoPassword) = IsSome credential.username × (credential.password ≡ None)
-PlainRow credential kind = ⊥
+PlainRow credential = NoUserRow credential
 
 abbrev pub plain_body : PlainUser → List ℕ
 plain_body user = start_body Plain (payload_of user.username user.password)

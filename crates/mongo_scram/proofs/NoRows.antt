@@ -1,18 +1,20 @@
 -- Where no row applies, the message or the credential is one that a client takes, and the other way round.
-use Rattle.std.proofs.Common.{◌≡◌, ◌≢◌, ℕ, ◌<◌, ◌≤◌, Bool, true, false, Option, None, Some, List, length, drop, refl, sym, ap, ◌∙◌, arith, inl, inr, Decides, nat_eq}
+use Rattle.std.proofs.Common.{◌≡◌, ◌≢◌, ℕ, ◌<◌, ◌≤◌, Bool, true, false, Option, None, Some, List, length, drop, refl, sym, ap, ◌∙◌, arith, Decides, nat_eq}
 use Rattle.std.specs.List.{starts_with}
+use Rattle.std.proofs.lemmas.Bool.{false≢true}
 use Rattle.std.proofs.lemmas.Slice.Eq.{starts_is, bytes_eq-Decides}
 use Rattle.std.proofs.lemmas.Bool.Decides.{Decides-eqb}
 use Rattle.mongo_bson.specs.declared.owned_value.OwnedValue.{OwnedValue}
 use Rattle.mongo_wire.specs.declared.error.ErrorKind.{ErrorKind}
 use Rattle.mongo_wire.specs.declared.error.ErrorKind.TheVariants.{Authentication}
-use Rattle.mongo_wire.specs.declared.auth_fault.AuthFault.TheVariants.{EndedEarly, Nonce, CountLow, CountHigh, Conversation, ServerError, Malformed, NotCompleted, Verifier as WrongVerifier}
+use Rattle.mongo_wire.specs.declared.auth_fault.AuthFault.TheVariants.{ServerError, NotCompleted}
 use Rattle.mongo_command.specs.Conversation.{HasNone}
+use Rattle.mongo_command.proofs.Plans.{none_first, none_second, none_else, no_row, row_denied}
 use Rattle.mongo_scram.specs.declared.server_first.ServerFirst.{ServerFirst}
 use Rattle.mongo_scram.specs.declared.server_final.ServerFinal.{ServerFinal}
 use Rattle.mongo_scram.specs.declared.server_final.ServerFinalBody.{ServerFinalBody}
 use Rattle.mongo_scram.specs.declared.server_final.ServerFinalBody.TheVariants.{Error, Verifier}
-use Rattle.mongo_scram.specs.Validity.{BeginsWith, least_count, IsValidFirst, ServerFirstRow, IsValidFinal, ServerFinalRow}
+use Rattle.mongo_scram.specs.Validity.{BeginsWith, least_count, IsValidFirst, ServerFirstRow, IsValidFinal, ServerErrorRow, ServerFinalRow}
 
 -- ---- what can be decided
 
@@ -52,31 +54,38 @@ same_value a b h =
 
 pub valid_first : (first : ServerFirst) (nonce : List ℕ) (max_iterations : ℕ) → HasNone (ServerFirstRow first nonce max_iterations) → IsValidFirst first nonce max_iterations
 valid_first first nonce max_iterations none =
-    let goes_on = not_true first.done (λ is. none (Authentication EndedEarly) is) in
-    let begins = begun first.nonce nonce (λ other. none (Authentication Nonce) (goes_on, other)) in
-    let enough = not_less first.i least_count (λ low. none (Authentication CountLow) (goes_on, begins, low)) in
-    let within = not_less max_iterations first.i (λ high. none (Authentication CountHigh) (goes_on, begins, enough, high)) in
-    record { goes_on = goes_on; begins = begins; enough = enough; within = within }
+    let after_done = none_second _ _ none in
+    let after_nonce = none_second _ _ after_done in
+    record {
+      goes_on = not_true first.done (row_denied _ _ (none_first _ _ none));
+      begins = begun first.nonce nonce (row_denied _ _ (none_first _ _ after_done));
+      enough = not_less first.i least_count (row_denied _ _ (none_first _ _ after_nonce));
+      within = not_less max_iterations first.i (row_denied _ _ (none_second _ _ after_nonce));
+    }
 
 pub valid_first_row : (first : ServerFirst) (nonce : List ℕ) (max_iterations : ℕ) → IsValidFirst first nonce max_iterations → HasNone (ServerFirstRow first nonce max_iterations)
-valid_first_row first nonce max_iterations valid (Authentication EndedEarly) row = let no : true ≡ false = sym row ∙ valid.goes_on in cc
-valid_first_row first nonce max_iterations valid (Authentication Nonce) row = row.1 valid.begins
-valid_first_row first nonce max_iterations valid (Authentication CountLow) row = omega (arith, row.2, valid.enough)
-valid_first_row first nonce max_iterations valid (Authentication CountHigh) row = omega (arith, row.3, valid.within)
-valid_first_row first nonce max_iterations valid kind row = row
+valid_first_row first nonce max_iterations valid =
+    none_else _ _ (no_row _ _ (λ done. false≢true (sym valid.goes_on ∙ done)))
+    (none_else _ _ (no_row _ _ (λ other. other valid.begins))
+    (none_else _ _ (no_row _ _ (λ low. omega (arith, low, valid.enough)))
+    (no_row _ _ (λ high. omega (arith, high, valid.within)))))
 
 -- ---- the server's last message
 
-verified : (last : ServerFinal) (conversation : OwnedValue) (owed : List ℕ) → HasNone (ServerFinalRow last conversation owed) → last.conversation_id ≡ conversation → (body : ServerFinalBody) → last.body ≡ body → last.body ≡ Verifier (Some owed)
-verified last conversation owed none same (Error text) is = absurd (none (Authentication (ServerError text)) (same, is))
-verified last conversation owed none same (Verifier None) is = absurd (none (Authentication Malformed) (same, is))
-verified last conversation owed none same (Verifier (Some bytes)) is =
-    is ∙ ap (λ b. Verifier (Some b)) (same_bytes bytes owed (λ other. none (Authentication WrongVerifier) (same, (bytes, is, other))))
+verified : (last : ServerFinal) (owed : List ℕ) → HasNone (ServerErrorRow last) → (last.body ≡ Verifier None → ⊥) → ((bytes : List ℕ) × (last.body ≡ Verifier (Some bytes)) × (bytes ≢ owed) → ⊥) → (body : ServerFinalBody) → last.body ≡ body → last.body ≡ Verifier (Some owed)
+verified last owed error unread other (Error text) is = absurd (error (Authentication (ServerError text)) (text, refl, is))
+verified last owed error unread other (Verifier None) is = absurd (unread is)
+verified last owed error unread other (Verifier (Some bytes)) is =
+    is ∙ ap (λ b. Verifier (Some b)) (same_bytes bytes owed (λ differs. other (bytes, is, differs)))
 
 pub valid_final : (last : ServerFinal) (conversation : OwnedValue) (owed : List ℕ) → HasNone (ServerFinalRow last conversation owed) → IsValidFinal last conversation owed
 valid_final last conversation owed none =
-    let same = same_value last.conversation_id conversation (λ other. none (Authentication Conversation) other) in
-    record { conversation_is = same; body = verified last conversation owed none same last.body refl }
+    let after_id = none_second _ _ none in
+    let after_error = none_second _ _ after_id in
+    record {
+      conversation_is = same_value last.conversation_id conversation (row_denied _ _ (none_first _ _ none));
+      body = verified last owed (none_first _ _ after_id) (row_denied _ _ (none_first _ _ after_error)) (row_denied _ _ (none_second _ _ after_error)) last.body refl;
+    }
 
 no_error : (text : List ℕ) (found : Option (List ℕ)) → Error text ≡ Verifier found → ⊥
 no_error text found is = cc
@@ -88,14 +97,14 @@ same_owed : (a b : List ℕ) → ◌≡◌ {A = ServerFinalBody} (Verifier (Some
 same_owed a b is = cc
 
 pub valid_final_row : (last : ServerFinal) (conversation : OwnedValue) (owed : List ℕ) → IsValidFinal last conversation owed → HasNone (ServerFinalRow last conversation owed)
-valid_final_row last conversation owed valid (Authentication Conversation) row = row valid.conversation_is
-valid_final_row last conversation owed valid (Authentication (ServerError text)) row = no_error text (Some owed) (sym row.1 ∙ valid.body)
-valid_final_row last conversation owed valid (Authentication Malformed) row = no_bytes owed (sym row.1 ∙ valid.body)
-valid_final_row last conversation owed valid (Authentication WrongVerifier) row = row.1.2 (same_owed row.1.0 owed (sym row.1.1 ∙ valid.body))
-valid_final_row last conversation owed valid kind row = row
+valid_final_row last conversation owed valid =
+    none_else _ _ (no_row _ _ (λ other. other valid.conversation_is))
+    (none_else _ _ (λ kind row. no_error row.0 (Some owed) (sym row.2 ∙ valid.body))
+    (none_else _ _ (no_row _ _ (λ unread. no_bytes owed (sym unread ∙ valid.body)))
+    (no_row _ _ (λ other. other.2 (same_owed other.0 owed (sym other.1 ∙ valid.body))))))
 
 pub completed : (done : Bool) → ((kind : ErrorKind) → (kind ≡ Authentication NotCompleted) × (done ≡ false) → ⊥) → done ≡ true
-completed done none = not_false done (λ is. none (Authentication NotCompleted) (refl, is))
+completed done none = not_false done (row_denied _ _ none)
 
 pub not_completed : (done : Bool) → done ≡ true → (kind : ErrorKind) → (kind ≡ Authentication NotCompleted) × (done ≡ false) → ⊥
-not_completed done is kind row = let no : true ≡ false = sym is ∙ row.1 in cc
+not_completed done is = no_row _ _ (λ no. false≢true (sym no ∙ is))

@@ -4,8 +4,9 @@ use Rattle.mongo_bson.specs.declared.owned_value.OwnedValue.{OwnedValue}
 use Rattle.mongo_wire.specs.declared.error.ErrorKind.{ErrorKind}
 use Rattle.mongo_wire.specs.declared.error.ErrorKind.TheVariants.{Authentication, PasswordNotAscii, OutOfMemory}
 use Rattle.mongo_command.specs.Fault.{is_kept}
+use Rattle.mongo_command.proofs.Plans.{all_else, all_row}
 use Rattle.mongo_sasl.specs.declared.credential.Credential.{Credential}
-use Rattle.mongo_sasl.proofs.KeptAfter.{IsOwn, sasl_own}
+use Rattle.mongo_sasl.proofs.KeptAfter.{IsOwn, refused_own, no_user_own, sasl_own}
 use Rattle.mongo_scram.specs.declared.scram_version.ScramVersion.{ScramVersion}
 use Rattle.mongo_scram.specs.declared.scram_version.ScramVersion.TheVariants.{Sha1, Sha256}
 use Rattle.mongo_scram.specs.declared.server_first.ServerFirst.{ServerFirst}
@@ -17,8 +18,7 @@ use Rattle.mongo_scram.specs.User.{CredentialRow}
 use Rattle.mongo_scram.specs.Validity.{ServerFirstRow, ServerFinalRow}
 
 pub credential_own : (credential : Credential) (kind : ErrorKind) → CredentialRow credential kind → IsOwn kind
-credential_own credential (Authentication fault) row = inl refl
-credential_own credential kind row = absurd row
+credential_own credential = all_else IsOwn _ _ (no_user_own credential) (refused_own _ _)
 
 -- ---- the server's first message
 
@@ -34,14 +34,12 @@ first_reply_own reply kind (inr memory) = inr memory
 -- ---- the derivation
 
 first_own : (first : ServerFirst) (nonce : List ℕ) (max_iterations : ℕ) (kind : ErrorKind) → ServerFirstRow first nonce max_iterations kind → IsOwn kind
-first_own first nonce max_iterations (Authentication fault) row = inl refl
-first_own first nonce max_iterations kind row = absurd row
+first_own first nonce max_iterations =
+    all_else IsOwn _ _ (refused_own _ _) (all_else IsOwn _ _ (refused_own _ _) (all_else IsOwn _ _ (refused_own _ _) (refused_own _ _)))
 
 password_own : (version : ScramVersion) (password : List ℕ) (kind : ErrorKind) → PasswordRow version password kind → IsOwn kind
-password_own Sha256 password PasswordNotAscii row = inl refl
-password_own Sha256 password (Authentication fault) row = inl refl
-password_own Sha256 password kind row = absurd row
-password_own Sha1 password kind row = absurd row
+password_own Sha1 password = λ kind row. absurd row
+password_own Sha256 password = all_else IsOwn _ _ (all_row IsOwn PasswordNotAscii _ (inl refl)) (refused_own _ _)
 
 pub answer_own : (first : ServerFirst) (nonce : List ℕ) (max_iterations : ℕ) (version : ScramVersion) (password : List ℕ) (kind : ErrorKind) → AnswerRow first nonce max_iterations version password kind ⊎ (kind ≡ OutOfMemory) → IsOwn kind
 answer_own first nonce max_iterations version password kind (inl (inl row)) = first_own first nonce max_iterations kind row
@@ -55,8 +53,8 @@ final_reply_own document kind (inl row) = sasl_own document kind row
 final_reply_own document kind (inr row) = inl (ap is_kept row.1.0)
 
 final_own : (last : ServerFinal) (conversation : OwnedValue) (owed : List ℕ) (kind : ErrorKind) → ServerFinalRow last conversation owed kind → IsOwn kind
-final_own last conversation owed (Authentication fault) row = inl refl
-final_own last conversation owed kind row = absurd row
+final_own last conversation owed =
+    all_else IsOwn _ _ (refused_own _ _) (all_else IsOwn _ _ (λ kind row. inl (ap is_kept row.1)) (all_else IsOwn _ _ (refused_own _ _) (refused_own _ _)))
 
 round_own : (conversation : OwnedValue) (owed : List ℕ) (last : ServerFinal) (kind : ErrorKind) → RoundRow conversation owed last kind → IsOwn kind
 round_own conversation owed last kind (inl row) = final_own last conversation owed kind row

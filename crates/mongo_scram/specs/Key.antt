@@ -1,11 +1,12 @@
 -- The key of a login: the password as Hi takes it, and the salted password (RFC 5802, section 3).
-use Rattle.std.specs.Prelude.{ℕ, ◌<◌, ◌≤◌, ◌≡◌, ◌⊎◌, ◌++◌, List, codes, All, Any}
+use Rattle.std.specs.Prelude.{ℕ, ◌<◌, ◌≤◌, ◌≡◌, ◌⊎◌, ◌++◌, List, codes, Any}
 use Rattle.hex.specs.Hex.{encode_lower}
 use Rattle.md5.specs.Md5.{md5}
 use Rattle.mongo_mac.specs.Hi.{hi_of}
 use Rattle.mongo_wire.specs.declared.error.ErrorKind.{ErrorKind}
 use Rattle.mongo_wire.specs.declared.error.ErrorKind.TheVariants.{Authentication, PasswordNotAscii}
 use Rattle.mongo_wire.specs.declared.auth_fault.AuthFault.TheVariants.{PasswordControl}
+use Rattle.mongo_command.specs.Conversation.{or_else, row_for}
 use Rattle.mongo_scram.specs.declared.scram_version.ScramVersion.{ScramVersion}
 use Rattle.mongo_scram.specs.declared.scram_version.ScramVersion.TheVariants.{Sha1, Sha256}
 use Rattle.mongo_scram.specs.Version.{digest_of}
@@ -24,9 +25,10 @@ IsControl byte = (byte < 32) ⊎ (byte ≡ 127)
 -- Why a password has no Normalize(password) here: SCRAM-SHA-256 takes none with a character past ASCII, which SASLprep
 -- may change, and none with a control character, which it prohibits.
 abbrev pub PasswordRow : ScramVersion → List ℕ → ErrorKind → Type 0
-PasswordRow Sha256 password PasswordNotAscii = Any (λ byte. 128 ≤ byte) password
-PasswordRow Sha256 password (Authentication PasswordControl) = All (λ byte. byte < 128) password × Any IsControl password
-PasswordRow version password kind = ⊥
+PasswordRow Sha1 password kind = ⊥
+PasswordRow Sha256 password kind =
+    or_else (row_for PasswordNotAscii (Any (λ byte. 128 ≤ byte) password))
+    (row_for (Authentication PasswordControl) (Any IsControl password)) kind
 
 -- SaltedPassword := Hi(Normalize(password), salt, i)
 unfoldable pub salted : ScramVersion → List ℕ → List ℕ → List ℕ → ℕ → List ℕ

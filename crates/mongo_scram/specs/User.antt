@@ -2,8 +2,10 @@
 use Rattle.std.specs.Prelude.{◌≡◌, ℕ, None, Some, IsSome, unwrap_or, List, codes}
 use Rattle.mongo_wire.specs.declared.error.ErrorKind.{ErrorKind}
 use Rattle.mongo_wire.specs.declared.error.ErrorKind.TheVariants.{Authentication}
-use Rattle.mongo_wire.specs.declared.auth_fault.AuthFault.TheVariants.{NoUsername, NoPassword, PropertiesGiven}
+use Rattle.mongo_wire.specs.declared.auth_fault.AuthFault.TheVariants.{PropertiesGiven}
+use Rattle.mongo_command.specs.Conversation.{or_else, row_for}
 use Rattle.mongo_sasl.specs.declared.credential.Credential.{Credential}
+use Rattle.mongo_sasl.specs.Credential.{NoUserRow}
 
 -- a user, by name and password, and the database that the user belongs to
 pub record User : Type 0 where
@@ -20,7 +22,6 @@ pub record IsUser (credential : Credential) (user : User) : Type 0 where
 
 -- why a credential has no login by SCRAM: the first row that applies
 abbrev pub CredentialRow : Credential → ErrorKind → Type 0
-CredentialRow credential (Authentication NoUsername) = credential.username ≡ None
-CredentialRow credential (Authentication NoPassword) = IsSome credential.username × (credential.password ≡ None)
-CredentialRow credential (Authentication PropertiesGiven) = IsSome credential.username × IsSome credential.password × IsSome credential.mechanism_properties
-CredentialRow credential kind = ⊥
+CredentialRow credential =
+    or_else (NoUserRow credential)
+    (row_for (Authentication PropertiesGiven) (IsSome credential.mechanism_properties))

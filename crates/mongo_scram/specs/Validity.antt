@@ -4,6 +4,7 @@ use Rattle.mongo_wire.specs.declared.error.ErrorKind.{ErrorKind}
 use Rattle.mongo_wire.specs.declared.error.ErrorKind.TheVariants.{Authentication}
 use Rattle.mongo_wire.specs.declared.auth_fault.AuthFault.TheVariants.{EndedEarly, Nonce, CountLow, CountHigh, Conversation, ServerError, Malformed, Verifier as WrongVerifier}
 use Rattle.mongo_bson.specs.declared.owned_value.OwnedValue.{OwnedValue}
+use Rattle.mongo_command.specs.Conversation.{or_else, row_for}
 use Rattle.mongo_scram.specs.declared.server_first.ServerFirst.{ServerFirst}
 use Rattle.mongo_scram.specs.declared.server_final.ServerFinal.{ServerFinal}
 use Rattle.mongo_scram.specs.declared.server_final.ServerFinalBody.TheVariants.{Error, Verifier}
@@ -25,21 +26,25 @@ pub record IsValidFirst (first : ServerFirst) (nonce : List ℕ) (max_iterations
 
 -- why it doesn't: the first row that applies
 abbrev pub ServerFirstRow : ServerFirst → List ℕ → ℕ → ErrorKind → Type 0
-ServerFirstRow first nonce max_iterations (Authentication EndedEarly) = first.done ≡ true
-ServerFirstRow first nonce max_iterations (Authentication Nonce) = (first.done ≡ false) × (BeginsWith first.nonce nonce → ⊥)
-ServerFirstRow first nonce max_iterations (Authentication CountLow) = (first.done ≡ false) × BeginsWith first.nonce nonce × (first.i < least_count)
-ServerFirstRow first nonce max_iterations (Authentication CountHigh) = (first.done ≡ false) × BeginsWith first.nonce nonce × (least_count ≤ first.i) × (max_iterations < first.i)
-ServerFirstRow first nonce max_iterations kind = ⊥
+ServerFirstRow first nonce max_iterations =
+    or_else (row_for (Authentication EndedEarly) (first.done ≡ true))
+    (or_else (row_for (Authentication Nonce) (BeginsWith first.nonce nonce → ⊥))
+    (or_else (row_for (Authentication CountLow) (first.i < least_count))
+    (row_for (Authentication CountHigh) (max_iterations < first.i))))
 
 -- the server has proved that it knows the key: it answers in this conversation with the verifier that it owes, all of it
 pub record IsValidFinal (last : ServerFinal) (conversation : OwnedValue) (owed : List ℕ) : Type 0 where
   pub conversation_is : last.conversation_id ≡ conversation
   pub body : last.body ≡ Verifier (Some owed)
 
+-- it answers an error, and the refusal has the error's text
+abbrev pub ServerErrorRow : ServerFinal → ErrorKind → Type 0
+ServerErrorRow last kind = (text : List ℕ) × (kind ≡ Authentication (ServerError text)) × (last.body ≡ Error text)
+
 -- why it hasn't: the first row that applies
 abbrev pub ServerFinalRow : ServerFinal → OwnedValue → List ℕ → ErrorKind → Type 0
-ServerFinalRow last conversation owed (Authentication Conversation) = last.conversation_id ≢ conversation
-ServerFinalRow last conversation owed (Authentication (ServerError text)) = (last.conversation_id ≡ conversation) × (last.body ≡ Error text)
-ServerFinalRow last conversation owed (Authentication Malformed) = (last.conversation_id ≡ conversation) × (last.body ≡ Verifier None)
-ServerFinalRow last conversation owed (Authentication WrongVerifier) = (last.conversation_id ≡ conversation) × ((bytes : List ℕ) × (last.body ≡ Verifier (Some bytes)) × (bytes ≢ owed))
-ServerFinalRow last conversation owed kind = ⊥
+ServerFinalRow last conversation owed =
+    or_else (row_for (Authentication Conversation) (last.conversation_id ≢ conversation))
+    (or_else (ServerErrorRow last)
+    (or_else (row_for (Authentication Malformed) (last.body ≡ Verifier None))
+    (row_for (Authentication WrongVerifier) ((bytes : List ℕ) × (last.body ≡ Verifier (Some bytes)) × (bytes ≢ owed)))))

@@ -3,7 +3,7 @@ use Rattle.mongo_wire.specs.declared.error.ErrorKind.TheVariants.{OutOfMemory}
 use Rattle.mongo_command.specs.Exchange.{frame_maximum}
 use Rattle.mongo_sasl.specs.Plain.{FinishedRow, plain_handed, plain_body, plain_heard, plain_plan, IsPlainLogin, plain_user_of}
 use Rattle.mongo_sasl.specs.Keys.{sasl_start_key}
-use Rattle.mongo_sasl.proofs.KeptAfter.{kept_after, own_keeps, plain_own, unbuilt_own, finished_own, handed_keeps, row_keeps}
+use Rattle.mongo_sasl.proofs.KeptAfter.{kept_after, own_keeps, no_user_own, unbuilt_own, finished_own, handed_keeps, row_keeps}
 use Rattle.mongo_sasl.proofs.OneExchange.{exchanged_as, unanswered_as, led, led_handed, completed}
 use Rattle.mongo_sasl.proofs.PlainPlan.{one_plain, plain_ends}
 use Rattle.mongo_sasl.proofs.PlainSteps.{credential_stopped, user_stopped, plain_unbuilt, plain_reached, plain_replied, plain_refused}
@@ -110,7 +110,7 @@ returns-clause-reply g c =
 pub returns-in_err-login-clause-keeps : goal.returns-in_err-login-clause-keeps
 returns-in_err-login-clause-keeps g c faultless =
     let e = c.in_err-login.field-0.0 in
-    handed_keeps c.from_residual.result e _ c.from_residual.ensures.1 (own_keeps e.kind _ (plain_own c.args.credential.now e.kind c.in_err-login.ensures.refused) faultless)
+    handed_keeps c.from_residual.result e _ c.from_residual.ensures.1 (own_keeps e.kind _ (no_user_own c.args.credential.now e.kind c.in_err-login.ensures.refused) faultless)
 
 pub returns-in_err-command-clause-keeps : goal.returns-in_err-command-clause-keeps
 returns-in_err-command-clause-keeps g c faultless =
