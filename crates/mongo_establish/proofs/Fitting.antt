@@ -63,7 +63,7 @@ other_row fault Holds = all_row IsOther (Authentication fault) Holds (other faul
 no_user_other : (credential : Credential) (kind : ErrorKind) → NoUserRow credential kind → IsOther kind
 no_user_other credential = all_else IsOther _ _ (other_row _ _) (other_row _ _)
 
-credential_other : (credential : Credential) (kind : ErrorKind) → CredentialRow credential kind → IsOther kind
+pub credential_other : (credential : Credential) (kind : ErrorKind) → CredentialRow credential kind → IsOther kind
 credential_other credential = all_else IsOther _ _ (no_user_other credential) (other_row _ _)
 
 first_other : (first : ServerFirst) (nonce : List ℕ) (max_iterations : ℕ) (kind : ErrorKind) → ServerFirstRow first nonce max_iterations kind → IsOther kind
