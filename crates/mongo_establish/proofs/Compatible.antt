@@ -1,5 +1,5 @@
 -- No handshake is refused for a server that names no service: that comes once it is over.
-use Rattle.std.proofs.Common.{◌≡◌, ℕ, ℤ, subst, inl, inr, Option, None, Some, List}
+use Rattle.std.proofs.Common.{◌≡◌, ℕ, ℤ, refl, subst, inl, inr, Option, None, Some, List}
 use Rattle.mongo_wire.specs.declared.error.ErrorKind.{ErrorKind}
 use Rattle.mongo_wire.specs.declared.error.ErrorKind.TheVariants.{IncompatibleServer}
 use Rattle.mongo_wire.specs.declared.message.Message.{Message}
@@ -22,7 +22,7 @@ use Rattle.mongo_establish.specs.Refusal.{DocumentRow}
 use Rattle.mongo_establish.specs.Speculation.{mechanism_before, ConversationRow, MechanismRow, HelloRow}
 use Rattle.mongo_establish.specs.Spoken.{conversation_of, HasConversation}
 use Rattle.mongo_establish.proofs.Conversations.{joins}
-use Rattle.mongo_establish.proofs.Fitting.{Fits}
+use Rattle.mongo_establish.proofs.Fitting.{Fits, credential_other}
 
 -- ---- a plan that never refuses so
 
@@ -39,7 +39,7 @@ no_stop plan old new before after fits r =
 -- ---- the hello
 
 no_conversation_row : (conversation : Option Conversation) (credential : Credential) → ConversationRow conversation credential IncompatibleServer → ⊥
-no_conversation_row (Some (Scram version)) credential row = row
+no_conversation_row (Some (Scram version)) credential row = credential_other credential IncompatibleServer row refl
 no_conversation_row conversation credential row = row
 
 no_mechanism_row : (mechanism : AuthMechanism) (credential : Credential) → MechanismRow mechanism credential IncompatibleServer → ⊥

@@ -11,6 +11,7 @@ use Rattle.mongo_sasl.specs.X509.{x509_body}
 use Rattle.mongo_scram.specs.declared.scram_version.ScramVersion.{ScramVersion}
 use Rattle.mongo_scram.specs.Client.{speculated_of}
 use Rattle.mongo_scram.specs.Plan.{Speculated}
+use Rattle.mongo_scram.specs.User.{CredentialRow}
 use Rattle.mongo_establish.specs.declared.conversation.Conversation.{Conversation}
 use Rattle.mongo_establish.specs.declared.conversation.Conversation.TheVariants.{Scram as ByScram, X509 as ByX509}
 use Rattle.mongo_establish.specs.declared.client_first.ClientFirst.{ClientFirst}
@@ -26,6 +27,20 @@ use Rattle.mongo_establish.specs.Spoken.{conversation_of, IsScram}
 pub memory_unmade : (document : Option (List ℕ)) (kind : ErrorKind) → kind ≡ OutOfMemory → IsUnmade document kind
 memory_unmade None kind is = is
 memory_unmade (Some document) kind is = subst (IsUnmade (Some document)) (sym is) tt
+
+-- ---- by SCRAM
+
+pub scram_made : (r : Result (Option ClientFirst) Error) (found : Option Conversation) (version : ScramVersion) (credential : Credential) → found ≡ Some (ByScram version) → OnOk r ((kind : ErrorKind) → CredentialRow credential kind → ⊥) → OnOk r ((kind : ErrorKind) → ConversationRow found credential kind → ⊥)
+scram_made r found version credential is made = subst (λ o. OnOk r ((kind : ErrorKind) → ConversationRow o credential kind → ⊥)) (sym is) made
+
+pub scram_refused : (r : Result (Option ClientFirst) Error) (found : Option Conversation) (version : ScramVersion) (credential : Credential) (nonce : List ℕ) → found ≡ Some (ByScram version)
+    → IfErr r (λ e. or_else (CredentialRow credential) (λ kind. kind ≡ OutOfMemory) e.kind) → IfErr r (λ e. or_else (ConversationRow found credential) (IsUnmade (speculation_in found credential nonce)) e.kind)
+scram_refused (Ok first) found version credential nonce is refused = tt
+scram_refused (Err e) found version credential nonce is refused =
+    subst (λ o. or_else (ConversationRow o credential) (IsUnmade (speculation_in o credential nonce)) e.kind) (sym is) (elim refused [
+      | inl row ↦ inl row
+      | inr none ↦ inr (none.0, memory_unmade (Some (scram_speculation version credential nonce)) e.kind none.1)
+    ])
 
 -- ---- by the mechanism
 

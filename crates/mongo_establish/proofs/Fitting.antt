@@ -49,7 +49,7 @@ fits_followed plan next p q (event ∷ events) h =
 
 -- ---- rows
 
-credential_other : (credential : Credential) (kind : ErrorKind) → CredentialRow credential kind → IsOther kind
+pub credential_other : (credential : Credential) (kind : ErrorKind) → CredentialRow credential kind → IsOther kind
 credential_other credential = all_else IsOther _ _ (no_user_other credential) (other_row _ _)
 
 first_other : (first : ServerFirst) (nonce : List ℕ) (max_iterations : ℕ) (kind : ErrorKind) → ServerFirstRow first nonce max_iterations kind → IsOther kind

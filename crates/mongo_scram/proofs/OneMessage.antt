@@ -5,12 +5,10 @@ use Rattle.base64.specs.Engines.{standard}
 use Rattle.base64.specs.GeneralPurpose.{IsBytes, decode_of}
 use Rattle.base64.proofs.EngineFacts.{decode_of-encode_of}
 use Rattle.mongo_bson.specs.declared.owned_value.OwnedValue.{OwnedValue}
-use Rattle.mongo_wire.specs.declared.auth_fault.AuthFault.{AuthFault}
-use Rattle.mongo_wire.specs.declared.auth_fault.AuthFault.TheVariants.{Malformed, CountUnreadable}
 use Rattle.mongo_wire.specs.declared.error.ErrorKind.{ErrorKind}
 use Rattle.mongo_wire.specs.declared.error.ErrorKind.TheVariants.{Authentication}
 use Rattle.mongo_command.specs.Conversation.{IsOne, HasNone}
-use Rattle.mongo_command.proofs.Plans.{one_else}
+use Rattle.mongo_command.proofs.Plans.{one_else, one_row, none_else, no_row}
 use Rattle.mongo_sasl.specs.declared.sasl_response.SaslResponse.{SaslResponse}
 use Rattle.mongo_sasl.specs.Reply.{SaslRow}
 use Rattle.mongo_sasl.proofs.OneReply.{one_sasl_reply, one_sasl_row, sasl_reply_no_row}
@@ -68,14 +66,8 @@ one_first reply = λ a b p q.
     parts.second
     (sym p.is_count.1 ∙ ap (λ text. digits_value 10 (without_leading_plus text)) parts.third ∙ q.is_count.1)
 
-one_first_message_row : (message : List ℕ) (a b : AuthFault) → FirstMessageRow message a → FirstMessageRow message b → a ≡ b
-one_first_message_row message Malformed Malformed p q = refl
-one_first_message_row message Malformed CountUnreadable p q = absurd (p q.0 q.1 q.2 q.3)
-one_first_message_row message CountUnreadable Malformed p q = absurd (q p.0 p.1 p.2 p.3)
-one_first_message_row message CountUnreadable CountUnreadable p q = refl
-one_first_message_row message Malformed b p q = absurd q
-one_first_message_row message CountUnreadable b p q = absurd q
-one_first_message_row message a b p q = absurd p
+one_first_message_row : (message : List ℕ) → IsOne (FirstMessageRow message)
+one_first_message_row message = one_else _ _ (one_row _ _) (one_row _ _)
 
 one_first_payload_row : (reply : List ℕ) (a b : ErrorKind) → FirstPayloadRow reply a → FirstPayloadRow reply b → a ≡ b
 one_first_payload_row reply (Authentication a) (Authentication b) p q =
@@ -87,16 +79,15 @@ one_first_payload_row reply a b p q = absurd p
 pub one_first_row : (reply : List ℕ) → IsOne (FirstReplyRow reply)
 one_first_row reply = one_else (SaslRow reply) (FirstPayloadRow reply) (one_sasl_row reply) (one_first_payload_row reply)
 
-no_first_message_row : (message nonce salt count : List ℕ) (i : ℕ) (fault : AuthFault) → IsServerFirst message nonce salt count → IsIterationCount count i → FirstMessageRow message fault → ⊥
-no_first_message_row message nonce salt count i Malformed is counts row = row nonce salt count is
-no_first_message_row message nonce salt count i CountUnreadable is counts row =
-    row.4 i (subst (λ text. IsIterationCount text i) (one_server_first message nonce salt count row.0 row.1 row.2 is row.3).third counts)
-no_first_message_row message nonce salt count i fault is counts row = row
+no_first_message_row : (message nonce salt count : List ℕ) (i : ℕ) → IsServerFirst message nonce salt count → IsIterationCount count i → HasNone (FirstMessageRow message)
+no_first_message_row message nonce salt count i is counts =
+    none_else _ _ (no_row _ _ (λ none. none nonce salt count is))
+    (no_row _ _ (λ row. row.4 i (subst (λ text. IsIterationCount text i) (one_server_first message nonce salt count row.0 row.1 row.2 is row.3).third counts)))
 
 no_first_payload_row : (reply : List ℕ) (first : ServerFirst) (kind : ErrorKind) → CarriesFirst reply first → FirstPayloadRow reply kind → ⊥
 no_first_payload_row reply first (Authentication fault) is row =
     let same = one_sasl_reply reply row.0 is.sasl row.1 is.is_reply in
-    no_first_message_row is.sasl.payload first.nonce first.salt is.count first.i fault is.is_first is.is_count (subst (λ (sasl : SaslResponse). FirstMessageRow sasl.payload fault) same row.2)
+    no_first_message_row is.sasl.payload first.nonce first.salt is.count first.i is.is_first is.is_count fault (subst (λ (sasl : SaslResponse). FirstMessageRow sasl.payload fault) same row.2)
 no_first_payload_row reply first kind is row = row
 
 -- a reply that carries one isn't refused

@@ -36,7 +36,7 @@ first_refused reply sasl kind is row = absurd row
 
 -- bytes that are no text are no message
 pub first_without_text : (payload : List ℕ) → (IsUtf8 payload → ⊥) → FirstMessageRow payload Malformed
-first_without_text payload none nonce salt count is = none is.text
+first_without_text payload none = inl (refl, λ nonce salt count is. none is.text)
 
 pub final_refused : (reply : List ℕ) (sasl : SaslResponse) (kind : ErrorKind) → IsSaslReply reply sasl → ServerFinalUnread sasl.payload kind → FinalReplyRow reply kind ⊎ (kind ≡ OutOfMemory)
 final_refused reply sasl (Authentication Malformed) is row = inl (inr (sasl_reply_no_row reply sasl is, (refl, (sasl, is, row))))

@@ -7,6 +7,7 @@ use Rattle.std.specs.Str.Parse.{IsNumeral, digits_value, without_leading_plus}
 use Rattle.base64.specs.GeneralPurpose.{IsBytes}
 use Rattle.mongo_wire.specs.declared.auth_fault.AuthFault.{AuthFault}
 use Rattle.mongo_wire.specs.declared.auth_fault.AuthFault.TheVariants.{Malformed, CountUnreadable}
+use Rattle.mongo_command.specs.Conversation.{or_else, row_for}
 use Rattle.mongo_scram.specs.Base64.{base64_of}
 use Rattle.mongo_scram.specs.declared.server_final.ServerFinalBody.{ServerFinalBody}
 use Rattle.mongo_scram.specs.declared.server_final.ServerFinalBody.TheVariants.{Error, Verifier}
@@ -34,11 +35,11 @@ pub record IsServerFirst (message nonce salt count : List ℕ) : Type 0 where
 abbrev pub IsIterationCount : List ℕ → ℕ → Type 0
 IsIterationCount text number = IsNumeral 10 (without_leading_plus text) × (digits_value 10 (without_leading_plus text) ≡ number) × (number < 2 ^ 32)
 
--- why a message is no server first message
+-- why a message is no server first message: the first row that applies
 abbrev pub FirstMessageRow : List ℕ → AuthFault → Type 0
-FirstMessageRow message Malformed = (nonce salt count : List ℕ) → IsServerFirst message nonce salt count → ⊥
-FirstMessageRow message CountUnreadable = (nonce salt count : List ℕ) × IsServerFirst message nonce salt count × ((number : ℕ) → IsIterationCount count number → ⊥)
-FirstMessageRow message fault = ⊥
+FirstMessageRow message =
+    or_else (row_for Malformed ((nonce salt count : List ℕ) → IsServerFirst message nonce salt count → ⊥))
+    (row_for CountUnreadable ((nonce salt count : List ℕ) × IsServerFirst message nonce salt count × ((number : ℕ) → IsIterationCount count number → ⊥)))
 
 -- the part stands at the front of the text, up to a comma or the text's end
 pub record IsBeforeComma (text part : List ℕ) : Type 0 where

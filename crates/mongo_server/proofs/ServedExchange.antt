@@ -1,5 +1,5 @@
 -- The server of an exchange says its messages: the first, the verifier, and the proof that it takes.
-use Rattle.std.proofs.Common.{◌≡◌, ℕ, None, Some, Result, Ok, Err, List, ◌++◌, codes, decimal, IfOk, IfErr, MatchResult, OnOk, refl, ap, sym, subst, ◌∙◌}
+use Rattle.std.proofs.Common.{◌≡◌, ℕ, Some, Result, Ok, Err, List, ◌++◌, codes, decimal, IfOk, IfErr, MatchResult, OnOk, refl, ap, sym, subst, ◌∙◌, inl, inr}
 use Rattle.std.proofs.lemmas.List.Elements.{All-append}
 use Rattle.base64.specs.GeneralPurpose.{IsBytes}
 use Rattle.mongo_scram.specs.Base64.{base64_of}
@@ -9,20 +9,19 @@ use Rattle.mongo_scram.specs.ServerMessages.{IsServerFirst}
 use Rattle.mongo_scram.specs.Version.{digest_of}
 use Rattle.mongo_scram.proofs.Signed.{verifier_is, proof_is}
 use Rattle.mongo_server.specs.declared.fault.ServerFault.{ServerFault}
-use Rattle.mongo_server.specs.declared.fault.ServerFault.TheVariants.{Malformed, Nonce, Proof, NotStarted, OutOfMemory}
+use Rattle.mongo_server.specs.declared.fault.ServerFault.TheVariants.{OutOfMemory}
 use Rattle.mongo_server.specs.declared.server_core.Conversation.{Conversation}
 use Rattle.mongo_server.specs.declared.server_core.ServerCore.{ServerCore}
 use Rattle.mongo_server.specs.ClientMessages.{IsPrintable, IsNonce, IsClientFirst, IsClientFinal}
 use Rattle.mongo_server.specs.Exchange.{Exchange, joined_of, salted_between, open_of, first_of, auth_message_between, close_of, server_final_of, IsReadAs}
 use Rattle.mongo_server.specs.Server.{server_user, salt_of, suffix_of, username_of, held_conversation, first_by, conversation_by, ClientFirstRow, IsLastMessageTaken, FinalRefused, Serves, HasBegun}
 use Rattle.mongo_server.specs.ServerTexts.{server_first, server_final}
-use Rattle.mongo_server.proofs.ClientFinals.{one_final}
 use Rattle.mongo_server.proofs.ClientFirsts.{one_first}
 use Rattle.mongo_server.specs.Acceptance.{Accepts}
 use Rattle.mongo_server.specs.User.{IsUserOf}
 use Rattle.mongo_server.proofs.Accepted.{accepts}
 use Rattle.mongo_server.proofs.ReadFirst.{read_first, read_count}
-use Rattle.mongo_server.proofs.ServerRows.{first_no_row}
+use Rattle.mongo_server.proofs.ServerRows.{first_no_row, taken_no_row}
 use Rattle.mongo_server.proofs.ProofBytes.{proof_bytes}
 
 -- ---- the first message
@@ -74,7 +73,7 @@ accepts_first core new message text nonce first text_is bytes same_user same_suf
 -- a client of the exchange isn't refused
 pub hears_first : (core : ServerCore) (message : List ℕ) (fault : ServerFault) → ClientFirstRow core message fault → (x : Exchange) → Serves core x → IsNonce x.nonce → message ≡ open_of x → fault ≡ OutOfMemory
 hears_first core message fault row x serves printable is =
-    absurd (first_no_row core message x.nonce fault (subst (λ name. IsClientFirst message name x.nonce) (sym serves.user.username_is) (client_first core x serves message printable is)) row)
+    absurd (first_no_row core message x.nonce (subst (λ name. IsClientFirst message name x.nonce) (sym serves.user.username_is) (client_first core x serves message printable is)) fault row)
 
 -- ---- the last message
 
@@ -116,16 +115,11 @@ accepts_final core held (Err fault) is text_is memory x begun = memory
 
 -- a client of the exchange isn't refused
 pub takes_final : (core : ServerCore) (message : List ℕ) (fault : ServerFault) → FinalRefused core message fault → (x : Exchange) → HasBegun core x → message ≡ close_of x → fault ≡ OutOfMemory
-takes_final core message OutOfMemory row x begun is = refl
-takes_final core message NotStarted row x begun is = let never : None ≡ Some (exchange_held core x begun) = sym row ∙ begun.held in absurd (cc never)
-takes_final core message Malformed row x begun is = absurd (row.1 _ _ (client_final core x begun message is))
-takes_final core message Nonce row x begun is =
-    let same = one_final message row.2.0 row.2.1 (joined_of x) _ row.2.2 (client_final core x begun message is) in
-    absurd (row.2.3 (same.nonce_is ∙ ap (λ (c : Conversation). c.nonce) (sym (held_is core x begun row.0 row.1))))
-takes_final core message Proof row x begun is =
-    let same = one_final message row.0.nonce row.2.0 (joined_of x) _ row.2.1 (client_final core x begun message is) in
-    absurd (row.2.2 (same.proof_is ∙ sym (owed_is core x begun row.0 row.1)))
-takes_final core message fault row x begun is = absurd row
+takes_final core message fault (inl row) x begun is =
+    let held = exchange_held core x begun in
+    let last = subst (λ bytes. IsClientFinal message held.nonce bytes) (sym (owed_is core x begun held begun.held)) (client_final core x begun message is) in
+    absurd (taken_no_row core message (held, begun.held, last) fault row)
+takes_final core message fault (inr memory) x begun is = memory.0
 
 -- and no other message is taken
 pub takes_only : {T : Type 0} (core : ServerCore) (message : List ℕ) (r : Result T ServerFault) → IsLastMessageTaken core message → (x : Exchange) → HasBegun core x → OnOk r (message ≡ close_of x)

@@ -1,6 +1,7 @@
 -- What a server holds, what it answers, and why it refuses.
-use Rattle.std.specs.Prelude.{◌≡◌, ◌≢◌, ℕ, Option, None, Some, IsSome, List, ◌++◌}
+use Rattle.std.specs.Prelude.{◌≡◌, ◌≢◌, ◌⊎◌, ℕ, Option, None, Some, IsSome, List, ◌++◌}
 use Rattle.base64.specs.GeneralPurpose.{IsBytes}
+use Rattle.mongo_command.specs.Conversation.{or_else, row_for}
 use Rattle.mongo_scram.specs.Keys.{proof_under, verifier_under}
 use Rattle.mongo_scram.specs.Messages.{bare_message, transcript}
 use Rattle.mongo_server.specs.declared.fault.ServerFault.{ServerFault}
@@ -68,21 +69,20 @@ IsLastMessageTaken core message = (held : Conversation) × (held_conversation co
 -- ---- why it refuses: the first row that applies
 
 abbrev pub ClientFirstRow : ServerCore → List ℕ → ServerFault → Type 0
-ClientFirstRow core message Malformed = (username nonce : List ℕ) → IsClientFirst message username nonce → ⊥
-ClientFirstRow core message UnknownUser = (username : List ℕ) × (nonce : List ℕ) × IsClientFirst message username nonce × (username ≢ username_of core)
-ClientFirstRow core message fault = ⊥
+ClientFirstRow core message =
+    or_else (row_for Malformed ((username nonce : List ℕ) → IsClientFirst message username nonce → ⊥))
+    (row_for UnknownUser ((username : List ℕ) × (nonce : List ℕ) × IsClientFirst message username nonce × (username ≢ username_of core)))
 
 abbrev pub ClientFinalRow : ServerCore → List ℕ → ServerFault → Type 0
-ClientFinalRow core message NotStarted = held_conversation core ≡ None
-ClientFinalRow core message Malformed = IsSome (held_conversation core) × ((nonce proof : List ℕ) → IsClientFinal message nonce proof → ⊥)
-ClientFinalRow core message Nonce = (held : Conversation) × (held_conversation core ≡ Some held) × ((nonce : List ℕ) × (proof : List ℕ) × IsClientFinal message nonce proof × (nonce ≢ held.nonce))
-ClientFinalRow core message Proof = (held : Conversation) × (held_conversation core ≡ Some held) × ((proof : List ℕ) × IsClientFinal message held.nonce proof × (proof ≢ proof_under core.user.keys held.auth_message))
-ClientFinalRow core message fault = ⊥
+ClientFinalRow core message =
+    or_else (row_for NotStarted (held_conversation core ≡ None))
+    (or_else (row_for Malformed ((nonce proof : List ℕ) → IsClientFinal message nonce proof → ⊥))
+    (or_else (row_for Nonce ((held : Conversation) × (held_conversation core ≡ Some held) × ((nonce : List ℕ) × (proof : List ℕ) × IsClientFinal message nonce proof × (nonce ≢ held.nonce))))
+    (row_for Proof ((held : Conversation) × (held_conversation core ≡ Some held) × ((proof : List ℕ) × IsClientFinal message held.nonce proof × (proof ≢ proof_under core.user.keys held.auth_message))))))
 
 -- the same, with what is known where memory ran out: a conversation was held
 abbrev pub FinalRefused : ServerCore → List ℕ → ServerFault → Type 0
-FinalRefused core message OutOfMemory = IsSome (held_conversation core)
-FinalRefused core message fault = ClientFinalRow core message fault
+FinalRefused core message fault = ClientFinalRow core message fault ⊎ row_for OutOfMemory (IsSome (held_conversation core)) fault
 
 -- ---- the server of an exchange
 

@@ -11,7 +11,7 @@ returns-in-Err-clause-accepts c = hears_first c.args.self.now c.args.client_firs
 
 pub returns-in-Ok-open-clause-exact : goal.returns-in-Ok-open-clause-exact
 returns-in-Ok-open-clause-exact c = λ fault row.
-    absurd (first_no_row c.args.self.now c.args.client_first.now c.in-Ok.message.nonce.now fault c.in-Ok.ensures.heard.is_first row)
+    absurd (first_no_row c.args.self.now c.args.client_first.now c.in-Ok.message.nonce.now c.in-Ok.ensures.heard.is_first fault row)
 
 pub returns-in-Ok-open-clause-accepts : goal.returns-in-Ok-open-clause-accepts
 returns-in-Ok-open-clause-accepts c =
@@ -20,4 +20,4 @@ returns-in-Ok-open-clause-accepts c =
 
 pub returns-in-Err-open-clause-exact : goal.returns-in-Err-open-clause-exact
 returns-in-Err-open-clause-exact c = λ fault row.
-    absurd (first_no_row c.args.self.now c.args.client_first.now c.in-Ok.message.nonce.now fault c.in-Ok.ensures.heard.is_first row)
+    absurd (first_no_row c.args.self.now c.args.client_first.now c.in-Ok.message.nonce.now c.in-Ok.ensures.heard.is_first fault row)
