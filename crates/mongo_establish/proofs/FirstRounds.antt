@@ -30,13 +30,13 @@ memory_unmade (Some document) kind is = subst (IsUnmade (Some document)) (sym is
 
 -- ---- by SCRAM
 
-pub scram_made : (r : Result (Option ClientFirst) Error) (found : Option Conversation) (version : ScramVersion) (credential : Credential) → found ≡ Some (ByScram version) → OnOk r ((kind : ErrorKind) → CredentialRow credential kind → ⊥) → OnOk r ((kind : ErrorKind) → ConversationRow found credential kind → ⊥)
-scram_made r found version credential is made = subst (λ o. OnOk r ((kind : ErrorKind) → ConversationRow o credential kind → ⊥)) (sym is) made
+pub made_by_scram : (r : Result (Option ClientFirst) Error) (found : Option Conversation) (version : ScramVersion) (credential : Credential) → found ≡ Some (ByScram version) → OnOk r ((kind : ErrorKind) → CredentialRow credential kind → ⊥) → OnOk r ((kind : ErrorKind) → ConversationRow found credential kind → ⊥)
+made_by_scram r found version credential is made = subst (λ o. OnOk r ((kind : ErrorKind) → ConversationRow o credential kind → ⊥)) (sym is) made
 
-pub scram_refused : (r : Result (Option ClientFirst) Error) (found : Option Conversation) (version : ScramVersion) (credential : Credential) (nonce : List ℕ) → found ≡ Some (ByScram version)
+pub refused_by_scram : (r : Result (Option ClientFirst) Error) (found : Option Conversation) (version : ScramVersion) (credential : Credential) (nonce : List ℕ) → found ≡ Some (ByScram version)
     → IfErr r (λ e. or_else (CredentialRow credential) (λ kind. kind ≡ OutOfMemory) e.kind) → IfErr r (λ e. or_else (ConversationRow found credential) (IsUnmade (speculation_in found credential nonce)) e.kind)
-scram_refused (Ok first) found version credential nonce is refused = tt
-scram_refused (Err e) found version credential nonce is refused =
+refused_by_scram (Ok first) found version credential nonce is refused = tt
+refused_by_scram (Err e) found version credential nonce is refused =
     subst (λ o. or_else (ConversationRow o credential) (IsUnmade (speculation_in o credential nonce)) e.kind) (sym is) (elim refused [
       | inl row ↦ inl row
       | inr none ↦ inr (none.0, memory_unmade (Some (scram_speculation version credential nonce)) e.kind none.1)

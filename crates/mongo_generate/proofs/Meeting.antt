@@ -164,7 +164,7 @@ module _ (pending : PendingConnection) (x : Exchange) (nonces : Nonces) (bytes :
         said = ap (λ s. first_message s user.username handed.nonce) speculates ∙ ap (λ n. open_message x.username n) nonce_is;
         nonce = ap (λ s. first_nonce s handed.nonce) speculates ∙ nonce_is;
         enough = possible.enough;
-        within = omega arith;
+        within = omega (arith, max_iterations);
         usable = possible.usable;
       }
 
