@@ -1,21 +1,13 @@
-use Rattle.std.proofs.Common.{refl, true}
-use Rattle.mongo_num.proofs.ExactLemmas.{remainder_holds, product_fits, rest_fits}
+use Rattle.std.proofs.Common.{refl, rules, true}
+use Rattle.mongo_num.proofs.ExactLemmas.{remainder_holds, remainder_within}
 use Rattle.mongo_num.proofs.checked.division.remainder.Goals as goal
 
-pub overflow_mul-quotient : goal.overflow_mul-quotient
-overflow_mul-quotient g c =
-    let d = c.in_ok-quotient.ensures in
-    product_fits c.wide-dividend.result c.wide-divisor.result c.in_ok-quotient.quotient c.wide-dividend.ensures.narrow c.wide-divisor.ensures.narrow d.0 d.1
-
-pub overflow_sub-dividend : goal.overflow_sub-dividend
-overflow_sub-dividend g c =
-    let d = c.in_ok-quotient.ensures in
-    rest_fits c.wide-dividend.result c.wide-divisor.result c.in_ok-quotient.quotient c.wide-dividend.ensures.narrow c.wide-divisor.ensures.narrow d.0 d.1
-
-pub returns : goal.returns
-returns g c =
+pub returns-in-Some : goal.returns-in-Some
+returns-in-Some g c =
     let int = g.met.T.Int in
-    rw (← c.wide-dividend.ensures.value, ← c.wide-divisor.ensures.value) (
-    remainder_holds _ _ _ c.wide-dividend.result c.wide-divisor.result c.in_ok-quotient.quotient _ c.wide-dividend.ensures.narrow c.wide-divisor.ensures.narrow
-    c.in_ok-quotient.ensures int.least_is_at_most_zero int.greatest_is_at_least_zero
-    c.wide-dividend.ensures.within (c.in_ok-of_i128.ensures.there.0 (refl {a = true})) c.of_i128-2.ensures)
+    rw (← c.wide.ensures.value, ← c.wide-2.ensures.value) (
+    remainder_holds _ _ _ c.wide.result c.wide-2.result c.in-Some.n _ c.wide.ensures.narrow c.wide-2.ensures.narrow
+    (search rules) c.in-Some.ensures.1 c.of_i128.ensures
+    (rw (c.wide.ensures.value, c.wide-2.ensures.value) (c.in_ok-quotient.ensures.there.0 (refl {a = true})))
+    (remainder_within _ _ _ _ int.least_is_at_most_zero int.greatest_is_at_least_zero c.wide.ensures.within)
+    )
