@@ -20,7 +20,7 @@ impl SettingValue for ClientOptions {
 
     ghost meaning = { client_options_in };
 
-    #[tactic(auto, unfolding(crate::specs::Options::options_in))]
+    #[tactic(auto, unfolding(crate::specs::Options::client_options_in))]
     fn read(alloc: Global, value: &Value) -> Result<ClientOptions, SettingsError> {
         let app_name = optional::<Text>(alloc, value, keys::APP_NAME)?;
         let driver_info = optional::<DriverInfo>(alloc, value, keys::DRIVER_INFO)?;
