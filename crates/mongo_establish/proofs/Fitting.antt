@@ -1,25 +1,20 @@
 -- SCRAM doesn't refuse by `IncompatibleServer`, which is the establishment's own refusal of a server that names no service, nor
 -- does what two plans make that don't.
-use Rattle.std.proofs.Common.{◌≡◌, ℕ, ap, refl, sym, ◌∙◌, subst, inl, inr, Bool, true, false, Option, None, Some, List, [], ◌∷◌}
-use Rattle.mongo_bson.specs.declared.owned_value.OwnedValue.{OwnedValue}
+use Rattle.std.proofs.Common.{◌≡◌, ℕ, ap, refl, sym, subst, inl, inr, Option, None, Some, List, [], ◌∷◌}
 use Rattle.mongo_wire.specs.declared.error.ErrorKind.{ErrorKind}
-use Rattle.mongo_wire.specs.declared.error.ErrorKind.TheVariants.{Authentication, PasswordNotAscii, IncompatibleServer}
-use Rattle.mongo_wire.specs.declared.auth_fault.AuthFault.{AuthFault}
-use Rattle.mongo_wire.specs.declared.auth_fault.AuthFault.TheVariants.{Malformed, ServerError}
-use Rattle.mongo_command.specs.Conversation.{Turn, says, asks, refuses, ends, Plan, later, passed_on, passed_later, followed_by, row_for, ending, reading, unless}
+use Rattle.mongo_wire.specs.declared.error.ErrorKind.TheVariants.{PasswordNotAscii, IncompatibleServer}
+use Rattle.mongo_wire.specs.declared.auth_fault.AuthFault.TheVariants.{Malformed}
+use Rattle.mongo_command.specs.Conversation.{Turn, says, asks, refuses, ends, Plan, later, passed_on, passed_later, followed_by, ending, reading, unless}
 use Rattle.mongo_command.proofs.Leads.{Never, never_ending, never_unless, never_reading, never_saying}
-use Rattle.mongo_command.proofs.Plans.{all_else, all_row}
+use Rattle.mongo_command.proofs.Plans.{all_else}
 use Rattle.mongo_sasl.specs.declared.credential.Credential.{Credential}
-use Rattle.mongo_sasl.proofs.OtherRows.{IsOther, other, other_row, no_user_other}
-use Rattle.mongo_scram.specs.declared.scram_version.ScramVersion.{ScramVersion}
-use Rattle.mongo_scram.specs.declared.scram_version.ScramVersion.TheVariants.{Sha1, Sha256}
+use Rattle.mongo_sasl.proofs.OtherRows.{IsOther, other, other_row}
 use Rattle.mongo_scram.specs.declared.server_first.ServerFirst.{ServerFirst}
 use Rattle.mongo_scram.specs.declared.server_final.ServerFinal.{ServerFinal}
 use Rattle.mongo_scram.specs.User.{User, IsUser, CredentialRow}
-use Rattle.mongo_scram.specs.Key.{PasswordRow}
 use Rattle.mongo_scram.specs.Plan.{Speculated, Handed, Challenge, nonce_by, verifier_by, start_said, close_said, ChallengeRow, challenged, opened, opening, LastRow, closed, closing, scram_plan}
-use Rattle.mongo_scram.specs.Validity.{ServerFirstRow, ServerFinalRow}
 use Rattle.mongo_scram.specs.Replies.{CarriesFirst, FirstReplyRow, CarriesFinal, FinalReplyRow}
+use Rattle.mongo_scram.proofs.OwnRows.{each_credential_row, each_first_row, each_password_row, each_final_row}
 use Rattle.mongo_scram.proofs.ScramPlan.{challenge_of}
 
 -- ---- a plan that never refuses so
@@ -50,22 +45,10 @@ fits_followed plan next p q (event ∷ events) h =
 -- ---- rows
 
 pub credential_other : (credential : Credential) (kind : ErrorKind) → CredentialRow credential kind → IsOther kind
-credential_other credential = all_else IsOther _ _ (no_user_other credential) (other_row _ _)
-
-first_other : (first : ServerFirst) (nonce : List ℕ) (max_iterations : ℕ) (kind : ErrorKind) → ServerFirstRow first nonce max_iterations kind → IsOther kind
-first_other first nonce max_iterations =
-    all_else IsOther _ _ (other_row _ _) (all_else IsOther _ _ (other_row _ _) (all_else IsOther _ _ (other_row _ _) (other_row _ _)))
+credential_other = each_credential_row IsOther other
 
 no_ascii : IsOther PasswordNotAscii
 no_ascii is = cc
-
-password_other : (version : ScramVersion) (password : List ℕ) (kind : ErrorKind) → PasswordRow version password kind → IsOther kind
-password_other Sha1 password = λ kind row. absurd row
-password_other Sha256 password = all_else IsOther _ _ (all_row IsOther PasswordNotAscii _ no_ascii) (other_row _ _)
-
-final_other : (last : ServerFinal) (conversation : OwnedValue) (owed : List ℕ) (kind : ErrorKind) → ServerFinalRow last conversation owed kind → IsOther kind
-final_other last conversation owed =
-    all_else IsOther _ _ (other_row _ _) (all_else IsOther _ _ (λ kind row is. other (ServerError row.0) (sym row.1 ∙ is)) (all_else IsOther _ _ (other_row _ _) (other_row _ _)))
 
 -- ---- SCRAM
 
@@ -73,7 +56,7 @@ no_first_reply : (reply : List ℕ) → FirstReplyRow reply IncompatibleServer �
 no_first_reply reply row = elim row [ inl x ↦ x | inr x ↦ x.1 ]
 
 no_challenge : (handed : Handed) (c : Challenge) → ChallengeRow handed c IncompatibleServer → ⊥
-no_challenge handed c row = all_else IsOther _ _ (first_other c.first (nonce_by handed) handed.max_iterations) (password_other handed.version c.user.password) IncompatibleServer row refl
+no_challenge handed c row = all_else IsOther _ _ (each_first_row IsOther other c.first (nonce_by handed) handed.max_iterations) (each_password_row IsOther other no_ascii handed.version c.user.password) IncompatibleServer row refl
 
 -- after the server's first message and its last
 abbrev judged : Handed → User → ServerFirst → Plan Challenge
@@ -98,7 +81,7 @@ no_final_reply : (reply : List ℕ) → FinalReplyRow reply IncompatibleServer �
 no_final_reply reply row = elim row [ inl x ↦ x | inr x ↦ other Malformed (sym x.1.0) ]
 
 no_last : (handed : Handed) (c : Challenge) (last : ServerFinal) → LastRow handed c last IncompatibleServer → ⊥
-no_last handed c last row = all_else IsOther _ _ (final_other last c.first.conversation_id (verifier_by handed c)) (other_row _ _) IncompatibleServer row refl
+no_last handed c last row = all_else IsOther _ _ (each_final_row IsOther other last c.first.conversation_id (verifier_by handed c)) (other_row _ _) IncompatibleServer row refl
 
 fits_closed : (handed : Handed) (c : Challenge) (reply : List ℕ) → Fits (closed handed c reply)
 fits_closed handed c reply =
