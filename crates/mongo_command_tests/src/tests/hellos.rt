@@ -1,6 +1,7 @@
 use super::notation::{document, document_behind};
 use super::{Answered, hello_reply, printed};
-use mongo_command::HelloReply;
+use mongo_bson::{RawDocument, RawValue};
+use mongo_command::{Fields, HelloReply};
 use std::alloc::Global;
 use std::test::Fail;
 
@@ -246,5 +247,42 @@ fn a_reply_of_many_unknown_keys_is_answered_in_time(rt: HostRuntime) -> Result<(
         answer: hello_reply(rt.alloc(), document),
     };
     assert_eq!(rt; greatest_frame(&hello), Some(48_000_000));
+    Ok(())
+}
+
+// Whether the fields of a document have these values under these keys.
+fn has_values(
+    alloc: Global,
+    document: RawDocument<'_>,
+    wanted: &[(&str, Option<RawValue<'_>>)],
+) -> bool {
+    let Ok(fields) = Fields::of(alloc, document) else {
+        return false;
+    };
+    for (key, value) in wanted {
+        if fields.value(key) != *value {
+            return false;
+        }
+    }
+    true
+}
+
+// Of 600,001 elements, more than entries are kept of.
+#[test]
+fn a_document_of_many_elements_is_read_by_its_keys(rt: HostRuntime) -> Result<(), Fail> {
+    let document = document_behind(rt.alloc(), 100_000..700_000, "x", "ok=true")?;
+    let text = Some(RawValue::Str("x"));
+    assert!(rt;
+        has_values(
+            rt.alloc(),
+            document.borrow(),
+            &[
+                ("100000", text),
+                ("699999", text),
+                ("ok", Some(RawValue::Bool(true))),
+                ("700000", None),
+            ]
+        )
+    );
     Ok(())
 }
