@@ -49,10 +49,16 @@ nonce_held core message c proof is final d nonce other also last =
 
 pub proof_row : (core : ServerCore) (message : List ℕ) (held : Conversation) (proof : List ℕ) → held_conversation core ≡ Some held → IsClientFinal message held.nonce proof → proof ≢ proof_under core.user.keys held.auth_message → ClientFinalRow core message Proof
 proof_row core message held proof is final other =
-    inr (no_row _ _ (λ none. not_started (held_conversation core) held none is),
-    inr (no_row _ _ (λ none. none held.nonce proof final),
-    inr (no_row _ _ (λ row. row.2.3 (nonce_held core message held proof is final row.0 row.2.0 row.2.1 row.1 row.2.2)),
-    (refl, (held, is, (proof, final, other))))))
+    inr (
+      no_row _ _ (λ none. not_started (held_conversation core) held none is),
+      inr (
+        no_row _ _ (λ none. none held.nonce proof final),
+        inr (
+          no_row _ _ (λ row. row.2.3 (nonce_held core message held proof is final row.0 row.2.0 row.2.1 row.1 row.2.2)),
+          (refl, (held, is, (proof, final, other))),
+        ),
+      ),
+    )
 
 pub taken_no_row : (core : ServerCore) (message : List ℕ) → IsLastMessageTaken core message → HasNone (ClientFinalRow core message)
 taken_no_row core message is =
