@@ -115,26 +115,16 @@ fn faults_and_words_decide_too(rt: HostRuntime) -> Result<(), Fail> {
     let alloc = rt.alloc();
     let text = STANDALONE.as_bytes();
     let all = text.len();
-    // and how much of the text was read then: nothing after a fault
-    for (list, source_fails, sink_fails, want, read) in [
-        (&["rehearse", "x"][..], &[][..], &[][..], Status::Usage, 0),
-        (&[][..], &[][..], &[][..], Status::Usage, 0),
-        (&["rehearse"][..], &[1][..], &[][..], Status::SourceFault, 0),
-        (
-            &["rehearse"][..],
-            &[0, 1][..],
-            &[][..],
-            Status::SourceFault,
-            16,
-        ),
-        (&["rehearse"][..], &[][..], &[1][..], Status::SinkFault, all),
-        (
-            &["rehearse"][..],
-            &[][..],
-            &[0, 1][..],
-            Status::SinkFault,
-            all,
-        ),
+    let rest = all.saturating_sub(16);
+    let (source_fault, sink_fault) = (Status::SourceFault, Status::SinkFault);
+    // and how much of the text was left then: all that followed a fault
+    for (list, source_fails, sink_fails, want, left) in [
+        (&["rehearse", "x"][..], &[][..], &[][..], Status::Usage, all),
+        (&[][..], &[][..], &[][..], Status::Usage, all),
+        (&["rehearse"][..], &[1][..], &[][..], source_fault, all),
+        (&["rehearse"][..], &[0, 1][..], &[][..], source_fault, rest),
+        (&["rehearse"][..], &[][..], &[1][..], sink_fault, 0),
+        (&["rehearse"][..], &[][..], &[0, 1][..], sink_fault, 0),
     ] {
         let mut source = link_by(alloc, text, source_fails, 16)?;
         let mut sink = link_by(alloc, &[], sink_fails, 16)?;
@@ -142,7 +132,7 @@ fn faults_and_words_decide_too(rt: HostRuntime) -> Result<(), Fail> {
             status_of(alloc, words_of(alloc, list)?, &mut source, &mut sink),
             want
         );
-        assert_eq!(rt; source.left().len() + read, all);
+        assert_eq!(rt; source.left().len(), left);
     }
     Ok(())
 }
