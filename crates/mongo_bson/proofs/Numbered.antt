@@ -24,6 +24,10 @@ digits_no_zero : (n : ℕ) → n < 2 ^ 64 → HasNoZero (decimal n)
 digits_no_zero n small =
     decimal_by_steps (λ _ ds. HasNoZero ds) (λ d _. ((λ zero. omega arith), tt)) (λ d ds _ before. all_push (λ b. b ≢ 0) ds (48 + d % 10) before (λ zero. omega arith)) n small
 
+-- the text of a number, however the number is written
+pub number_text : (text : List ℕ) (number count : ℕ) → number ≡ count → text ≡ decimal number → text ≡ decimal count
+number_text text number count same is = is ∙ ap decimal same
+
 -- a number has no zero byte in decimal
 pub decimal_no_zero : (n : ℕ) → n < 2 ^ 64 → Contains (decimal n) 0 → ⊥
 decimal_no_zero n small (k, within, zero) = All-from_recursion (λ b. b ≢ 0) (decimal n) (digits_no_zero n small) k 0 within zero

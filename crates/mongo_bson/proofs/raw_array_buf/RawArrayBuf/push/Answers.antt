@@ -5,22 +5,23 @@ use Rattle.mongo_bson.specs.Framed.{IsFramed}
 use Rattle.mongo_bson.specs.Array.{IsArray}
 use Rattle.mongo_bson.specs.Document.{AddsElement}
 use Rattle.mongo_bson.specs.Value.{kind_of, bytes_of, element_of}
-use Rattle.mongo_bson.proofs.Numbered.{decimal_no_zero, push_refuses, too_long_at_number, array_goes_on}
+use Rattle.mongo_bson.proofs.Numbered.{number_text, decimal_no_zero, push_refuses, too_long_at_number, array_goes_on}
 use Rattle.mongo_bson.proofs.raw_array_buf.RawArrayBuf.push.Goals as goal
 
 pub returns-in-Err-clause-too_long : goal.returns-in-Err-clause-too_long
 returns-in-Err-clause-too_long c =
     let array = c.args.self.now in
-    too_long_at_number array.document (bytes_of c.args.value) c.format.result.now (decimal array.count) _ c.format.ensures.text (decimal_no_zero array.count (omega arith)) c.in-Err.ensures.too_long
+    too_long_at_number array.document (bytes_of c.args.value) c.format.result.now (decimal array.count) _ (number_text _ _ array.count (omega arith) c.format.ensures.text) (decimal_no_zero array.count (omega arith)) c.in-Err.ensures.too_long
 
 pub returns-in-Err-clause-refused : goal.returns-in-Err-clause-refused
 returns-in-Err-clause-refused c =
-    push_refuses c.in-Err.fault c.in-Err.ensures.refused (λ same. decimal_no_zero c.args.self.now.count (omega arith) (subst (λ k. Contains k 0) c.format.ensures.text (c.in-Err.ensures.key_has_zero.0 (ap Err same))))
+    let array = c.args.self.now in
+    push_refuses c.in-Err.fault c.in-Err.ensures.refused (λ same. decimal_no_zero array.count (omega arith) (subst (λ k. Contains k 0) (number_text _ _ array.count (omega arith) c.format.ensures.text) (c.in-Err.ensures.key_has_zero.0 (ap Err same))))
 
 pub invariant_of-self-clause-numbered : goal.invariant_of-self-clause-numbered
 invariant_of-self-clause-numbered c =
     let array = c.args.self.now in
-    array_goes_on array.document c.append.new.self c.format.result.now (bytes_of c.args.value) (kind_of c.args.value) array.count array.framed c.format.ensures.text c.in-Ok.ensures.added array.numbered
+    array_goes_on array.document c.append.new.self c.format.result.now (bytes_of c.args.value) (kind_of c.args.value) array.count array.framed (number_text _ _ array.count (omega arith) c.format.ensures.text) c.in-Ok.ensures.added array.numbered
 
 pub invariant_of-self-in-Err-1 : goal.invariant_of-self-in-Err-1
 invariant_of-self-in-Err-1 c =
@@ -35,4 +36,4 @@ invariant_of-self-in-Err-1 c =
 pub returns-in-Ok-clause-one_more : goal.returns-in-Ok-clause-one_more
 returns-in-Ok-clause-one_more c =
     let array = c.args.self.now in
-    subst (λ key. AddsElement array.document c.append.new.self (element_of key c.args.value)) c.format.ensures.text c.in-Ok.ensures.one_more
+    subst (λ key. AddsElement array.document c.append.new.self (element_of key c.args.value)) (number_text _ _ array.count (omega arith) c.format.ensures.text) c.in-Ok.ensures.one_more
