@@ -33,7 +33,7 @@ pub use handshaker::Handshaker;
 pub use login_state::{LoginInputs, LoginState, Nonces};
 pub use mongo_bson::{BsonFault, Bytes, ObjectId, Text, Texts};
 pub use mongo_command::{
-    Connection, HelloReply, ServerAddress, ServerApi, ServerApiVersion, ServerType,
+    Connection, DEFAULT_PORT, HelloReply, ServerAddress, ServerApi, ServerApiVersion, ServerType,
     StreamDescription,
 };
 pub use mongo_mac::Steps;

@@ -10,7 +10,7 @@ ghost use Rattle.std.specs.Prelude.{◌≡◌, ◌<◌, IsSome};
 mod pool;
 mod recorded;
 
-use mongo_establish::{Bytes, Error, MemoryLink, PooledConnection, ServerAddress, Steps};
+use mongo_establish::{Bytes, DEFAULT_PORT, Error, MemoryLink, PooledConnection, ServerAddress, Steps};
 use pool::Pool;
 use recorded::{Recorded, recording_at};
 use std::alloc::{AllocError, Global};
@@ -99,7 +99,7 @@ fn line_of(alloc: Global, pooled: &PooledConnection, derived: u64) -> Result<Str
 fn place_of(alloc: Global, address: &ServerAddress) -> Result<String, AllocError> {
     match address {
         ServerAddress::Tcp { host, port } => {
-            format!(in alloc; "{}:{}", host.as_str(), port.unwrap_or(27017))
+            format!(in alloc; "{}:{}", host.as_str(), port.unwrap_or(DEFAULT_PORT))
         }
         ServerAddress::Unix { path } => format!(in alloc; "{}", path.as_str()),
     }
