@@ -1,18 +1,20 @@
 -- The documents of replies, as their elements are put.
-use Rattle.std.proofs.Common.{◌≡◌, ℕ, ℤ, true, Option, Some, Result, Ok, Err, OnOk, OnErr, List, [], ◌∷◌, ◌++◌, sym, ap, ◌∙◌, subst, append_assoc}
+use Rattle.std.proofs.Common.{◌≡◌, ℕ, ℤ, true, Option, Some, Result, Ok, Err, OnOk, OnErr, List, [], ◌∷◌, ◌++◌, length, sym, ap, ◌∙◌, subst, append_assoc}
 use Rattle.std.specs.Prelude.{⊤}
 use Rattle.std.specs.Io.KnownBytes.{Appends}
 use Rattle.mongo_bson.specs.Document.{Element}
 use Rattle.mongo_command.specs.Literal.{boolean_element, document_element, ok_element, document_of}
 use Rattle.mongo_command.specs.Keys.{speculative_authenticate_key}
 use Rattle.mongo_wire.specs.Bytes.{next_id}
+use Rattle.mongo_wire.specs.Header.{header_bytes}
 use Rattle.mongo_wire.specs.Outside.{State, AppendsFront, IsFlushed}
+use Rattle.mongo_wire.specs.declared.header.Header.{Header}
 use Rattle.mongo_serve.specs.declared.fault.ServeFault.{ServeFault}
 use Rattle.mongo_serve.specs.declared.reply.HelloReply.{HelloReply}
 use Rattle.mongo_serve.specs.declared.reply.Reply.{Reply}
 use Rattle.mongo_serve.specs.declared.reply.SaslReply.{SaslReply}
 use Rattle.mongo_serve.specs.Replies.{description, hello_reply_elements, mechanism_elements, speculation_elements, sasl_document, writable_key, document_of_served}
-use Rattle.mongo_serve.specs.Sent.{query_reply, IsSentToQuery}
+use Rattle.mongo_serve.specs.Sent.{query_header, query_fields, query_reply, IsSentToQuery}
 
 pub speculated : (elements : List Element) (new : List ℕ) (speculation : Option SaslReply) (message : SaslReply) (bytes : List ℕ) (r : Result ⊤ ServeFault) → speculation ≡ Some message → bytes ≡ sasl_document message
     → OnOk r (new ≡ document_of (elements ++ document_element speculative_authenticate_key bytes ∷ [])) → OnOk r (new ≡ document_of (elements ++ speculation_elements speculation))
@@ -28,6 +30,11 @@ hello_described hello key named =
     let m = mechanism_elements hello.mechanisms in
     let s = speculation_elements hello.speculation in
     ap document_of (regroup description (boolean_element key true) m s ok_element ∙ ap (λ k. description ++ (boolean_element k true ∷ (m ++ (s ++ ok_element ∷ [])))) named)
+
+-- the parts of a reply's frame, put after one another
+pub query_framed : (header : Header) (id to : ℤ) (document : List ℕ) → header ≡ query_header id to (length document)
+    → (header_bytes header ++ query_fields) ++ document ≡ query_reply id to document
+query_framed header id to document same = ap (λ h. header_bytes h ++ (query_fields ++ document)) same
 
 -- the ids of a reply's frame, which are spelled in two ways
 pub query_numbered : (frame document : List ℕ) (i id t to : ℤ) → frame ≡ query_reply i t document → i ≡ id → t ≡ to → frame ≡ query_reply id to document

@@ -4,8 +4,10 @@ use Rattle.std.specs.Int.{to_le_bytes, w64}
 use Rattle.std.specs.Io.KnownBytes.{Appends}
 use Rattle.mongo_wire.specs.Bytes.{next_id}
 use Rattle.mongo_wire.specs.Frame.{Frame, IsFrame, IsFrameWith, int32, message_code, uint32}
-use Rattle.mongo_wire.specs.Header.{signed_at}
+use Rattle.mongo_wire.specs.Header.{header_bytes, signed_at}
 use Rattle.mongo_wire.specs.Outside.{State, AppendsFront, IsFlushed, Rose}
+use Rattle.mongo_wire.specs.declared.header.Header.{Header}
+use Rattle.mongo_wire.specs.declared.op_code.OpCode.TheVariants.{Reply as OpReply}
 use Rattle.mongo_serve.specs.declared.fault.ServeFault.{ServeFault}
 use Rattle.mongo_serve.specs.declared.fault.ServeFault.TheVariants.{WriteFault, ReplyTooLong, OutOfMemory}
 use Rattle.mongo_serve.specs.declared.reply.Reply.{Reply}
@@ -24,10 +26,18 @@ pub record IsReplyFrame (sent : List ℕ) (id to : ℤ) (document : List ℕ) : 
   pub framed : IsFrameWith sent (record { request_id = id; response_to = to; flags = 0; body = document; sequences = []; checksum = None }) 0
   pub spelled : sent ≡ message_reply id to document
 
--- a reply in an OP_REPLY, op code 1: the header, responseFlags 8, which is AwaitCapable, cursorID 0, startingFrom 0, numberReturned 1,
--- the document
+-- the header of an OP_REPLY whose document has this length
+abbrev pub query_header : ℤ → ℤ → ℕ → Header
+query_header id to size = record { length = pos (36 + size); request_id = id; response_to = to; op_code = OpReply }
+
+-- what an OP_REPLY has between its header and its document: responseFlags 8, which is AwaitCapable, cursorID 0, startingFrom 0,
+-- numberReturned 1
+abbrev pub query_fields : List ℕ
+query_fields = int32 (pos 8) ++ (to_le_bytes w64 0 ++ (int32 (pos 0) ++ int32 (pos 1)))
+
+-- a reply in an OP_REPLY
 abbrev pub query_reply : ℤ → ℤ → List ℕ → List ℕ
-query_reply id to document = uint32 (length document + 36) ++ (int32 id ++ (int32 to ++ ((int32 (pos 1) ++ (int32 (pos 8) ++ (to_le_bytes w64 0 ++ (int32 (pos 0) ++ int32 (pos 1))))) ++ document)))
+query_reply id to document = header_bytes (query_header id to (length document)) ++ (query_fields ++ document)
 
 -- ---- what answers a frame, where the next reply has this id, and the one after it that
 

@@ -48,7 +48,9 @@ impl<L: Link> PutBack<L> {
 
     /// The link.
     #[cfg(test)]
-    pub fn link(&self) -> &L {
+    pub fn link(&self) -> &L
+        ensures { result.now ≡ self.now.link }
+    {
         &self.link
     }
 }

@@ -4,7 +4,7 @@ ghost use Rattle.std.specs.Prelude.{◌≡◌, ◌+◌, ◌^◌, ◌<◌, length
 ghost use Rattle.std.specs.Io.KnownBytes.{Appends};
 ghost use Rattle.mongo_wire.specs.Outside.{AppendsFront, IsFlushed, WritesOn};
 ghost use Rattle.mongo_serve.specs.Replies.{document_of_served};
-ghost use Rattle.mongo_serve.specs.Sent.{message_reply, query_reply, IsReplySent, IsSentInPart, IsSentToQuery, SendsReply, WriteCause};
+ghost use Rattle.mongo_serve.specs.Sent.{message_reply, query_header, query_reply, IsReplySent, IsSentInPart, IsSentToQuery, SendsReply, WriteCause};
 ghost use Rattle.mongo_serve.specs.declared.fault.ServeFault.TheVariants.{OutOfMemory};
 
 use crate::fault::ServeFault;
@@ -12,7 +12,7 @@ use crate::reply::Reply;
 use crate::reply_document::{FRAME_MAXIMUM, document_of_reply};
 use bitflags::Flags;
 use mongo_bson::RawDocumentBuf;
-use mongo_wire::{Message, MessageFlags, RequestIds, Sequences, Sink, write_all};
+use mongo_wire::{Header, Message, MessageFlags, OpCode, RequestIds, Sequences, Sink, write_all};
 use std::alloc::Global;
 
 /// Answers an OP_MSG of this id and these flags: writes the reply as an OP_MSG and flushes it, or writes nothing where the client says
@@ -66,11 +66,9 @@ fn send_message<K: Sink>(
     }
 }
 
-// What an OP_REPLY has between its ids and its document: op code 1, responseFlags 8 (AwaitCapable), cursorID 0, startingFrom 0,
+// What an OP_REPLY has between its header and its document: responseFlags 8 (AwaitCapable), cursorID 0, startingFrom 0,
 // numberReturned 1.
-const REPLY_START: [u8; 24] = [
-    1, 0, 0, 0, 8, 0, 0, 0, 0, 0, 0, 0, 0, 0, 0, 0, 0, 0, 0, 0, 1, 0, 0, 0,
-];
+const REPLY_FIELDS: [u8; 20] = [8, 0, 0, 0, 0, 0, 0, 0, 0, 0, 0, 0, 0, 0, 0, 0, 1, 0, 0, 0];
 
 /// Answers an OP_QUERY of this id: writes the reply as an OP_REPLY, and flushes it.
 pub fn respond_to_query<K: Sink>(
@@ -105,13 +103,24 @@ fn frame_of_reply(alloc: Global, id: i32, to: i32, document: &[u8]) -> Result<Ve
     ensures frame { IfOk result (λ frame. frame.items ≡ query_reply id to document.now) }
     ensures refused { IfErr result (λ fault. fault ≡ OutOfMemory) }
 {
-    let length = (document.len() + 36) as u32;
-    let mut frame = Vec::from_slice(alloc, &length.to_le_bytes())?;
-    frame.extend_from_slice(&id.to_le_bytes())?;
-    frame.extend_from_slice(&to.to_le_bytes())?;
-    frame.extend_from_slice(&REPLY_START)?;
+    let header = header_of_reply(id, to, document.len());
+    let mut frame = Vec::from_slice(alloc, &header.encode())?;
+    frame.extend_from_slice(&REPLY_FIELDS)?;
     frame.extend_from_slice(document)?;
     Ok(frame)
+}
+
+// The header of an OP_REPLY whose document has this length.
+fn header_of_reply(id: i32, to: i32, length: usize) -> Header
+    requires { length + 36 < 2 ^ 31 }
+    ensures header { result ≡ query_header id to length }
+{
+    Header {
+        length: (Header::LENGTH + REPLY_FIELDS.len() + length) as i32,
+        request_id: id,
+        response_to: to,
+        op_code: OpCode::Reply,
+    }
 }
 
 // Writes bytes and flushes them.
