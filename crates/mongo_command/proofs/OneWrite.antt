@@ -1,6 +1,6 @@
 -- A document says one thing as the reply to a write, so that it has one answer.
-use Rattle.std.proofs.Common.{◌≡◌, ℕ, ℤ, inl, inr, Option, None, Some, Result, Ok, Err, List, [], ◌∷◌, refl, sym, ap, ◌∙◌, subst, arith, IfErr, OnOk}
-use Rattle.mongo_bson.specs.Document.{Element, IsDocument}
+use Rattle.std.proofs.Common.{◌≡◌, ℕ, ℤ, inl, inr, Option, None, Some, Result, Ok, Err, List, [], ◌∷◌, refl, sym, ap, ◌∙◌, subst, IfErr, OnOk}
+use Rattle.mongo_bson.specs.Document.{Element}
 use Rattle.mongo_bson.proofs.OneElement.{one_document}
 use Rattle.mongo_wire.specs.declared.error.Error.{Error}
 use Rattle.mongo_wire.specs.declared.error.ErrorKind.{ErrorKind}
@@ -12,7 +12,7 @@ use Rattle.mongo_wire.specs.declared.write_error.WriteConcernError.{WriteConcern
 use Rattle.mongo_wire.specs.declared.write_error.WriteFailure.{WriteFailure}
 use Rattle.mongo_wire.specs.declared.write_error.InsertManyError.{InsertManyError}
 use Rattle.mongo_command.specs.Field.{field_of}
-use Rattle.mongo_command.specs.WriteReply.{HoldsTable, EachReads, ReadsUnsigned32, IsWriteErrorTable, ReadsWriteError, HoldsWriteErrors, ReadsWriteErrors, TextsOrNone, IsConcernErrorTable, ReadsConcernError, IsWriteReplyTable, IsWriteReply, write_failure, insert_failure, SaysOfWrite, SingleWriteRefused, InsertManyRefused, IsKindFor, Validates}
+use Rattle.mongo_command.specs.WriteReply.{HoldsTable, EachReads, ReadsUnsigned32, IsWriteErrorTable, ReadsWriteError, HoldsWriteErrors, ReadsWriteErrors, TextsOrNone, IsConcernErrorTable, ReadsConcernError, IsWriteReplyTable, write_failure, insert_failure, SaysOfWrite, SingleWriteRefused, InsertManyRefused, IsKindFor, Validates}
 use Rattle.mongo_command.specs.Keys.{code_name_key, errmsg_key, error_labels_key}
 use Rattle.mongo_command.proofs.OneField.{ReadsOne, optional_one, required_one, text_or_empty_one, labels_one, text_one, texts_one, int32_one, minutes_one, document_one}
 use Rattle.mongo_command.proofs.OneReply.{◌·◌}

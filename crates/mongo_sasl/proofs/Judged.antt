@@ -1,5 +1,5 @@
 -- Readable properties are judged by their elements.
-use Rattle.std.proofs.Common.{◌≡◌, ℕ, inl, Bool, Option, None, Some, Result, List, codes, is_some, refl, sym, ap, ◌∙◌}
+use Rattle.std.proofs.Common.{◌≡◌, ℕ, inl, Bool, Option, None, Some, Result, List, is_some, refl, ap, ◌∙◌}
 use Rattle.mongo_bson.specs.Document.{Element, IsDocument, IsReadable, maximum_depth}
 use Rattle.mongo_bson.specs.declared.raw_value.RawValue.{RawValue}
 use Rattle.mongo_wire.specs.declared.fault.ArgumentFault.{ArgumentFault}

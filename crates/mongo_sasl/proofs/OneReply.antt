@@ -1,7 +1,6 @@
 -- A document says one thing as the reply to a login command, and is refused for one reason at most.
-use Rattle.std.proofs.Common.{◌≡◌, ℕ, ℤ, pos, Bool, Option, None, Some, List, refl, sym, ap, ◌∙◌, subst}
-use Rattle.mongo_bson.specs.Document.{Element, IsDocument, IsWellFormed}
-use Rattle.mongo_bson.specs.Number.{int_of_kind}
+use Rattle.std.proofs.Common.{◌≡◌, ℕ, pos, Bool, Option, None, Some, List, refl, sym, ap, ◌∙◌, subst}
+use Rattle.mongo_bson.specs.Document.{Element, IsWellFormed}
 use Rattle.mongo_bson.specs.declared.owned_value.OwnedValue.{OwnedValue}
 use Rattle.mongo_bson.proofs.OneElement.{one_document}
 use Rattle.mongo_wire.specs.declared.auth_fault.AuthFault.{AuthFault}
@@ -13,7 +12,7 @@ use Rattle.mongo_command.specs.Conversation.{IsOne, HasNone}
 use Rattle.mongo_command.specs.Keys.{errmsg_key, ok_key}
 use Rattle.mongo_command.proofs.OneField.{boolean_one}
 use Rattle.mongo_sasl.specs.declared.sasl_response.SaslResponse.{SaslResponse}
-use Rattle.mongo_sasl.specs.Reply.{Succeeded, SaysFailure, failure_text, ReadsValue, ReadsGeneric, IsSaslTable, IsSaslReply, IsSaslFailure, IsSaslMalformed, AuthRow, SaslRow}
+use Rattle.mongo_sasl.specs.Reply.{Succeeded, SaysFailure, failure_text, ReadsValue, ReadsGeneric, IsSaslTable, IsSaslReply, IsSaslFailure, AuthRow, SaslRow}
 use Rattle.mongo_sasl.specs.Keys.{conversation_id_key, done_key, payload_key}
 
 one_required : {A : Type 0} (Reads : Element → A → Type 0) → ((e : Element) (a b : A) → Reads e a → Reads e b → a ≡ b) → (found : Option Element) (a b : A) → Required Reads found a → Required Reads found b → a ≡ b

@@ -1,5 +1,5 @@
 -- The commands of a login, by the authentication specification and the server's `saslStart` and `saslContinue`.
-use Rattle.std.specs.Prelude.{◌≡◌, ℕ, pos, ◌+◌, ◌-◌, ◌^◌, ◌<◌, ◌==◌, ◌||◌, ◌&&◌, Bool, true, false, not, Option, List, [], ◌∷◌, ◌++◌, length, flat_map, codes, ⊤}
+use Rattle.std.specs.Prelude.{ℕ, pos, ◌-◌, ◌^◌, ◌<◌, ◌==◌, ◌||◌, ◌&&◌, Bool, true, false, not, List, [], ◌∷◌, ◌++◌, length, flat_map, codes, ⊤}
 use Rattle.std.specs.Borrow.{Bor}
 use Rattle.std.specs.Int.{to_le_bytes, w32}
 use Rattle.mongo_bson.specs.Framed.{enclosed}

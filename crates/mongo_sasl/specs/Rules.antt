@@ -1,5 +1,5 @@
 -- Rules: a mechanism's rules for a credential in their order, each with its fault and whether the credential breaks it.
-use Rattle.std.specs.Prelude.{ℕ, ◌==◌, ◌||◌, Bool, true, false, not, Option, None, Some, Result, Ok, Err, List, [], ◌∷◌, ◌++◌, bytes_eq, codes, if◌then◌else◌, is_some, option_and_then, unwrap_or}
+use Rattle.std.specs.Prelude.{ℕ, ◌==◌, Bool, false, not, Option, None, Some, Result, Ok, Err, List, [], ◌∷◌, bytes_eq, if◌then◌else◌, is_some, option_and_then, unwrap_or}
 use Rattle.mongo_bson.specs.Document.{Element, text_of}
 use Rattle.mongo_bson.specs.Framed.{enclosed}
 use Rattle.mongo_wire.specs.declared.fault.ArgumentFault.{ArgumentFault}

@@ -1,5 +1,5 @@
 -- Which credentials a mechanism takes, by the authentication specification.
-use Rattle.std.specs.Prelude.{◌≡◌, ℕ, ◌&&◌, ◌||◌, Bool, true, false, not, ◌⊎◌, Option, None, Some, Result, Ok, Err, List, [], ◌∷◌, bytes_eq, codes, is_some, is_none}
+use Rattle.std.specs.Prelude.{◌≡◌, ℕ, ◌&&◌, ◌||◌, Bool, false, not, ◌⊎◌, Option, Result, Ok, Err, List, [], ◌∷◌, bytes_eq, codes, is_some, is_none}
 use Rattle.mongo_bson.specs.Document.{Element, IsDocument, IsReadable, maximum_depth}
 use Rattle.mongo_wire.specs.declared.fault.ArgumentFault.{ArgumentFault}
 use Rattle.mongo_wire.specs.declared.fault.ArgumentFault.TheVariants.{PropertiesMalformed, ScramUsername, X509Password, X509Source, PlainUsername, PlainUsernameEmpty, PlainPassword, AwsUriCredentials, OidcProperty, OidcCallbackWithEnvironment, OidcResourceMissing, OidcResourceGiven, OidcSource, OidcPassword, OidcEnvironment, OidcHostsNotArray}

@@ -1,6 +1,6 @@
 -- MONGODB-X509, by the authentication specification: the certificate of the link is the credential, and one command asks the
 -- server to take it.
-use Rattle.std.specs.Prelude.{◌≡◌, ℕ, ℤ, pos, Bool, true, false, Option, None, Some, List, [], ◌∷◌, codes}
+use Rattle.std.specs.Prelude.{◌≡◌, ℕ, ℤ, pos, Bool, true, false, Option, List, [], ◌∷◌, codes}
 use Rattle.mongo_bson.specs.Document.{Element, IsWellFormed}
 use Rattle.mongo_wire.specs.declared.error.ErrorKind.{ErrorKind}
 use Rattle.mongo_wire.specs.declared.error.ErrorKind.TheVariants.{Authentication}
