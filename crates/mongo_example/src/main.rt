@@ -10,7 +10,9 @@ ghost use Rattle.std.specs.Prelude.{◌≡◌, ◌<◌, IsSome};
 mod pool;
 mod recorded;
 
-use mongo_establish::{Bytes, DEFAULT_PORT, Error, MemoryLink, PooledConnection, ServerAddress, Steps};
+use mongo_establish::{
+    Bytes, DEFAULT_PORT, Error, MemoryLink, PooledConnection, ServerAddress, Steps,
+};
 use pool::Pool;
 use recorded::{Recorded, recording_at};
 use std::alloc::{AllocError, Global};

@@ -29,10 +29,12 @@ impl Pool {
     ghost use Rattle.mongo_establish.specs.Establisher.{options_of_establisher};
     ghost use Rattle.mongo_establish.specs.declared.generation.PoolGeneration.TheVariants.{Normal};
     ghost use Rattle.mongo_scram.specs.Cache.{rounds_of};
-    ghost use Rattle.mongo_example.specs.Pool.{IsReady};
+    ghost use Rattle.mongo_example.specs.Pool.{IsFresh, IsReady};
 
     /// A pool for `user` at `db.example.net`, of generation 7, that has made no connection.
-    pub fn new(alloc: Global) -> Result<Pool, Error> {
+    pub fn new(alloc: Global) -> Result<Pool, Error>
+        ensures fresh { IfOk result IsFresh }
+    {
         let host = Text::from_slice(alloc, "db.example.net")?;
         let credential = credential(alloc)?;
         let establisher = establisher(alloc)?;
