@@ -1,7 +1,8 @@
+use super::given;
 use super::notation::document;
 use mongo_bson::{Bytes, Documents, RawArrayBuf, RawDocumentBuf, Text};
 use mongo_command::{Command, RawDocumentCollection};
-use mongo_wire::{Error, MemoryLink, Message, RequestIds};
+use mongo_wire::{MemoryLink, Message, RequestIds};
 use std::alloc::Global;
 use std::test::Fail;
 
@@ -10,9 +11,9 @@ fn put<C: RawDocumentCollection>(
     collection: &mut C,
     index: usize,
     empty: RawDocumentBuf,
-) -> Result<usize, Error> {
-    let added = C::bytes_added(index, &empty)?;
-    collection.push(empty)?;
+) -> Result<usize, Fail> {
+    let added = given(C::bytes_added(index, &empty))?;
+    given(collection.push(empty))?;
     Ok(added)
 }
 
@@ -21,7 +22,7 @@ fn fill<C: RawDocumentCollection>(
     alloc: Global,
     collection: &mut C,
     count: usize,
-) -> Result<usize, Error> {
+) -> Result<usize, Fail> {
     let mut sum: usize = 0;
     for index in 0..count {
         sum = sum.saturating_add(put(collection, index, RawDocumentBuf::new(alloc)?)?);
@@ -30,26 +31,32 @@ fn fill<C: RawDocumentCollection>(
 }
 
 // An insert that carries nothing yet.
-fn insert(alloc: Global, body: RawDocumentBuf) -> Result<Command, Error> {
-    Command::new_raw(alloc, "insert", "d", body)
-}
-
-// The message of an insert of this body that carries the collection.
-fn message<C: RawDocumentCollection + Drop>(
-    alloc: Global,
-    body: RawDocumentBuf,
-    collection: C,
-) -> Result<Message, Error> {
-    let mut command = insert(alloc, body)?;
-    collection.add_to_command(alloc, "documents", &mut command)?;
-    command.into_message(alloc)
+fn insert(alloc: Global, body: RawDocumentBuf) -> Result<Command, Fail> {
+    given(Command::new_raw(alloc, "insert", "d", body))
 }
 
 // The frame of a message.
-fn frame(alloc: Global, message: &Message) -> Result<Bytes, Error> {
+fn frame(alloc: Global, message: &Message) -> Result<Bytes, Fail> {
     let mut link = MemoryLink::new(alloc, Bytes::new(alloc));
-    message.write_op_msg_to(alloc, &mut link, None, &mut RequestIds::new(0))?;
+    given(message.write_op_msg_to(alloc, &mut link, None, &mut RequestIds::new(0)))?;
     Ok(Bytes::from_slice(alloc, link.written())?)
+}
+
+// The frame of a command's message.
+fn frame_of(alloc: Global, command: Command) -> Result<Bytes, Fail> {
+    let message = given(command.into_message(alloc))?;
+    frame(alloc, &message)
+}
+
+// The frame of an insert of this body that carries the collection.
+fn frame_with<C: RawDocumentCollection + Drop>(
+    alloc: Global,
+    body: RawDocumentBuf,
+    collection: C,
+) -> Result<Bytes, Fail> {
+    let mut command = insert(alloc, body)?;
+    given(collection.add_to_command(alloc, "documents", &mut command))?;
+    frame_of(alloc, command)
 }
 
 // The frame of an insert that carries the collection, after so many empty documents were put in, and what they were to add.
@@ -59,8 +66,8 @@ fn carried<C: RawDocumentCollection + Drop>(
     count: usize,
 ) -> Result<(Bytes, usize), Fail> {
     let sum = fill(alloc, &mut collection, count)?;
-    let message = message(alloc, document(alloc, "insert=text:c")?, collection)?;
-    Ok((frame(alloc, &message)?, sum))
+    let body = document(alloc, "insert=text:c")?;
+    Ok((frame_with(alloc, body, collection)?, sum))
 }
 
 // The same beside the document.
@@ -113,18 +120,18 @@ fn documents_add_what_they_were_to_add(rt: HostRuntime) -> Result<(), Fail> {
 }
 
 // Adds a sequence of one empty document to a command.
-fn add_one(alloc: Global, command: &mut Command) -> Result<(), Error> {
+fn add_one(alloc: Global, command: &mut Command) -> Result<(), Fail> {
     let mut documents = Documents::new(alloc);
     documents.push(RawDocumentBuf::new(alloc)?)?;
-    command.add_document_sequence(Text::from_slice(alloc, "documents")?, documents)
+    let name = Text::from_slice(alloc, "documents")?;
+    given(command.add_document_sequence(name, documents))
 }
 
 // The frame of an insert to which a sequence was added by its name.
 fn with_sequence(alloc: Global) -> Result<Bytes, Fail> {
     let mut command = insert(alloc, document(alloc, "insert=text:c")?)?;
     add_one(alloc, &mut command)?;
-    let message = command.into_message(alloc)?;
-    Ok(frame(alloc, &message)?)
+    frame_of(alloc, command)
 }
 
 // Both frames with one document, laid out by the OP_MSG specification and BSON 1.1.
@@ -134,12 +141,15 @@ const BESIDE: &[u8] =
 const INSIDE: &[u8] =
     b"\x4b\0\0\0\0\0\0\0\0\0\0\0\xdd\x07\0\0\0\0\0\0\0\x36\0\0\0\x02insert\0\x02\0\0\0c\0\x04documents\0\x0d\0\0\0\x030\0\x05\0\0\0\0\0\x02$db\0\x02\0\0\0d\0\0";
 
+// Whether a frame has these bytes.
+fn is_frame(frame: Bytes, wanted: &[u8]) -> bool {
+    frame.as_bytes() == wanted
+}
+
 #[test]
 fn a_sequence_stands_behind_the_document_and_an_array_in_it(rt: HostRuntime) -> Result<(), Fail> {
-    let (sequence, _) = in_sequence(rt.alloc(), 1)?;
-    assert_eq!(rt; sequence.as_bytes(), BESIDE);
-    assert_eq!(rt; with_sequence(rt.alloc())?.as_bytes(), BESIDE);
-    let (array, _) = in_array(rt.alloc(), 1)?;
-    assert_eq!(rt; array.as_bytes(), INSIDE);
+    assert!(rt; is_frame(in_sequence(rt.alloc(), 1)?.0, BESIDE));
+    assert!(rt; is_frame(with_sequence(rt.alloc())?, BESIDE));
+    assert!(rt; is_frame(in_array(rt.alloc(), 1)?.0, INSIDE));
     Ok(())
 }

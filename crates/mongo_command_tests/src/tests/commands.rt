@@ -1,9 +1,10 @@
 use super::failing::{Told, new_connection, send_message};
 use super::notation::document;
+use super::{Answered, given};
 use mongo_bson::{Bytes, ObjectId, RawDocumentBuf, RawValue, Text};
 use mongo_command::{
-    AwaitableHelloOptions, Command, ServerApi, ServerApiVersion, TopologyVersion, append_fields,
-    hello_command,
+    AwaitableHelloOptions, Command, Connection, ServerApi, ServerApiVersion, TopologyVersion,
+    append_fields, hello_command,
 };
 use mongo_wire::{Error, MemoryLink, RequestIds};
 use std::alloc::Global;
@@ -16,8 +17,8 @@ const SERVER_API: ServerApi = ServerApi {
 };
 
 // The document of a command.
-fn document_of(alloc: Global, command: &Command) -> Result<RawDocumentBuf, Error> {
-    command.to_document(alloc)
+fn document_of(alloc: Global, command: &Command) -> Result<RawDocumentBuf, Fail> {
+    given(command.to_document(alloc))
 }
 
 // Whether the document of a command has these fields.
@@ -27,12 +28,12 @@ fn has_fields(alloc: Global, command: &Command, fields: &str) -> Result<bool, Fa
 }
 
 // A command of this body to the database `admin`.
-fn command(alloc: Global, body: RawDocumentBuf) -> Result<Command, Error> {
-    Command::new_raw(alloc, "ping", "admin", body)
+fn command(alloc: Global, body: RawDocumentBuf) -> Result<Command, Fail> {
+    given(Command::new_raw(alloc, "ping", "admin", body))
 }
 
 // Sets the last arguments of a command, the last one first.
-fn set_last(alloc: Global, command: &mut Command, inner: &RawDocumentBuf) -> Result<(), Error> {
+fn set_last(alloc: Global, command: &mut Command, inner: &RawDocumentBuf) -> Result<(), Fail> {
     command.set_recovery_token(inner.try_clone(alloc)?);
     command.set_write_concern(inner.try_clone(alloc)?);
     command.set_after_cluster_time(Some((9, 8)));
@@ -42,7 +43,7 @@ fn set_last(alloc: Global, command: &mut Command, inner: &RawDocumentBuf) -> Res
 }
 
 // Sets the first, the last one first, and the session twice.
-fn set_first(alloc: Global, command: &mut Command, inner: &RawDocumentBuf) -> Result<(), Error> {
+fn set_first(alloc: Global, command: &mut Command, inner: &RawDocumentBuf) -> Result<(), Fail> {
     command.set_start_transaction();
     command.set_txn_number(7);
     command.set_read_preference(inner.try_clone(alloc)?);
@@ -62,13 +63,13 @@ const WITHOUT_CONCERNS: &str =
 
 // The command `ping` with nothing set.
 fn ping(alloc: Global) -> Result<Command, Fail> {
-    Ok(command(alloc, document(alloc, "ping=int:1")?)?)
+    command(alloc, document(alloc, "ping=int:1")?)
 }
 
 fn set_all(alloc: Global, command: &mut Command) -> Result<(), Fail> {
     let inner = document(alloc, "x=int:1")?;
     set_last(alloc, command, &inner)?;
-    Ok(set_first(alloc, command, &inner)?)
+    set_first(alloc, command, &inner)
 }
 
 // Whether a copy of the command has these fields.
@@ -95,10 +96,15 @@ fn fields_stand_in_their_order_whatever_that_of_the_calls(rt: HostRuntime) -> Re
 const SNAPSHOT: &str =
     "ping=int:1 $db=text:admin readConcern={ level=text:snapshot atClusterTime=timestamp:38654705672 }";
 
+// Sets the time of a snapshot.
+fn set_snapshot(alloc: Global, command: &mut Command) -> Result<(), Fail> {
+    given(command.set_snapshot_read_concern(alloc, Some((9, 8))))
+}
+
 #[test]
 fn a_snapshot_has_its_time(rt: HostRuntime) -> Result<(), Fail> {
     let mut command = ping(rt.alloc())?;
-    command.set_snapshot_read_concern(rt.alloc(), Some((9, 8)))?;
+    set_snapshot(rt.alloc(), &mut command)?;
     assert!(rt; has_fields(rt.alloc(), &command, SNAPSHOT)?);
     Ok(())
 }
@@ -145,9 +151,32 @@ fn hello(alloc: Global, words: &str) -> Result<Command, Error> {
 // Whether the row's hello has the fields behind the arrow, and may be answered more than once exactly where it waits.
 fn is_hello(alloc: Global, row: &str) -> Result<bool, Fail> {
     let (words, fields) = row.split_once(" => ").unwrap_or((row, "no arrow"));
-    let hello = hello(alloc, words)?;
-    let may_go_on = hello.exhaust_allowed == words.ends_with("await");
-    Ok(has_fields(alloc, &hello, fields)? && may_go_on)
+    is_given(alloc, hello(alloc, words), fields, words.ends_with("await"))
+}
+
+// What is asked of a command: whether it has these fields, and whether it may be answered more than once exactly where it waits.
+trait Asked {
+    fn has(&self, alloc: Global, fields: &str, waits: bool) -> Result<bool, Fail>;
+}
+
+impl Asked for Command {
+    fn has(&self, alloc: Global, fields: &str, waits: bool) -> Result<bool, Fail> {
+        let has_fields = has_fields(alloc, self, fields)?;
+        Ok(has_fields && self.exhaust_allowed == waits)
+    }
+}
+
+fn is_given<A: Asked + Drop, E: Drop>(
+    alloc: Global,
+    answer: Result<A, E>,
+    fields: &str,
+    waits: bool,
+) -> Result<bool, Fail> {
+    let given = Answered { answer };
+    match &given.answer {
+        Ok(command) => command.has(alloc, fields, waits),
+        Err(_) => Ok(false),
+    }
 }
 
 const HELLOS: &str = "true - - => hello=int:1 backpressure=text:2 $db=text:admin
@@ -158,30 +187,72 @@ false - - => isMaster=int:1 helloOk=true backpressure=text:2 $db=text:admin
 - false api => hello=int:1 backpressure=text:2 $db=text:admin apiVersion=text:1 apiStrict=true apiDeprecationErrors=false
 - true await => hello=int:1 backpressure=text:2 topologyVersion={ processId=id:7 counter=long:9 } maxAwaitTimeMS=long:10000 $db=text:admin";
 
-// Whether a hello is written with these flags. Nothing answers it.
-fn has_flags(alloc: Global, hello: Command, flags: &[u8]) -> Result<bool, Error> {
-    let mut connection = new_connection(alloc)?;
-    let mut link = MemoryLink::new(alloc, Bytes::new(alloc));
+// Sends the hello of these words, which nothing answers, and gives how that ended.
+fn told_of_hello(
+    alloc: Global,
+    connection: &mut Connection,
+    link: &mut MemoryLink,
+    words: &str,
+) -> Result<Told, Fail> {
     let mut ids = RequestIds::new(0);
-    let told = send_message(alloc, &mut connection, &mut link, &mut ids, hello);
-    Ok(told == Told::EndOfInput && link.written().get(16..20) == Some(flags))
+    let hello = given(hello(alloc, words))?;
+    Ok(send_message(alloc, connection, link, &mut ids, hello))
 }
 
-// Whether the row's hello is written with the flag that more than one answer may come, bit 16, exactly where it waits.
-fn is_flagged(alloc: Global, row: &str) -> Result<bool, Error> {
-    let (words, _) = row.split_once(" => ").unwrap_or((row, "no arrow"));
+// Whether what was written of the hello of these words has the flag that more than one answer may come, bit 16, exactly where
+// it waits.
+fn has_flags(written: &[u8], words: &str) -> bool {
     let flags = if words.ends_with("await") {
-        [0, 0, 1, 0]
+        b"\0\0\x01\0"
     } else {
-        [0; 4]
+        b"\0\0\0\0"
     };
-    has_flags(alloc, hello(alloc, words)?, &flags)
+    written.get(16..20) == Some(flags)
 }
 
-// Whether the message of a hello has this document.
-fn is_sent_as(alloc: Global, hello: Command, document: &[u8]) -> Result<bool, Error> {
-    let message = hello.into_message(alloc)?;
+// Whether the hello of these words is written so over a connection.
+fn is_written(alloc: Global, connection: &mut Connection, words: &str) -> Result<bool, Fail> {
+    let mut link = MemoryLink::new(alloc, Bytes::new(alloc));
+    let told = told_of_hello(alloc, connection, &mut link, words)?;
+    Ok(told == Told::EndOfInput && has_flags(link.written(), words))
+}
+
+// Whether the row's hello is written so.
+fn is_flagged(alloc: Global, row: &str) -> Result<bool, Fail> {
+    let (words, _) = row.split_once(" => ").unwrap_or((row, "no arrow"));
+    is_sent(alloc, new_connection(alloc), words)
+}
+
+// Whether a connection writes the hello of these words so, where there is one.
+trait Sends {
+    fn is_sent(&mut self, alloc: Global, words: &str) -> Result<bool, Fail>;
+}
+
+impl Sends for Connection {
+    fn is_sent(&mut self, alloc: Global, words: &str) -> Result<bool, Fail> {
+        is_written(alloc, self, words)
+    }
+}
+
+fn is_sent<S: Sends + Drop>(
+    alloc: Global,
+    connection: Result<S, Fail>,
+    words: &str,
+) -> Result<bool, Fail> {
+    let mut connection = connection?;
+    connection.is_sent(alloc, words)
+}
+
+// Whether the message of the first hello has this document.
+fn is_sent_as(alloc: Global, document: &[u8]) -> Result<bool, Fail> {
+    let hello = given(hello(alloc, ""))?;
+    let message = given(hello.into_message(alloc))?;
     Ok(message.document_payload.as_bytes() == document)
+}
+
+// Whether the document of these fields has these bytes.
+fn is_spelled(alloc: Global, fields: &str, bytes: &[u8]) -> Result<bool, Fail> {
+    Ok(document(alloc, fields)?.as_bytes() == bytes)
 }
 
 #[test]
@@ -190,14 +261,13 @@ fn a_hello_has_the_name_that_the_server_knows(rt: HostRuntime) -> Result<(), Fai
         assert!(rt; is_hello(rt.alloc(), row)?, "{row}");
         assert!(rt; is_flagged(rt.alloc(), row)?, "{row}");
     }
-    assert!(rt; is_sent_as(rt.alloc(), hello(rt.alloc(), "")?, HELLO)?);
-    let ping = document(rt.alloc(), "ping=int:1 $db=text:admin")?;
-    assert_eq!(rt; ping.as_bytes(), PING);
+    assert!(rt; is_sent_as(rt.alloc(), HELLO)?);
+    assert!(rt; is_spelled(rt.alloc(), "ping=int:1 $db=text:admin", PING)?);
     Ok(())
 }
 
 // The document of a field, none and another, which are put in together.
-fn appended(alloc: Global) -> Result<RawDocumentBuf, Error> {
+fn appended(alloc: Global) -> Result<RawDocumentBuf, Fail> {
     let mut document = RawDocumentBuf::new(alloc)?;
     let fields = [
         Some(("ping", RawValue::Int32(1))),

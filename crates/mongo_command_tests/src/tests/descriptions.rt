@@ -1,5 +1,5 @@
 use super::notation::document;
-use super::{Answered, hello_reply, response};
+use super::{Answered, hello_reply, response, text_of};
 use mongo_bson::{RawDocumentBuf, Text};
 use mongo_command::{
     HelloCommandResponse, HelloReply, RawCommandResponse, ServerAddress, StreamDescription, Tag,
@@ -21,18 +21,61 @@ fn described_as(alloc: Global, description: &StreamDescription) -> Result<String
     Ok(format!(in alloc; "{description:?}, retries: {retries}")?)
 }
 
-fn refused_as(alloc: Global, error: &Error) -> Result<String, Fail> {
-    Ok(format!(in alloc; "{error:?}")?)
+// What is asked of the value that a call gives: what it tells, whether it is copied, and what is told where it is refused.
+trait Asked {
+    fn told(&self, alloc: Global) -> Result<String, Fail>;
+
+    fn is_copied(&self, alloc: Global) -> Result<bool, Fail>;
+
+    fn refused<E: Debug>(alloc: Global, error: &E) -> Result<String, Fail>;
 }
 
-// The same of a server by its hello.
-fn told_of(alloc: Global, hello: &HelloReply) -> Result<String, Fail> {
-    let described = Answered {
-        answer: described(alloc, hello),
-    };
-    match &described.answer {
-        Ok(description) => described_as(alloc, description),
-        Err(error) => refused_as(alloc, error),
+impl Asked for StreamDescription {
+    fn told(&self, alloc: Global) -> Result<String, Fail> {
+        described_as(alloc, self)
+    }
+
+    fn is_copied(&self, alloc: Global) -> Result<bool, Fail> {
+        is_copy(alloc, self, self.try_clone(alloc))
+    }
+
+    fn refused<E: Debug>(alloc: Global, error: &E) -> Result<String, Fail> {
+        text_of(alloc, error)
+    }
+}
+
+// A hello is asked for the description that it gives.
+impl Asked for HelloReply {
+    fn told(&self, alloc: Global) -> Result<String, Fail> {
+        told(alloc, described(alloc, self))
+    }
+
+    fn is_copied(&self, alloc: Global) -> Result<bool, Fail> {
+        is_copied_whole(alloc, self)
+    }
+
+    fn refused<E: Debug>(_: Global, _: &E) -> Result<String, Fail> {
+        Err(Fail::new("no hello"))
+    }
+}
+
+fn told<A: Asked + Drop, E: Debug + Drop>(
+    alloc: Global,
+    answer: Result<A, E>,
+) -> Result<String, Fail> {
+    let call = Answered { answer };
+    match &call.answer {
+        Ok(given) => given.told(alloc),
+        Err(error) => A::refused(alloc, error),
+    }
+}
+
+// Whether there is a value, which is copied.
+fn is_copied<A: Asked + Drop, E: Drop>(alloc: Global, answer: Result<A, E>) -> Result<bool, Fail> {
+    let call = Answered { answer };
+    match &call.answer {
+        Ok(given) => given.is_copied(alloc),
+        Err(_) => Ok(false),
     }
 }
 
@@ -44,27 +87,15 @@ fn hello_document(alloc: Global, fields: &str) -> Result<RawDocumentBuf, Fail> {
     document(alloc, whole.as_str())
 }
 
-// What the description of a hello's server says.
-fn told_by(alloc: Global, hello: &Answered<HelloReply>) -> Result<String, Fail> {
-    match &hello.answer {
-        Ok(hello) => told_of(alloc, hello),
-        Err(_) => Err(Fail::new("no hello")),
-    }
-}
-
-// The same of the hello of these fields.
-fn told(alloc: Global, fields: &str) -> Result<String, Fail> {
-    let document = hello_document(alloc, fields)?;
-    let hello = Answered {
-        answer: hello_reply(alloc, document),
-    };
-    told_by(alloc, &hello)
+// What the description of a server says by the hello of these fields.
+fn told_of(alloc: Global, fields: &str) -> Result<String, Fail> {
+    told(alloc, hello_reply(alloc, hello_document(alloc, fields)?))
 }
 
 // Whether the description holds a piece: a row has the piece behind the hello's fields and an arrow.
 fn is_told(alloc: Global, row: &str) -> Result<bool, Fail> {
     let (fields, piece) = row.split_once(" => ").unwrap_or((row, "no arrow"));
-    Ok(told(alloc, fields)?.as_str().find(piece).is_some())
+    Ok(told_of(alloc, fields)?.as_str().find(piece).is_some())
 }
 
 const DESCRIPTIONS: &str =
@@ -102,29 +133,39 @@ fn a_server_is_described_by_its_hello(rt: HostRuntime) -> Result<(), Fail> {
 }
 
 // A server's address by its host and port.
-fn tcp(alloc: Global, host: &str, port: Option<u16>) -> Result<ServerAddress, Error> {
+fn tcp(alloc: Global, host: &str, port: Option<u16>) -> Result<ServerAddress, Fail> {
     Ok(ServerAddress::Tcp {
         host: Text::from_slice(alloc, host)?,
         port,
     })
 }
 
+// Whether the host `host` without a port has this address.
+fn has_address(alloc: Global, address: &ServerAddress) -> Result<bool, Fail> {
+    Ok(tcp(alloc, "host", None)? == *address)
+}
+
+fn is_at(alloc: Global, host: &str, port: Option<u16>) -> Result<bool, Fail> {
+    let address = tcp(alloc, host, port)?;
+    has_address(alloc, &address)
+}
+
+// Whether it has another address than the socket of its name.
+fn is_no_path(alloc: Global) -> Result<bool, Fail> {
+    let path = Text::from_slice(alloc, "host")?;
+    differs(alloc, &ServerAddress::Unix { path })
+}
+
+fn differs(alloc: Global, address: &ServerAddress) -> Result<bool, Fail> {
+    Ok(tcp(alloc, "host", None)? != *address)
+}
+
 #[test]
 fn an_absent_port_is_the_default_one(rt: HostRuntime) -> Result<(), Fail> {
-    let alloc = rt.alloc();
-    for (host, port, same) in [
-        ("host", Some(27017), true),
-        ("host", Some(27018), false),
-        ("other", None, false),
-    ] {
-        assert_eq!(rt;
-            tcp(alloc, "host", None)? == tcp(alloc, host, port)?,
-            same,
-            "{host}"
-        );
-    }
-    let path = Text::from_slice(alloc, "host")?;
-    assert!(rt; tcp(alloc, "host", None)? != ServerAddress::Unix { path });
+    assert!(rt; is_at(rt.alloc(), "host", Some(27017))?);
+    assert!(rt; !is_at(rt.alloc(), "host", Some(27018))?);
+    assert!(rt; !is_at(rt.alloc(), "other", None)?);
+    assert!(rt; is_no_path(rt.alloc())?);
     Ok(())
 }
 
@@ -134,24 +175,33 @@ fn is_alike<T: Debug>(alloc: Global, one: &T, other: &T) -> Result<bool, Fail> {
     Ok(format!(in alloc; "{other:?}")?.as_str() == text.as_str())
 }
 
+// Whether there is a copy of a value, which is printed as the value is.
+fn is_copy<T: Debug + Drop, E: Drop>(
+    alloc: Global,
+    value: &T,
+    answer: Result<T, E>,
+) -> Result<bool, Fail> {
+    let copied = Answered { answer };
+    match &copied.answer {
+        Ok(copy) => is_alike(alloc, value, copy),
+        Err(_) => Ok(false),
+    }
+}
+
 fn is_hello_copied(alloc: Global, hello: &HelloReply) -> Result<bool, Fail> {
-    let copy = hello.try_clone(alloc)?;
-    is_alike(alloc, hello, &copy)
+    is_copy(alloc, hello, hello.try_clone(alloc))
 }
 
 fn are_fields_copied(alloc: Global, fields: &HelloCommandResponse) -> Result<bool, Fail> {
-    let copy = fields.try_clone(alloc)?;
-    is_alike(alloc, fields, &copy)
+    is_copy(alloc, fields, fields.try_clone(alloc))
 }
 
 fn is_address_copied(alloc: Global, address: &ServerAddress) -> Result<bool, Fail> {
-    let copy = address.try_clone(alloc)?;
-    is_alike(alloc, address, &copy)
+    is_copy(alloc, address, address.try_clone(alloc))
 }
 
 fn is_tag_copied(alloc: Global, tag: &Tag) -> Result<bool, Fail> {
-    let copy = tag.try_clone(alloc)?;
-    is_alike(alloc, tag, &copy)
+    is_copy(alloc, tag, tag.try_clone(alloc))
 }
 
 // Whether there is a first tag, which is copied.
@@ -165,40 +215,16 @@ fn is_first_copied(alloc: Global, tags: &Option<Tags>) -> Result<bool, Fail> {
     }
 }
 
-fn is_description_copied(alloc: Global, description: &StreamDescription) -> Result<bool, Fail> {
-    let copy = description.try_clone(alloc)?;
-    is_alike(alloc, description, &copy)
-}
-
-// Whether a hello gives a description, which is copied.
-fn is_described_alike(alloc: Global, hello: &HelloReply) -> Result<bool, Fail> {
-    let described = Answered {
-        answer: described(alloc, hello),
-    };
-    match &described.answer {
-        Ok(description) => is_description_copied(alloc, description),
-        Err(_) => Ok(false),
-    }
-}
-
-// Whether a hello is copied, and each of its parts, and what it says of the server.
-fn is_copied(alloc: Global, hello: &HelloReply) -> Result<bool, Fail> {
+// Whether a hello is copied, and each of its parts, and the description that it gives.
+fn is_copied_whole(alloc: Global, hello: &HelloReply) -> Result<bool, Fail> {
     let fields = &hello.command_response;
     Ok(
         is_hello_copied(alloc, hello)?
             && are_fields_copied(alloc, fields)?
             && is_address_copied(alloc, &hello.server_address)?
             && is_first_copied(alloc, &fields.tags)?
-            && is_described_alike(alloc, hello)?,
+            && is_copied(alloc, described(alloc, hello))?,
     )
-}
-
-// Whether there is a hello, which is copied.
-fn is_copied_whole(alloc: Global, hello: &Answered<HelloReply>) -> Result<bool, Fail> {
-    match &hello.answer {
-        Ok(hello) => is_copied(alloc, hello),
-        Err(_) => Ok(false),
-    }
 }
 
 #[test]
@@ -206,10 +232,7 @@ fn a_hello_is_copied(rt: HostRuntime) -> Result<(), Fail> {
     let fields =
         "hosts=[ 0=text:a:1 ] msg=text:m tags={ dc=text:east } saslSupportedMechs=[ 0=text:PLAIN ] serviceId=id:2 $clusterTime={ }";
     let document = hello_document(rt.alloc(), fields)?;
-    let hello = Answered {
-        answer: hello_reply(rt.alloc(), document),
-    };
-    assert!(rt; is_copied_whole(rt.alloc(), &hello)?);
+    assert!(rt; is_copied(rt.alloc(), hello_reply(rt.alloc(), document))?);
     Ok(())
 }
 

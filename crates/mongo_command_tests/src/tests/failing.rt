@@ -1,6 +1,6 @@
 ghost use Rattle.std.specs.Prelude.{◌<◌};
 
-use super::Answered;
+use super::{Answered, given};
 use mongo_bson::{Bytes, RawDocument, Text};
 use mongo_command::{
     Command, Connection, HelloReply, RawCommandResponse, ServerAddress, ServerType,
@@ -131,35 +131,57 @@ fn told_of(document: &[u8]) -> Told {
     }
 }
 
-// How the call of each kind ended.
-fn told_response(call: &Answered<RawCommandResponse>) -> Told {
-    match &call.answer {
-        Ok(response) => told_of(response.as_bytes()),
-        Err(error) => told_by(&error.kind),
+// What a call gives that takes a reply, or the error that refuses it: how the call ended by it.
+trait Outcome {
+    fn told(&self) -> Told;
+}
+
+impl Outcome for Error {
+    fn told(&self) -> Told {
+        told_by(&self.kind)
     }
 }
 
-fn told_document(call: &Answered<RawDocument<'_>>) -> Told {
-    match &call.answer {
-        Ok(document) => told_of(document.as_bytes()),
-        Err(error) => told_by(&error.kind),
+impl Outcome for RawCommandResponse {
+    fn told(&self) -> Told {
+        told_of(self.as_bytes())
     }
 }
 
-fn told_into(call: &Answered<()>, buffer: &FrameBuffer) -> Told {
-    match &call.answer {
-        Ok(()) => match buffer.message() {
-            Some(message) => told_of(message.document_payload.as_bytes()),
-            None => Told::Other,
-        },
-        Err(error) => told_by(&error.kind),
+impl Outcome for RawDocument<'_> {
+    fn told(&self) -> Told {
+        told_of(self.as_bytes())
     }
 }
 
-fn told_hello(call: &Answered<HelloReply>) -> Told {
+impl Outcome for HelloReply {
+    fn told(&self) -> Told {
+        told_of(self.raw_command_response.as_bytes())
+    }
+}
+
+// How a call ended.
+fn ended<R: Outcome + Drop, E: Outcome + Drop>(answer: Result<R, E>) -> Told {
+    let call = Answered { answer };
     match &call.answer {
-        Ok(reply) => told_of(reply.raw_command_response.as_bytes()),
-        Err(error) => told_by(&error.kind),
+        Ok(reply) => reply.told(),
+        Err(error) => error.told(),
+    }
+}
+
+// How a call ended that puts its reply into a buffer.
+fn ended_into<E: Outcome + Drop>(answer: Result<(), E>, buffer: &FrameBuffer) -> Told {
+    let call = Answered { answer };
+    match &call.answer {
+        Ok(()) => told_message(buffer),
+        Err(error) => error.told(),
+    }
+}
+
+fn told_message(buffer: &FrameBuffer) -> Told {
+    match buffer.message() {
+        Some(message) => told_of(message.document_payload.as_bytes()),
+        None => Told::Other,
     }
 }
 
@@ -170,8 +192,7 @@ pub(crate) fn send_message<L: Link>(
     ids: &mut RequestIds,
     command: Command,
 ) -> Told {
-    let answer = connection.send_message(alloc, link, ids, command);
-    told_response(&Answered { answer })
+    ended(connection.send_message(alloc, link, ids, command))
 }
 
 fn exchange<L: Link>(
@@ -182,8 +203,7 @@ fn exchange<L: Link>(
     command: Command,
     buffer: &mut FrameBuffer,
 ) -> Told {
-    let answer = connection.exchange(alloc, link, ids, command, buffer);
-    told_document(&Answered { answer })
+    ended(connection.exchange(alloc, link, ids, command, buffer))
 }
 
 fn exchange_into<L: Link>(
@@ -195,7 +215,7 @@ fn exchange_into<L: Link>(
     buffer: &mut FrameBuffer,
 ) -> Told {
     let answer = connection.exchange_into(alloc, link, ids, command, buffer);
-    told_into(&Answered { answer }, buffer)
+    ended_into(answer, buffer)
 }
 
 fn hello<L: Link>(
@@ -205,18 +225,17 @@ fn hello<L: Link>(
     ids: &mut RequestIds,
     command: Command,
 ) -> Told {
-    let answer = run_hello(alloc, connection, link, ids, command);
-    told_hello(&Answered { answer })
+    ended(run_hello(alloc, connection, link, ids, command))
 }
 
 // A connection that hasn't been used.
-pub(crate) fn new_connection(alloc: Global) -> Result<Connection, Error> {
+pub(crate) fn new_connection(alloc: Global) -> Result<Connection, Fail> {
     let path = Text::from_slice(alloc, "/server.sock")?;
     Ok(Connection::new(ServerAddress::Unix { path }, 5))
 }
 
 // The reply four times.
-fn four_replies(alloc: Global) -> Result<Bytes, Error> {
+fn four_replies(alloc: Global) -> Result<Bytes, Fail> {
     let mut replies = Bytes::new(alloc);
     for _ in 0..4 {
         replies.extend_from_slice(REPLY)?;
@@ -225,7 +244,7 @@ fn four_replies(alloc: Global) -> Result<Bytes, Error> {
 }
 
 // A schedule under which just this call fails.
-fn failing_call(alloc: Global, call: usize) -> Result<Bytes, Error> {
+fn failing_call(alloc: Global, call: usize) -> Result<Bytes, Fail> {
     let mut schedule = Vec::new(alloc);
     for _ in 0..call {
         schedule.push(0)?;
@@ -235,7 +254,7 @@ fn failing_call(alloc: Global, call: usize) -> Result<Bytes, Error> {
 }
 
 // A new connection over a link. Its ids begin with 0.
-fn talk_over(alloc: Global, link: FailingLink) -> Result<Talk, Error> {
+fn talk_over(alloc: Global, link: FailingLink) -> Result<Talk, Fail> {
     Ok(Talk {
         connection: new_connection(alloc)?,
         link,
@@ -246,7 +265,7 @@ fn talk_over(alloc: Global, link: FailingLink) -> Result<Talk, Error> {
 
 impl Talk {
     // A new connection over a link that has four replies, moves so many bytes a call, and fails at just this call.
-    fn failing_at(alloc: Global, call: usize, most: usize) -> Result<Talk, Error>
+    fn failing_at(alloc: Global, call: usize, most: usize) -> Result<Talk, Fail>
         requires { 0 < most }
     {
         let replies = four_replies(alloc)?;
@@ -255,8 +274,8 @@ impl Talk {
     }
 
     // Makes a call, and gives how it ended.
-    fn tell(&mut self, alloc: Global, asked: Asked) -> Result<Told, Error> {
-        let command = hello_command(alloc, None, Some(false), None, None)?;
+    fn tell(&mut self, alloc: Global, asked: Asked) -> Result<Told, Fail> {
+        let command = given(hello_command(alloc, None, Some(false), None, None))?;
         let (connection, link, ids) = (&mut self.connection, &mut self.link, &mut self.ids);
         let buffer = &mut self.buffer;
         Ok(match asked {
@@ -268,7 +287,7 @@ impl Talk {
     }
 
     // Makes a call, and gives what is seen after it.
-    fn ask(&mut self, alloc: Global, asked: Asked) -> Result<Seen, Error> {
+    fn ask(&mut self, alloc: Global, asked: Asked) -> Result<Seen, Fail> {
         let told = self.tell(alloc, asked)?;
         Ok(self.seen(told))
     }
@@ -316,7 +335,7 @@ impl Talk {
 }
 
 // What is seen after each of four calls, of which the first is this one and then each is made.
-fn ask_each(alloc: Global, talk: &mut Talk, first: Asked) -> Result<[Seen; 4], Error> {
+fn ask_each(alloc: Global, talk: &mut Talk, first: Asked) -> Result<[Seen; 4], Fail> {
     let first = talk.ask(alloc, first)?;
     let second = talk.ask(alloc, Asked::SendMessage)?;
     let third = talk.ask(alloc, Asked::Exchange)?;
@@ -324,11 +343,45 @@ fn ask_each(alloc: Global, talk: &mut Talk, first: Asked) -> Result<[Seen; 4], E
 }
 
 // The same where just this call of the link fails, and a call moves so many bytes.
-fn four_calls(alloc: Global, first: Asked, failing: usize, most: usize) -> Result<[Seen; 4], Error>
+fn four_calls(alloc: Global, first: Asked, failing: usize, most: usize) -> Result<[Seen; 4], Fail>
     requires { 0 < most }
 {
-    let mut talk = Talk::failing_at(alloc, failing, most)?;
-    ask_each(alloc, &mut talk, first)
+    seen_over(alloc, Talk::failing_at(alloc, failing, most), first)
+}
+
+// What is asked of a talk, in functions that are generic over it, so that no other proof holds one.
+trait Talks {
+    fn ask_each(&mut self, alloc: Global, first: Asked) -> Result<[Seen; 4], Fail>;
+
+    fn holds(&mut self, alloc: Global, asked: Asked) -> Result<bool, Fail>;
+}
+
+impl Talks for Talk {
+    fn ask_each(&mut self, alloc: Global, first: Asked) -> Result<[Seen; 4], Fail> {
+        ask_each(alloc, self, first)
+    }
+
+    fn holds(&mut self, alloc: Global, asked: Asked) -> Result<bool, Fail> {
+        Ok(holds_each(alloc, asked, self)? && holds_what_came(alloc, asked, self)?)
+    }
+}
+
+fn seen_over<T: Talks + Drop>(
+    alloc: Global,
+    talk: Result<T, Fail>,
+    first: Asked,
+) -> Result<[Seen; 4], Fail> {
+    let mut talk = talk?;
+    talk.ask_each(alloc, first)
+}
+
+fn holds_over<T: Talks + Drop>(
+    alloc: Global,
+    talk: Result<T, Fail>,
+    asked: Asked,
+) -> Result<bool, Fail> {
+    let mut talk = talk?;
+    talk.holds(alloc, asked)
 }
 
 #[test]
@@ -392,7 +445,7 @@ const LONGER: &[u8] =
     b"\x5d\0\0\0\x01\0\0\0\0\0\0\0\xdd\x07\0\0\0\0\0\0\0\x41\0\0\0\x01ok\0\0\0\0\0\0\0\xf0\x3f\x10maxBsonObjectSize\0\0\0\0\x01\x10maxMessageSizeBytes\0\0\x6c\xdc\x02\0\x01\x06\0\0\0a\0";
 
 // A new connection over a link that has the longer reply and then the other.
-fn talk_of_two(alloc: Global) -> Result<Talk, Error> {
+fn talk_of_two(alloc: Global) -> Result<Talk, Fail> {
     let mut replies = Bytes::from_slice(alloc, LONGER)?;
     replies.extend_from_slice(REPLY)?;
     let link = FailingLink::new(alloc, replies, Bytes::new(alloc), 4096);
@@ -400,7 +453,7 @@ fn talk_of_two(alloc: Global) -> Result<Talk, Error> {
 }
 
 // The description of a server that takes frames of one byte less than a hello's.
-fn narrow(alloc: Global) -> Result<StreamDescription, Error> {
+fn narrow(alloc: Global) -> Result<StreamDescription, Fail> {
     Ok(StreamDescription {
         server_address: ServerAddress::Unix {
             path: Text::from_slice(alloc, "/server.sock")?,
@@ -428,14 +481,14 @@ fn forget(connection: &mut Connection) {
 }
 
 // Whether the buffer holds each reply in its turn.
-fn holds_each(alloc: Global, asked: Asked, talk: &mut Talk) -> Result<bool, Error> {
+fn holds_each(alloc: Global, asked: Asked, talk: &mut Talk) -> Result<bool, Fail> {
     let first = talk.tell(alloc, asked)? == Told::Done && talk.shows(1, LONGER.get(16..));
     let second = talk.tell(alloc, asked)? == Told::Done && talk.shows(2, REPLY.get(16..));
     Ok(first && second)
 }
 
 // Whether a command that is too long leaves the buffer as it was, and a reply that doesn't come leaves it empty.
-fn holds_what_came(alloc: Global, asked: Asked, talk: &mut Talk) -> Result<bool, Error> {
+fn holds_what_came(alloc: Global, asked: Asked, talk: &mut Talk) -> Result<bool, Fail> {
     describe(&mut talk.connection, narrow(alloc)?);
     let too_long = talk.tell(alloc, asked)? == Told::TooLong && talk.shows(2, REPLY.get(16..));
     forget(&mut talk.connection);
@@ -446,9 +499,8 @@ fn holds_what_came(alloc: Global, asked: Asked, talk: &mut Talk) -> Result<bool,
 #[test]
 fn a_buffer_holds_the_last_reply(rt: HostRuntime) -> Result<(), Fail> {
     for asked in [Asked::Exchange, Asked::ExchangeInto] {
-        let mut talk = talk_of_two(rt.alloc())?;
-        assert!(rt; holds_each(rt.alloc(), asked, &mut talk)?, "{asked:?}");
-        assert!(rt; holds_what_came(rt.alloc(), asked, &mut talk)?, "{asked:?}");
+        let talk = talk_of_two(rt.alloc());
+        assert!(rt; holds_over(rt.alloc(), talk, asked)?, "{asked:?}");
     }
     Ok(())
 }

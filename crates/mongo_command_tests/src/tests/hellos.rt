@@ -72,12 +72,17 @@ maxWireVersion=long:-2147483648 => max_wire_version: Some(-2147483648)
 code=int:18 => Ok(
 code=int:18 helloOk=int:1 => Err(Error { kind: Command(CommandError { code: 18,"#;
 
+// The same of a row of fields beside the required ones.
+fn is_told_beside(alloc: Global, row: &str) -> Result<bool, Fail> {
+    let whole = format!(in alloc; "{REQUIRED} {row}")?;
+    is_told(alloc, whole.as_str())
+}
+
 #[test]
 fn each_field_of_a_hello_is_read(rt: HostRuntime) -> Result<(), Fail> {
     assert_eq!(rt; told(rt.alloc(), REQUIRED)?.as_str(), TOLD);
     for row in FIELDS.lines() {
-        let whole = format!(in rt.alloc(); "{REQUIRED} {row}")?;
-        assert!(rt; is_told(rt.alloc(), whole.as_str())?, "{row}");
+        assert!(rt; is_told_beside(rt.alloc(), row)?, "{row}");
     }
     Ok(())
 }
@@ -153,6 +158,15 @@ maxBsonObjectSize int:1 long:1
 maxMessageSizeBytes int:1 long:1
 ok double:3ff0000000000000 int:1 long:1";
 
+// What ends a value that this word begins.
+fn end_of(value: &str) -> &'static str {
+    match value {
+        "{" => "}",
+        "[" => "]",
+        _ => "",
+    }
+}
+
 // Whether a reply with this value under this key, and with those of the required fields that have another, is refused as no
 // hello.
 fn is_refused(alloc: Global, key: &str, value: &str) -> Result<bool, Fail> {
@@ -163,23 +177,31 @@ fn is_refused(alloc: Global, key: &str, value: &str) -> Result<bool, Fail> {
             fields.push_str(" ")?;
         }
     }
-    let end = match value {
-        "{" => " }",
-        "[" => " ]",
-        _ => "",
-    };
-    let whole = format!(in alloc; "{fields} {key}={value}{end}")?;
+    let end = end_of(value);
+    let whole = format!(in alloc; "{fields} {key}={value} {end}")?;
     is_no_hello(alloc, whole.as_str())
+}
+
+fn has_word(words: &str, wanted: &str) -> bool {
+    for word in words.split_whitespace() {
+        if word == wanted {
+            return true;
+        }
+    }
+    false
+}
+
+// Whether a field takes a value where its row has it, and else refuses it.
+fn takes_its_kind(alloc: Global, row: &str, value: &str) -> Result<bool, Fail> {
+    let (key, taken) = row.split_once(' ').unwrap_or((row, ""));
+    Ok(is_refused(alloc, key, value)? != has_word(taken, value))
 }
 
 #[test]
 fn each_field_takes_its_kinds(rt: HostRuntime) -> Result<(), Fail> {
     for row in TAKEN.lines() {
-        let (key, taken) = row.split_once(' ').unwrap_or((row, ""));
         for value in VALUES.split_whitespace() {
-            let refused = is_refused(rt.alloc(), key, value)?;
-            let is_taken = taken.split_whitespace().any(|word| word == value);
-            assert_eq!(rt; refused, !is_taken, "{key} {value}");
+            assert!(rt; takes_its_kind(rt.alloc(), row, value)?, "{row}: {value}");
         }
     }
     Ok(())
@@ -208,6 +230,20 @@ ok=long:0 maxBsonObjectSize=int:5 maxMessageSizeBytes=int:5 => InvalidResponse(H
 ok=double:3fe0000000000000 maxBsonObjectSize=int:5 maxMessageSizeBytes=int:5 => InvalidResponse(Hello)
 ok=double:3ff0000000000001 maxBsonObjectSize=int:5 maxMessageSizeBytes=int:5 => Ok("#;
 
+// Whether a code makes a command error beside `ok` of this value.
+fn is_coded(alloc: Global, ok: &str) -> Result<bool, Fail> {
+    let end = end_of(ok);
+    let row = format!(in alloc; "ok={ok} {end} code=int:18 => Command(CommandError {{ code: 18,")?;
+    is_told(alloc, row.as_str())
+}
+
+// Whether `ok` of this value alone is no hello.
+fn is_bare(alloc: Global, ok: &str) -> Result<bool, Fail> {
+    let end = end_of(ok);
+    let fields = format!(in alloc; "ok={ok} {end}")?;
+    is_no_hello(alloc, fields.as_str())
+}
+
 #[test]
 fn other_replies_are_command_errors_or_no_hellos(rt: HostRuntime) -> Result<(), Fail> {
     for row in OTHERS.lines() {
@@ -215,14 +251,8 @@ fn other_replies_are_command_errors_or_no_hellos(rt: HostRuntime) -> Result<(), 
     }
     // `ok` of any kind makes a command error
     for ok in VALUES.split_whitespace() {
-        let end = if ok == "{" { "}" } else { "]" };
-        let end = if ok.len() == 1 { end } else { "" };
-        let row = format!(in rt.alloc();
-            "ok={ok} {end} code=int:18 => Command(CommandError {{ code: 18,"
-        )?;
-        assert!(rt; is_told(rt.alloc(), row.as_str())?, "{row}");
-        let without = format!(in rt.alloc(); "ok={ok} {end}")?;
-        assert!(rt; is_no_hello(rt.alloc(), without.as_str())?, "{without}");
+        assert!(rt; is_coded(rt.alloc(), ok)?, "{ok}");
+        assert!(rt; is_bare(rt.alloc(), ok)?, "{ok}");
     }
     Ok(())
 }
@@ -231,10 +261,22 @@ fn other_replies_are_command_errors_or_no_hellos(rt: HostRuntime) -> Result<(), 
 const FILLER: &str =
     "0123456789012345678901234567890123456789012345678901234567890123456789012345678901234567890123456789012345678901234567890123456789012345678901234567";
 
+// What is asked of a hello: the greatest frame that it says.
+trait Framed {
+    fn greatest(&self) -> i32;
+}
+
+impl Framed for HelloReply {
+    fn greatest(&self) -> i32 {
+        self.command_response.max_message_size_bytes
+    }
+}
+
 // The greatest frame that a hello says, or none where it is refused.
-fn greatest_frame(hello: &Answered<HelloReply>) -> Option<i32> {
+fn greatest_frame<F: Framed + Drop, E: Drop>(answer: Result<F, E>) -> Option<i32> {
+    let hello = Answered { answer };
     match &hello.answer {
-        Ok(reply) => Some(reply.command_response.max_message_size_bytes),
+        Ok(reply) => Some(reply.greatest()),
         Err(_) => None,
     }
 }
@@ -243,10 +285,8 @@ fn greatest_frame(hello: &Answered<HelloReply>) -> Option<i32> {
 fn a_reply_of_many_unknown_keys_is_answered_in_time(rt: HostRuntime) -> Result<(), Fail> {
     let document = document_behind(rt.alloc(), 100_000..400_000, FILLER, REQUIRED)?;
     assert!(rt; document.as_bytes().len() > 48_000_000);
-    let hello = Answered {
-        answer: hello_reply(rt.alloc(), document),
-    };
-    assert_eq!(rt; greatest_frame(&hello), Some(48_000_000));
+    let frame = greatest_frame(hello_reply(rt.alloc(), document));
+    assert_eq!(rt; frame, Some(48_000_000));
     Ok(())
 }
 

@@ -83,12 +83,18 @@ fn end(bytes: &mut Vec<u8>, open: &mut Vec<usize>) -> Result<(), AllocError> {
     bytes.push(0)?;
     let start = open.pop().unwrap_or(0);
     let length = bytes.len().saturating_sub(start);
-    for (at, byte) in length.to_le_bytes().into_iter().enumerate().take(4) {
-        if let Some(place) = bytes.get_mut(start.saturating_add(at)) {
-            *place = byte;
-        }
+    if let Some(document) = bytes.as_mut_slice().get_mut(start..) {
+        write_length(document, length);
     }
     Ok(())
+}
+
+// Writes a document's length over its first bytes.
+fn write_length(document: &mut [u8], length: usize) {
+    let [a, b, c, d, ..] = length.to_le_bytes();
+    if let Some(place) = document.first_chunk_mut() {
+        *place = [a, b, c, d];
+    }
 }
 
 // Writes a field, or begins it where it is opened.

@@ -150,14 +150,26 @@ fn refusing(alloc: Global, errors: &RawArrayBuf) -> Result<RawDocumentBuf, Fail>
     Ok(reply)
 }
 
-// How many write errors an insert has, and the place of the last of them.
-fn count_and_last(inserted: &Answered<()>) -> Option<(usize, u32)> {
-    match &inserted.answer {
-        Ok(()) => None,
-        Err(error) => match &error.kind {
+// What is asked of an error: how many write errors an insert has, and the place of the last of them.
+trait Refusal {
+    fn count_and_last(&self) -> Option<(usize, u32)>;
+}
+
+impl Refusal for Error {
+    fn count_and_last(&self) -> Option<(usize, u32)> {
+        match &self.kind {
             ErrorKind::InsertMany(failure) => last_of(failure.write_errors.as_ref()?),
             _ => None,
-        },
+        }
+    }
+}
+
+// The same of an insert, or none where it wasn't refused.
+fn count_and_last<E: Refusal + Drop>(answer: Result<(), E>) -> Option<(usize, u32)> {
+    let inserted = Answered { answer };
+    match &inserted.answer {
+        Ok(()) => None,
+        Err(error) => error.count_and_last(),
     }
 }
 
@@ -170,10 +182,8 @@ fn last_of(errors: &WriteErrors) -> Option<(usize, u32)> {
 fn a_hundred_thousand_write_errors_are_read_in_time(rt: HostRuntime) -> Result<(), Fail> {
     let errors = many_errors(rt.alloc(), 100_000)?;
     let reply = response(rt.alloc(), refusing(rt.alloc(), &errors)?)?;
-    let inserted = Answered {
-        answer: insert_many(rt.alloc(), &reply),
-    };
-    assert_eq!(rt; count_and_last(&inserted), Some((100_000, 99_999)));
+    let counted = count_and_last(insert_many(rt.alloc(), &reply));
+    assert_eq!(rt; counted, Some((100_000, 99_999)));
     Ok(())
 }
 
