@@ -1,17 +1,12 @@
-ghost use Rattle.std.specs.Prelude.{◌≡◌, ◌+◌, ◌-◌, ◌^◌, ◌<◌, ◌≤◌, ◌↔◌, min, length, map, pos, IsTrue, IfSome, IfNone, IfOk, IfErr};
+ghost use Rattle.std.specs.Prelude.{◌≡◌, ◌+◌, ◌-◌, ◌^◌, ◌<◌, ◌↔◌, min, length, IsTrue, IfSome, IfNone, IfOk, IfErr};
 ghost use Rattle.std.specs.List.{AllByRecursion};
-ghost use Rattle.mongo_bson.specs.Framed.{IsFramed};
-ghost use Rattle.mongo_wire.specs.Frame.{IsSection, sequence_bytes};
+ghost use Rattle.mongo_wire.specs.Frame.{IsSection};
 ghost use Rattle.mongo_wire.specs.Header.{maximum_of};
 ghost use Rattle.mongo_wire.specs.Message.{Fits, ArgumentRow, frame_length, sections_of, checksum_bytes};
-ghost use Rattle.mongo_wire.specs.Measure.{IsWithoutZero, HasIdentifier, HasCountedSize, HoldsDocuments, documents_bytes, sequences_bytes};
+ghost use Rattle.mongo_wire.specs.Measure.{IsWithoutZero, HasIdentifier, HasCountedSize, HoldsDocuments, sequences_bytes};
 
 use crate::message::FIRST_MAXIMUM;
 use crate::{ArgumentFault, DocumentSequence, Message};
-use mongo_bson::RawDocumentBuf;
-
-// The greatest size of a document sequence, the greatest `int32`.
-const LONGEST: usize = 0x7FFF_FFFF;
 
 // The length of the message's frame, where it can be written within the maximum.
 //
@@ -86,47 +81,10 @@ fn sequences_size(sequences: &[DocumentSequence]) -> Option<u64>
 {
     let mut size: u64 = 0;
     'summing: for sequence in sequences {
-        let Some(own) = sequence_size(sequence) else {
+        let Some(own) = sequence.size() else {
             return None;
         };
         size = size.saturating_add(own as u64 + 1);
-    }
-    Some(size)
-}
-
-// A sequence's size: the bytes of its size, its identifier and its documents. None where an int32 doesn't count it.
-pub(crate) fn sequence_size(sequence: &DocumentSequence) -> Option<u32>
-    ensures size { IfSome result (λ size. size ≡ 4 + length (sequence_bytes sequence.now)) }
-    ensures counted { IfSome result (λ _. HasCountedSize sequence.now) }
-    ensures documents { IfSome result (λ _. HoldsDocuments sequence.now) }
-    ensures none { IfNone result (¬ HasCountedSize sequence.now) }
-{
-    let identifier = sequence.identifier.as_bytes();
-    if identifier.len() > LONGEST - 5 {
-        return None;
-    }
-    let room = LONGEST - 5 - identifier.len();
-    match documents_size(sequence.documents.as_slice(), room) {
-        Some(size) => Some((identifier.len() + 5 + size) as u32),
-        None => None,
-    }
-}
-
-// How many bytes the documents take. None where it is more than there is room for.
-fn documents_size(documents: &[RawDocumentBuf], room: usize) -> Option<usize>
-    requires { room < 2 ^ 31 }
-    ensures size { IfSome result (λ size. size ≡ length (documents_bytes documents.now)) }
-    ensures within { IfSome result (λ size. size ≤ room) }
-    ensures framed { IfSome result (λ _. AllByRecursion IsFramed documents.now) }
-    ensures none { IfNone result (room < length (documents_bytes documents.now)) }
-{
-    let mut size = 0;
-    'adding: for document in documents {
-        let length = document.as_bytes().len();
-        if length > room - size {
-            return None;
-        }
-        size += length;
     }
     Some(size)
 }

@@ -8,7 +8,6 @@ ghost use Rattle.mongo_wire.specs.Message.{frame_length, written_frame, checksum
 ghost use Rattle.mongo_wire.specs.Measure.{HasCountedSize, documents_bytes, sequence_section, sequences_bytes};
 
 use crate::header_bytes::numbers_bytes;
-use crate::measure::sequence_size;
 use crate::writing::{write_out, write_pieces};
 use crate::{DocumentSequence, Error, Message, MessageFlags, OpCode, Sink};
 use mongo_bson::RawDocumentBuf;
@@ -89,7 +88,7 @@ fn sequence_start(sequence: &DocumentSequence) -> [u8; 5]
     requires { HasCountedSize sequence.now }
     ensures { result ≡ 1 ∷ uint32 (4 + length (sequence_bytes sequence.now)) }
 {
-    match sequence_size(sequence) {
+    match sequence.size() {
         Some(size) => {
             let [s0, s1, s2, s3] = size.to_le_bytes();
             [1, s0, s1, s2, s3]

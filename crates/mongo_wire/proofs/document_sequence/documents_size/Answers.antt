@@ -1,6 +1,6 @@
 use Rattle.std.proofs.Common.{arith, length, ap}
 use Rattle.mongo_wire.proofs.Passed.{length_within}
-use Rattle.mongo_wire.proofs.measure.documents_size.Goals as goal
+use Rattle.mongo_wire.proofs.document_sequence.documents_size.Goals as goal
 
 pub returns-then-length-room-clause-none : goal.returns-then-length-room-clause-none
 returns-then-length-room-clause-none c =
