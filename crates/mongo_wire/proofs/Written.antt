@@ -1,5 +1,5 @@
 -- What a write that was cut short has appended.
-use Rattle.std.proofs.Common.{◌≡◌, ℕ, ℤ, FitsSigned, to_z, of_z, bit_and, ◌∷◌, ◌+◌, ◌<◌, ◌≤◌, get_or, flat_map, map, Option, Result, Ok, Err, OnOk, IsErrAnd, List, [], append-nil, ◌++◌, length, take, drop, refl, sym, ap, ◌∙◌, subst, arith, append_assoc, take-append-drop}
+use Rattle.std.proofs.Common.{◌≡◌, ℕ, ℤ, FitsSigned, to_z, of_z, bit_and, ◌∷◌, ◌+◌, ◌<◌, ◌≤◌, get_or, flat_map, Option, Result, Ok, Err, OnOk, IsErrAnd, List, [], append-nil, ◌++◌, length, take, drop, refl, sym, ap, ◌∙◌, subst, arith, append_assoc, take-append-drop}
 use Rattle.std.proofs.Math.Seq.{take-append_seam, take-append-add}
 use Rattle.std.proofs.lemmas.Result.{err_from_is_err_and}
 use Rattle.std.proofs.lemmas.Int.{to_z-of_z}
@@ -12,7 +12,7 @@ use Rattle.mongo_wire.specs.Frame.{int32, uint32, message_code, known_flags, seq
 use Rattle.mongo_wire.specs.Measure.{documents_bytes, sequence_section, sequences_bytes}
 use Rattle.mongo_wire.specs.declared.document_sequence.DocumentSequence.{DocumentSequence}
 use Rattle.std.proofs.lemmas.List.Folds.{flat_map-map}
-use Rattle.mongo_wire.specs.Message.{Fits, WriteCut, WriteRefused, written_frame, frame_length, content_of, checksum_bytes, id_of, id_after}
+use Rattle.mongo_wire.specs.Message.{Fits, WriteCut, WriteRefused, written_frame, before_checksum, frame_length, sections_of, checksum_bytes, id_of, id_after}
 use Rattle.mongo_wire.specs.declared.message.Message.{Message}
 use Rattle.std.specs.Result.{IsErrOf}
 use Rattle.mongo_wire.specs.Error.{kind_of_sink_error}
@@ -96,32 +96,52 @@ section_spelled s start name documents p q r =
     ∙ ap (λ w. (1 ∷ uint32 (4 + length (sequence_bytes s))) ++ (w ++ 0 ∷ documents)) q
     ∙ ap (λ w. (1 ∷ uint32 (4 + length (sequence_bytes s))) ++ (s.identifier ++ 0 ∷ w)) r
 
--- what follows the flags, but for the first kind byte
-content_spelled : (m : Message) (document sequences sum : List ℕ) → document ≡ m.document_payload → sequences ≡ sequences_bytes m.document_sequences → sum ≡ checksum_bytes m.checksum
-    → 0 ∷ (document ++ (sequences ++ sum)) ≡ content_of m
-content_spelled m document sequences sum p q r =
-    ap (λ w. 0 ∷ w) (sym (append_assoc document sequences sum)
-    ∙ ap (λ w. (w ++ sequences) ++ sum) p
-    ∙ ap (λ w. (m.document_payload ++ w) ++ sum) (q ∙ sym (flat_map-map section_bytes sequence m.document_sequences))
-    ∙ ap (λ w. (m.document_payload ++ flat_map section_bytes (map sequence m.document_sequences)) ++ w) r)
+-- the sections, but for the first kind byte
+sections_spelled : (m : Message) (document sequences : List ℕ) → document ≡ m.document_payload → sequences ≡ sequences_bytes m.document_sequences
+    → 0 ∷ (document ++ sequences) ≡ flat_map section_bytes (sections_of m)
+sections_spelled m document sequences p q =
+    ap (λ w. 0 ∷ (w ++ sequences)) p
+    ∙ ap (λ w. 0 ∷ (m.document_payload ++ w)) (q ∙ sym (flat_map-map section_bytes sequence m.document_sequences))
 
--- the pieces that a message is written as are its frame
+-- the pieces that are written before the checksum are the frame's bytes before it
 pub frame_spelled : (id : ℤ) (size : ℕ) (m : Message) (head start document sequences : List ℕ) → FitsSigned w32 id → FitsSigned w32 m.response_to
     → head ≡ uint32 size ++ (int32 (to_z w32 (of_z w32 id)) ++ (int32 (to_z w32 (of_z w32 m.response_to)) ++ uint32 message_code))
     → start ≡ uint32 (bit_and m.flags.0 known_flags) ++ (0 ∷ []) → document ≡ m.document_payload → sequences ≡ sequences_bytes m.document_sequences → size ≡ frame_length m
-    → (head ++ (start ++ document)) ++ (sequences ++ checksum_bytes m.checksum) ≡ written_frame id m
+    → (head ++ (start ++ document)) ++ sequences ≡ before_checksum id m
 frame_spelled id size m head start document sequences id_fits to_fits p q r s counted =
     let word = bit_and m.flags.0 known_flags in
-    let sum = checksum_bytes m.checksum in
+    let sections = flat_map section_bytes (sections_of m) in
     let fields = λ (n : ℕ) (i t : ℤ). uint32 n ++ (int32 i ++ (int32 t ++ uint32 message_code)) in
     let id_code = to_z w32 (of_z w32 id) in
     let to_code = to_z w32 (of_z w32 m.response_to) in
-    ap (λ h. (h ++ (start ++ document)) ++ (sequences ++ sum)) p
-    ∙ ap (λ w. (fields size id_code to_code ++ (w ++ document)) ++ (sequences ++ sum)) q
-    ∙ ap (λ w. fields size id_code to_code ++ (uint32 word ++ w)) (content_spelled m document sequences sum r s refl)
-    ∙ ap (λ n. fields n id_code to_code ++ (uint32 word ++ content_of m)) counted
-    ∙ ap (λ i. fields (frame_length m) i to_code ++ (uint32 word ++ content_of m)) (to_z-of_z w32 id id_fits)
-    ∙ ap (λ t. fields (frame_length m) id t ++ (uint32 word ++ content_of m)) (to_z-of_z w32 m.response_to to_fits)
+    ap (λ h. (h ++ (start ++ document)) ++ sequences) p
+    ∙ ap (λ w. (fields size id_code to_code ++ (w ++ document)) ++ sequences) q
+    ∙ ap (λ w. fields size id_code to_code ++ (uint32 word ++ w)) (sections_spelled m document sequences r s)
+    ∙ ap (λ n. fields n id_code to_code ++ (uint32 word ++ sections)) counted
+    ∙ ap (λ i. fields (frame_length m) i to_code ++ (uint32 word ++ sections)) (to_z-of_z w32 id id_fits)
+    ∙ ap (λ t. fields (frame_length m) id t ++ (uint32 word ++ sections)) (to_z-of_z w32 m.response_to to_fits)
+
+-- the frame is the bytes before its checksum, and then it
+frame_parted : (id : ℤ) (m : Message) → before_checksum id m ++ checksum_bytes m.checksum ≡ written_frame id m
+frame_parted id m = refl
+
+-- the bytes before the checksum were written, and then it
+pub frame_written : (id : ℤ) (m : Message) (sum : Option ℕ) (old mid new : Option (List ℕ))
+    → Appends old mid (before_checksum id m) → Appends mid new (checksum_bytes sum) → sum ≡ m.checksum → Appends old new (written_frame id m)
+frame_written id m sum old mid new p q is =
+    let last = subst (λ c. Appends mid new (checksum_bytes c)) is q in
+    subst (Appends old new) (frame_parted id m) (Appends-trans old mid new (before_checksum id m) (checksum_bytes m.checksum) p last)
+
+-- the bytes before the checksum were refused
+pub frame_cut : (kind : ErrorKind) (id : ℤ) (m : Message) (old new : State) → WriteStops kind old new (before_checksum id m) → WriteStops kind old new (written_frame id m)
+frame_cut kind id m old new s = subst (WriteStops kind old new) (frame_parted id m) (cut_before kind old new (before_checksum id m) (checksum_bytes m.checksum) s)
+
+-- the checksum was refused after them
+pub checksum_cut : (kind : ErrorKind) (id : ℤ) (m : Message) (sum : Option ℕ) (old mid new : State)
+    → Appends old.written mid.written (before_checksum id m) → WritesOn old mid → WriteStops kind mid new (checksum_bytes sum) → sum ≡ m.checksum → WriteStops kind old new (written_frame id m)
+checksum_cut kind id m sum old mid new p on s is =
+    let last = subst (λ c. WriteStops kind mid new (checksum_bytes c)) is s in
+    subst (WriteStops kind old new) (frame_parted id m) (cut_after kind old mid new (before_checksum id m) (checksum_bytes m.checksum) p on last)
 
 pub write_refused : (kind : ErrorKind) (maximum : ℤ) (m : Message) (old new : State) (before after : ℤ)
     → Fits maximum m → after ≡ id_after m.request_id before → WriteStops kind old new (written_frame (id_of m before) m) → WriteRefused kind maximum m old new before after

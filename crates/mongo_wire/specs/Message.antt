@@ -73,6 +73,10 @@ frame_length m = 20 + length (content_of m)
 abbrev pub written_frame : ℤ → Message → List ℕ
 written_frame id m = uint32 (frame_length m) ++ (int32 id ++ (int32 m.response_to ++ (uint32 message_code ++ (uint32 (bit_and m.flags.0 known_flags) ++ content_of m))))
 
+-- the bytes of that frame before its checksum: the header, the flags and the sections
+abbrev pub before_checksum : ℤ → Message → List ℕ
+before_checksum id m = uint32 (frame_length m) ++ (int32 id ++ (int32 m.response_to ++ (uint32 message_code ++ (uint32 (bit_and m.flags.0 known_flags) ++ flat_map section_bytes (sections_of m)))))
+
 -- a frame of the message under this id, whose flag word holds the message's flags and no other bit
 abbrev pub IsFrameOf : ℤ → Message → List ℕ → Type 0
 IsFrameOf id m frame = IsFrameWith frame (parts_of id m) (bit_and m.flags.0 known_flags)

@@ -8,7 +8,7 @@ ghost use Rattle.mongo_wire.specs.declared.error.ErrorKind.TheVariants.{InvalidA
 
 use crate::measure::measured;
 use crate::owned::owned_message;
-use crate::write_message::write_frame;
+use crate::write_message::{write_before_checksum, write_checksum};
 use crate::writing::flush_out;
 use crate::{Error, ErrorKind, FrameBuffer, MessageFlags, RequestIds, Sequences, Sink, Source};
 use mongo_bson::{BsonFault, RawDocumentBuf};
@@ -106,7 +106,8 @@ impl Message {
             Err(fault) => return Err(ErrorKind::InvalidArgument(fault).into()),
         };
         let id = self.drawn_id(ids);
-        write_frame(sink, self, id, length)?;
+        write_before_checksum(sink, self, id, length)?;
+        write_checksum(sink, self.checksum)?;
         flush_out(sink)
     }
 

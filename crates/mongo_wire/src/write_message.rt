@@ -4,7 +4,7 @@ ghost use Rattle.std.specs.Io.KnownBytes.{Appends};
 ghost use Rattle.std.specs.List.{AllByRecursion};
 ghost use Rattle.mongo_wire.specs.Outside.{WritesOn, WriteStops};
 ghost use Rattle.mongo_wire.specs.Frame.{sequence_bytes, int32, uint32, message_code, known_flags};
-ghost use Rattle.mongo_wire.specs.Message.{frame_length, written_frame, checksum_bytes};
+ghost use Rattle.mongo_wire.specs.Message.{frame_length, before_checksum, checksum_bytes};
 ghost use Rattle.mongo_wire.specs.Measure.{HasCountedSize, documents_bytes, sequence_section, sequences_bytes};
 
 use crate::header_bytes::numbers_bytes;
@@ -12,11 +12,11 @@ use crate::writing::{write_out, write_pieces};
 use crate::{DocumentSequence, Error, Message, MessageFlags, OpCode, Sink};
 use mongo_bson::RawDocumentBuf;
 
-// Writes the frame of a message whose sequences are counted: its header, its flags with the first section's kind, its
-// body, its sequences and its checksum, each as it lies.
+// Writes a message's frame as far as its checksum, which isn't written, where its sequences are counted: its header, its
+// flags with the first section's kind, its body and its sequences, each as it lies.
 //
-// `WriteFault` where the sink failed, `OutOfMemory` where it wanted memory; a front of the frame is written then.
-pub(crate) fn write_frame<K: Sink>(
+// `WriteFault` where the sink failed, `OutOfMemory` where it wanted memory; a front of these bytes is written then.
+pub(crate) fn write_before_checksum<K: Sink>(
     sink: &mut K,
     message: &Message,
     request_id: i32,
@@ -25,16 +25,15 @@ pub(crate) fn write_frame<K: Sink>(
     requires counted { length ≡ frame_length message.now }
     requires short { length < 2 ^ 31 }
     requires sizes { AllByRecursion HasCountedSize message.now.document_sequences }
-    ensures written { OnOk result (Appends (K.state sink.old).written (K.state sink.new).written (written_frame request_id message.now)) }
-    ensures refused { IfErr result (λ e. WriteStops e.kind (K.state sink.old) (K.state sink.new) (written_frame request_id message.now)) }
-    ensures numbers { OnOk result (FitsSigned w32 message.now.response_to × IfSome message.now.checksum (λ sum. sum < 2 ^ 32)) }
+    ensures written { OnOk result (Appends (K.state sink.old).written (K.state sink.new).written (before_checksum request_id message.now)) }
+    ensures refused { IfErr result (λ e. WriteStops e.kind (K.state sink.old) (K.state sink.new) (before_checksum request_id message.now)) }
+    ensures numbers { FitsSigned w32 message.now.response_to }
     ensures on { WritesOn (K.state sink.old) (K.state sink.new) }
 {
     let header = message_header(length, request_id, message.response_to);
     let start = section_start(message.flags);
     write_pieces(sink, &header, &start, message.document_payload.as_bytes())?;
-    write_sequences(sink, message.document_sequences.as_slice())?;
-    write_checksum(sink, message.checksum)
+    write_sequences(sink, message.document_sequences.as_slice())
 }
 
 // The header of an OP_MSG of this length.
@@ -110,7 +109,7 @@ fn write_documents<K: Sink>(sink: &mut K, documents: &[RawDocumentBuf]) -> Resul
 }
 
 // Writes the checksum, where there is one.
-fn write_checksum<K: Sink>(sink: &mut K, checksum: Option<u32>) -> Result<(), Error>
+pub(crate) fn write_checksum<K: Sink>(sink: &mut K, checksum: Option<u32>) -> Result<(), Error>
     ensures written { OnOk result (Appends (K.state sink.old).written (K.state sink.new).written (checksum_bytes checksum)) }
     ensures refused { IfErr result (λ e. WriteStops e.kind (K.state sink.old) (K.state sink.new) (checksum_bytes checksum)) }
     ensures fits { IfSome checksum (λ sum. sum < 2 ^ 32) }
