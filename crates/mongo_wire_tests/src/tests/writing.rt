@@ -58,6 +58,19 @@ fn a_sequence_follows_the_body(rt: HostRuntime) -> Result<(), Fail> {
 }
 
 #[test]
+fn a_sequence_has_the_size_that_its_section_tells(rt: HostRuntime) -> Result<(), Fail> {
+    // the low byte of the first sequence's size, after the header, the flags, the body's section and the kind byte
+    for (identifier, size) in [
+        ("documents", MESSAGE_WITH_SEQUENCE[27]),
+        ("bb", WHOLE_MESSAGE[27]),
+    ] {
+        let sequence = one_empty_document(rt.alloc(), identifier)?;
+        assert_eq!(rt; sequence.size(), Some(size as u32));
+    }
+    Ok(())
+}
+
+#[test]
 fn sequences_and_checksum_go_out_byte_by_byte(rt: HostRuntime) -> Result<(), Fail> {
     let mut ids = RequestIds::new(9);
     let mut link = failing_link(rt.alloc(), &[], 1000, 1)?;
