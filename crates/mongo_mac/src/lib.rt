@@ -26,8 +26,6 @@ mod key;
 mod sha;
 mod steps;
 mod tag;
-#[cfg(test)]
-mod tests;
 
 pub use compare::are_same_bytes;
 pub use hash_fn::{HashFn, digest};

@@ -21,6 +21,3 @@ pub use digits::num_decimal_digits;
 pub use double::{RoundClampTarget, int_of_bits, round_clamp, u64_of_bits};
 pub use fault::NumFault;
 pub use int::Int;
-
-#[cfg(test)]
-mod tests;

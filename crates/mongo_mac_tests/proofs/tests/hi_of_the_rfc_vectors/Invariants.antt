@@ -1,4 +1,4 @@
-use Rattle.mongo_mac.proofs.tests.hi_of_the_rfc_vectors.Given as goal
+use Rattle.mongo_mac_tests.proofs.tests.hi_of_the_rfc_vectors.Given as goal
 
 abbrev pub ghosts-derived : goal.ghosts-derived
 ghosts-derived g a = record { name = a.blank.name; parts = a.blank.parts }
