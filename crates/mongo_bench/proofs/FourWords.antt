@@ -1,5 +1,5 @@
 -- Four words, by their places.
-use Rattle.std.proofs.Common.{◌≡◌, ℕ, ◌<◌, ◌≤◌, List, [], ◌∷◌, length, map, get_or, ap, ◌∙◌, arith}
+use Rattle.std.proofs.Common.{◌≡◌, ◌<◌, ◌≤◌, List, [], ◌∷◌, length, map, get_or, ap, ◌∙◌, arith}
 
 same_four : {Y : Type 0} (a b c d e f g h : Y) → a ≡ e → b ≡ f → c ≡ g → d ≡ h → e ∷ f ∷ g ∷ h ∷ [] ≡ a ∷ b ∷ c ∷ d ∷ []
 same_four a b c d e f g h p q r s = cc

@@ -1,9 +1,9 @@
 -- What logins by one key cost: the first derives it, and the others find it.
-use Rattle.std.proofs.Common.{◌≡◌, ℕ, ◌+◌, ◌<◌, ◌≤◌, ◌⊎◌, List, [], Contains, Result, Ok, Err, OnOk, sym, ap, ◌∙◌, subst, inl, inr, arith}
+use Rattle.std.proofs.Common.{◌≡◌, ℕ, ◌+◌, ◌<◌, ◌≤◌, ◌⊎◌, [], Contains, Result, Ok, Err, OnOk, sym, subst, inl, inr, arith}
 use Rattle.mongo_scram.specs.declared.cache.SaltedCache.{SaltedCache}
 use Rattle.mongo_scram.specs.declared.cache.SaltedKey.{SaltedKey}
 use Rattle.mongo_scram.specs.Cache.{entries_of}
-use Rattle.mongo_scram.specs.Costs.{HasEntry, Ledgers, ledgers, Derives}
+use Rattle.mongo_scram.specs.Costs.{HasEntry, Ledgers, Derives}
 use Rattle.mongo_establish.specs.KeyCosts.{TakesKey}
 use Rattle.mongo_bench.specs.declared.task.Hash.{Hash}
 use Rattle.mongo_bench.specs.Login.{bench_key}

@@ -1,5 +1,5 @@
 // An insert of many documents, with every argument that a command can carry.
-ghost use Rattle.std.specs.Prelude.{◌≡◌, ◌≢◌, IfOk};
+ghost use Rattle.std.specs.Prelude.{◌≡◌, ◌≢◌};
 ghost use Rattle.mongo_bench.specs.Task.{HasPrinted};
 ghost use Rattle.mongo_bench.specs.Work.{only_built};
 

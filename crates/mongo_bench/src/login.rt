@@ -1,5 +1,5 @@
 //! Logins of one user against one server, with one cache of salted passwords.
-ghost use Rattle.std.specs.Prelude.{◌≡◌, ◌≢◌, ◌+◌, ◌≤◌, [], IfOk, OnOk};
+ghost use Rattle.std.specs.Prelude.{◌≡◌, ◌≢◌, ◌+◌, ◌≤◌, IfOk, OnOk};
 ghost use Rattle.mongo_bench.specs.Task.{HasPrinted, Costs};
 ghost use Rattle.mongo_bench.specs.Work.{only_logged_in};
 

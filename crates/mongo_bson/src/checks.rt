@@ -1,4 +1,4 @@
-ghost use Rattle.std.specs.Prelude.{◌≡◌, ◌↔◌, ◌∷◌, List, ℕ, IsTrue, IsErr, IfOk, IfErr};
+ghost use Rattle.std.specs.Prelude.{◌≡◌, ◌↔◌, IsTrue, IsErr, IfOk, IfErr};
 ghost use Rattle.mongo_bson.specs.Framed.{body_of};
 ghost use Rattle.mongo_bson.specs.Steps.{HasNoElement};
 ghost use Rattle.mongo_bson.specs.Find.{FirstKey};

@@ -1,4 +1,4 @@
-ghost use Rattle.std.specs.Prelude.{◌≡◌, MatchOption};
+ghost use Rattle.std.specs.Prelude.{MatchOption};
 ghost use Rattle.mongo_bson.specs.Reading.{BeginsWithElement, NoElementAtFront, element_read};
 
 use crate::cstring::take_cstring;

@@ -1,4 +1,4 @@
-ghost use Rattle.std.specs.Prelude.{◌≡◌, ◌↔◌, IsTrue, MatchOption};
+ghost use Rattle.std.specs.Prelude.{◌↔◌, IsTrue, MatchOption};
 ghost use Rattle.mongo_bson.specs.Framed.{IsFramed};
 ghost use Rattle.mongo_bson.specs.Document.{IsReadable, maximum_depth, Holds, code_with_scope};
 ghost use Rattle.mongo_bson.specs.Reading.{HoldsKind, IsOnlyInside, HoldsNoDocument, IsScopeOf, element_read};

@@ -1,7 +1,7 @@
-ghost use Rattle.std.specs.Prelude.{◌≡◌, ◌≢◌, ◌↔◌, ◌+◌, ◌^◌, ◌<◌, ◌≤◌, ◌⊎◌, List, ℕ, length, drop, IsTrue, MatchOption};
-ghost use Rattle.std.specs.Int.{from_le_bytes, w32};
+ghost use Rattle.std.specs.Prelude.{◌↔◌, ◌+◌, ◌<◌, length, IsTrue, MatchOption};
+ghost use Rattle.std.specs.Int.{from_le_bytes};
 ghost use Rattle.mongo_bson.specs.Framed.{IsFramed};
-ghost use Rattle.mongo_bson.specs.Document.{Holds, fixed, boolean, regular_expression, db_pointer, code_with_scope, IsString, IsBinary, IsCodeWithScope};
+ghost use Rattle.mongo_bson.specs.Document.{Holds, fixed, boolean, regular_expression, db_pointer, code_with_scope, IsString, IsBinary};
 ghost use Rattle.mongo_bson.specs.Reading.{IsAtFront, NoneAtFront, HoldsKind, IsCounted, IsNotCounted, IsCodeAndScope};
 
 use crate::cstring::take_cstring;

@@ -1,5 +1,5 @@
 //! One establishment over a link, and the report of it.
-ghost use Rattle.std.specs.Prelude.{◌≡◌, ◌≤◌, ℕ, List, Some, IfOk, OnErr};
+ghost use Rattle.std.specs.Prelude.{◌≡◌, ◌≤◌, ℕ, List, IfOk, OnErr};
 ghost use Rattle.mongo_establish.specs.Speculation.{SpeaksFor};
 ghost use Rattle.mongo_connect.specs.Connecting.{IsConnectionTold, IsUntold, ReportsConnection, TellsBytes, Faultless};
 

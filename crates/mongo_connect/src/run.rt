@@ -1,5 +1,5 @@
 //! The top call.
-ghost use Rattle.std.specs.Prelude.{◌≡◌, ◌<◌, ℕ, length};
+ghost use Rattle.std.specs.Prelude.{◌≡◌, ◌<◌, length};
 ghost use Rattle.mongo_settings.specs.Run.{run_of};
 ghost use Rattle.mongo_settings.specs.Status.{StepsAfter};
 ghost use Rattle.mongo_connect.specs.Run.{Ends, RunEnds, ConnectDecided};

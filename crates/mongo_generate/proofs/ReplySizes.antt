@@ -1,5 +1,5 @@
 -- The messages of a possible exchange fit into replies, so that only memory can be wanting where these are made.
-use Rattle.std.proofs.Common.{◌≡◌, ℕ, ℤ, pos, ◌+◌, ◌-◌, ◌^◌, ◌<◌, ◌≤◌, None, Some, Result, Ok, Err, IfErr, List, [], ◌∷◌, ◌++◌, length, length-append, map, codes, decimal, refl, sym, ap, subst, arith}
+use Rattle.std.proofs.Common.{◌≡◌, ℕ, ℤ, pos, ◌+◌, ◌-◌, ◌^◌, ◌<◌, ◌≤◌, None, Result, Ok, Err, IfErr, List, [], ◌∷◌, ◌++◌, length, length-append, map, codes, decimal, refl, sym, ap, subst, arith}
 use Rattle.std.specs.List.{AllByRecursion, flat_map}
 use Rattle.std.proofs.lemmas.Fmt.{length-decimal-le}
 use Rattle.std.proofs.lemmas.Int.{ints}

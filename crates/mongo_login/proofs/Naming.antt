@@ -1,5 +1,5 @@
 -- Words name one command.
-use Rattle.std.proofs.Common.{◌≡◌, ℕ, ◌∙◌, refl, sym, List, [], ◌∷◌, Bool, true, false, Result, Ok, Err, IsTrue, ◌↔◌, codes, subst, arith}
+use Rattle.std.proofs.Common.{◌≡◌, ℕ, ◌∙◌, refl, sym, List, [], ◌∷◌, Bool, false, Result, Ok, Err, IsTrue, ◌↔◌, codes, subst, arith}
 use Rattle.std.specs.Str.Parse.{ParsesUnsigned}
 use Rattle.std.proofs.lemmas.Fmt.{parse-decimal}
 use Rattle.mongo_settings.specs.declared.task.Task.{Task}

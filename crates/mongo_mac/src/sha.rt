@@ -1,4 +1,3 @@
-ghost use Rattle.std.specs.Prelude.{◌≤◌, refl};
 ghost use Rattle.std.proofs.Common.{arith};
 ghost use Rattle.sha1.specs.Sha1.{Holds, sha1};
 ghost use Rattle.sha2.specs.Hashers.{Holds256};

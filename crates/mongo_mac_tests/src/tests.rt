@@ -1,6 +1,8 @@
 ghost use Rattle.std.specs.Prelude.{◌≡◌, ◌<◌, ◌≤◌};
 
-use mongo_mac::{HashFn, HmacKey, Sha1Fn, Sha256Fn, Steps, Tag, are_same_bytes, digest, hi, hmac, xor};
+use mongo_mac::{
+    HashFn, HmacKey, Sha1Fn, Sha256Fn, Steps, Tag, are_same_bytes, digest, hi, hmac, xor,
+};
 use std::alloc::{AllocError, Global};
 use std::marker::Brand;
 use std::sync::ledger::{Blank, Ledger};

@@ -1,7 +1,5 @@
-ghost use Rattle.std.specs.Prelude.{◌≡◌, ◌++◌, ◌^◌, ◌<◌, Some, option_map, flat_map, length, codes, Contains, IfOk, IfErr, OnOk};
+ghost use Rattle.std.specs.Prelude.{◌≡◌, ◌<◌, Some, flat_map, Contains, IfOk, IfErr};
 ghost use Rattle.std.specs.List.{AllByRecursion};
-ghost use Rattle.mongo_bson.specs.Framed.{IsFramed, body_of, enclosed};
-ghost use Rattle.mongo_bson.specs.Document.{spell};
 ghost use Rattle.mongo_command.specs.Literal.{text_element, document_element, int32_element, document_of};
 ghost use Rattle.mongo_command.specs.Command.{given};
 ghost use Rattle.mongo_command.specs.Arguments.{field_elements, IsNamed, TooLongFor};

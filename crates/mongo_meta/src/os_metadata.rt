@@ -1,4 +1,4 @@
-ghost use Rattle.std.specs.Prelude.{◌≡◌, IfOk, IfErr, OnOk};
+ghost use Rattle.std.specs.Prelude.{◌≡◌, IfOk, IfErr};
 ghost use Rattle.mongo_command.specs.Arguments.{TooLongFor};
 
 use crate::fields::{document_of, optional_text_field, text_field};

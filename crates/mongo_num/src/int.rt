@@ -1,5 +1,5 @@
 // The integer types that checked numbers are made of.
-ghost use Rattle.std.specs.Prelude.{◌≡◌, ℕ, ℤ, pos, negsuc, ◌^◌, ◌-◌, ◌≤◌, ◌+ℤ◌, ◌-ℤ◌, ◌≤ℤ◌, bit_and, bit_or, bit_xor};
+ghost use Rattle.std.specs.Prelude.{◌≡◌, ℕ, ℤ, pos, ◌^◌, ◌-◌, ◌≤◌, ◌+ℤ◌, ◌-ℤ◌, ◌≤ℤ◌, bit_and, bit_or, bit_xor};
 ghost use Rattle.mongo_num.specs.Exact.{IsNarrow, IsWithin, HoldsWhere, CombinesBits};
 
 mod signed;

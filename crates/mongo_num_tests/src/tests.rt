@@ -1,6 +1,8 @@
 // Expected values of the doubles are those that IEEE 754 gives the bits; of `round_clamp`, those of Rust's
-// `as`. They were computed apart from this crate.
-use mongo_num::{Checked, Int, NumFault, int_of_bits, num_decimal_digits, round_clamp, u64_of_bits};
+// `as`. They were computed apart from it.
+use mongo_num::{
+    Checked, Int, NumFault, int_of_bits, num_decimal_digits, round_clamp, u64_of_bits,
+};
 use std::hash::{FoldHasher, Hash, Hasher};
 use std::test::Fail;
 

@@ -1,6 +1,6 @@
-ghost use Rattle.std.specs.Prelude.{◌≡◌, ◌↔◌, IsTrue, Option, List, codes, IfOk, option_copied, option_map, is_some};
+ghost use Rattle.std.specs.Prelude.{◌≡◌, Option, List, codes, option_copied, is_some};
 ghost use Rattle.mongo_bson.specs.Document.{Element, IsDocument, IsReadable, maximum_depth};
-ghost use Rattle.mongo_sasl.specs.Rules.{first_broken, is_other_than, is_given, properties_of, has_property, text_property};
+ghost use Rattle.mongo_sasl.specs.Rules.{first_broken, is_other_than, is_given, properties_of};
 ghost use Rattle.mongo_sasl.specs.Validation.{scram_rules, x509_rules, plain_rules, aws_rules, oidc_rules, oidc_table, ByProperties, IsValidated, takes_resource, is_unknown_environment};
 
 use crate::properties::{

@@ -1,5 +1,5 @@
-ghost use Rattle.std.specs.Prelude.{◌≡◌, IfOk, IfErr};
-ghost use Rattle.mongo_scram.specs.User.{User, IsUser, CredentialRow};
+ghost use Rattle.std.specs.Prelude.{IfOk, IfErr};
+ghost use Rattle.mongo_scram.specs.User.{IsUser, CredentialRow};
 ghost use Rattle.mongo_scram.specs.Client.{user_of};
 
 use crate::ScramVersion;

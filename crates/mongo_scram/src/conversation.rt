@@ -1,4 +1,4 @@
-ghost use Rattle.std.specs.Prelude.{◌≡◌, IfOk, IfErr, OnOk, OnErr};
+ghost use Rattle.std.specs.Prelude.{◌≡◌, IfErr, OnOk, OnErr};
 
 use crate::derivation::{answer, keep};
 use crate::rounds::{Login, close};
@@ -21,7 +21,7 @@ pub struct FirstRound {
 }
 
 impl ScramVersion {
-    ghost use Rattle.std.specs.Prelude.{◌≡◌, ◌⊎◌, ℕ, List, Err, None, Some, IfOk, IfErr, OnOk, OnErr, option_copied};
+    ghost use Rattle.std.specs.Prelude.{◌≡◌, ◌⊎◌, ℕ, List, None, Some, IfErr, OnOk, OnErr, option_copied};
     ghost use Rattle.mongo_wire.specs.declared.error.ErrorKind.{ErrorKind};
     ghost use Rattle.mongo_wire.specs.declared.error.ErrorKind.TheVariants.{OutOfMemory};
     ghost use Rattle.mongo_wire.specs.Outside.{Rose};

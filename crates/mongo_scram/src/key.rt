@@ -1,4 +1,4 @@
-ghost use Rattle.std.specs.Prelude.{◌≡◌, ◌+◌, ◌≤◌, ◌++◌, length, codes, IfOk, IfErr, OnOk, OnErr, All, Any, IsTrue, ◌<◌, ◌↔◌};
+ghost use Rattle.std.specs.Prelude.{◌≡◌, ◌+◌, ◌≤◌, ◌++◌, codes, IfOk, IfErr, OnOk, OnErr, All, Any, IsTrue, ◌<◌, ◌↔◌};
 ghost use Rattle.std.specs.Bool.{OnTrue, OnFalse};
 ghost use Rattle.hex.specs.Hex.{encode_lower};
 ghost use Rattle.md5.specs.Md5.{md5};

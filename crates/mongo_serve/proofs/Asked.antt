@@ -1,7 +1,6 @@
 -- A document has one value at a key, and one first key.
-use Rattle.std.proofs.Common.{◌≡◌, ◌==◌, ◌⊎◌, ◌↔◌, ℕ, pos, Option, None, Some, Bool, true, false, IsTrue, MatchOption, List, [], ◌∷◌, codes, inl, inr, refl, sym, ap, ◌∙◌, subst, eq-eqb}
+use Rattle.std.proofs.Common.{◌≡◌, ◌==◌, ◌↔◌, ℕ, Option, None, Some, Bool, true, false, IsTrue, MatchOption, List, [], ◌∷◌, codes, inl, inr, refl, sym, ap, ◌∙◌, subst, eq-eqb}
 use Rattle.std.proofs.lemmas.Bool.{false≢true}
-use Rattle.std.specs.Borrow.{Bor}
 use Rattle.std.specs.Int.{from_le_bytes, cast_signed, w32}
 use Rattle.mongo_bson.specs.Document.{Element, text_of}
 use Rattle.mongo_bson.specs.Find.{FindsValue, IsFirstOf}

@@ -1,14 +1,14 @@
 -- How a login begins: at an account, and by the settings.
-use Rattle.std.proofs.Common.{◌≡◌, ◌⊎◌, ◌↔◌, ℕ, Bool, true, false, Option, None, Some, Result, Ok, Err, IfOk, List, ◌∷◌, ◌++◌, codes, option_copied, IsTrue, refl, sym, ap, ◌∙◌, subst, append_assoc}
+use Rattle.std.proofs.Common.{◌≡◌, ◌↔◌, ℕ, Bool, true, false, Option, None, Some, Result, Ok, Err, IfOk, List, ◌∷◌, ◌++◌, codes, option_copied, IsTrue, refl, sym, ap, ◌∙◌, subst, append_assoc}
 use Rattle.std.specs.Borrow.{Bor}
-use Rattle.std.specs.List.{AllByRecursion, starts_with}
+use Rattle.std.specs.List.{AllByRecursion}
 use Rattle.mongo_scram.specs.Key.{PasswordRow}
 use Rattle.mongo_scram.specs.Messages.{open_message}
 use Rattle.mongo_scram.specs.UserName.{escaped}
 use Rattle.mongo_scram.specs.declared.scram_version.ScramVersion.{ScramVersion}
 use Rattle.mongo_scram.proofs.Parts.{one_cut}
 use Rattle.mongo_server.specs.ClientMessages.{IsNonce, IsClientFirst}
-use Rattle.mongo_server.specs.Exchange.{Exchange, open_of, first_of, IsReadAs}
+use Rattle.mongo_server.specs.Exchange.{Exchange, open_of, IsReadAs}
 use Rattle.mongo_server.specs.Server.{server_user, suffix_of, username_of, Serves, HasBegun}
 use Rattle.mongo_server.specs.User.{IsUserOf}
 use Rattle.mongo_server.specs.declared.fault.ServerFault.{ServerFault}
@@ -19,7 +19,7 @@ use Rattle.mongo_server.proofs.ClientFirsts.{opens, bares}
 use Rattle.mongo_server.proofs.UserNames.{escaped_same, escaped-no_comma}
 use Rattle.mongo_wire.specs.declared.error.ErrorKind.{ErrorKind}
 use Rattle.mongo_serve.specs.Accounts.{AreOfOneUser, IsFirstAccount}
-use Rattle.mongo_serve.specs.Login.{exchange_of, IsExchange}
+use Rattle.mongo_serve.specs.Login.{exchange_of}
 use Rattle.mongo_serve.specs.Opened.{NamesUser, Suits, IsFound, IsOpening, BeginsExchange, OpensFor, OpensBy}
 use Rattle.mongo_serve.specs.Sasl.{AsksFor}
 use Rattle.mongo_serve.specs.declared.fault.ServeFault.{ServeFault}

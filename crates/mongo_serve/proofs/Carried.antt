@@ -1,4 +1,4 @@
-use Rattle.std.proofs.Common.{◌≡◌, ℕ, Option, None, Some, IfSome, List, inl, inr}
+use Rattle.std.proofs.Common.{ℕ, Option, None, Some, IfSome, List, inl, inr}
 use Rattle.mongo_serve.specs.declared.request.SaslStart.{SaslStart}
 use Rattle.std.specs.Borrow.{Bor}
 use Rattle.mongo_command.specs.Keys.{speculative_authenticate_key}

@@ -4,7 +4,7 @@ use Rattle.std.specs.Borrow.{Bor}
 use Rattle.mongo_server.specs.Exchange.{Exchange, close_of}
 use Rattle.mongo_server.specs.Server.{HasBegun}
 use Rattle.mongo_serve.specs.Last.{AnswersLast, AnswersEmpty}
-use Rattle.mongo_serve.specs.Sasl.{GoesOn, Closes, Ends, AnswersContinue}
+use Rattle.mongo_serve.specs.Sasl.{GoesOn, AnswersContinue}
 use Rattle.mongo_serve.specs.declared.fault.ServeFault.{ServeFault}
 use Rattle.mongo_serve.specs.declared.reply.SaslReply.{SaslReply}
 use Rattle.mongo_serve.specs.declared.request.SaslContinue.{SaslContinue}

@@ -1,5 +1,5 @@
 -- Bytes that were put back before what is left.
-use Rattle.std.proofs.Common.{◌≡◌, ℕ, ◌-◌, ◌==◌, Bool, true, Option, None, Some, Result, List, [], ◌∷◌, ◌++◌, length, take, drop, is_some, refl, sym, ap, ◌∙◌, arith, true-eqb}
+use Rattle.std.proofs.Common.{◌≡◌, ℕ, ◌-◌, ◌==◌, Bool, true, Option, None, Some, Result, List, [], ◌∷◌, length, take, drop, is_some, refl, sym, ap, ◌∙◌, arith, true-eqb}
 use Rattle.std.proofs.lemmas.Bool.{false≢true}
 use Rattle.std.proofs.lemmas.List.{take_rest}
 use Rattle.std.specs.Io.KnownBytes.{prepend_known, Consumes, ReadConsumes}

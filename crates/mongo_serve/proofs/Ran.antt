@@ -1,5 +1,5 @@
 -- How a run ends, by how its stream was left.
-use Rattle.std.proofs.Common.{◌≡◌, ℕ, Option, None, Some, List, length, take, inl, sym, subst, arith}
+use Rattle.std.proofs.Common.{ℕ, Option, None, Some, List, length, inl, sym, subst, arith}
 use Rattle.std.proofs.KnownBytes.{Appends-kept, Appends-nil}
 use Rattle.std.proofs.lemmas.List.{take_all}
 use Rattle.std.specs.Io.KnownBytes.{Appends, Keeps}

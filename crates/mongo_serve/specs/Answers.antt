@@ -1,7 +1,6 @@
 -- What a session answers.
 use Rattle.std.specs.Prelude.{◌≡◌, ℕ, Option, None, Some, List}
 use Rattle.mongo_serve.specs.declared.reply.HelloReply.{HelloReply}
-use Rattle.mongo_serve.specs.declared.reply.Refusal.{Refusal}
 use Rattle.mongo_serve.specs.declared.reply.Refusal.TheVariants.{AuthenticationFailed, Unauthorized, CommandNotFound}
 use Rattle.mongo_serve.specs.declared.reply.Reply.{Reply}
 use Rattle.mongo_serve.specs.declared.reply.Reply.TheVariants.{Hello as Described, Sasl, BuildInfo as Version, Done, Refused}

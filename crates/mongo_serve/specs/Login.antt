@@ -1,5 +1,5 @@
 -- When a user has logged in: which requests the client has sent, in their order.
-use Rattle.std.specs.Prelude.{◌≡◌, ℕ, Bool, true, List, ◌∷◌, ◌++◌, IfSome}
+use Rattle.std.specs.Prelude.{◌≡◌, ℕ, true, List, ◌∷◌, ◌++◌, IfSome}
 use Rattle.mongo_scram.specs.Key.{PasswordRow}
 use Rattle.mongo_server.specs.ClientMessages.{IsNonce}
 use Rattle.mongo_server.specs.Exchange.{Exchange, open_of, close_of}

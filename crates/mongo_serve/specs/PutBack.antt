@@ -1,5 +1,5 @@
 -- A link to which bytes were put back: what it has left is those bytes, and then what the link has left.
-use Rattle.std.specs.Prelude.{ℕ, List, drop}
+use Rattle.std.specs.Prelude.{drop}
 use Rattle.std.specs.Io.KnownBytes.{prepend_known}
 use Rattle.mongo_wire.specs.Outside.{State}
 use Rattle.mongo_serve.specs.declared.put_back.PutBack.{PutBack}

@@ -1,6 +1,6 @@
 //! The document that says what a server is.
 
-ghost use Rattle.std.specs.Prelude.{◌≡◌, List, [], ◌∷◌, ◌++◌, IfOk, IfErr, OnOk, Contains};
+ghost use Rattle.std.specs.Prelude.{◌≡◌, List, [], ◌∷◌, ◌++◌, IfOk, IfErr, OnOk};
 ghost use Rattle.mongo_bson.specs.Document.{Element};
 ghost use Rattle.mongo_bson.specs.Value.{element_of};
 ghost use Rattle.mongo_command.specs.Literal.{document_of};

@@ -1,6 +1,6 @@
 //! A link to which bytes that were read can be put back.
 
-ghost use Rattle.std.specs.Prelude.{◌≡◌, ◌≤◌, length, drop, ◌++◌};
+ghost use Rattle.std.specs.Prelude.{◌≡◌, ◌≤◌, length};
 
 use crate::fault::ServeFault;
 use mongo_wire::{Failed, Link, Outside, Sink, SinkError, Source};

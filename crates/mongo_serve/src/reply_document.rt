@@ -1,6 +1,6 @@
 //! The documents that say replies.
 
-ghost use Rattle.std.specs.Prelude.{◌≡◌, ℤ, IfOk, IfErr};
+ghost use Rattle.std.specs.Prelude.{◌≡◌, IfOk, IfErr};
 ghost use Rattle.mongo_serve.specs.Replies.{document_of_served, done_document, error_document, refusal_document, sasl_document, build_info_document, version_document};
 ghost use Rattle.mongo_serve.specs.Faults.{IsOfDocument};
 

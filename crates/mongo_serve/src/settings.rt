@@ -1,6 +1,6 @@
 //! What the server is told: who may log in, and what it adds to a client's nonce.
 
-ghost use Rattle.std.specs.Prelude.{◌≡◌, ◌≤◌};
+ghost use Rattle.std.specs.Prelude.{◌≤◌};
 ghost use Rattle.mongo_server.specs.ClientMessages.{IsNonce};
 
 mod reading;

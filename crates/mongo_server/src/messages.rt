@@ -1,6 +1,6 @@
 // What the server says (RFC 5802, sections 3 and 5.1), and what both sides sign.
 
-ghost use Rattle.std.specs.Prelude.{◌≡◌, ◌++◌, codes, decimal, IfOk, IfErr, OnOk};
+ghost use Rattle.std.specs.Prelude.{◌≡◌, ◌++◌, IfOk, IfErr, OnOk};
 ghost use Rattle.base64.specs.GeneralPurpose.{IsBytes};
 ghost use Rattle.mongo_scram.specs.Messages.{transcript};
 ghost use Rattle.mongo_server.specs.ServerTexts.{server_first, server_final};

@@ -1,5 +1,5 @@
 //! What is rehearsed: the login of settings, or the logins of a batch.
-ghost use Rattle.std.specs.Prelude.{◌≡◌, ◌≤◌, IfOk};
+ghost use Rattle.std.specs.Prelude.{◌≤◌, IfOk};
 ghost use Rattle.mongo_settings.specs.Settings.{Gives};
 
 use crate::batch::rehearse_all;

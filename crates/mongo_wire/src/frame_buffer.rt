@@ -24,7 +24,7 @@ pub struct FrameBuffer {
 }
 
 impl FrameBuffer {
-    ghost use Rattle.std.specs.Prelude.{◌≡◌, ◌≤◌, ℕ, List, [], None, Some, vec_len, take, IsSome, IsNone, IfSome};
+    ghost use Rattle.std.specs.Prelude.{◌≡◌, ◌≤◌, ℕ, List, None, Some, vec_len, take, IsSome, IsNone, IfSome};
     ghost use Rattle.mongo_wire.specs.Outside.{risen};
     ghost use Rattle.mongo_wire.specs.Frame.{Frame};
     ghost use Rattle.mongo_wire.specs.Ref.{IsRefOf};

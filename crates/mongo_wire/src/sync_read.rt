@@ -1,4 +1,4 @@
-ghost use Rattle.std.specs.Prelude.{◌≡◌, [], ◌∷◌, IfOk, IfErr};
+ghost use Rattle.std.specs.Prelude.{[], ◌∷◌, IfOk, IfErr};
 ghost use Rattle.std.specs.Io.KnownBytes.{Consumes};
 ghost use Rattle.mongo_wire.specs.Outside.{ReadsOn};
 ghost use Rattle.mongo_wire.specs.Small.{FillStops, TakesSigned, TakesUnsigned};

@@ -1,5 +1,5 @@
 //! The plain kinds of values.
-ghost use Rattle.std.specs.Prelude.{◌≡◌, ◌≤◌, ◌-◌, ◌/◌, ◌^◌, ℕ, List, length, take, IfSome, IfErr, OnOk};
+ghost use Rattle.std.specs.Prelude.{◌≡◌, ◌≤◌, ◌-◌, ◌/◌, ℕ, length, take, IfSome, IfErr, OnOk};
 ghost use Rattle.serde_json.specs.View.{view, items_view};
 ghost use Rattle.mongo_settings.specs.Kinds.{number_from, hex_of, hex_bytes, joined_hex, nonce_in, IsHexJoined, Means, MeansNothing};
 

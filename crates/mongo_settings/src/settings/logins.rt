@@ -1,7 +1,7 @@
 //! The logins of a batch.
 ghost use Rattle.std.specs.Prelude.{◌≡◌, ◌++◌, [], ◌∷◌, All, IfOk, IfErr, OnOk};
-ghost use Rattle.serde_json.specs.View.{view, items_view};
-ghost use Rattle.mongo_settings.specs.Settings.{needed, Gives};
+ghost use Rattle.serde_json.specs.View.{items_view};
+ghost use Rattle.mongo_settings.specs.Settings.{Gives};
 ghost use Rattle.mongo_settings.specs.Logins.{each_settings, logins_of, logins_judged};
 ghost use Rattle.mongo_settings.specs.Batch.{IsLoginSpoken};
 ghost use Rattle.mongo_settings.specs.declared.settings.SettingsError.TheVariants.{OutOfMemory};

@@ -1,5 +1,5 @@
 //! How the value of a key is read.
-ghost use Rattle.std.specs.Prelude.{◌≡◌, ℕ, List, Option, map};
+ghost use Rattle.std.specs.Prelude.{◌≡◌, Option, map};
 ghost use Rattle.serde_json.specs.Data.{Data};
 ghost use Rattle.serde_json.specs.View.{view, items_view, members_view};
 ghost use Rattle.mongo_settings.specs.Kinds.{optional, required, object_of, each_key, is_among, two_in, two_of, Means};

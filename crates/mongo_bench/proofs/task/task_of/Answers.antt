@@ -1,4 +1,4 @@
-use Rattle.std.proofs.Common.{Global, MatchOption, ◌∷◌, [], map, string_bytes, sym, subst}
+use Rattle.std.proofs.Common.{MatchOption, string_bytes, sym, subst}
 use Rattle.mongo_bench.specs.Task.{AsksTask, AsksNothing}
 use Rattle.mongo_bench.proofs.FourWords.{four_words}
 use Rattle.mongo_bench.proofs.task.task_of.Goals as goal

@@ -1,4 +1,4 @@
-use Rattle.std.proofs.Common.{◌≡◌, ◌++◌, codes, string_bytes, drop, length, ap, ◌∙◌}
+use Rattle.std.proofs.Common.{◌++◌, codes, drop, length, ap, ◌∙◌}
 use Rattle.std.proofs.lemmas.Bool.Decides.{Decides-eqb}
 use Rattle.std.proofs.lemmas.Slice.Eq.{starts_is}
 use Rattle.mongo_scram.specs.UserName.{escaped}

@@ -1,4 +1,4 @@
-use Rattle.std.proofs.Common.{Option, None, Some, subst, ap, sym, ◌∙◌}
+use Rattle.std.proofs.Common.{Option, None, Some, subst}
 use Rattle.std.specs.Borrow.{Bor}
 use Rattle.mongo_serve.specs.Opened.{FindsAccount}
 use Rattle.mongo_serve.specs.declared.settings.Account.{Account}

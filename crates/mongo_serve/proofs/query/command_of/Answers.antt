@@ -1,4 +1,4 @@
-use Rattle.std.proofs.Common.{◌≡◌, codes, inl, refl}
+use Rattle.std.proofs.Common.{codes, inl, refl}
 use Rattle.mongo_serve.proofs.Asked.{named_otherwise}
 use Rattle.mongo_serve.proofs.query.command_of.Goals as goal
 

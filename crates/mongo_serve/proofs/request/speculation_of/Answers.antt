@@ -1,4 +1,3 @@
-use Rattle.std.proofs.Common.{◌≡◌}
 use Rattle.mongo_sasl.specs.Keys.{sasl_start_key}
 use Rattle.mongo_serve.proofs.Asked.{named_otherwise}
 use Rattle.mongo_serve.proofs.request.speculation_of.Goals as goal

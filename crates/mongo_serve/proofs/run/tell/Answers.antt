@@ -1,5 +1,3 @@
-use Rattle.std.proofs.Common.{◌∙◌, subst}
-use Rattle.mongo_wire.specs.Outside.{AppendsFront}
 use Rattle.mongo_serve.specs.Report.{report_text}
 use Rattle.mongo_serve.proofs.Ran.{none_said}
 use Rattle.mongo_serve.proofs.run.tell.Goals as goal
