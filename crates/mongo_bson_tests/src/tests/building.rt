@@ -1,4 +1,4 @@
-use super::spelling::bytes_of;
+use super::spelling::{each_row_tells, printed, wants};
 use mongo_bson::{
     BsonFault, Bytes, Documents, Items, ObjectId, OwnedValue, RawArrayBuf, RawDocument,
     RawDocumentBuf, RawValue, Text, Texts, TryClone, array_entry_size_bytes, copy_of,
@@ -20,43 +20,53 @@ fn one(alloc: Global) -> Result<RawDocumentBuf, BsonFault> {
     Ok(document)
 }
 
-// The document that the bytes of a row are.
-fn document_from(alloc: Global, row: &str) -> Result<RawDocumentBuf, Fail> {
-    let bytes = Bytes::from_vec(bytes_of(alloc, row)?);
-    Ok(RawDocumentBuf::from_bytes(bytes)?)
+// What was answered, and what a document is then.
+fn answered(
+    alloc: Global,
+    answer: Result<(), BsonFault>,
+    document: &RawDocumentBuf,
+) -> Result<String, Fail> {
+    Ok(format!(in alloc; "{answer:?} {:?}", document.as_bytes())?)
 }
 
 // What appending under a key answers, and what the document of `a: 1` is then.
 fn appended(alloc: Global, key: &str) -> Result<String, Fail> {
     let mut document = one(alloc)?;
     let answer = append(&mut document, key);
-    Ok(format!(in alloc; "{answer:?} {:?}", document.as_bytes())?)
+    answered(alloc, answer, &document)
 }
 
 #[test]
 fn a_key_holds_no_zero(rt: HostRuntime) -> Result<(), Fail> {
+    wants(
+        "Ok(()) [19, 0, 0, 0, 16, 97, 0, 1, 0, 0, 0, 16, 98, 0, 1, 0, 0, 0, 0]",
+        appended(rt.alloc(), "b")?,
+    )?;
     let refused = "Err(KeyHasZero) [12, 0, 0, 0, 16, 97, 0, 1, 0, 0, 0, 0]";
-    for (key, wanted) in [
-        (
-            "b",
-            "Ok(()) [19, 0, 0, 0, 16, 97, 0, 1, 0, 0, 0, 16, 98, 0, 1, 0, 0, 0, 0]",
-        ),
-        ("\0", refused),
-        ("a\0", refused),
-        ("\0a", refused),
-        ("a\0b", refused),
-    ] {
-        assert_eq!(rt; appended(rt.alloc(), key)?.as_str(), wanted);
+    for key in ["\0", "a\0", "\0a", "a\0b"] {
+        wants(refused, appended(rt.alloc(), key)?)?;
     }
     Ok(())
 }
 
-// The two arrays of one empty document, and whether the first is copied.
-fn arrays(alloc: Global) -> Result<(RawArrayBuf, RawArrayBuf), BsonFault> {
+// One empty document.
+fn one_empty(alloc: Global) -> Result<Documents, BsonFault> {
     let mut documents = Documents::new(alloc);
     documents.push(RawDocumentBuf::new(alloc)?)?;
-    let first = to_raw_bson_array(alloc, &documents)?;
-    Ok((first, vec_to_raw_array_buf(alloc, documents)?))
+    Ok(documents)
+}
+
+// The array of one empty document, which stays.
+fn array(alloc: Global) -> Result<RawArrayBuf, BsonFault> {
+    let documents = one_empty(alloc)?;
+    to_raw_bson_array(alloc, &documents)
+}
+
+// Whether both arrays of one empty document, of one that stays and of one that is given away, have these bytes.
+fn are_arrays(alloc: Global, bytes: &[u8]) -> Result<bool, BsonFault> {
+    let first = array(alloc)?;
+    let second = vec_to_raw_array_buf(alloc, one_empty(alloc)?)?;
+    Ok(first.borrow().as_bytes() == bytes && second == first)
 }
 
 fn push(array: &mut RawArrayBuf, value: RawValue<'_>) -> Result<(), BsonFault> {
@@ -70,27 +80,47 @@ fn growth(array: &mut RawArrayBuf, document: RawDocument<'_>) -> Result<usize, B
     Ok(array.borrow().as_bytes().len().saturating_sub(before))
 }
 
+// Whether this is told of how long a document of so many bytes makes an array.
+fn is_entry_size(index: usize, doc_len: usize, wanted: Result<usize, NumFault>) -> bool {
+    array_entry_size_bytes(index, doc_len) == wanted
+}
+
+// An array of twelve empty documents, each of which makes it longer by as much as is told of its number.
+fn twelve(alloc: Global, empty: RawDocument<'_>) -> Result<RawArrayBuf, Fail> {
+    let mut array = RawArrayBuf::new(alloc)?;
+    for index in 0..12 {
+        let wanted = if index < 10 { 8 } else { 9 };
+        if growth(&mut array, empty)? != wanted || !is_entry_size(index, 5, Ok(wanted)) {
+            return Err(Fail::new(format_args!("not {wanted} bytes for {index}")));
+        }
+    }
+    Ok(array)
+}
+
+// Whether the last of twelve empty documents stands under its number.
+fn are_numbered(alloc: Global) -> Result<bool, Fail> {
+    let empty = RawDocument::from_bytes(b"\x05\x00\x00\x00\x00")?;
+    let array = twelve(alloc, empty)?;
+    Ok(array.len() == 12 && array.borrow().get("11") == Ok(Some(RawValue::Document(empty))))
+}
+
 #[test]
 fn an_array_has_its_documents_under_their_numbers(rt: HostRuntime) -> Result<(), Fail> {
-    let (first, second) = arrays(rt.alloc())?;
     let bytes = b"\x0D\x00\x00\x00\x030\x00\x05\x00\x00\x00\x00\x00".as_slice();
-    assert!(rt; first.borrow().as_bytes() == bytes && second == first);
-    let empty = RawDocument::from_bytes(b"\x05\x00\x00\x00\x00")?;
-    let mut array = RawArrayBuf::new(rt.alloc())?;
-    for index in 0..12 {
-        let grown = growth(&mut array, empty)?;
-        assert!(rt; array_entry_size_bytes(index, 5) == Ok(grown), "{index}");
-        assert_eq!(rt; grown, if index < 10 { 8 } else { 9 });
-    }
-    assert!(rt; array.len() == 12 && array.borrow().get("11")? == Some(RawValue::Document(empty)));
-    assert!(rt; array_entry_size_bytes(0, usize::MAX - 3) == Ok(usize::MAX));
-    assert!(rt; array_entry_size_bytes(0, usize::MAX - 2) == Err(NumFault::Failed));
-    assert!(rt; array_entry_size_bytes(10, usize::MAX - 3) == Err(NumFault::Failed));
+    assert!(rt; are_arrays(rt.alloc(), bytes)?);
+    assert!(rt; are_numbered(rt.alloc())?);
+    assert!(rt; is_entry_size(0, usize::MAX - 3, Ok(usize::MAX)));
+    assert!(rt; is_entry_size(0, usize::MAX - 2, Err(NumFault::Failed)));
+    assert!(rt; is_entry_size(10, usize::MAX - 3, Err(NumFault::Failed)));
     Ok(())
 }
 
-// Whether a list of one item has a copy that equals it.
-fn is_copied<T: TryClone + PartialEq + Drop>(alloc: Global, item: T) -> Result<bool, BsonFault> {
+// Whether a list of one item, of what was made, has a copy that equals it.
+fn is_copied<T: TryClone + PartialEq + Drop>(
+    alloc: Global,
+    made: Result<T, BsonFault>,
+) -> Result<bool, BsonFault> {
+    let item = made?;
     let mut items = Items::new(alloc);
     items.push(item)?;
     let copy = items.try_clone(alloc)?;
@@ -124,32 +154,53 @@ fn owned_binary(alloc: Global) -> Result<OwnedValue, BsonFault> {
     })
 }
 
-#[test]
-fn what_wants_memory_is_copied(rt: HostRuntime) -> Result<(), Fail> {
-    let alloc = rt.alloc();
-    assert!(rt; joined(alloc)?.as_str() == "ab");
-    assert!(rt; joined_bytes(alloc)?.as_bytes() == b"abc".as_slice());
-    assert!(rt; is_copied(alloc, joined_bytes(alloc)?)?);
-    assert!(rt; is_copied(alloc, owned_binary(alloc)?)?);
-    assert!(rt; is_copied(alloc, one_text(alloc)?)?);
-    assert!(rt; is_copied(alloc, one(alloc)?)?);
-    let (array, _) = arrays(alloc)?;
-    assert!(rt; is_copied(alloc, array)?);
+fn are_copied(alloc: Global) -> Result<bool, BsonFault> {
+    Ok(is_copied(alloc, joined_bytes(alloc))?
+        && is_copied(alloc, owned_binary(alloc))?
+        && is_copied(alloc, one_text(alloc))?
+        && is_copied(alloc, one(alloc))?
+        && is_copied(alloc, array(alloc))?)
+}
+
+fn are_joined(alloc: Global) -> Result<bool, BsonFault> {
+    Ok(joined(alloc)?.as_str() == "ab" && joined_bytes(alloc)?.as_bytes() == b"abc".as_slice())
+}
+
+// The document of `a: 1`, with room for more.
+fn roomy(alloc: Global) -> Result<RawDocumentBuf, BsonFault> {
     let mut document = one(alloc)?;
     document.reserve_exact(1_000)?;
-    assert!(rt; document == one(alloc)?);
-    assert!(rt; document.borrow().to_raw_document_buf(alloc)? == document);
+    Ok(document)
+}
+
+// Whether room changes nothing of a document, and its copy equals it.
+fn is_one(alloc: Global) -> Result<bool, BsonFault> {
+    let document = roomy(alloc)?;
+    let copy = document.borrow().to_raw_document_buf(alloc)?;
+    Ok(document == one(alloc)? && copy == document)
+}
+
+// Whether a text that may be missing has a copy that equals it.
+fn is_text_copied(alloc: Global) -> Result<bool, Fail> {
     let text = Some(Text::from_string(format!(in alloc; "ab")?));
-    assert!(rt; copy_of(alloc, &text)? == Some(joined(alloc)?));
+    Ok(copy_of(alloc, &text)? == Some(joined(alloc)?))
+}
+
+#[test]
+fn what_wants_memory_is_copied(rt: HostRuntime) -> Result<(), Fail> {
+    assert!(rt; are_joined(rt.alloc())?);
+    assert!(rt; are_copied(rt.alloc())?);
+    assert!(rt; is_one(rt.alloc())?);
+    assert!(rt; is_text_copied(rt.alloc())?);
     Ok(())
 }
 
-// What extending the document of `a: 1` by a row's answers, and what it is then.
-fn extended(alloc: Global, row: &str) -> Result<String, Fail> {
-    let other = document_from(alloc, row)?;
+// What extending the document of `a: 1` by these bytes answers, and what it is then.
+fn extended(alloc: Global, bytes: &[u8]) -> Result<String, Fail> {
+    let other = RawDocumentBuf::from_bytes(Bytes::from_slice(alloc, bytes)?)?;
     let mut document = one(alloc)?;
     let answer = extend_raw_document_buf(alloc, &mut document, &other);
-    Ok(format!(in alloc; "{answer:?} {:?}", document.as_bytes())?)
+    answered(alloc, answer, &document)
 }
 
 // Another value under the same key, another key, and an element that breaks off.
@@ -159,15 +210,14 @@ const EXTENDED: &str =
 06 00 00 00 10 00 => Err(Malformed) [12, 0, 0, 0, 16, 97, 0, 1, 0, 0, 0, 0]";
 
 // What is told of a document as an update and as a replacement.
-fn checked(alloc: Global, row: &str) -> Result<String, Fail> {
-    let held = document_from(alloc, row)?;
-    let document = held.borrow();
-    let (update, replacement) = (
-        update_document_check(document),
-        replacement_document_check(document),
-    );
-    let raw = replacement_raw_document_check(document);
-    Ok(format!(in alloc; "{update:?} {replacement:?} {raw:?}")?)
+fn checked(alloc: Global, bytes: &[u8]) -> Result<String, Fail> {
+    let document = RawDocument::from_bytes(bytes)?;
+    printed(
+        alloc,
+        &update_document_check(document),
+        &replacement_document_check(document),
+        &replacement_raw_document_check(document),
+    )
 }
 
 // An empty document, one of the key `a`, and one of the key `$set`.
@@ -177,35 +227,39 @@ const CHECKED: &str = "05 00 00 00 00 => Err(UpdateEmpty) Ok(()) Ok(())
 
 #[test]
 fn documents_are_extended_and_checked(rt: HostRuntime) -> Result<(), Fail> {
-    for row in EXTENDED.lines() {
-        let (spelled, wanted) = row.split_once(" => ").unwrap_or((row, "no arrow"));
-        assert_eq!(rt; extended(rt.alloc(), spelled)?.as_str(), wanted, "{row}");
-    }
-    for row in CHECKED.lines() {
-        let (spelled, wanted) = row.split_once(" => ").unwrap_or((row, "no arrow"));
-        assert_eq!(rt; checked(rt.alloc(), spelled)?.as_str(), wanted, "{row}");
-    }
-    Ok(())
+    each_row_tells(rt.alloc(), EXTENDED, extended)?;
+    each_row_tells(rt.alloc(), CHECKED, checked)
 }
 
-// The id that a document has after one was asked for, as it is printed.
-fn id_of(alloc: Global, document: &mut RawDocumentBuf, id: ObjectId) -> Result<String, Fail> {
+// Whether the id that a document has after one was asked for has these bytes.
+fn has_id(
+    alloc: Global,
+    document: &mut RawDocumentBuf,
+    id: ObjectId,
+    wanted: &[u8],
+) -> Result<bool, BsonFault> {
     let there = get_or_prepend_id_field(alloc, document, id)?;
-    Ok(format!(in alloc; "{} {:?}", there.kind, there.bytes.as_bytes())?)
+    Ok(there.kind == 7 && there.bytes.as_bytes() == wanted)
 }
 
-#[test]
-fn an_id_is_put_first_once(rt: HostRuntime) -> Result<(), Fail> {
-    let alloc = rt.alloc();
+// The document of `a: 1` after two ids were asked for, of which it has the first.
+fn with_id(alloc: Global) -> Result<RawDocumentBuf, Fail> {
     let mut document = one(alloc)?;
     // the second time another id is given
     for first in [0, 9] {
         let id = ObjectId([first, 1, 2, 3, 4, 5, 6, 7, 8, 9, 10, 11]);
-        let there = id_of(alloc, &mut document, id)?;
-        assert_eq!(rt; there.as_str(), "7 [0, 1, 2, 3, 4, 5, 6, 7, 8, 9, 10, 11]");
+        if !has_id(alloc, &mut document, id, b"\0\x01\x02\x03\x04\x05\x06\x07\x08\x09\x0A\x0B")? {
+            return Err(Fail::new("another id"));
+        }
     }
+    Ok(document)
+}
+
+#[test]
+fn an_id_is_put_first_once(rt: HostRuntime) -> Result<(), Fail> {
+    let document = with_id(rt.alloc())?;
     let whole =
         b"\x1D\x00\x00\x00\x07_id\x00\x00\x01\x02\x03\x04\x05\x06\x07\x08\x09\x0A\x0B\x10a\x00\x01\x00\x00\x00\x00";
-    assert_eq!(rt; document.as_bytes(), whole.as_slice());
+    assert!(rt; document.as_bytes() == whole.as_slice());
     Ok(())
 }

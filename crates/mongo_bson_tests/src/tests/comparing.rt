@@ -60,19 +60,26 @@ fn agree_when_changed(alloc: Global, document: &[u8]) -> Result<bool, AllocError
     Ok(true)
 }
 
+// Whether all readers take a document, and agree on it when it is cut and changed.
+fn agree_on(alloc: Global, bytes: &[u8]) -> Result<bool, AllocError> {
+    Ok(is_document(bytes)
+        && is_walked(bytes)
+        && is_readable(bytes)
+        && agree_when_cut(alloc, bytes)?
+        && agree_when_changed(alloc, bytes)?)
+}
+
+fn agree_on_value(alloc: Global, kind: u8, value: &[u8]) -> Result<bool, AllocError> {
+    let document = document_of(alloc, kind, value)?;
+    agree_on(alloc, document.as_slice())
+}
+
 // The fast readers beside the plain one, over a document of each kind.
 #[test]
 fn the_readers_agree_on_each_kind(rt: HostRuntime) -> Result<(), Fail> {
     for kind in 0..=255u8 {
         if let Some(value) = value_of_kind(kind) {
-            let document = document_of(rt.alloc(), kind, value)?;
-            let bytes = document.as_slice();
-            assert!(rt;
-                is_document(bytes) && is_walked(bytes) && is_readable(bytes),
-                "kind {kind}"
-            );
-            assert!(rt; agree_when_cut(rt.alloc(), bytes)?, "kind {kind}");
-            assert!(rt; agree_when_changed(rt.alloc(), bytes)?, "kind {kind}");
+            assert!(rt; agree_on_value(rt.alloc(), kind, value)?, "kind {kind}");
         }
     }
     Ok(())

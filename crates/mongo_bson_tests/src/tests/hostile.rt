@@ -1,6 +1,6 @@
-use super::spelling::{framed, length_field};
+use super::spelling::{framed, length_field, wants};
 use itoa::Buffer;
-use mongo_bson::{BsonFault, RawDocument, RawDocumentBuf, RawValue, first_key};
+use mongo_bson::{RawDocument, RawDocumentBuf, RawValue, first_key};
 use std::alloc::{AllocError, Global};
 use std::test::Fail;
 
@@ -18,16 +18,16 @@ fn numbered(alloc: Global, count: u32) -> Result<RawDocumentBuf, Fail> {
     Ok(document)
 }
 
-// Whether no key stands twice.
-fn are_apart(alloc: Global, document: &RawDocumentBuf) -> Result<bool, BsonFault> {
-    document.borrow().distinct_keys(alloc)
+// Whether no key of it stands twice.
+fn are_apart(alloc: Global, count: u32) -> Result<bool, Fail> {
+    let document = numbered(alloc, count)?;
+    Ok(document.borrow().distinct_keys(alloc)?)
 }
 
 #[test]
 fn many_keys_are_compared_in_time(rt: HostRuntime) -> Result<(), Fail> {
     for (count, apart) in [(0, true), (29_999, true), (30_000, false)] {
-        let document = numbered(rt.alloc(), count)?;
-        assert_eq!(rt; are_apart(rt.alloc(), &document)?, apart, "{count}");
+        assert!(rt; are_apart(rt.alloc(), count)? == apart, "{count}");
     }
     Ok(())
 }
@@ -66,17 +66,18 @@ fn said(alloc: Global, bytes: &[u8]) -> Result<String, Fail> {
     Ok(format!(in alloc; "{readable} {count} {apart:?} {first:?} {value:?}")?)
 }
 
+// What is asked of documents in one another, so many of them.
+fn said_of_levels(alloc: Global, levels: usize) -> Result<String, Fail> {
+    let bytes = deep(alloc, levels, MAXIMUM)?;
+    said(alloc, bytes.as_slice())
+}
+
 #[test]
 fn a_hundred_levels_are_read_and_no_more(rt: HostRuntime) -> Result<(), Fail> {
-    for (levels, readable) in [(100, true), (101, false)] {
-        let bytes = deep(rt.alloc(), levels, MAXIMUM)?;
-        let wanted = format!(in rt.alloc(); "{readable} 1 Ok(true) Ok(Some(\"d\")) Ok(None)")?;
-        assert_eq!(rt;
-            said(rt.alloc(), bytes.as_slice())?.as_str(),
-            wanted.as_str()
-        );
-    }
-    Ok(())
+    let read = "true 1 Ok(true) Ok(Some(\"d\")) Ok(None)";
+    wants(read, said_of_levels(rt.alloc(), 100)?)?;
+    let refused = "false 1 Ok(true) Ok(Some(\"d\")) Ok(None)";
+    wants(refused, said_of_levels(rt.alloc(), 101)?)
 }
 
 // A document of so many nulls under `b`.
@@ -92,8 +93,7 @@ fn nulls(alloc: Global, count: usize) -> Result<Vec<u8>, AllocError> {
 fn small_elements_are_walked_in_time(rt: HostRuntime) -> Result<(), Fail> {
     let bytes = nulls(rt.alloc(), 350_000)?;
     let wanted = "true 350000 Ok(false) Ok(Some(\"b\")) Ok(None)";
-    assert_eq!(rt; said(rt.alloc(), bytes.as_slice())?.as_str(), wanted);
-    Ok(())
+    wants(wanted, said(rt.alloc(), bytes.as_slice())?)
 }
 
 // A document of the greatest length: an element of the key `a`, and zeros.
@@ -115,9 +115,15 @@ fn overwrite(bytes: &mut [u8], kind: u8, length: u32) {
     }
 }
 
+// Fails where an element of this kind and this length is read.
+fn is_lie_refused(alloc: Global, bytes: &mut [u8], kind: u8, length: u32) -> Result<(), Fail> {
+    overwrite(bytes, kind, length);
+    let wanted = "false 1 Err(Malformed) Err(Malformed) Err(Malformed)";
+    wants(wanted, said(alloc, bytes)?)
+}
+
 #[test]
 fn lengths_that_lie_are_refused_in_time(rt: HostRuntime) -> Result<(), Fail> {
-    let wanted = "false 1 Err(Malformed) Err(Malformed) Err(Malformed)";
     let mut bytes = greatest(rt.alloc())?;
     for kind in [0x02, 0x03, 0x04, 0x05, 0x0C, 0x0D, 0x0E, 0x0F] {
         for length in [
@@ -127,9 +133,7 @@ fn lengths_that_lie_are_refused_in_time(rt: HostRuntime) -> Result<(), Fail> {
             0xFFFF_FFFE,
             0x00FF_FFF9,
         ] {
-            overwrite(bytes.as_mut_slice(), kind, length);
-            let told = said(rt.alloc(), bytes.as_slice())?;
-            assert_eq!(rt; told.as_str(), wanted, "{kind} {length}");
+            is_lie_refused(rt.alloc(), bytes.as_mut_slice(), kind, length)?;
         }
     }
     Ok(())

@@ -1,4 +1,4 @@
-use super::spelling::{bytes_of, document_of};
+use super::spelling::{bytes_of, document_of, each_row_tells, printed};
 use mongo_bson::{
     BsonFault, RawDocument, RawDocumentBuf, RawValue, first_key, get_int_raw, get_u64_raw,
     take_cstring,
@@ -43,12 +43,6 @@ const VALUES: &str = r#"01 00 00 00 00 00 00 f0 3f => Double(4607182418800017408
 7f => Other(127, []) None None
 ff => Other(255, []) None None"#;
 
-// What a value means and the whole numbers that it is, as they are printed.
-fn meaning(alloc: Global, value: RawValue<'_>) -> Result<String, Fail> {
-    let (signed, unsigned) = (get_int_raw(value), get_u64_raw(value));
-    Ok(format!(in alloc; "{value:?} {signed:?} {unsigned:?}")?)
-}
-
 // Whether the value alone under `a` in a new document makes this document.
 fn is_written(alloc: Global, value: RawValue<'_>, document: RawDocument<'_>) -> Result<bool, Fail> {
     let mut written = RawDocumentBuf::new(alloc)?;
@@ -56,7 +50,7 @@ fn is_written(alloc: Global, value: RawValue<'_>, document: RawDocument<'_>) -> 
     Ok(written.as_bytes() == document.as_bytes())
 }
 
-// What the only value of a document means, where each way to read it gives it.
+// What the only value of a document means and the whole numbers that it is, where each way to read it gives it.
 fn told_of(
     alloc: Global,
     document: RawDocument<'_>,
@@ -71,7 +65,7 @@ fn told_of(
         && document.get_bytes("a")? == Some((kind, bytes))
         && is_written(alloc, value, document)?
     {
-        meaning(alloc, value)
+        printed(alloc, &value, &get_int_raw(value), &get_u64_raw(value))
     } else {
         Err(Fail::new("read in two ways"))
     }
@@ -88,33 +82,46 @@ fn told(alloc: Global, kind: u8, value: &[u8]) -> Result<String, Fail> {
     )
 }
 
+// Whether these bytes are a document whose value is none.
+fn is_malformed(bytes: &[u8]) -> bool {
+    match RawDocument::from_bytes(bytes) {
+        Ok(document) => {
+            !document.readable() && document.get("a") == Err(BsonFault::Malformed)
+        }
+        Err(_) => false,
+    }
+}
+
 // Whether these bytes are no value of the kind.
 fn is_refused(alloc: Global, kind: u8, value: &[u8]) -> Result<bool, Fail> {
     let bytes = document_of(alloc, kind, value)?;
-    let document = RawDocument::from_bytes(bytes.as_slice())?;
-    Ok(!document.readable() && document.get("a") == Err(BsonFault::Malformed))
+    Ok(is_malformed(bytes.as_slice()))
 }
 
-// Whether the value of a row means what stands behind the arrow, and is refused where it is cut.
-fn is_row_read(alloc: Global, row: &str) -> Result<bool, Fail> {
-    let (spelled, wanted) = row.split_once(" => ").unwrap_or((row, "no arrow"));
-    let bytes = bytes_of(alloc, spelled)?;
-    let [kind, value @ ..] = bytes.as_slice() else {
-        return Ok(false);
+// What the value of a row means, where it is refused when it is cut.
+fn told_uncut(alloc: Global, spelled: &[u8]) -> Result<String, Fail> {
+    let [kind, value @ ..] = spelled else {
+        return Err(Fail::new("no kind"));
     };
     for cut in 0..value.len() {
         if !is_refused(alloc, *kind, &value[..cut])? {
-            return Ok(false);
+            return Err(Fail::new(format_args!("read at {cut}")));
         }
     }
-    Ok(told(alloc, *kind, value)?.as_str() == wanted)
+    told(alloc, *kind, value)
 }
 
-// Texts that aren't UTF-8, with no room for the zero and without it, and a boolean that is 2.
+// Texts that aren't UTF-8, with no room for the zero and without it, a boolean that is 2, and the kinds between those of
+// BSON 1.1.
 const REFUSED: &str = "02 02 00 00 00 ff 00
 02 00 00 00 00
 02 01 00 00 00 62
-08 02";
+08 02
+00
+14
+7e
+80
+fe";
 
 // Whether the value of a row is refused.
 fn is_row_refused(alloc: Global, row: &str) -> Result<bool, Fail> {
@@ -126,15 +133,9 @@ fn is_row_refused(alloc: Global, row: &str) -> Result<bool, Fail> {
 
 #[test]
 fn each_kind_is_read_whole_and_refused_cut(rt: HostRuntime) -> Result<(), Fail> {
-    for row in VALUES.lines() {
-        assert!(rt; is_row_read(rt.alloc(), row)?, "{row}");
-    }
+    each_row_tells(rt.alloc(), VALUES, told_uncut)?;
     for row in REFUSED.lines() {
         assert!(rt; is_row_refused(rt.alloc(), row)?, "{row}");
-    }
-    // The kinds between those of BSON 1.1
-    for kind in [0x00, 0x14, 0x7E, 0x80, 0xFE] {
-        assert!(rt; is_refused(rt.alloc(), kind, b"")?, "{kind}");
     }
     Ok(())
 }
@@ -162,18 +163,9 @@ fn said(alloc: Global, bytes: &[u8]) -> Result<String, Fail> {
     }
 }
 
-// Whether the document of a row says what stands behind the arrow.
-fn is_said(alloc: Global, row: &str) -> Result<bool, Fail> {
-    let (spelled, wanted) = row.split_once(" => ").unwrap_or((row, "no arrow"));
-    let bytes = bytes_of(alloc, spelled)?;
-    Ok(said(alloc, bytes.as_slice())?.as_str() == wanted)
-}
-
 #[test]
 fn a_frame_is_as_long_as_it_says(rt: HostRuntime) -> Result<(), Fail> {
-    for row in FRAMES.lines() {
-        assert!(rt; is_said(rt.alloc(), row)?, "{row}");
-    }
+    each_row_tells(rt.alloc(), FRAMES, said)?;
     assert!(rt; take_cstring(b"\xC3\xA9\0b\0") == Some(("é", b"b\0".as_slice())));
     assert!(rt; take_cstring(b"a\xFF\0").is_none());
     assert!(rt; take_cstring(b"a").is_none());

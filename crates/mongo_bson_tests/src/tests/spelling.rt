@@ -1,4 +1,5 @@
 use std::alloc::{AllocError, Global};
+use std::fmt::Debug;
 use std::test::Fail;
 
 // The bytes that a row has as pairs of hexadecimal digits, apart by blanks.
@@ -8,6 +9,41 @@ pub(crate) fn bytes_of(alloc: Global, row: &str) -> Result<Vec<u8>, Fail> {
         bytes.push(u8::from_str_radix(pair, 16)?)?;
     }
     Ok(bytes)
+}
+
+// Fails where what was told isn't what was wanted, and says both.
+pub(crate) fn wants(wanted: &str, told: String) -> Result<(), Fail> {
+    if told.as_str() == wanted {
+        Ok(())
+    } else {
+        Err(Fail::new(format_args!("{told} in place of {wanted}")))
+    }
+}
+
+// Fails where of the bytes of a row something else is told than what stands behind its arrow.
+pub(crate) fn each_row_tells<F: Fn(Global, &[u8]) -> Result<String, Fail>>(
+    alloc: Global,
+    rows: &str,
+    tell: F,
+) -> Result<(), Fail>
+    requires { F.IsAlwaysCallable tell }
+{
+    for row in rows.lines() {
+        let (spelled, wanted) = row.split_once(" => ").unwrap_or((row, "no arrow"));
+        let bytes = bytes_of(alloc, spelled)?;
+        wants(wanted, tell(alloc, bytes.as_slice())?)?;
+    }
+    Ok(())
+}
+
+// Three values as they are printed, apart by blanks. It is generic, so that no proof of a text holds the values.
+pub(crate) fn printed<A: Debug, B: Debug, C: Debug>(
+    alloc: Global,
+    first: &A,
+    second: &B,
+    third: &C,
+) -> Result<String, Fail> {
+    Ok(format!(in alloc; "{first:?} {second:?} {third:?}")?)
 }
 
 // A length as a document has it, the lowest byte first. The documents of these tests are shorter than 2^32 bytes.
