@@ -4,4 +4,5 @@ mod hostile;
 mod kinds;
 mod plain_reader;
 mod reading;
+mod rows;
 mod spelling;

@@ -1,4 +1,5 @@
-use super::spelling::{each_row_tells, printed, wants};
+use super::rows::{Asked, each_row_tells};
+use super::spelling::{append, printed};
 use mongo_bson::{
     BsonFault, Bytes, Documents, Items, ObjectId, OwnedValue, RawArrayBuf, RawDocument,
     RawDocumentBuf, RawValue, Text, Texts, TryClone, array_entry_size_bytes, copy_of,
@@ -9,14 +10,10 @@ use mongo_num::NumFault;
 use std::alloc::Global;
 use std::test::Fail;
 
-fn append(document: &mut RawDocumentBuf, key: &str) -> Result<(), BsonFault> {
-    document.append(key, RawValue::Int32(1))
-}
-
 // The document of `a: 1`.
 fn one(alloc: Global) -> Result<RawDocumentBuf, BsonFault> {
     let mut document = RawDocumentBuf::new(alloc)?;
-    append(&mut document, "a")?;
+    append(&mut document, "a", RawValue::Int32(1))?;
     Ok(document)
 }
 
@@ -30,29 +27,30 @@ fn answered(
 }
 
 // What appending under a key answers, and what the document of `a: 1` is then.
-fn appended(alloc: Global, key: &str) -> Result<String, Fail> {
+pub(crate) fn appended(alloc: Global, key: &[u8]) -> Result<String, Fail> {
+    let key = str::from_utf8(key)?;
     let mut document = one(alloc)?;
-    let answer = append(&mut document, key);
+    let answer = append(&mut document, key, RawValue::Int32(1));
     answered(alloc, answer, &document)
 }
 
+// The keys `b`, `\0`, `a\0`, `\0a` and `a\0b`.
+const KEYS: &str = "62 => Ok(()) [19, 0, 0, 0, 16, 97, 0, 1, 0, 0, 0, 16, 98, 0, 1, 0, 0, 0, 0]
+00 => Err(KeyHasZero) [12, 0, 0, 0, 16, 97, 0, 1, 0, 0, 0, 0]
+61 00 => Err(KeyHasZero) [12, 0, 0, 0, 16, 97, 0, 1, 0, 0, 0, 0]
+00 61 => Err(KeyHasZero) [12, 0, 0, 0, 16, 97, 0, 1, 0, 0, 0, 0]
+61 00 62 => Err(KeyHasZero) [12, 0, 0, 0, 16, 97, 0, 1, 0, 0, 0, 0]";
+
 #[test]
 fn a_key_holds_no_zero(rt: HostRuntime) -> Result<(), Fail> {
-    wants(
-        "Ok(()) [19, 0, 0, 0, 16, 97, 0, 1, 0, 0, 0, 16, 98, 0, 1, 0, 0, 0, 0]",
-        appended(rt.alloc(), "b")?,
-    )?;
-    let refused = "Err(KeyHasZero) [12, 0, 0, 0, 16, 97, 0, 1, 0, 0, 0, 0]";
-    for key in ["\0", "a\0", "\0a", "a\0b"] {
-        wants(refused, appended(rt.alloc(), key)?)?;
-    }
-    Ok(())
+    each_row_tells(rt.alloc(), Asked::Appending, KEYS)
 }
 
 // One empty document.
 fn one_empty(alloc: Global) -> Result<Documents, BsonFault> {
+    let document = RawDocumentBuf::new(alloc)?;
     let mut documents = Documents::new(alloc);
-    documents.push(RawDocumentBuf::new(alloc)?)?;
+    documents.push(document)?;
     Ok(documents)
 }
 
@@ -62,11 +60,30 @@ fn array(alloc: Global) -> Result<RawArrayBuf, BsonFault> {
     to_raw_bson_array(alloc, &documents)
 }
 
-// Whether both arrays of one empty document, of one that stays and of one that is given away, have these bytes.
-fn are_arrays(alloc: Global, bytes: &[u8]) -> Result<bool, BsonFault> {
-    let first = array(alloc)?;
-    let second = vec_to_raw_array_buf(alloc, one_empty(alloc)?)?;
-    Ok(first.borrow().as_bytes() == bytes && second == first)
+// The array of one empty document, which is given away.
+fn given_array(alloc: Global) -> Result<RawArrayBuf, BsonFault> {
+    vec_to_raw_array_buf(alloc, one_empty(alloc)?)
+}
+
+// Whether two calls made equal values.
+fn are_equal<T: PartialEq + Drop>(
+    first: Result<T, BsonFault>,
+    second: Result<T, BsonFault>,
+) -> bool {
+    first.is_ok() && first == second
+}
+
+// Whether an array was made that has these bytes.
+fn has_bytes(made: Result<RawArrayBuf, BsonFault>, bytes: &[u8]) -> bool {
+    match made {
+        Ok(array) => array.borrow().as_bytes() == bytes,
+        Err(_) => false,
+    }
+}
+
+fn are_arrays(alloc: Global) -> bool {
+    let bytes = b"\x0D\x00\x00\x00\x030\x00\x05\x00\x00\x00\x00\x00".as_slice();
+    has_bytes(array(alloc), bytes) && are_equal(given_array(alloc), array(alloc))
 }
 
 fn push(array: &mut RawArrayBuf, value: RawValue<'_>) -> Result<(), BsonFault> {
@@ -85,46 +102,61 @@ fn is_entry_size(index: usize, doc_len: usize, wanted: Result<usize, NumFault>) 
     array_entry_size_bytes(index, doc_len) == wanted
 }
 
-// An array of twelve empty documents, each of which makes it longer by as much as is told of its number.
-fn twelve(alloc: Global, empty: RawDocument<'_>) -> Result<RawArrayBuf, Fail> {
-    let mut array = RawArrayBuf::new(alloc)?;
+// Whether each of twelve empty documents makes an empty array longer by as much as is told of its number, and the last
+// stands under its number.
+fn are_numbered(array: &mut RawArrayBuf) -> Result<bool, BsonFault> {
+    let empty = RawDocument::from_bytes(b"\x05\x00\x00\x00\x00")?;
     for index in 0..12 {
         let wanted = if index < 10 { 8 } else { 9 };
-        if growth(&mut array, empty)? != wanted || !is_entry_size(index, 5, Ok(wanted)) {
-            return Err(Fail::new(format_args!("not {wanted} bytes for {index}")));
+        if growth(array, empty)? != wanted || !is_entry_size(index, 5, Ok(wanted)) {
+            return Ok(false);
         }
     }
-    Ok(array)
+    Ok(array.len() == 12 && array.borrow().get("11") == Ok(Some(RawValue::Document(empty))))
 }
 
-// Whether the last of twelve empty documents stands under its number.
-fn are_numbered(alloc: Global) -> Result<bool, Fail> {
-    let empty = RawDocument::from_bytes(b"\x05\x00\x00\x00\x00")?;
-    let array = twelve(alloc, empty)?;
-    Ok(array.len() == 12 && array.borrow().get("11") == Ok(Some(RawValue::Document(empty))))
+fn are_twelve_numbered(alloc: Global) -> Result<bool, BsonFault> {
+    let mut array = RawArrayBuf::new(alloc)?;
+    are_numbered(&mut array)
+}
+
+// The greatest length that a number holds, and the ones above it.
+fn are_greatest_sizes() -> bool {
+    is_entry_size(0, usize::MAX - 3, Ok(usize::MAX))
+        && is_entry_size(0, usize::MAX - 2, Err(NumFault::Failed))
+        && is_entry_size(10, usize::MAX - 3, Err(NumFault::Failed))
 }
 
 #[test]
 fn an_array_has_its_documents_under_their_numbers(rt: HostRuntime) -> Result<(), Fail> {
-    let bytes = b"\x0D\x00\x00\x00\x030\x00\x05\x00\x00\x00\x00\x00".as_slice();
-    assert!(rt; are_arrays(rt.alloc(), bytes)?);
-    assert!(rt; are_numbered(rt.alloc())?);
-    assert!(rt; is_entry_size(0, usize::MAX - 3, Ok(usize::MAX)));
-    assert!(rt; is_entry_size(0, usize::MAX - 2, Err(NumFault::Failed)));
-    assert!(rt; is_entry_size(10, usize::MAX - 3, Err(NumFault::Failed)));
+    assert!(rt; are_arrays(rt.alloc()));
+    assert!(rt; are_greatest_sizes());
+    assert!(rt; are_twelve_numbered(rt.alloc())?);
     Ok(())
 }
 
-// Whether a list of one item, of what was made, has a copy that equals it.
-fn is_copied<T: TryClone + PartialEq + Drop>(
-    alloc: Global,
-    made: Result<T, BsonFault>,
-) -> Result<bool, BsonFault> {
+// A list of one item that was made.
+fn list<T: Drop>(alloc: Global, made: Result<T, BsonFault>) -> Result<Items<T>, BsonFault> {
     let item = made?;
     let mut items = Items::new(alloc);
     items.push(item)?;
-    let copy = items.try_clone(alloc)?;
-    Ok(copy == items && copy.len() == 1)
+    Ok(items)
+}
+
+// Whether a list of one item has a copy that equals it.
+fn has_copy<T: TryClone + PartialEq + Drop>(alloc: Global, items: &Items<T>) -> bool {
+    match items.try_clone(alloc) {
+        Ok(copy) => copy == *items && copy.len() == 1,
+        Err(_) => false,
+    }
+}
+
+// Whether what was made can be copied in a list.
+fn is_copied<T: TryClone + PartialEq + Drop>(alloc: Global, made: Result<T, BsonFault>) -> bool {
+    match list(alloc, made) {
+        Ok(items) => has_copy(alloc, &items),
+        Err(_) => false,
+    }
 }
 
 // A text that was put together.
@@ -142,9 +174,7 @@ fn joined_bytes(alloc: Global) -> Result<Bytes, BsonFault> {
 }
 
 fn one_text(alloc: Global) -> Result<Texts, BsonFault> {
-    let mut texts = Texts::new(alloc);
-    texts.push(joined(alloc)?)?;
-    Ok(texts)
+    list(alloc, joined(alloc))
 }
 
 fn owned_binary(alloc: Global) -> Result<OwnedValue, BsonFault> {
@@ -154,16 +184,26 @@ fn owned_binary(alloc: Global) -> Result<OwnedValue, BsonFault> {
     })
 }
 
-fn are_copied(alloc: Global) -> Result<bool, BsonFault> {
-    Ok(is_copied(alloc, joined_bytes(alloc))?
-        && is_copied(alloc, owned_binary(alloc))?
-        && is_copied(alloc, one_text(alloc))?
-        && is_copied(alloc, one(alloc))?
-        && is_copied(alloc, array(alloc))?)
+fn are_items_copied(alloc: Global) -> bool {
+    is_copied(alloc, joined_bytes(alloc))
+        && is_copied(alloc, owned_binary(alloc))
+        && is_copied(alloc, one_text(alloc))
+        && is_copied(alloc, one(alloc))
+        && is_copied(alloc, array(alloc))
 }
 
-fn are_joined(alloc: Global) -> Result<bool, BsonFault> {
-    Ok(joined(alloc)?.as_str() == "ab" && joined_bytes(alloc)?.as_bytes() == b"abc".as_slice())
+fn is_text_joined(alloc: Global) -> bool {
+    match joined(alloc) {
+        Ok(text) => text.as_str() == "ab",
+        Err(_) => false,
+    }
+}
+
+fn are_bytes_joined(alloc: Global) -> bool {
+    match joined_bytes(alloc) {
+        Ok(bytes) => bytes.as_bytes() == b"abc".as_slice(),
+        Err(_) => false,
+    }
 }
 
 // The document of `a: 1`, with room for more.
@@ -173,30 +213,40 @@ fn roomy(alloc: Global) -> Result<RawDocumentBuf, BsonFault> {
     Ok(document)
 }
 
-// Whether room changes nothing of a document, and its copy equals it.
-fn is_one(alloc: Global) -> Result<bool, BsonFault> {
+fn copied_roomy(alloc: Global) -> Result<RawDocumentBuf, BsonFault> {
     let document = roomy(alloc)?;
-    let copy = document.borrow().to_raw_document_buf(alloc)?;
-    Ok(document == one(alloc)? && copy == document)
+    document.borrow().to_raw_document_buf(alloc)
 }
 
-// Whether a text that may be missing has a copy that equals it.
-fn is_text_copied(alloc: Global) -> Result<bool, Fail> {
-    let text = Some(Text::from_string(format!(in alloc; "ab")?));
-    Ok(copy_of(alloc, &text)? == Some(joined(alloc)?))
+fn are_documents_copied(alloc: Global) -> bool {
+    are_equal(roomy(alloc), one(alloc)) && are_equal(copied_roomy(alloc), roomy(alloc))
+}
+
+// The same text as the joined one, written whole.
+fn written(alloc: Global) -> Result<Text, BsonFault> {
+    Ok(Text::from_string(format!(in alloc; "ab")?))
+}
+
+// The copy of a text that may be missing.
+fn copied_text(alloc: Global) -> Result<Option<Text>, BsonFault> {
+    let text = Some(written(alloc)?);
+    copy_of(alloc, &text)
+}
+
+fn joined_text(alloc: Global) -> Result<Option<Text>, BsonFault> {
+    Ok(Some(joined(alloc)?))
 }
 
 #[test]
-fn what_wants_memory_is_copied(rt: HostRuntime) -> Result<(), Fail> {
-    assert!(rt; are_joined(rt.alloc())?);
-    assert!(rt; are_copied(rt.alloc())?);
-    assert!(rt; is_one(rt.alloc())?);
-    assert!(rt; is_text_copied(rt.alloc())?);
-    Ok(())
+fn what_wants_memory_is_copied(rt: HostRuntime) {
+    let alloc = rt.alloc();
+    assert!(rt; is_text_joined(alloc) && are_bytes_joined(alloc));
+    assert!(rt; are_items_copied(alloc) && are_documents_copied(alloc));
+    assert!(rt; are_equal(copied_text(alloc), joined_text(alloc)));
 }
 
 // What extending the document of `a: 1` by these bytes answers, and what it is then.
-fn extended(alloc: Global, bytes: &[u8]) -> Result<String, Fail> {
+pub(crate) fn extended(alloc: Global, bytes: &[u8]) -> Result<String, Fail> {
     let other = RawDocumentBuf::from_bytes(Bytes::from_slice(alloc, bytes)?)?;
     let mut document = one(alloc)?;
     let answer = extend_raw_document_buf(alloc, &mut document, &other);
@@ -210,7 +260,7 @@ const EXTENDED: &str =
 06 00 00 00 10 00 => Err(Malformed) [12, 0, 0, 0, 16, 97, 0, 1, 0, 0, 0, 0]";
 
 // What is told of a document as an update and as a replacement.
-fn checked(alloc: Global, bytes: &[u8]) -> Result<String, Fail> {
+pub(crate) fn checked(alloc: Global, bytes: &[u8]) -> Result<String, Fail> {
     let document = RawDocument::from_bytes(bytes)?;
     printed(
         alloc,
@@ -227,39 +277,32 @@ const CHECKED: &str = "05 00 00 00 00 => Err(UpdateEmpty) Ok(()) Ok(())
 
 #[test]
 fn documents_are_extended_and_checked(rt: HostRuntime) -> Result<(), Fail> {
-    each_row_tells(rt.alloc(), EXTENDED, extended)?;
-    each_row_tells(rt.alloc(), CHECKED, checked)
+    each_row_tells(rt.alloc(), Asked::Extending, EXTENDED)?;
+    each_row_tells(rt.alloc(), Asked::Checks, CHECKED)
 }
 
-// Whether the id that a document has after one was asked for has these bytes.
-fn has_id(
-    alloc: Global,
-    document: &mut RawDocumentBuf,
-    id: ObjectId,
-    wanted: &[u8],
-) -> Result<bool, BsonFault> {
+// Whether a document has the id `0, 1, 2 ..` after one that begins with this number was asked for.
+fn has_id(alloc: Global, document: &mut RawDocumentBuf, first: u8) -> Result<bool, BsonFault> {
+    let id = ObjectId([first, 1, 2, 3, 4, 5, 6, 7, 8, 9, 10, 11]);
     let there = get_or_prepend_id_field(alloc, document, id)?;
+    let wanted = b"\x00\x01\x02\x03\x04\x05\x06\x07\x08\x09\x0A\x0B".as_slice();
     Ok(there.kind == 7 && there.bytes.as_bytes() == wanted)
 }
 
-// The document of `a: 1` after two ids were asked for, of which it has the first.
-fn with_id(alloc: Global) -> Result<RawDocumentBuf, Fail> {
+// Whether the document of `a: 1` keeps the first of two ids, and is this then.
+fn keeps_first_id(alloc: Global, whole: &[u8]) -> Result<bool, BsonFault> {
     let mut document = one(alloc)?;
-    // the second time another id is given
-    for first in [0, 9] {
-        let id = ObjectId([first, 1, 2, 3, 4, 5, 6, 7, 8, 9, 10, 11]);
-        if !has_id(alloc, &mut document, id, b"\0\x01\x02\x03\x04\x05\x06\x07\x08\x09\x0A\x0B")? {
-            return Err(Fail::new("another id"));
-        }
-    }
-    Ok(document)
+    let (first, second) = (
+        has_id(alloc, &mut document, 0)?,
+        has_id(alloc, &mut document, 9)?,
+    );
+    Ok(first && second && document.as_bytes() == whole)
 }
 
 #[test]
 fn an_id_is_put_first_once(rt: HostRuntime) -> Result<(), Fail> {
-    let document = with_id(rt.alloc())?;
     let whole =
         b"\x1D\x00\x00\x00\x07_id\x00\x00\x01\x02\x03\x04\x05\x06\x07\x08\x09\x0A\x0B\x10a\x00\x01\x00\x00\x00\x00";
-    assert!(rt; document.as_bytes() == whole.as_slice());
+    assert!(rt; keeps_first_id(rt.alloc(), whole)?);
     Ok(())
 }

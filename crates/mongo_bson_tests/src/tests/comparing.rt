@@ -62,11 +62,13 @@ fn agree_when_changed(alloc: Global, document: &[u8]) -> Result<bool, AllocError
 
 // Whether all readers take a document, and agree on it when it is cut and changed.
 fn agree_on(alloc: Global, bytes: &[u8]) -> Result<bool, AllocError> {
-    Ok(is_document(bytes)
-        && is_walked(bytes)
-        && is_readable(bytes)
-        && agree_when_cut(alloc, bytes)?
-        && agree_when_changed(alloc, bytes)?)
+    Ok(
+        is_document(bytes)
+            && is_walked(bytes)
+            && is_readable(bytes)
+            && agree_when_cut(alloc, bytes)?
+            && agree_when_changed(alloc, bytes)?,
+    )
 }
 
 fn agree_on_value(alloc: Global, kind: u8, value: &[u8]) -> Result<bool, AllocError> {

@@ -1,14 +1,16 @@
-use super::spelling::{bytes_of, document_of, each_row_tells, printed};
+use super::rows::{Asked, each_row_tells};
+use super::spelling::{append, document_of, printed};
 use mongo_bson::{
     BsonFault, RawDocument, RawDocumentBuf, RawValue, first_key, get_int_raw, get_u64_raw,
     take_cstring,
 };
-use std::alloc::Global;
+use std::alloc::{AllocError, Global};
 use std::test::Fail;
 
 // A row for each kind of BSON 1.1, as its grammar spells it, and more for numbers: the kind byte, the value's bytes, what they
 // mean, and the whole number that they are, with a sign and without. The doubles are 1.0, -2.0, 0.5, 2^63, 2^64 and an
-// infinity.
+// infinity. The last are texts that aren't UTF-8, with no room for the zero and without it, a boolean that is 2, and the kinds
+// between those of BSON 1.1.
 const VALUES: &str = r#"01 00 00 00 00 00 00 f0 3f => Double(4607182418800017408) Some(1) Some(1)
 01 00 00 00 00 00 00 00 c0 => Double(13835058055282163712) Some(-2) None
 01 00 00 00 00 00 00 e0 3f => Double(4602678819172646912) None None
@@ -41,65 +43,76 @@ const VALUES: &str = r#"01 00 00 00 00 00 00 f0 3f => Double(4607182418800017408
 12 ff ff ff ff ff ff ff 7f => Int64(9223372036854775807) Some(9223372036854775807) Some(9223372036854775807)
 13 01 00 00 00 00 00 00 00 00 00 00 00 00 00 40 30 => Other(19, [1, 0, 0, 0, 0, 0, 0, 0, 0, 0, 0, 0, 0, 0, 64, 48]) None None
 7f => Other(127, []) None None
-ff => Other(255, []) None None"#;
+ff => Other(255, []) None None
+02 02 00 00 00 ff 00 => refused
+02 00 00 00 00 => refused
+02 01 00 00 00 62 => refused
+08 02 => refused
+00 => refused
+14 => refused
+7e => refused
+80 => refused
+fe => refused"#;
+
+// What a value means and the whole numbers that it is, as they are printed.
+fn meaning(alloc: Global, value: RawValue<'_>) -> Result<String, Fail> {
+    printed(alloc, &value, &get_int_raw(value), &get_u64_raw(value))
+}
 
 // Whether the value alone under `a` in a new document makes this document.
-fn is_written(alloc: Global, value: RawValue<'_>, document: RawDocument<'_>) -> Result<bool, Fail> {
+fn is_written(
+    alloc: Global,
+    value: RawValue<'_>,
+    document: RawDocument<'_>,
+) -> Result<bool, BsonFault> {
     let mut written = RawDocumentBuf::new(alloc)?;
-    written.append("a", value)?;
+    append(&mut written, "a", value)?;
     Ok(written.as_bytes() == document.as_bytes())
 }
 
-// What the only value of a document means and the whole numbers that it is, where each way to read it gives it.
-fn told_of(
-    alloc: Global,
-    document: RawDocument<'_>,
-    kind: u8,
-    bytes: &[u8],
-) -> Result<String, Fail> {
-    let Some(value) = document.get("a")? else {
-        return Err(Fail::new("no value"));
-    };
-    if document.readable()
+// Whether a document is readable, and these bytes are its only value.
+fn is_alone(document: RawDocument<'_>, kind: u8, bytes: &[u8]) -> bool {
+    document.readable()
         && document.iter().count() == 1
-        && document.get_bytes("a")? == Some((kind, bytes))
-        && is_written(alloc, value, document)?
-    {
-        printed(alloc, &value, &get_int_raw(value), &get_u64_raw(value))
-    } else {
-        Err(Fail::new("read in two ways"))
-    }
+        && document.get_bytes("a") == Ok(Some((kind, bytes)))
 }
 
-// The same of a value of this kind.
-fn told(alloc: Global, kind: u8, value: &[u8]) -> Result<String, Fail> {
-    let bytes = document_of(alloc, kind, value)?;
-    told_of(
-        alloc,
-        RawDocument::from_bytes(bytes.as_slice())?,
-        kind,
-        value,
-    )
+// What the only value of a document means, where each way to read it gives it.
+fn told_of(alloc: Global, bytes: &[u8], kind: u8, value: &[u8]) -> Result<String, Fail> {
+    let document = RawDocument::from_bytes(bytes)?;
+    match document.get("a") {
+        Ok(Some(found)) if is_alone(document, kind, value) && is_written(alloc, found, document)? =>
+            { meaning(alloc, found) }
+        _ => Err(Fail::new("read in two ways")),
+    }
 }
 
 // Whether these bytes are a document whose value is none.
 fn is_malformed(bytes: &[u8]) -> bool {
     match RawDocument::from_bytes(bytes) {
-        Ok(document) => {
-            !document.readable() && document.get("a") == Err(BsonFault::Malformed)
-        }
+        Ok(document) => !document.readable() && document.get("a") == Err(BsonFault::Malformed),
         Err(_) => false,
     }
 }
 
+// What a value of this kind means, or that it is refused.
+fn told(alloc: Global, kind: u8, value: &[u8]) -> Result<String, Fail> {
+    let bytes = document_of(alloc, kind, value)?;
+    if is_malformed(bytes.as_slice()) {
+        Ok(String::from_str(alloc, "refused")?)
+    } else {
+        told_of(alloc, bytes.as_slice(), kind, value)
+    }
+}
+
 // Whether these bytes are no value of the kind.
-fn is_refused(alloc: Global, kind: u8, value: &[u8]) -> Result<bool, Fail> {
+fn is_refused(alloc: Global, kind: u8, value: &[u8]) -> Result<bool, AllocError> {
     let bytes = document_of(alloc, kind, value)?;
     Ok(is_malformed(bytes.as_slice()))
 }
 
 // What the value of a row means, where it is refused when it is cut.
-fn told_uncut(alloc: Global, spelled: &[u8]) -> Result<String, Fail> {
+pub(crate) fn told_uncut(alloc: Global, spelled: &[u8]) -> Result<String, Fail> {
     let [kind, value @ ..] = spelled else {
         return Err(Fail::new("no kind"));
     };
@@ -111,63 +124,41 @@ fn told_uncut(alloc: Global, spelled: &[u8]) -> Result<String, Fail> {
     told(alloc, *kind, value)
 }
 
-// Texts that aren't UTF-8, with no room for the zero and without it, a boolean that is 2, and the kinds between those of
-// BSON 1.1.
-const REFUSED: &str = "02 02 00 00 00 ff 00
-02 00 00 00 00
-02 01 00 00 00 62
-08 02
-00
-14
-7e
-80
-fe";
-
-// Whether the value of a row is refused.
-fn is_row_refused(alloc: Global, row: &str) -> Result<bool, Fail> {
-    match bytes_of(alloc, row)?.as_slice() {
-        [kind, value @ ..] => is_refused(alloc, *kind, value),
-        [] => Ok(false),
-    }
-}
-
 #[test]
 fn each_kind_is_read_whole_and_refused_cut(rt: HostRuntime) -> Result<(), Fail> {
-    each_row_tells(rt.alloc(), VALUES, told_uncut)?;
-    for row in REFUSED.lines() {
-        assert!(rt; is_row_refused(rt.alloc(), row)?, "{row}");
-    }
-    Ok(())
+    each_row_tells(rt.alloc(), Asked::Meaning, VALUES)
 }
 
 // Frames with a length below 5, without the zero, of another length and of a negative one; an empty document; and keys
-// that are UTF-8 and not. Of a document its first key, and what stands under a letter with an accent.
-const FRAMES: &str = r#" => Malformed
-04 00 00 00 => Malformed
-05 00 00 00 01 => Malformed
-04 00 00 00 00 => Malformed
-06 00 00 00 00 => Malformed
-05 00 00 80 00 => Malformed
-05 00 00 00 00 => Ok(None) Ok(None)
-09 00 00 00 0a c3 a9 00 00 => Ok(Some("é")) Ok(Some(Null))
-08 00 00 00 0a ff 00 00 => Err(Malformed) Err(Malformed)"#;
+// that are UTF-8 and not. Whether a document has its frame, its first key, and what stands under a letter with an accent.
+const FRAMES: &str = r#" => false Err(Malformed) Err(Malformed)
+04 00 00 00 => false Err(Malformed) Err(Malformed)
+05 00 00 00 01 => false Err(Malformed) Err(Malformed)
+04 00 00 00 00 => false Err(Malformed) Err(Malformed)
+06 00 00 00 00 => false Err(Malformed) Err(Malformed)
+05 00 00 80 00 => false Err(Malformed) Err(Malformed)
+05 00 00 00 00 => true Ok(None) Ok(None)
+09 00 00 00 0a c3 a9 00 00 => true Ok(Some("é")) Ok(Some(Null))
+08 00 00 00 0a ff 00 00 => true Err(Malformed) Err(Malformed)"#;
 
-// What a document says, as it is printed.
-fn said(alloc: Global, bytes: &[u8]) -> Result<String, Fail> {
-    match RawDocument::from_bytes(bytes) {
-        Ok(document) => {
-            let (first, value) = (first_key(document), document.get("é"));
-            Ok(format!(in alloc; "{first:?} {value:?}")?)
-        }
-        Err(fault) => Ok(format!(in alloc; "{fault:?}")?),
-    }
+// What is asked of bytes as a document, as it is printed.
+pub(crate) fn said(alloc: Global, bytes: &[u8]) -> Result<String, Fail> {
+    let frame = RawDocument::from_bytes(bytes);
+    let (first, value) = match frame {
+        Ok(document) => (first_key(document), document.get("é")),
+        Err(fault) => (Err(fault), Err(fault)),
+    };
+    printed(alloc, &frame.is_ok(), &first, &value)
+}
+
+fn are_keys_taken() -> bool {
+    take_cstring(b"\xC3\xA9\0b\0") == Some(("é", b"b\0".as_slice()))
+        && take_cstring(b"a\xFF\0").is_none()
+        && take_cstring(b"a").is_none()
 }
 
 #[test]
 fn a_frame_is_as_long_as_it_says(rt: HostRuntime) -> Result<(), Fail> {
-    each_row_tells(rt.alloc(), FRAMES, said)?;
-    assert!(rt; take_cstring(b"\xC3\xA9\0b\0") == Some(("é", b"b\0".as_slice())));
-    assert!(rt; take_cstring(b"a\xFF\0").is_none());
-    assert!(rt; take_cstring(b"a").is_none());
-    Ok(())
+    assert!(rt; are_keys_taken());
+    each_row_tells(rt.alloc(), Asked::Frame, FRAMES)
 }

@@ -1,3 +1,4 @@
+use mongo_bson::{BsonFault, RawDocumentBuf, RawValue};
 use std::alloc::{AllocError, Global};
 use std::fmt::Debug;
 use std::test::Fail;
@@ -20,22 +21,6 @@ pub(crate) fn wants(wanted: &str, told: String) -> Result<(), Fail> {
     }
 }
 
-// Fails where of the bytes of a row something else is told than what stands behind its arrow.
-pub(crate) fn each_row_tells<F: Fn(Global, &[u8]) -> Result<String, Fail>>(
-    alloc: Global,
-    rows: &str,
-    tell: F,
-) -> Result<(), Fail>
-    requires { F.IsAlwaysCallable tell }
-{
-    for row in rows.lines() {
-        let (spelled, wanted) = row.split_once(" => ").unwrap_or((row, "no arrow"));
-        let bytes = bytes_of(alloc, spelled)?;
-        wants(wanted, tell(alloc, bytes.as_slice())?)?;
-    }
-    Ok(())
-}
-
 // Three values as they are printed, apart by blanks. It is generic, so that no proof of a text holds the values.
 pub(crate) fn printed<A: Debug, B: Debug, C: Debug>(
     alloc: Global,
@@ -46,6 +31,15 @@ pub(crate) fn printed<A: Debug, B: Debug, C: Debug>(
     Ok(format!(in alloc; "{first:?} {second:?} {third:?}")?)
 }
 
+// The one call of `append`, so that its contract is cited here alone.
+pub(crate) fn append(
+    document: &mut RawDocumentBuf,
+    key: &str,
+    value: RawValue<'_>,
+) -> Result<(), BsonFault> {
+    document.append(key, value)
+}
+
 // A length as a document has it, the lowest byte first. The documents of these tests are shorter than 2^32 bytes.
 pub(crate) fn length_field(length: usize) -> [u8; 4] {
     u32::try_from(length).unwrap_or(0).to_le_bytes()
@@ -53,8 +47,7 @@ pub(crate) fn length_field(length: usize) -> [u8; 4] {
 
 // The bytes with the frame of a document around them.
 pub(crate) fn framed(alloc: Global, body: &[u8]) -> Result<Vec<u8>, AllocError> {
-    let mut bytes = Vec::new(alloc);
-    bytes.extend_from_slice(&length_field(body.len().saturating_add(5)))?;
+    let mut bytes = Vec::from_slice(alloc, &length_field(body.len().saturating_add(5)))?;
     bytes.extend_from_slice(body)?;
     bytes.push(0)?;
     Ok(bytes)
@@ -62,8 +55,7 @@ pub(crate) fn framed(alloc: Global, body: &[u8]) -> Result<Vec<u8>, AllocError> 
 
 // The document of one element: a kind byte, the key `a`, and the value's bytes.
 pub(crate) fn document_of(alloc: Global, kind: u8, value: &[u8]) -> Result<Vec<u8>, AllocError> {
-    let mut body = Vec::new(alloc);
-    body.extend_from_slice(&[kind, 0x61, 0])?;
+    let mut body = Vec::from_slice(alloc, &[kind, 0x61, 0])?;
     body.extend_from_slice(value)?;
     framed(alloc, body.as_slice())
 }
