@@ -1,7 +1,6 @@
 mod building;
 mod comparing;
 mod hostile;
-mod kinds;
 mod plain_reader;
 mod reading;
 mod rows;

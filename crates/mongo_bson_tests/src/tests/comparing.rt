@@ -1,5 +1,5 @@
-use super::kinds::value_of_kind;
 use super::plain_reader::is_document;
+use super::rows::{Asked, each_row_tells};
 use super::spelling::{document_of, framed};
 use mongo_bson::RawDocument;
 use std::alloc::{AllocError, Global};
@@ -76,13 +76,44 @@ fn agree_on_value(alloc: Global, kind: u8, value: &[u8]) -> Result<bool, AllocEr
     agree_on(alloc, document.as_slice())
 }
 
+// That the readers agree on the value of a row, or that they don't.
+pub(crate) fn agreement(alloc: Global, spelled: &[u8]) -> Result<String, Fail> {
+    let [kind, value @ ..] = spelled else {
+        return Err(Fail::new("no kind"));
+    };
+    let told = if agree_on_value(alloc, *kind, value)? {
+        "agree"
+    } else {
+        "do not agree"
+    };
+    Ok(String::from_str(alloc, told)?)
+}
+
+// A row for each kind of BSON 1.1, as its grammar spells it: the kind byte and the value's bytes.
+const KINDS: &str = "01 00 00 00 00 00 00 f0 3f => agree
+02 02 00 00 00 62 00 => agree
+03 05 00 00 00 00 => agree
+04 05 00 00 00 00 => agree
+05 02 00 00 00 80 78 79 => agree
+06 => agree
+07 00 01 02 03 04 05 06 07 08 09 0a 0b => agree
+08 01 => agree
+09 ff ff ff ff ff ff ff ff => agree
+0a => agree
+0b 70 00 69 00 => agree
+0c 02 00 00 00 62 00 00 01 02 03 04 05 06 07 08 09 0a 0b => agree
+0d 02 00 00 00 62 00 => agree
+0e 02 00 00 00 62 00 => agree
+0f 0f 00 00 00 02 00 00 00 62 00 05 00 00 00 00 => agree
+10 fe ff ff ff => agree
+11 01 00 00 00 00 00 00 00 => agree
+12 01 00 00 00 00 00 00 00 => agree
+13 01 00 00 00 00 00 00 00 00 00 00 00 00 00 40 30 => agree
+7f => agree
+ff => agree";
+
 // The fast readers beside the plain one, over a document of each kind.
 #[test]
 fn the_readers_agree_on_each_kind(rt: HostRuntime) -> Result<(), Fail> {
-    for kind in 0..=255u8 {
-        if let Some(value) = value_of_kind(kind) {
-            assert!(rt; agree_on_value(rt.alloc(), kind, value)?, "kind {kind}");
-        }
-    }
-    Ok(())
+    each_row_tells(rt.alloc(), Asked::Agreement, KINDS)
 }

@@ -25,10 +25,10 @@ fn are_apart(alloc: Global, count: u32) -> Result<bool, BsonFault> {
 }
 
 #[test]
-fn many_keys_are_compared_in_time(rt: HostRuntime) -> Result<(), Fail> {
-    assert!(rt; are_apart(rt.alloc(), 0)? && are_apart(rt.alloc(), 29_999)?);
-    assert!(rt; !are_apart(rt.alloc(), 30_000)?);
-    Ok(())
+fn many_keys_are_compared_in_time(rt: HostRuntime) {
+    let alloc = rt.alloc();
+    assert!(rt; are_apart(alloc, 0) == Ok(true) && are_apart(alloc, 29_999) == Ok(true));
+    assert!(rt; are_apart(alloc, 30_000) == Ok(false));
 }
 
 // The front of a document with so many inside one another, the innermost of which is so long.
@@ -41,17 +41,22 @@ fn write_levels(bytes: &mut Vec<u8>, levels: usize, innermost: usize) -> Result<
     Ok(())
 }
 
-// Documents in one another, the innermost of which has a binary of so many bytes. They are written from the outside
-// in, so that no byte is written twice.
-fn deep(alloc: Global, levels: usize, content: usize) -> Result<Vec<u8>, AllocError> {
-    let mut bytes = Vec::new(alloc);
-    write_levels(&mut bytes, levels, content.saturating_add(13))?;
+// The innermost document, of a binary of so many bytes, and the ends of all levels.
+fn write_innermost(bytes: &mut Vec<u8>, levels: usize, content: usize) -> Result<(), AllocError> {
     bytes.extend_from_slice(&length_field(content.saturating_add(13)))?;
     bytes.extend_from_slice(b"\x05b\0")?;
     bytes.extend_from_slice(&length_field(content))?;
     let end = bytes.len().saturating_add(content).saturating_add(1);
     bytes.resize(end, 0x80)?;
-    bytes.resize(end.saturating_add(levels), 0)?;
+    bytes.resize(end.saturating_add(levels), 0)
+}
+
+// Documents in one another, the innermost of which has a binary of so many bytes. They are written from the outside
+// in, so that no byte is written twice.
+fn deep(alloc: Global, levels: usize, content: usize) -> Result<Vec<u8>, AllocError> {
+    let mut bytes = Vec::new(alloc);
+    write_levels(&mut bytes, levels, content.saturating_add(13))?;
+    write_innermost(&mut bytes, levels, content)?;
     Ok(bytes)
 }
 

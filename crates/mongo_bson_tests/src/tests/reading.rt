@@ -1,8 +1,7 @@
 use super::rows::{Asked, each_row_tells};
-use super::spelling::{append, document_of, printed};
+use super::spelling::{document_of, holding, printed};
 use mongo_bson::{
-    BsonFault, RawDocument, RawDocumentBuf, RawValue, first_key, get_int_raw, get_u64_raw,
-    take_cstring,
+    BsonFault, RawDocument, RawValue, first_key, get_int_raw, get_u64_raw, take_cstring,
 };
 use std::alloc::{AllocError, Global};
 use std::test::Fail;
@@ -65,8 +64,7 @@ fn is_written(
     value: RawValue<'_>,
     document: RawDocument<'_>,
 ) -> Result<bool, BsonFault> {
-    let mut written = RawDocumentBuf::new(alloc)?;
-    append(&mut written, "a", value)?;
+    let written = holding(alloc, value)?;
     Ok(written.as_bytes() == document.as_bytes())
 }
 
@@ -118,7 +116,7 @@ pub(crate) fn told_uncut(alloc: Global, spelled: &[u8]) -> Result<String, Fail> 
     };
     for cut in 0..value.len() {
         if !is_refused(alloc, *kind, &value[..cut])? {
-            return Err(Fail::new(format_args!("read at {cut}")));
+            return Err(Fail::new("read when it is cut"));
         }
     }
     told(alloc, *kind, value)

@@ -1,4 +1,5 @@
 use super::building::{appended, checked, extended};
+use super::comparing::agreement;
 use super::reading::{said, told_uncut};
 use super::spelling::{bytes_of, wants};
 use std::alloc::Global;
@@ -12,6 +13,7 @@ pub(crate) enum Asked {
     Appending,
     Extending,
     Checks,
+    Agreement,
 }
 
 fn told(alloc: Global, asked: Asked, bytes: &[u8]) -> Result<String, Fail> {
@@ -21,6 +23,7 @@ fn told(alloc: Global, asked: Asked, bytes: &[u8]) -> Result<String, Fail> {
         Asked::Appending => appended(alloc, bytes),
         Asked::Extending => extended(alloc, bytes),
         Asked::Checks => checked(alloc, bytes),
+        Asked::Agreement => agreement(alloc, bytes),
     }
 }
 

@@ -40,6 +40,13 @@ pub(crate) fn append(
     document.append(key, value)
 }
 
+// The document of this value under `a`.
+pub(crate) fn holding(alloc: Global, value: RawValue<'_>) -> Result<RawDocumentBuf, BsonFault> {
+    let mut document = RawDocumentBuf::new(alloc)?;
+    append(&mut document, "a", value)?;
+    Ok(document)
+}
+
 // A length as a document has it, the lowest byte first. The documents of these tests are shorter than 2^32 bytes.
 pub(crate) fn length_field(length: usize) -> [u8; 4] {
     u32::try_from(length).unwrap_or(0).to_le_bytes()
