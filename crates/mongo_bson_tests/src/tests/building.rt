@@ -109,7 +109,10 @@ fn is_longer(
 
 // Whether an array has twelve documents, the last under its number.
 fn are_twelve(array: &RawArrayBuf, empty: RawDocument<'_>) -> bool {
-    array.len() == 12 && array.borrow().get("11") == Ok(Some(RawValue::Document(empty)))
+    match array.borrow().get("11") {
+        Ok(Some(RawValue::Document(last))) => array.len() == 12 && last == empty,
+        _ => false,
+    }
 }
 
 // Whether twelve empty documents come into an empty array as they should.

@@ -1,4 +1,4 @@
-use super::spelling::{append, framed, length_field, wants};
+use super::spelling::{append, framed, length_field, printed, wants};
 use itoa::Buffer;
 use mongo_bson::{BsonFault, RawDocument, RawDocumentBuf, RawValue, first_key};
 use std::alloc::{AllocError, Global};
@@ -64,22 +64,29 @@ fn deep(alloc: Global, levels: usize, content: usize) -> Result<Vec<u8>, AllocEr
 // apart, its first key, and what it has under `a`.
 fn said(alloc: Global, bytes: &[u8]) -> Result<String, Fail> {
     let document = RawDocument::from_bytes(bytes)?;
-    let (readable, count) = (document.readable(), document.iter().count());
-    let (apart, first) = (document.distinct_keys(alloc), first_key(document));
-    let value = document.get("a");
-    Ok(format!(in alloc; "{readable} {count} {apart:?} {first:?} {value:?}")?)
+    let counted = (document.readable(), document.iter().count());
+    let found = (first_key(document), document.get("a"));
+    printed(alloc, &counted, &document.distinct_keys(alloc), &found)
 }
 
 // Fails where of documents in one another, so many of them, something else is said.
 fn levels_say(alloc: Global, levels: usize, wanted: &str) -> Result<(), Fail> {
     let bytes = deep(alloc, levels, MAXIMUM)?;
-    wants(wanted, said(alloc, bytes.as_slice())?)
+    wants(levels, wanted, said(alloc, bytes.as_slice())?)
 }
 
 #[test]
 fn a_hundred_levels_are_read_and_no_more(rt: HostRuntime) -> Result<(), Fail> {
-    levels_say(rt.alloc(), 100, "true 1 Ok(true) Ok(Some(\"d\")) Ok(None)")?;
-    levels_say(rt.alloc(), 101, "false 1 Ok(true) Ok(Some(\"d\")) Ok(None)")
+    levels_say(
+        rt.alloc(),
+        100,
+        "(true, 1) Ok(true) (Ok(Some(\"d\")), Ok(None))",
+    )?;
+    levels_say(
+        rt.alloc(),
+        101,
+        "(false, 1) Ok(true) (Ok(Some(\"d\")), Ok(None))",
+    )
 }
 
 // A document of so many nulls under `b`.
@@ -94,14 +101,13 @@ fn nulls(alloc: Global, count: usize) -> Result<Vec<u8>, AllocError> {
 #[test]
 fn small_elements_are_walked_in_time(rt: HostRuntime) -> Result<(), Fail> {
     let bytes = nulls(rt.alloc(), 350_000)?;
-    let wanted = "true 350000 Ok(false) Ok(Some(\"b\")) Ok(None)";
-    wants(wanted, said(rt.alloc(), bytes.as_slice())?)
+    let wanted = "(true, 350000) Ok(false) (Ok(Some(\"b\")), Ok(None))";
+    wants("nulls", wanted, said(rt.alloc(), bytes.as_slice())?)
 }
 
 // A document of the greatest length: an element of the key `a`, and zeros.
 fn greatest(alloc: Global) -> Result<Vec<u8>, AllocError> {
-    let mut bytes = Vec::with_capacity(alloc, MAXIMUM)?;
-    bytes.extend_from_slice(&length_field(MAXIMUM))?;
+    let mut bytes = Vec::from_slice(alloc, &length_field(MAXIMUM))?;
     bytes.extend_from_slice(b"\x02a\0")?;
     bytes.resize(MAXIMUM, 0)?;
     Ok(bytes)
@@ -120,8 +126,12 @@ fn overwrite(bytes: &mut [u8], kind: u8, length: u32) {
 // Fails where an element of this kind and this length is read.
 fn is_lie_refused(alloc: Global, bytes: &mut [u8], kind: u8, length: u32) -> Result<(), Fail> {
     overwrite(bytes, kind, length);
-    let wanted = "false 1 Err(Malformed) Err(Malformed) Err(Malformed)";
-    wants(wanted, said(alloc, bytes)?)
+    let wanted = "(false, 1) Err(Malformed) (Err(Malformed), Err(Malformed))";
+    wants(
+        format_args!("kind {kind}, length {length}"),
+        wanted,
+        said(alloc, bytes)?,
+    )
 }
 
 // The same for each length that lies.

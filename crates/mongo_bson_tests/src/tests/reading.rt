@@ -59,13 +59,11 @@ fn meaning(alloc: Global, value: RawValue<'_>) -> Result<String, Fail> {
 }
 
 // Whether the value alone under `a` in a new document makes this document.
-fn is_written(
-    alloc: Global,
-    value: RawValue<'_>,
-    document: RawDocument<'_>,
-) -> Result<bool, BsonFault> {
-    let written = holding(alloc, value)?;
-    Ok(written.as_bytes() == document.as_bytes())
+fn is_written(alloc: Global, value: RawValue<'_>, document: RawDocument<'_>) -> bool {
+    match holding(alloc, value) {
+        Ok(written) => written.as_bytes() == document.as_bytes(),
+        Err(_) => false,
+    }
 }
 
 // Whether a document is readable, and these bytes are its only value.
@@ -79,16 +77,17 @@ fn is_alone(document: RawDocument<'_>, kind: u8, bytes: &[u8]) -> bool {
 fn told_of(alloc: Global, bytes: &[u8], kind: u8, value: &[u8]) -> Result<String, Fail> {
     let document = RawDocument::from_bytes(bytes)?;
     match document.get("a") {
-        Ok(Some(found)) if is_alone(document, kind, value) && is_written(alloc, found, document)? =>
+        Ok(Some(found)) if is_alone(document, kind, value) && is_written(alloc, found, document) =>
             { meaning(alloc, found) }
-        _ => Err(Fail::new("read in two ways")),
+        _ => Ok(String::from_str(alloc, "read in two ways")?),
     }
 }
 
 // Whether these bytes are a document whose value is none.
 fn is_malformed(bytes: &[u8]) -> bool {
     match RawDocument::from_bytes(bytes) {
-        Ok(document) => !document.readable() && document.get("a") == Err(BsonFault::Malformed),
+        Ok(document) => !document.readable()
+            && matches!(document.get("a"), Err(BsonFault::Malformed)),
         Err(_) => false,
     }
 }
@@ -116,7 +115,7 @@ pub(crate) fn told_uncut(alloc: Global, spelled: &[u8]) -> Result<String, Fail> 
     };
     for cut in 0..value.len() {
         if !is_refused(alloc, *kind, &value[..cut])? {
-            return Err(Fail::new("read when it is cut"));
+            return Ok(String::from_str(alloc, "read when it is cut")?);
         }
     }
     told(alloc, *kind, value)

@@ -35,7 +35,7 @@ fn parts<'a>(row: &'a str) -> (&'a str, &'a str) {
 fn row_tells(alloc: Global, asked: Asked, row: &str) -> Result<(), Fail> {
     let (spelled, wanted) = parts(row);
     let bytes = bytes_of(alloc, spelled)?;
-    wants(wanted, told(alloc, asked, bytes.as_slice())?)
+    wants(row, wanted, told(alloc, asked, bytes.as_slice())?)
 }
 
 // Fails where of the bytes of a row something else is told than what stands behind its arrow.

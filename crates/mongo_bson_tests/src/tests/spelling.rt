@@ -1,6 +1,6 @@
 use mongo_bson::{BsonFault, RawDocumentBuf, RawValue};
 use std::alloc::{AllocError, Global};
-use std::fmt::Debug;
+use std::fmt::{Debug, Display};
 use std::test::Fail;
 
 // The bytes that a row has as pairs of hexadecimal digits, apart by blanks.
@@ -12,12 +12,12 @@ pub(crate) fn bytes_of(alloc: Global, row: &str) -> Result<Vec<u8>, Fail> {
     Ok(bytes)
 }
 
-// Fails where what was told isn't what was wanted, and says both.
-pub(crate) fn wants(wanted: &str, told: String) -> Result<(), Fail> {
+// Fails where what was told of something isn't what was wanted.
+pub(crate) fn wants<D: Display + Drop>(of: D, wanted: &str, told: String) -> Result<(), Fail> {
     if told.as_str() == wanted {
         Ok(())
     } else {
-        Err(Fail::new(format_args!("{told} in place of {wanted}")))
+        Err(Fail::new(format_args!("{of}: told {told}")))
     }
 }
 
