@@ -1,6 +1,7 @@
-ghost use Rattle.std.specs.Prelude.{◌≡◌, ◌<◌, Some, IfOk};
+ghost use Rattle.std.specs.Prelude.{◌≡◌, ◌<◌, Some, option_copied, IfOk};
 ghost use Rattle.mongo_establish.specs.Speculation.{SpeaksFor};
 
+mod causes;
 mod cut_replies;
 mod failing;
 mod frames;
@@ -11,17 +12,20 @@ mod long_replies;
 mod monitoring;
 mod replies;
 
+use causes::cause_of;
 use mongo_establish::{
-    ArgumentFault, AuthFault, AuthMechanism, Bytes, ClientMetadata, ClientOptions, CommandError,
-    ConnectionEstablisher, ConnectionGeneration, Credential, Environment, Error, ErrorKind,
-    EstablishError, EstablisherOptions, FailingLink, Generations, HandshakePhase, Link,
-    LoginInputs, LoginState, MemoryLink, Moment, Nonces, ObjectId, OsMetadata, PendingConnection,
-    PoolGeneration, PooledConnection, RequestIds, ResponseFault, SaltedCache, ServerAddress, Steps,
-    Text, TopologySpec, Variables,
+    AuthMechanism, Bytes, ClientMetadata, ClientOptions, Connection, ConnectionEstablisher,
+    ConnectionGeneration, Credential, Environment, EstablishError, EstablisherOptions, FailingLink,
+    Generations, HandshakePhase, Link, LoginInputs, LoginState, MemoryLink, Moment, Nonces,
+    ObjectId, OsMetadata, PendingConnection, PoolGeneration, PooledConnection, RequestIds,
+    SaltedCache, ServerAddress, ServerApi, ServerType, Steps, StreamDescription, Text,
+    TopologySpec, Variables,
 };
 use std::alloc::Global;
+use std::fmt::Debug;
 use std::marker::Brand;
 use std::sync::ledger::{Blank, Ledger};
+use std::test::Fail;
 
 /// Who logs in: nobody, or `user`, whose password is `pencil`, by the mechanism that is negotiated or by one of one command.
 #[derive(Clone, Copy)]
@@ -40,51 +44,91 @@ enum Pool {
     Balanced(Option<u32>),
 }
 
+// What a call gives, or its error as why the test fails. An `Error` is large where a proof holds it, and so is a connection: this
+// and `ended` are generic over both, so no proof of a test holds either.
+fn given<T: Drop, E: Debug + Drop>(answer: Result<T, E>) -> Result<T, Fail> {
+    Ok(answer?)
+}
+
+// What is told of what a call gives, or of the error that refuses it.
+trait Tells<T> {
+    fn told(&self) -> T;
+}
+
+/// How a call was answered. Its drop is one call.
+#[derive(Drop)]
+struct Answered<T, E> {
+    answer: Result<T, E>,
+}
+
+// What is told of an answer.
+fn ended<T, R: Tells<T> + Drop, E: Tells<T> + Drop>(answer: Result<R, E>) -> T {
+    let call = Answered { answer };
+    match &call.answer {
+        Ok(made) => made.told(),
+        Err(error) => error.told(),
+    }
+}
+
 // A link that gives these bytes.
-fn link_of(alloc: Global, replies: &[u8]) -> Result<MemoryLink, Error> {
+fn link_of(alloc: Global, replies: &[u8]) -> Result<MemoryLink, Fail> {
     Ok(MemoryLink::new(alloc, Bytes::from_slice(alloc, replies)?))
 }
 
-fn generation(alloc: Global, pool: Pool) -> Result<PoolGeneration, Error> {
-    let Pool::Balanced(number) = pool else {
-        return Ok(PoolGeneration::Normal(7));
-    };
+// Services of which that of the bytes 0 to 11 has this number.
+fn services(alloc: Global, number: u32) -> Result<Generations, Fail> {
     let mut generations = Generations::new(alloc);
-    if let Some(number) = number {
-        generations.insert(ObjectId([0, 1, 2, 3, 4, 5, 6, 7, 8, 9, 10, 11]), number)?;
-    }
-    Ok(PoolGeneration::LoadBalanced(generations))
+    given(generations.insert(ObjectId([0, 1, 2, 3, 4, 5, 6, 7, 8, 9, 10, 11]), number))?;
+    Ok(generations)
 }
 
-fn address(alloc: Global) -> Result<ServerAddress, Error> {
+fn generation(alloc: Global, pool: Pool) -> Result<PoolGeneration, Fail> {
+    match pool {
+        Pool::Normal => Ok(PoolGeneration::Normal(7)),
+        Pool::Balanced(None) => Ok(PoolGeneration::LoadBalanced(Generations::new(alloc))),
+        Pool::Balanced(Some(number)) => {
+            Ok(PoolGeneration::LoadBalanced(services(alloc, number)?))
+        }
+    }
+}
+
+fn address(alloc: Global) -> Result<ServerAddress, Fail> {
     let host = Text::from_slice(alloc, "localhost")?;
     Ok(ServerAddress::Tcp { host, port: None })
 }
 
 // The fifth connection of a pool.
-fn pending(alloc: Global, pool: Pool) -> Result<PendingConnection, Error> {
+fn pending(alloc: Global, pool: Pool) -> Result<PendingConnection, Fail> {
+    let address = address(alloc)?;
     Ok(PendingConnection {
         id: 5,
+        address,
         generation: generation(alloc, pool)?,
-        address: address(alloc)?,
     })
 }
 
-// A client that says no more of itself than it has to.
-fn options(alloc: Global) -> Result<ClientOptions, Error> {
+fn os(alloc: Global) -> Result<OsMetadata, Fail> {
+    let os_type = Text::from_slice(alloc, "linux")?;
+    Ok(OsMetadata {
+        os_type,
+        name: None,
+        architecture: Some(Text::from_slice(alloc, "x86_64")?),
+        version: None,
+    })
+}
+
+// A client that asks for this stable API, and says no more of itself than it has to.
+fn options(alloc: Global, server_api: Option<ServerApi>) -> Result<ClientOptions, Fail> {
+    let platform = Text::from_slice(alloc, "rattle / sync")?;
+    let platform_short = Text::from_slice(alloc, "rattle")?;
     Ok(ClientOptions {
         app_name: None,
         driver_info: None,
-        server_api: None,
+        server_api,
         load_balanced: false,
-        os: OsMetadata {
-            os_type: Text::from_slice(alloc, "linux")?,
-            name: None,
-            architecture: Some(Text::from_slice(alloc, "x86_64")?),
-            version: None,
-        },
-        platform: Text::from_slice(alloc, "rattle / sync")?,
-        platform_short: Text::from_slice(alloc, "rattle")?,
+        os: os(alloc)?,
+        platform,
+        platform_short,
         environment: Environment {
             variables: Variables::new(alloc),
             dockerenv: false,
@@ -92,36 +136,44 @@ fn options(alloc: Global) -> Result<ClientOptions, Error> {
     })
 }
 
-fn spec(alloc: Global) -> Result<TopologySpec, Error> {
-    let options = options(alloc)?;
+fn metadata_of(alloc: Global, options: &ClientOptions) -> Result<ClientMetadata, Fail> {
+    given(ClientMetadata::from_options(alloc, options))
+}
+
+fn spec(alloc: Global) -> Result<TopologySpec, Fail> {
+    let options = options(alloc, None)?;
     Ok(TopologySpec {
-        metadata: ClientMetadata::from_options(alloc, &options)?,
+        metadata: metadata_of(alloc, &options)?,
         options,
         max_iterations: 10_000_000,
     })
 }
 
-fn establisher_options(alloc: Global) -> Result<EstablisherOptions, Error> {
+fn options_of(alloc: Global, spec: &TopologySpec) -> Result<EstablisherOptions, Fail> {
+    given(EstablisherOptions::from_spec(alloc, spec))
+}
+
+fn establisher_options(alloc: Global) -> Result<EstablisherOptions, Fail> {
     let spec = spec(alloc)?;
-    EstablisherOptions::from_spec(alloc, &spec)
+    options_of(alloc, &spec)
 }
 
-fn establisher(alloc: Global) -> Result<ConnectionEstablisher, Error> {
-    ConnectionEstablisher::new(alloc, establisher_options(alloc)?)
+fn establisher(alloc: Global) -> Result<ConnectionEstablisher, Fail> {
+    given(ConnectionEstablisher::new(alloc, establisher_options(alloc)?))
 }
 
-fn text(alloc: Global, given: &str) -> Result<Option<Text>, Error> {
+fn text(alloc: Global, given: &str) -> Result<Option<Text>, Fail> {
     Ok(Some(Text::from_slice(alloc, given)?))
 }
 
-fn password(alloc: Global, who: Who) -> Result<Option<Text>, Error> {
+fn password(alloc: Global, who: Who) -> Result<Option<Text>, Fail> {
     match who {
         Who::X509 => Ok(None),
         _ => text(alloc, "pencil"),
     }
 }
 
-fn user(alloc: Global, who: Who) -> Result<Credential, Error>
+fn user(alloc: Global, who: Who) -> Result<Credential, Fail>
     ensures spoken { IfOk result (λ user. SpeaksFor (Some user)) }
 {
     let mechanism = match who {
@@ -132,15 +184,6 @@ fn user(alloc: Global, who: Who) -> Result<Credential, Error>
     let password = password(alloc, who)?;
     let made = Credential::new().username(text(alloc, "user")?);
     Ok(made.password(password).mechanism(mechanism))
-}
-
-fn credential(alloc: Global, who: Who) -> Result<Option<Credential>, Error>
-    ensures spoken { IfOk result SpeaksFor }
-{
-    match who {
-        Who::Nobody => Ok(None),
-        _ => Ok(Some(user(alloc, who)?)),
-    }
 }
 
 fn new_state(alloc: Global) -> LoginState {
@@ -164,38 +207,55 @@ fn inputs() -> LoginInputs {
     }
 }
 
-/// What an establishment gave. A value of its own, so that whoever holds one drops it by one call.
-#[derive(Drop)]
-struct Made {
-    answer: Result<PooledConnection, EstablishError>,
-}
-
-// Establishes a connection, with a counter of its own, of the ledger that `blank` opens.
+// Establishes a connection, with a counter of its own, of the ledger that `blank` opens. This and the two below make one value
+// each and hand on a reference, so that none holds several while more may fail.
 fn made_with<L: Link, G: Ledger>(
     blank: Blank,
     alloc: Global,
     establisher: &ConnectionEstablisher,
-    pending: PendingConnection,
+    credential: Option<&Credential>,
+    pool: Pool,
     link: &mut L,
-    credential: &Option<Credential>,
     state: &mut LoginState,
-) -> Made
+) -> Result<Made, Fail>
     requires name { blank.name ≡ G.name }
     requires parts { blank.parts ≡ G.parts }
     requires has_a_part { 0 < G.parts }
-    requires spoken { SpeaksFor credential.now }
+    requires spoken { SpeaksFor (option_copied credential) }
 {
+    let pending = pending(alloc, pool)?;
     let mut steps = Steps::<G>::new(blank);
-    let answer = establisher.establish_connection(
+    Ok(ended(establisher.establish_connection(
         alloc,
         pending,
         link,
-        credential.as_ref(),
+        credential,
         state,
         &inputs(),
         &mut steps,
-    );
-    Made { answer }
+    )))
+}
+
+fn made_by<L: Link, G: Ledger>(
+    blank: Blank,
+    alloc: Global,
+    establisher: &ConnectionEstablisher,
+    who: Who,
+    pool: Pool,
+    link: &mut L,
+    state: &mut LoginState,
+) -> Result<Made, Fail>
+    requires name { blank.name ≡ G.name }
+    requires parts { blank.parts ≡ G.parts }
+    requires has_a_part { 0 < G.parts }
+{
+    match who {
+        Who::Nobody => { made_with::<L, G>(blank, alloc, establisher, None, pool, link, state) }
+        _ => {
+            let user = user(alloc, who)?;
+            made_with::<L, G>(blank, alloc, establisher, Some(&user), pool, link, state)
+        }
+    }
 }
 
 fn made_over<L: Link, G: Ledger>(
@@ -205,23 +265,13 @@ fn made_over<L: Link, G: Ledger>(
     pool: Pool,
     link: &mut L,
     state: &mut LoginState,
-) -> Result<Made, Error>
+) -> Result<Made, Fail>
     requires name { blank.name ≡ G.name }
     requires parts { blank.parts ≡ G.parts }
     requires has_a_part { 0 < G.parts }
 {
-    let credential = credential(alloc, who)?;
-    let pending = pending(alloc, pool)?;
     let establisher = establisher(alloc)?;
-    Ok(made_with::<L, G>(
-        blank,
-        alloc,
-        &establisher,
-        pending,
-        link,
-        &credential,
-        state,
-    ))
+    made_by::<L, G>(blank, alloc, &establisher, who, pool, link, state)
 }
 
 fn made_in_memory(
@@ -230,7 +280,7 @@ fn made_in_memory(
     pool: Pool,
     link: &mut MemoryLink,
     state: &mut LoginState,
-) -> Result<Made, Error> {
+) -> Result<Made, Fail> {
     made_over::<MemoryLink, Brand>(Blank::new(1), alloc, who, pool, link, state)
 }
 
@@ -240,61 +290,8 @@ fn made_over_failing(
     pool: Pool,
     link: &mut FailingLink,
     state: &mut LoginState,
-) -> Result<Made, Error> {
+) -> Result<Made, Fail> {
     made_over::<FailingLink, Brand>(Blank::new(1), alloc, who, pool, link, state)
-}
-
-// The name of a cause, and its number where it has one.
-fn cause_of(kind: &ErrorKind) -> (&'static str, i32) {
-    match kind {
-        ErrorKind::ReadFault => ("ReadFault", 0),
-        ErrorKind::WriteFault => ("WriteFault", 0),
-        ErrorKind::EndOfInput => ("EndOfInput", 0),
-        ErrorKind::IncompatibleServer => ("IncompatibleServer", 0),
-        ErrorKind::InvalidResponse(fault) => response_fault(fault),
-        ErrorKind::InvalidArgument(fault) => (argument_fault(*fault), 0),
-        ErrorKind::Authentication(fault) => (auth_fault(fault), 0),
-        ErrorKind::Command(error) => (command_error(error), error.code),
-        _ => ("another", 0),
-    }
-}
-
-fn argument_fault(fault: ArgumentFault) -> &'static str {
-    match fault {
-        ArgumentFault::CheckedFailure => "CheckedFailure",
-        ArgumentFault::X509Password => "X509Password",
-        _ => "another",
-    }
-}
-
-fn auth_fault(fault: &AuthFault) -> &'static str {
-    match fault {
-        AuthFault::Verifier => "Verifier",
-        AuthFault::Malformed => "Malformed",
-        AuthFault::X509Failed => "X509Failed",
-        _ => "another",
-    }
-}
-
-// That of an error with the message `no` and nothing else but its code.
-fn command_error(error: &CommandError) -> &'static str {
-    let is_carried = error.message.as_str() == "no"
-        && error.code_name.as_str() == ""
-        && error.labels.is_empty();
-    if is_carried { "Command" } else { "another" }
-}
-
-fn response_fault(fault: &ResponseFault) -> (&'static str, i32) {
-    match fault {
-        ResponseFault::OpCode(code) => ("OpCode", *code),
-        ResponseFault::OverMaximum => ("OverMaximum", 0),
-        ResponseFault::Compressed => ("Compressed", 0),
-        ResponseFault::NotMessage => ("NotMessage", 0),
-        ResponseFault::Sections => ("Sections", 0),
-        ResponseFault::Hello => ("Hello", 0),
-        ResponseFault::SessionTimeout => ("SessionTimeout", 0),
-        _ => ("another", 0),
-    }
 }
 
 /// How an establishment ended: its cause by name and number, and the generation of the connection, where the hello was
@@ -303,20 +300,64 @@ type Told = (&'static str, i32, Option<ConnectionGeneration>);
 
 const SEVENTH: Option<ConnectionGeneration> = Some(ConnectionGeneration::Normal(7));
 
-fn told_by(made: &Made) -> Told {
-    match &made.answer {
-        Ok(pooled) => ("none", 0, Some(pooled.generation)),
-        Err(refused) => {
-            let (name, number) = cause_of(&refused.cause.kind);
-            match &refused.handshake_phase {
-                HandshakePhase::PreHello {
-                    generation: PoolGeneration::Normal(7),
-                } => (name, number, None),
-                HandshakePhase::PreHello { .. } => ("another pool", number, None),
-                HandshakePhase::PostHello { generation } => (name, number, Some(*generation)),
-            }
+/// What a connection has beside what each to a standalone server has: its session timeout, and the server's number for it.
+type Described = (Option<u64>, Option<i64>);
+
+/// What an establishment gave: how it ended, and what the connection has, where it is one to a standalone server.
+#[derive(Clone, Copy)]
+struct Made {
+    told: Told,
+    described: Option<Described>,
+}
+
+impl Tells<Made> for PooledConnection {
+    fn told(&self) -> Made {
+        Made {
+            told: ("none", 0, Some(self.generation)),
+            described: described_by(&self.connection),
         }
     }
+}
+
+impl Tells<Made> for EstablishError {
+    fn told(&self) -> Made {
+        Made {
+            told: told_at(&self.handshake_phase, cause_of(&self.cause)),
+            described: None,
+        }
+    }
+}
+
+// What a refusal with this cause tells that came so far.
+fn told_at(phase: &HandshakePhase, cause: (&'static str, i32)) -> Told {
+    let (name, number) = cause;
+    match phase {
+        HandshakePhase::PreHello {
+            generation: PoolGeneration::Normal(7),
+        } => (name, number, None),
+        HandshakePhase::PreHello { .. } => ("another pool", number, None),
+        HandshakePhase::PostHello { generation } => (name, number, Some(*generation)),
+    }
+}
+
+fn described_by(connection: &Connection) -> Option<Described> {
+    let Some(description) = &connection.stream_description else {
+        return None;
+    };
+    let is_so = connection.id == 5
+        && connection.oidc_token_gen_id == 0
+        && connection.fault().is_none()
+        && is_standalone(description);
+    is_so.then_some((description.logical_session_timeout, connection.server_id))
+}
+
+fn is_standalone(description: &StreamDescription) -> bool {
+    description.initial_server_type == ServerType::Standalone
+        && description.max_bson_object_size == 16_777_216
+        && description.max_write_batch_size == 100_000
+        && description.max_message_size_bytes == 48_000_000
+        && description.max_wire_version == None
+        && !description.hello_ok
 }
 
 /// How an establishment ended, and what it left: the next command's id, how many bytes were said and heard, and the

@@ -1,6 +1,6 @@
 use super::failing::{exchanges_of, talk_of, who_of};
-use super::{End, Pool, SEVENTH, end_of, is_same_end, link_of, made_in_memory, new_state, told_by};
-use mongo_establish::{Error, LoginState, RequestIds};
+use super::{End, Pool, SEVENTH, end_of, is_same_end, link_of, made_in_memory, new_state};
+use mongo_establish::{LoginState, RequestIds};
 use std::alloc::Global;
 use std::test::Fail;
 
@@ -31,12 +31,12 @@ fn cut_end_at(login: u8, heard: usize) -> End {
 }
 
 // Whether a login by so much of its replies ends so, over a link that doesn't fail.
-fn ends_so(alloc: Global, login: u8, heard: &[u8], state: &mut LoginState) -> Result<bool, Error> {
+fn ends_so(alloc: Global, login: u8, heard: &[u8], state: &mut LoginState) -> Result<bool, Fail> {
     let mut link = link_of(alloc, heard)?;
     state.ids = RequestIds::new(0);
-    let told = told_by(&made_in_memory(alloc, who_of(login), Pool::Normal, &mut link, state)?);
+    let made = made_in_memory(alloc, who_of(login), Pool::Normal, &mut link, state)?;
     let taken = heard.len().saturating_sub(link.left().len());
-    let end = end_of(told, state, link.written().len(), taken);
+    let end = end_of(made.told, state, link.written().len(), taken);
     Ok(is_same_end(&end, &cut_end_at(login, heard.len())))
 }
 
@@ -52,8 +52,8 @@ fn a_reply_that_is_cut_is_the_end_of_input(rt: HostRuntime) -> Result<(), Fail> 
             "login {login}"
         );
         for cut in (0..heard.len()).rev() {
-            let ends = ends_so(rt.alloc(), login, &heard[..cut], &mut state);
-            assert!(rt; matches!(ends, Ok(true)), "login {login} at {cut}");
+            let ends = ends_so(rt.alloc(), login, &heard[..cut], &mut state)?;
+            assert!(rt; ends, "login {login} at {cut}");
         }
     }
     Ok(())

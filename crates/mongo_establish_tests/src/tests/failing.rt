@@ -1,8 +1,8 @@
 use super::frames::{HELLO, STANDALONE};
-use super::{End, Pool, SEVENTH, Who, end_of, is_same_end, made_over_failing, new_state, told_by};
+use super::{End, Pool, SEVENTH, Who, end_of, is_same_end, made_over_failing, new_state};
 use mongo_bson::Bytes;
 use mongo_establish::{LoginState, RequestIds};
-use mongo_wire::{Error, FailingLink, Sink, Source};
+use mongo_wire::{FailingLink, Sink, Source};
 use std::alloc::Global;
 use std::test::Fail;
 
@@ -64,7 +64,7 @@ pub(super) struct Talk {
     pub heard: Vec<u8>,
 }
 
-pub(super) fn talk_of(alloc: Global, login: u8) -> Result<Talk, Error> {
+pub(super) fn talk_of(alloc: Global, login: u8) -> Result<Talk, Fail> {
     let mut said = Vec::new(alloc);
     let mut heard = Vec::new(alloc);
     for (command, reply) in exchanges_of(login) {
@@ -108,7 +108,7 @@ pub(super) fn end_at(login: u8, call: usize, rounds: u64, entries: usize) -> End
 }
 
 // A link that gives these bytes and moves one byte a call, of which just this one fails.
-pub(super) fn failing_at(alloc: Global, heard: &[u8], call: usize) -> Result<FailingLink, Error> {
+pub(super) fn failing_at(alloc: Global, heard: &[u8], call: usize) -> Result<FailingLink, Fail> {
     let mut schedule = Vec::new(alloc);
     schedule.resize(call, 0)?;
     schedule.push(1)?;
@@ -125,10 +125,11 @@ fn ends_so(
     call: usize,
     wanted: &End,
     state: &mut LoginState,
-) -> Result<bool, Error> {
+) -> Result<bool, Fail> {
     let mut link = failing_at(alloc, talk.heard.as_slice(), call)?;
     state.ids = RequestIds::new(0);
-    let told = told_by(&made_over_failing(alloc, who_of(login), Pool::Normal, &mut link, state)?);
+    let made = made_over_failing(alloc, who_of(login), Pool::Normal, &mut link, state)?;
+    let told = made.told;
     let taken = talk.heard.len().saturating_sub(link.left().len());
     let end = end_of(told, state, link.written().len(), taken);
     Ok(
@@ -148,8 +149,8 @@ fn each_call_that_fails_is_told(rt: HostRuntime) -> Result<(), Fail> {
         let mut state = new_state(rt.alloc());
         for call in (0..runs).rev() {
             let wanted = end_at(login, call, rounds, entries);
-            let ends = ends_so(rt.alloc(), login, &talk, call, &wanted, &mut state);
-            assert!(rt; matches!(ends, Ok(true)), "login {login} at {call}");
+            let ends = ends_so(rt.alloc(), login, &talk, call, &wanted, &mut state)?;
+            assert!(rt; ends, "login {login} at {call}");
         }
     }
     Ok(())
@@ -172,8 +173,8 @@ fn a_key_is_derived_where_a_login_needs_it(rt: HostRuntime) -> Result<(), Fail> 
         let talk = talk_of(rt.alloc(), login)?;
         let wanted = end_at(login, call, rounds, entries);
         let mut state = new_state(rt.alloc());
-        let ends = ends_so(rt.alloc(), login, &talk, call, &wanted, &mut state);
-        assert!(rt; matches!(ends, Ok(true)), "login {login} at {call}");
+        let ends = ends_so(rt.alloc(), login, &talk, call, &wanted, &mut state)?;
+        assert!(rt; ends, "login {login} at {call}");
     }
     Ok(())
 }

@@ -1,7 +1,7 @@
 use super::failing::HELLO_OF_USER;
-use super::{Who, address, options, user};
+use super::{Who, address, given, options, user};
 use mongo_establish::{
-    AuthMechanism, ClientFirst, Credential, Error, ServerAddress, ServerApi, ServerApiVersion,
+    AuthMechanism, ClientFirst, ClientOptions, Credential, ServerApi, ServerApiVersion,
     auth_options_from_options, build_speculative_client_first,
 };
 use std::alloc::Global;
@@ -11,34 +11,37 @@ use std::test::Fail;
 const AUTHENTICATE: &[u8] =
     b"F\0\0\0\x10authenticate\0\x01\0\0\0\x02mechanism\0\x0d\0\0\0MONGODB-X509\0\x02username\0\x05\0\0\0user\0\0";
 
-// What a client's first message is: there is none, or it has this document.
-#[derive(Drop)]
-struct First {
-    answer: Result<Option<ClientFirst>, Error>,
-}
-
-fn first_of(
+// The first message of a user's login by this mechanism, which asks nothing of the server's hello.
+pub(super) fn first_of(
     alloc: Global,
     mechanism: AuthMechanism,
-    credential: &Credential,
-    address: &ServerAddress,
-) -> First {
-    let answer = build_speculative_client_first(alloc, &mechanism, credential, address, &[0; 32]);
-    First { answer }
+    user: &Credential,
+) -> Result<Option<ClientFirst>, Fail> {
+    let address = address(alloc)?;
+    given(build_speculative_client_first(alloc, &mechanism, user, &address, &[0; 32]))
 }
 
-fn is_document(alloc: Global, first: &ClientFirst, wanted: &[u8]) -> bool {
-    match first.to_document(alloc) {
-        Ok(document) => document.as_bytes() == wanted,
-        Err(_) => false,
+// What goes with a hello.
+trait Goes {
+    fn is_document(&self, alloc: Global, wanted: &[u8]) -> Result<bool, Fail>;
+}
+
+impl Goes for ClientFirst {
+    fn is_document(&self, alloc: Global, wanted: &[u8]) -> Result<bool, Fail> {
+        Ok(given(self.to_document(alloc))?.as_bytes() == wanted)
     }
 }
 
-fn is_first(alloc: Global, first: &First, wanted: Option<&[u8]>) -> bool {
-    match (&first.answer, wanted) {
-        (Ok(Some(first)), Some(wanted)) => is_document(alloc, first, wanted),
-        (Ok(None), None) => true,
-        _ => false,
+// Whether there is a first message of this document, or none.
+fn is_first<F: Goes + Drop>(
+    alloc: Global,
+    first: Result<Option<F>, Fail>,
+    wanted: Option<&[u8]>,
+) -> Result<bool, Fail> {
+    match (&first?, wanted) {
+        (Some(first), Some(wanted)) => first.is_document(alloc, wanted),
+        (None, None) => Ok(true),
+        _ => Ok(false),
     }
 }
 
@@ -47,14 +50,9 @@ fn goes_first(
     alloc: Global,
     mechanism: AuthMechanism,
     wanted: Option<&[u8]>,
-) -> Result<bool, Error> {
-    let address = address(alloc)?;
-    let credential = user(alloc, Who::Negotiated)?;
-    Ok(is_first(
-        alloc,
-        &first_of(alloc, mechanism, &credential, &address),
-        wanted,
-    ))
+) -> Result<bool, Fail> {
+    let user = user(alloc, Who::Negotiated)?;
+    is_first(alloc, first_of(alloc, mechanism, &user), wanted)
 }
 
 #[test]
@@ -72,12 +70,15 @@ const STRICT: ServerApi = ServerApi {
     deprecation_errors: None,
 };
 
+// The stable API that a login's commands carry.
+fn api_of(alloc: Global, options: &ClientOptions) -> Result<Option<ServerApi>, Fail> {
+    Ok(given(auth_options_from_options(alloc, options))?.server_api)
+}
+
 // Whether a login's commands carry the stable API that a client's options give.
-fn carries(alloc: Global, api: Option<ServerApi>) -> Result<bool, Error> {
-    let mut options = options(alloc)?;
-    options.server_api = api;
-    let auth_options = auth_options_from_options(alloc, &options)?;
-    Ok(auth_options.server_api == api)
+fn carries(alloc: Global, api: Option<ServerApi>) -> Result<bool, Fail> {
+    let options = options(alloc, api)?;
+    Ok(api_of(alloc, &options)? == api)
 }
 
 #[test]

@@ -1,14 +1,13 @@
 ghost use Rattle.std.specs.Prelude.{◌≤◌};
 
 use super::failing::{ACCEPTED, CHALLENGE, NEGOTIATED};
-use super::{End, Pool, SEVENTH, Who, end_of, is_same_end, made_in_memory, new_state, told_by};
+use super::{End, Pool, SEVENTH, Who, end_of, is_same_end, made_in_memory, new_state};
 use mongo_establish::{Bytes, MemoryLink};
-use mongo_wire::Error;
 use std::alloc::Global;
 use std::test::Fail;
 
 // Puts so many letters at the end.
-fn push_letters(bytes: &mut Vec<u8>, count: u32) -> Result<(), Error> {
+fn push_letters(bytes: &mut Vec<u8>, count: u32) -> Result<(), Fail> {
     const PIECE: [u8; 1024] = [0x41; 1024];
     for _ in 0..count / 1024 {
         bytes.extend_from_slice(&PIECE)?;
@@ -18,7 +17,7 @@ fn push_letters(bytes: &mut Vec<u8>, count: u32) -> Result<(), Error> {
 }
 
 // What a login hears that starts after its hello, but for a last reply whose verifier fills a frame of this length.
-fn heard_with_verifier(alloc: Global, length: u32) -> Result<Vec<u8>, Error>
+fn heard_with_verifier(alloc: Global, length: u32) -> Result<Vec<u8>, Fail>
     requires { 109 ≤ length }
 {
     let mut heard = Vec::from_slice(alloc, NEGOTIATED)?;
@@ -37,7 +36,7 @@ fn heard_with_verifier(alloc: Global, length: u32) -> Result<Vec<u8>, Error>
 
 // The same with its own last reply, and a challenge with a field more, of bytes without a meaning, so that its frame has
 // this length.
-fn heard_with_filler(alloc: Global, length: u32) -> Result<Vec<u8>, Error>
+fn heard_with_filler(alloc: Global, length: u32) -> Result<Vec<u8>, Fail>
     requires { 175 ≤ length }
 {
     let mut heard = Vec::from_slice(alloc, NEGOTIATED)?;
@@ -56,7 +55,7 @@ fn heard_with_filler(alloc: Global, length: u32) -> Result<Vec<u8>, Error>
 }
 
 // The front of the same whose challenge is one byte longer than the server allows.
-fn heard_past_the_maximum(alloc: Global) -> Result<Vec<u8>, Error> {
+fn heard_past_the_maximum(alloc: Global) -> Result<Vec<u8>, Fail> {
     let mut heard = Vec::from_slice(alloc, NEGOTIATED)?;
     let reply = *CHALLENGE;
     heard.extend_from_slice(&48_000_001u32.to_le_bytes())?;
@@ -77,7 +76,7 @@ fn end_with(cause: &'static str, heard: usize, entries: usize) -> End {
 }
 
 // What a login hears that starts after its hello, from a server that takes messages of 48000000 bytes.
-fn heard_at(alloc: Global, place: u8) -> Result<Vec<u8>, Error> {
+fn heard_at(alloc: Global, place: u8) -> Result<Vec<u8>, Fail> {
     match place {
         0 => heard_with_filler(alloc, 48_000_000),
         1 => heard_with_verifier(alloc, 4_000_001),
@@ -100,19 +99,16 @@ fn long_end_at(place: u8) -> End {
 }
 
 // Whether a login over a link that doesn't fail ends so.
-fn ends_so(alloc: Global, heard: Vec<u8>, wanted: &End) -> Result<bool, Error> {
+fn ends_so(alloc: Global, heard: Vec<u8>, wanted: &End) -> Result<bool, Fail> {
     let length = heard.len();
     let mut link = MemoryLink::new(alloc, Bytes::from_vec(heard));
     let mut state = new_state(alloc);
-    let told = told_by(&made_in_memory(
-        alloc,
-        Who::Negotiated,
-        Pool::Normal,
-        &mut link,
-        &mut state,
-    )?);
+    let made = made_in_memory(alloc, Who::Negotiated, Pool::Normal, &mut link, &mut state)?;
     let taken = length.saturating_sub(link.left().len());
-    Ok(is_same_end(&end_of(told, &state, link.written().len(), taken), wanted))
+    Ok(is_same_end(
+        &end_of(made.told, &state, link.written().len(), taken),
+        wanted,
+    ))
 }
 
 #[test]

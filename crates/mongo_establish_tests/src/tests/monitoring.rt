@@ -1,30 +1,12 @@
+use super::causes::cause_of;
 use super::frames::{COMMAND_ERROR, HELLO, OK_TWICE, STANDALONE};
-use super::{cause_of, establisher, link_of};
+use super::{Tells, ended, establisher, link_of};
 use mongo_establish::{
-    Connection, ConnectionEstablisher, HelloReply, MemoryLink, RequestIds, ServerAddress,
-    ServerType, Text,
+    Connection, ConnectionEstablisher, Error, HelloReply, MemoryLink, RequestIds, ServerAddress,
+    ServerType, Sink, Source, Text,
 };
-use mongo_wire::{Error, Sink, Source};
 use std::alloc::Global;
 use std::test::Fail;
-
-// What an establishment gave. A value of its own, so that whoever holds one drops it by one call.
-#[derive(Drop)]
-struct Monitored {
-    answer: Result<(Connection, HelloReply), Error>,
-}
-
-// A monitor's connection, the third.
-fn monitor(
-    alloc: Global,
-    establisher: &ConnectionEstablisher,
-    address: ServerAddress,
-    link: &mut MemoryLink,
-    ids: &mut RequestIds,
-) -> Monitored {
-    let answer = establisher.establish_monitoring_connection(alloc, address, 3, link, ids);
-    Monitored { answer }
-}
 
 /// What a monitor learns: a cause by name and number, or the server's type.
 type Learned = (&'static str, i32, Option<ServerType>);
@@ -40,19 +22,33 @@ fn learned_of(connection: &Connection, reply: &HelloReply) -> Learned {
     }
 }
 
-fn learned_by(made: &Monitored) -> Learned {
-    match &made.answer {
-        Ok((connection, reply)) => learned_of(connection, reply),
-        Err(error) => {
-            let (name, number) = cause_of(&error.kind);
-            (name, number, None)
-        }
+impl Tells<Learned> for (Connection, HelloReply) {
+    fn told(&self) -> Learned {
+        learned_of(&self.0, &self.1)
     }
 }
 
-fn address(alloc: Global) -> Result<ServerAddress, Error> {
+impl Tells<Learned> for Error {
+    fn told(&self) -> Learned {
+        let (name, number) = cause_of(self);
+        (name, number, None)
+    }
+}
+
+fn address(alloc: Global) -> Result<ServerAddress, Fail> {
     let path = Text::from_slice(alloc, "/tmp/mongodb-27017.sock")?;
     Ok(ServerAddress::Unix { path })
+}
+
+// What a monitor learns over its connection, the third.
+fn learned_by(
+    alloc: Global,
+    establisher: &ConnectionEstablisher,
+    link: &mut MemoryLink,
+    ids: &mut RequestIds,
+) -> Result<Learned, Fail> {
+    let address = address(alloc)?;
+    Ok(ended(establisher.establish_monitoring_connection(alloc, address, 3, link, ids)))
 }
 
 // What a monitor learns over the link.
@@ -60,14 +56,13 @@ fn learned_over(
     alloc: Global,
     link: &mut MemoryLink,
     ids: &mut RequestIds,
-) -> Result<Learned, Error> {
-    let address = address(alloc)?;
+) -> Result<Learned, Fail> {
     let establisher = establisher(alloc)?;
-    Ok(learned_by(&monitor(alloc, &establisher, address, link, ids)))
+    learned_by(alloc, &establisher, link, ids)
 }
 
 // Whether a monitor learns this of a reply, hears all of it, and says just the hello, under the first id.
-fn learns(alloc: Global, reply: &[u8], wanted: Learned) -> Result<bool, Error> {
+fn learns(alloc: Global, reply: &[u8], wanted: Learned) -> Result<bool, Fail> {
     let mut ids = RequestIds::new(0);
     let mut link = link_of(alloc, reply)?;
     let learned = learned_over(alloc, &mut link, &mut ids)?;
@@ -80,7 +75,7 @@ fn learns(alloc: Global, reply: &[u8], wanted: Learned) -> Result<bool, Error> {
 }
 
 // The standalone server's reply with these elements after its own, by BSON 1.1.
-fn reply_with(alloc: Global, elements: &[u8]) -> Result<Vec<u8>, Error> {
+fn reply_with(alloc: Global, elements: &[u8]) -> Result<Vec<u8>, Fail> {
     let [frame, ..] = elements.len().saturating_add(86).to_le_bytes();
     let [document, ..] = elements.len().saturating_add(65).to_le_bytes();
     let mut reply = Vec::new(alloc);

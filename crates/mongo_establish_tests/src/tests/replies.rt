@@ -2,12 +2,9 @@ use super::frames::{
     COMMAND_ERROR, DONE, FAILED, HELLO, NUMBERED, OK_TWICE, SERVED, SPECULATED, STANDALONE, SUMMED,
     TAKEN, TIMEOUT_GREATEST, TIMEOUT_TOO_GREAT, UNDONE,
 };
-use super::{Made, Pool, SEVENTH, Told, Who, link_of, made_in_memory, new_state, told_by};
-use mongo_establish::{
-    ConnectionGeneration, MemoryLink, ObjectId, PooledConnection, RequestIds, ServerType,
-    StreamDescription,
-};
-use mongo_wire::{Error, Sink, Source};
+use super::{Pool, SEVENTH, Told, Who, link_of, made_in_memory, new_state};
+use mongo_establish::{ConnectionGeneration, MemoryLink, ObjectId, RequestIds};
+use mongo_wire::{Sink, Source};
 use std::alloc::Global;
 use std::test::Fail;
 
@@ -67,7 +64,7 @@ fn frame_at(place: u8) -> Frame {
     }
 }
 
-fn reply_of(alloc: Global, frame: &Frame) -> Result<Vec<u8>, Error> {
+fn reply_of(alloc: Global, frame: &Frame) -> Result<Vec<u8>, Fail> {
     let (length, op_code, kind, cut, ..) = *frame;
     let mut reply = Vec::new(alloc);
     reply.extend_from_slice(&length)?;
@@ -81,13 +78,13 @@ fn reply_of(alloc: Global, frame: &Frame) -> Result<Vec<u8>, Error> {
 }
 
 // Whether an establishment for nobody ends so over the link, having said just the hello.
-fn tells(alloc: Global, link: &mut MemoryLink, wanted: Told) -> Result<bool, Error> {
+fn tells(alloc: Global, link: &mut MemoryLink, wanted: Told) -> Result<bool, Fail> {
     let mut state = new_state(alloc);
-    let told = told_by(&made_in_memory(alloc, Who::Nobody, Pool::Normal, link, &mut state)?);
-    Ok(told == wanted && state.ids.next() == 1 && link.written() == HELLO.as_slice())
+    let made = made_in_memory(alloc, Who::Nobody, Pool::Normal, link, &mut state)?;
+    Ok(made.told == wanted && state.ids.next() == 1 && link.written() == HELLO.as_slice())
 }
 
-fn is_refused_so(alloc: Global, frame: &Frame) -> Result<bool, Error> {
+fn is_refused_so(alloc: Global, frame: &Frame) -> Result<bool, Fail> {
     let (.., told, taken) = *frame;
     let reply = reply_of(alloc, frame)?;
     let mut link = link_of(alloc, reply.as_slice())?;
@@ -341,19 +338,19 @@ fn row_at(place: u8) -> Row {
     }
 }
 
-fn link_for(alloc: Global, heard: &[&[u8]; 2]) -> Result<MemoryLink, Error> {
+fn link_for(alloc: Global, heard: &[&[u8]; 2]) -> Result<MemoryLink, Fail> {
     let mut both = Vec::from_slice(alloc, heard[0])?;
     both.extend_from_slice(heard[1])?;
     link_of(alloc, both.as_slice())
 }
 
-fn ends_so(alloc: Global, row: &Row) -> Result<bool, Error> {
+fn ends_so(alloc: Global, row: &Row) -> Result<bool, Fail> {
     let mut state = new_state(alloc);
     state.ids = RequestIds::new(row.first_id);
     let mut link = link_for(alloc, &row.heard)?;
-    let told = told_by(&made_in_memory(alloc, row.who, row.pool, &mut link, &mut state)?);
+    let made = made_in_memory(alloc, row.who, row.pool, &mut link, &mut state)?;
     Ok(
-        told == row.told
+        made.told == row.told
             && state.ids.next() == row.next_id
             && link.written().len() == row.said
             && link.left().len() == row.left,
@@ -368,46 +365,17 @@ fn an_establishment_ends_as_its_replies_say(rt: HostRuntime) -> Result<(), Fail>
     Ok(())
 }
 
-fn is_standalone(description: &StreamDescription, timeout: Option<u64>) -> bool {
-    description.initial_server_type == ServerType::Standalone
-        && description.max_bson_object_size == 16_777_216
-        && description.max_write_batch_size == 100_000
-        && description.max_message_size_bytes == 48_000_000
-        && description.logical_session_timeout == timeout
-        && description.max_wire_version == None
-        && !description.hello_ok
-}
-
-fn is_connected(pooled: &PooledConnection, timeout: Option<u64>, server_id: Option<i64>) -> bool {
-    let connection = &pooled.connection;
-    let Some(description) = &connection.stream_description else {
-        return false;
-    };
-    connection.id == 5
-        && connection.server_id == server_id
-        && connection.oidc_token_gen_id == 0
-        && connection.fault().is_none()
-        && is_standalone(description, timeout)
-}
-
-fn is_described(made: &Made, timeout: Option<u64>, server_id: Option<i64>) -> bool {
-    match &made.answer {
-        Ok(pooled) => is_connected(pooled, timeout, server_id),
-        Err(_) => false,
-    }
-}
-
 // Whether an establishment by this reply has a session timeout of these seconds, and the server's number for it.
 fn describes(
     alloc: Global,
     reply: &[u8],
     timeout: Option<u64>,
     server_id: Option<i64>,
-) -> Result<bool, Error> {
+) -> Result<bool, Fail> {
     let mut state = new_state(alloc);
     let mut link = link_of(alloc, reply)?;
     let made = made_in_memory(alloc, Who::Nobody, Pool::Normal, &mut link, &mut state)?;
-    Ok(is_described(&made, timeout, server_id))
+    Ok(made.described == Some((timeout, server_id)))
 }
 
 #[test]
