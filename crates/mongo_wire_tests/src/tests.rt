@@ -12,10 +12,12 @@ mod writing;
 use bitflags::Flags;
 use mongo_bson::{Bytes, Documents, RawDocumentBuf, Text};
 use mongo_wire::{
-    ArgumentFault, DocumentSequence, Error, ErrorKind, FailingLink, MemoryLink, Message,
-    MessageFlags, RequestIds, ResponseFault, Sequences, Sink, Source,
+    ArgumentFault, DocumentSequence, Error, ErrorKind, FailingLink, FrameFault, MemoryLink,
+    Message, MessageFlags, RequestIds, ResponseFault, Sequences, Sink, Source,
 };
 use std::alloc::Global;
+use std::fmt::Debug;
+use std::test::Fail;
 
 // An OP_MSG without flags and with an empty body, laid out by the OP_MSG specification: a header of 16 bytes, four bytes
 // of flags, the kind byte and the empty document of BSON 1.1.
@@ -29,11 +31,11 @@ pub(crate) const MESSAGE_WITH_SEQUENCE: [u8; 46] = [
     0, 0, 0, 0x64, 0x6f, 0x63, 0x75, 0x6d, 0x65, 0x6e, 0x74, 0x73, 0, 5, 0, 0, 0, 0,
 ];
 
-// The message without elements and flags, under the id 0.
-pub(crate) fn empty_message(alloc: Global) -> Result<Message, Error> {
+// The message with these sequences, without elements and flags, under the id 0.
+pub(crate) fn message_over(alloc: Global, sequences: Sequences) -> Result<Message, Fail> {
     Ok(Message {
         document_payload: RawDocumentBuf::new(alloc)?,
-        document_sequences: Sequences::new(alloc),
+        document_sequences: sequences,
         response_to: 0,
         flags: MessageFlags::empty(),
         checksum: None,
@@ -41,11 +43,16 @@ pub(crate) fn empty_message(alloc: Global) -> Result<Message, Error> {
     })
 }
 
+// The message without elements and flags, under the id 0.
+pub(crate) fn empty_message(alloc: Global) -> Result<Message, Fail> {
+    message_over(alloc, Sequences::new(alloc))
+}
+
 // The sequence of one empty document under this identifier.
 pub(crate) fn one_empty_document(
     alloc: Global,
     identifier: &str,
-) -> Result<DocumentSequence, Error> {
+) -> Result<DocumentSequence, Fail> {
     let mut documents = Documents::new(alloc);
     documents.push(RawDocumentBuf::new(alloc)?)?;
     Ok(DocumentSequence {
@@ -54,18 +61,29 @@ pub(crate) fn one_empty_document(
     })
 }
 
+// That sequence alone.
+pub(crate) fn one_sequence(alloc: Global, identifier: &str) -> Result<Sequences, Fail> {
+    let mut sequences = Sequences::new(alloc);
+    sequences.push(one_empty_document(alloc, identifier)?)?;
+    Ok(sequences)
+}
+
 // The empty message with the sequence `documents` of one empty document.
-pub(crate) fn message_with_sequence(alloc: Global) -> Result<Message, Error> {
-    let mut message = empty_message(alloc)?;
-    message
-        .document_sequences
-        .push(one_empty_document(alloc, "documents")?)?;
-    Ok(message)
+pub(crate) fn message_with_sequence(alloc: Global) -> Result<Message, Fail> {
+    message_over(alloc, one_sequence(alloc, "documents")?)
 }
 
 // A link that gives these bytes.
-pub(crate) fn giving(alloc: Global, bytes: &[u8]) -> Result<MemoryLink, Error> {
+pub(crate) fn giving(alloc: Global, bytes: &[u8]) -> Result<MemoryLink, Fail> {
     Ok(MemoryLink::new(alloc, Bytes::from_slice(alloc, bytes)?))
+}
+
+// A link that gives these bytes, and then so many zeros.
+pub(crate) fn giving_zeros(alloc: Global, start: &[u8], zeros: usize) -> Result<MemoryLink, Fail> {
+    let mut bytes = Vec::new(alloc);
+    bytes.extend_from_slice(start)?;
+    bytes.resize(start.len().saturating_add(zeros), 0)?;
+    Ok(MemoryLink::new(alloc, Bytes::from_vec(bytes)))
 }
 
 // A link that gives these bytes so many at a time, and fails at just this call.
@@ -74,7 +92,7 @@ pub(crate) fn failing_link(
     bytes: &[u8],
     call: usize,
     most: usize,
-) -> Result<FailingLink, Error>
+) -> Result<FailingLink, Fail>
     requires { 0 < most }
 {
     let input = Bytes::from_slice(alloc, bytes)?;
@@ -82,11 +100,9 @@ pub(crate) fn failing_link(
 }
 
 // A schedule under which just this call fails.
-fn failing_at(alloc: Global, call: usize) -> Result<Bytes, Error> {
+fn failing_at(alloc: Global, call: usize) -> Result<Bytes, Fail> {
     let mut schedule = Vec::new(alloc);
-    for _ in 0..call {
-        schedule.push(0)?;
-    }
+    schedule.resize(call, 0)?;
     schedule.push(1)?;
     Ok(Bytes::from_vec(schedule))
 }
@@ -103,42 +119,74 @@ pub(crate) enum Told {
     Other,
 }
 
-// The cause that is told.
-pub(crate) fn told_by(kind: &ErrorKind) -> Told {
-    match kind {
-        ErrorKind::ReadFault => Told::ReadFault,
-        ErrorKind::WriteFault => Told::WriteFault,
-        ErrorKind::EndOfInput => Told::EndOfInput,
-        ErrorKind::InvalidArgument(fault) => Told::Argument(*fault),
-        ErrorKind::InvalidResponse(fault) => Told::Response(*fault),
-        _ => Told::Other,
+// What refuses a call. An `Error` is large where a proof holds it, so it is asked in functions that are generic over it: no
+// proof but that of its own `told` sees it.
+pub(crate) trait Cause {
+    fn told(&self) -> Told;
+}
+
+impl Cause for Error {
+    fn told(&self) -> Told {
+        match &self.kind {
+            ErrorKind::ReadFault => Told::ReadFault,
+            ErrorKind::WriteFault => Told::WriteFault,
+            ErrorKind::EndOfInput => Told::EndOfInput,
+            ErrorKind::InvalidArgument(fault) => Told::Argument(*fault),
+            ErrorKind::InvalidResponse(fault) => Told::Response(*fault),
+            _ => Told::Other,
+        }
     }
 }
 
+impl Cause for FrameFault {
+    fn told(&self) -> Told {
+        told_by(Error::from(*self))
+    }
+}
+
+fn told_by<E: Cause + Drop>(cause: E) -> Told {
+    cause.told()
+}
+
 // What a call gave, or the cause that it told.
-pub(crate) fn or_told<T>(answer: Result<T, Error>) -> Result<T, Told> {
+pub(crate) fn or_told<T, E: Cause + Drop>(answer: Result<T, E>) -> Result<T, Told> {
     match answer {
         Ok(given) => Ok(given),
-        Err(error) => Err(told_by(&error.kind)),
+        Err(cause) => Err(told_by(cause)),
     }
 }
 
 // How a call ended.
-pub(crate) fn end<T: Drop>(answer: Result<T, Error>) -> Told {
+pub(crate) fn end<T: Drop, E: Cause + Drop>(answer: Result<T, E>) -> Told {
     match answer {
         Ok(_given) => Told::Done,
-        Err(error) => told_by(&error.kind),
+        Err(cause) => told_by(cause),
     }
 }
 
-// The next message of a source.
-pub(crate) fn read<S: Source>(alloc: Global, source: &mut S) -> Result<Message, Error> {
-    Message::read_from(alloc, source, None)
+// What a call gives, or its error as why the test fails.
+pub(crate) fn given<T: Drop, E: Debug + Drop>(answer: Result<T, E>) -> Result<T, Fail> {
+    Ok(answer?)
 }
 
 // How the read of the next message of a source ends.
 pub(crate) fn read_end<S: Source>(alloc: Global, source: &mut S) -> Told {
-    end(read(alloc, source))
+    end(Message::read_from(alloc, source, None))
+}
+
+// How the write of a message to a link ends, whether just these bytes were written, and the next id after the first.
+pub(crate) fn written(
+    alloc: Global,
+    message: Result<Message, Fail>,
+    maximum: Option<i32>,
+    first_id: i32,
+    bytes: &[u8],
+) -> Result<(Told, bool, i32), Fail> {
+    let message = message?;
+    let mut link = giving(alloc, &[])?;
+    let mut ids = RequestIds::new(first_id);
+    let told = write_end(alloc, &message, &mut link, maximum, &mut ids);
+    Ok((told, link.written() == bytes, ids.next()))
 }
 
 // How the write of a message ends.

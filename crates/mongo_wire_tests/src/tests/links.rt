@@ -1,47 +1,79 @@
-use super::{EMPTY_MESSAGE, Told, empty_message, failing_link, giving, read, read_end, write_end};
+use super::{EMPTY_MESSAGE, Told, empty_message, failing_link, given, giving, read_end, written};
 use bitflags::Flags;
-use mongo_wire::{Message, RequestIds, Source};
+use mongo_wire::{MemoryLink, Message, Source};
+use std::alloc::Global;
 use std::test::Fail;
 
 #[test]
 fn empty_message_is_26_bytes(rt: HostRuntime) -> Result<(), Fail> {
-    let message = empty_message(rt.alloc())?;
-    let mut ids = RequestIds::new(7);
-    let mut link = giving(rt.alloc(), &[])?;
-    let told = write_end(rt.alloc(), &message, &mut link, None, &mut ids);
-    assert_eq!(rt; told, Told::Done);
-    assert_eq!(rt; link.written(), EMPTY_MESSAGE.as_slice());
-    assert_eq!(rt; ids.next(), 7);
+    let alloc = rt.alloc();
+    let seen = written(alloc, empty_message(alloc), None, 7, &EMPTY_MESSAGE)?;
+    assert_eq!(rt; seen, (Told::Done, true, 7));
     Ok(())
 }
 
-// Whether the message is the empty one, without a request id.
-fn is_empty(message: &Message) -> bool {
+// Whether the message has the empty body and nothing else, its sequences aside, and no request id.
+fn is_plain(message: &Message) -> bool {
     message.document_payload.as_bytes() == [5, 0, 0, 0, 0].as_slice()
-        && message.document_sequences.is_empty()
         && message.response_to == 0
         && message.flags.bits() == 0
         && message.checksum.is_none()
         && message.request_id.is_none()
 }
 
+// Whether the message has no sequence, or just `documents` of one document.
+fn has_sequences(message: &Message, count: usize) -> bool {
+    match message.document_sequences.as_slice() {
+        [] => count == 0,
+        [sequence] => {
+            count == 1
+                && sequence.identifier.as_str() == "documents"
+                && sequence.documents.len() == 1
+        }
+        _ => false,
+    }
+}
+
+// Whether the source gives such a message.
+fn gives_plain(alloc: Global, source: &mut MemoryLink, sequences: usize) -> Result<bool, Fail> {
+    let message = given(Message::read_from(alloc, source, None))?;
+    Ok(is_plain(&message) && has_sequences(&message, sequences))
+}
+
+// Whether a link of these bytes gives such a message, and how much is left.
+pub(crate) fn plain_read(
+    alloc: Global,
+    bytes: &[u8],
+    sequences: usize,
+) -> Result<(bool, usize), Fail> {
+    let mut link = giving(alloc, bytes)?;
+    let is_plain = gives_plain(alloc, &mut link, sequences)?;
+    Ok((is_plain, link.left().len()))
+}
+
 #[test]
 fn empty_message_is_read_back(rt: HostRuntime) -> Result<(), Fail> {
-    let mut link = giving(rt.alloc(), &EMPTY_MESSAGE)?;
-    let message = read(rt.alloc(), &mut link)?;
-    assert!(rt; is_empty(&message));
-    assert_eq!(rt; link.left().len(), 0);
+    assert_eq!(rt; plain_read(rt.alloc(), &EMPTY_MESSAGE, 0)?, (true, 0));
     Ok(())
+}
+
+// What is seen of a read of the empty message that fails at just this call: how it ends, the count of faults, and how much
+// is left.
+fn read_failing(alloc: Global, call: usize) -> Result<(Told, u64, usize), Fail> {
+    let mut link = failing_link(alloc, &EMPTY_MESSAGE, call, 1)?;
+    let told = read_end(alloc, &mut link);
+    Ok((told, link.read_faults(), link.left().len()))
 }
 
 #[test]
 fn a_read_that_fails_at_any_call_is_told(rt: HostRuntime) -> Result<(), Fail> {
     for call in 0..27 {
-        let mut link = failing_link(rt.alloc(), &EMPTY_MESSAGE, call, 1)?;
-        let failed = read_end(rt.alloc(), &mut link) == Told::ReadFault;
-        assert_eq!(rt; failed, call < 26);
-        assert_eq!(rt; link.read_faults() == 1, failed);
-        assert_eq!(rt; link.left().len() + call.min(26), 26);
+        let wanted = if call < 26 {
+            (Told::ReadFault, 1, 26 - call)
+        } else {
+            (Told::Done, 0, 0)
+        };
+        assert_eq!(rt; read_failing(rt.alloc(), call)?, wanted);
     }
     Ok(())
 }

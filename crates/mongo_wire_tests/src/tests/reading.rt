@@ -1,9 +1,11 @@
 // The bytes are laid out by the OP_MSG specification and BSON 1.1.
+use super::links::plain_read;
 use super::ways::{Answer, Way, read_by};
-use super::{EMPTY_MESSAGE, MESSAGE_WITH_SEQUENCE, Told, failing_link, giving, read, read_end};
-use bitflags::Flags;
+use super::{
+    EMPTY_MESSAGE, MESSAGE_WITH_SEQUENCE, Told, failing_link, giving, giving_zeros, read_end,
+};
 use mongo_bson::Bytes;
-use mongo_wire::{ArgumentFault, Error, FrameBuffer, MemoryLink, Message, ResponseFault, Source};
+use mongo_wire::{ArgumentFault, FrameBuffer, MemoryLink, ResponseFault, Source};
 use std::alloc::Global;
 use std::test::Fail;
 
@@ -24,28 +26,16 @@ pub(crate) fn header(length: i32, op_code: i32) -> [u8; 16] {
 }
 
 // How the read of a message of these bytes ends.
-fn end_on(alloc: Global, bytes: &[u8]) -> Result<Told, Error> {
+fn end_on(alloc: Global, bytes: &[u8]) -> Result<Told, Fail> {
     Ok(read_end(alloc, &mut giving(alloc, bytes)?))
-}
-
-// Whether the message has just the sequence `documents` of one document.
-fn has_one_sequence(message: &Message) -> bool {
-    match message.document_sequences.as_slice() {
-        [sequence] => {
-            sequence.identifier.as_str() == "documents" && sequence.documents.len() == 1
-        }
-        _ => false,
-    }
 }
 
 #[test]
 fn a_message_with_a_sequence_is_read(rt: HostRuntime) -> Result<(), Fail> {
-    let mut link = giving(rt.alloc(), &MESSAGE_WITH_SEQUENCE)?;
-    let message = read(rt.alloc(), &mut link)?;
-    assert!(rt; message.document_payload.as_bytes() == [5, 0, 0, 0, 0].as_slice());
-    assert!(rt; has_one_sequence(&message));
-    assert!(rt; message.flags.bits() == 0 && message.checksum.is_none());
-    assert!(rt; message.request_id.is_none());
+    assert_eq!(rt;
+        plain_read(rt.alloc(), &MESSAGE_WITH_SEQUENCE, 1)?,
+        (true, 0)
+    );
     Ok(())
 }
 
@@ -64,63 +54,80 @@ fn a_header_is_refused_by_the_first_row_that_applies(rt: HostRuntime) -> Result<
     Ok(())
 }
 
-// Two frames one after another.
-fn two_frames(alloc: Global) -> Result<MemoryLink, Error> {
-    let mut input = Bytes::from_slice(alloc, &REPLY)?;
-    input.extend_from_slice(&EMPTY_MESSAGE)?;
+// A link that gives these pieces one after another.
+fn giving_all(alloc: Global, pieces: &[&[u8]]) -> Result<MemoryLink, Fail> {
+    let mut input = Bytes::new(alloc);
+    for piece in pieces {
+        input.extend_from_slice(piece)?;
+    }
     Ok(MemoryLink::new(alloc, input))
 }
 
-// How a read ends by each call where no frame is left.
-const ENDS: [(Way, Answer); 5] = [
-    (Way::TakeFrame, Err(Told::EndOfInput)),
-    (Way::ReadFrame, Err(Told::EndOfInput)),
-    (Way::NextFrame, Ok(None)),
-    (Way::Read, Err(Told::EndOfInput)),
-    (Way::Next, Ok(None)),
+const EACH: [Way; 5] = [
+    Way::TakeFrame,
+    Way::ReadFrame,
+    Way::NextFrame,
+    Way::Read,
+    Way::Next,
 ];
+
+// How a read by this call ends where no frame is left.
+fn end_by(way: Way) -> Answer {
+    match way {
+        Way::NextFrame | Way::Next => Ok(None),
+        _ => Err(Told::EndOfInput),
+    }
+}
+
+// What three reads of two frames answer, whether the second frame was held after it came, and whether nothing was at the end.
+fn three_reads(way: Way, alloc: Global) -> Result<([Answer; 3], bool, bool), Fail> {
+    let mut link = giving_all(alloc, &[REPLY.as_slice(), EMPTY_MESSAGE.as_slice()])?;
+    let mut buffer = FrameBuffer::new(alloc);
+    let first = read_by(way, alloc, &mut link, &mut buffer);
+    let second = read_by(way, alloc, &mut link, &mut buffer);
+    let was_held = buffer.frames() == 2 && buffer.as_bytes() == &EMPTY_MESSAGE[16..];
+    let third = read_by(way, alloc, &mut link, &mut buffer);
+    let is_empty = buffer.frames() == 2 && buffer.as_bytes().is_empty();
+    Ok(([first, second, third], was_held, is_empty))
+}
+
+// What is to be seen of them.
+fn three_seen(way: Way) -> ([Answer; 3], bool, bool) {
+    let first = Ok(Some((86, 1, 66, 65)));
+    let second = Ok(Some((26, 0, 6, 5)));
+    ([first, second, end_by(way)], true, true)
+}
 
 #[test]
 fn frames_come_one_after_another_through_one_buffer(rt: HostRuntime) -> Result<(), Fail> {
-    for (way, end) in ENDS {
-        let mut link = two_frames(rt.alloc())?;
-        let mut buffer = FrameBuffer::new(rt.alloc());
-        let first = read_by(way, rt.alloc(), &mut link, &mut buffer);
-        assert_eq!(rt; first, Ok(Some((86, 1, 66, 65))), "{way:?}");
-        let second = read_by(way, rt.alloc(), &mut link, &mut buffer);
-        assert_eq!(rt; second, Ok(Some((26, 0, 6, 5))), "{way:?}");
-        assert!(rt; buffer.frames() == 2 && buffer.as_bytes() == &EMPTY_MESSAGE[16..]);
-        assert_eq!(rt;
-            read_by(way, rt.alloc(), &mut link, &mut buffer),
-            end,
-            "{way:?}"
-        );
-        assert!(rt; buffer.frames() == 2 && buffer.as_bytes().is_empty());
+    for way in EACH {
+        assert_eq!(rt; three_reads(way, rt.alloc())?, three_seen(way), "{way:?}");
     }
     Ok(())
+}
+
+// What is seen of a read that fails at just this call: whether a frame came, the count of faults, and whether the buffer
+// holds nothing.
+fn read_failing(way: Way, alloc: Global, call: usize) -> Result<(bool, u64, bool), Fail> {
+    let mut link = failing_link(alloc, &MESSAGE_WITH_SEQUENCE, call, 1)?;
+    let mut buffer = FrameBuffer::new(alloc);
+    let came = read_by(way, alloc, &mut link, &mut buffer).is_ok();
+    Ok((came, link.read_faults(), buffer.as_bytes().is_empty()))
 }
 
 #[test]
 fn a_frame_is_read_byte_by_byte_unless_a_call_fails(rt: HostRuntime) -> Result<(), Fail> {
     for way in [Way::ReadFrame, Way::NextFrame] {
         for call in 0..48 {
-            let mut link = failing_link(rt.alloc(), &MESSAGE_WITH_SEQUENCE, call, 1)?;
-            let mut buffer = FrameBuffer::new(rt.alloc());
-            let numbers = read_by(way, rt.alloc(), &mut link, &mut buffer);
-            assert_eq!(rt; numbers.is_ok(), call >= 46);
-            assert_eq!(rt; link.read_faults() == 1, call < 46);
-            assert_eq!(rt; buffer.as_bytes().is_empty(), call < 46);
+            let wanted = if call < 46 {
+                (false, 1, true)
+            } else {
+                (true, 0, false)
+            };
+            assert_eq!(rt; read_failing(way, rt.alloc(), call)?, wanted);
         }
     }
     Ok(())
-}
-
-// A frame, and after it a header of this length and op code with four bytes of zeros.
-fn frame_and_header(alloc: Global, length: i32, op_code: i32) -> Result<MemoryLink, Error> {
-    let mut input = Bytes::from_slice(alloc, &EMPTY_MESSAGE)?;
-    input.extend_from_slice(&header(length, op_code))?;
-    input.extend_from_slice(&[0; 4])?;
-    Ok(MemoryLink::new(alloc, input))
 }
 
 // Whether the buffer shows nothing after one frame.
@@ -128,13 +135,17 @@ fn is_cleared(buffer: &FrameBuffer) -> bool {
     buffer.as_bytes().is_empty() && buffer.message().is_none() && buffer.frames() == 1
 }
 
-// What the buffer shows before and after a read that is refused by this call.
-fn is_refused(way: Way, alloc: Global, link: &mut MemoryLink) -> bool {
+// Whether a frame comes by this call, and after it a header of this length and op code, with four bytes of zeros, is refused
+// and shows nothing.
+fn is_refused(way: Way, alloc: Global, length: i32, op_code: i32) -> Result<bool, Fail> {
+    let second = header(length, op_code);
+    let pieces = [EMPTY_MESSAGE.as_slice(), second.as_slice(), &[0; 4]];
+    let mut link = giving_all(alloc, &pieces)?;
     let mut buffer = FrameBuffer::new(alloc);
-    let first = read_by(way, alloc, link, &mut buffer).is_ok();
+    let first = read_by(way, alloc, &mut link, &mut buffer).is_ok();
     let was_shown = buffer.as_bytes() == &EMPTY_MESSAGE[16..];
-    let refused = read_by(way, alloc, link, &mut buffer).is_err();
-    first && was_shown && refused && is_cleared(&buffer)
+    let refused = read_by(way, alloc, &mut link, &mut buffer).is_err();
+    Ok(first && was_shown && refused && is_cleared(&buffer))
 }
 
 #[test]
@@ -149,10 +160,9 @@ fn a_refused_read_shows_nothing(rt: HostRuntime) -> Result<(), Fail> {
         (26, 2013),
         (20, 2013),
     ] {
-        for (way, _) in ENDS {
-            let mut link = frame_and_header(rt.alloc(), length, op_code)?;
+        for way in EACH {
             assert!(rt;
-                is_refused(way, rt.alloc(), &mut link),
+                is_refused(way, rt.alloc(), length, op_code)?,
                 "{way:?} {length} {op_code}"
             );
         }
@@ -160,45 +170,41 @@ fn a_refused_read_shows_nothing(rt: HostRuntime) -> Result<(), Fail> {
     Ok(())
 }
 
-// A header of the first maximum, and 100 bytes.
-fn a_hundred_bytes(alloc: Global) -> Result<MemoryLink, Error> {
-    let mut input = Bytes::from_slice(alloc, &header(50_331_648, 2013))?;
-    input.extend_from_slice(&[0; 100])?;
-    Ok(MemoryLink::new(alloc, input))
+// Whether a header of the first maximum with a hundred bytes is refused, and how many frames the buffer took.
+fn lying_length(alloc: Global) -> Result<(bool, u64), Fail> {
+    let mut link = giving_zeros(alloc, &header(50_331_648, 2013), 100)?;
+    let mut buffer = FrameBuffer::new(alloc);
+    let refused = read_by(Way::TakeFrame, alloc, &mut link, &mut buffer).is_err();
+    Ok((refused, buffer.frames()))
 }
 
 #[test]
 fn a_length_that_lies_is_refused_in_time(rt: HostRuntime) -> Result<(), Fail> {
     // whoever took memory for the length, and cleared it, would clear a terabyte
     for _ in 0..20_000 {
-        let mut link = a_hundred_bytes(rt.alloc())?;
-        let mut buffer = FrameBuffer::new(rt.alloc());
-        let taken = read_by(Way::TakeFrame, rt.alloc(), &mut link, &mut buffer);
-        assert!(rt; taken.is_err());
-        assert_eq!(rt; buffer.frames(), 0);
+        assert_eq!(rt; lying_length(rt.alloc())?, (true, 0));
     }
     Ok(())
 }
 
-// A frame of the first maximum: the empty body, and one sequence of the identifier `a` with one document of zeros.
-fn greatest_frame(alloc: Global) -> Result<Bytes, Error> {
-    let mut bytes = Vec::new(alloc);
-    bytes.extend_from_slice(&header(50_331_648, 2013))?;
-    bytes.extend_from_slice(&[0, 0, 0, 0, 0, 5, 0, 0, 0, 0])?;
-    bytes.push(1)?;
-    bytes.extend_from_slice(&50_331_621u32.to_le_bytes())?;
-    bytes.extend_from_slice(&[0x61, 0])?;
-    bytes.extend_from_slice(&50_331_615u32.to_le_bytes())?;
-    bytes.resize(50_331_648, 0)?;
-    Ok(Bytes::from_vec(bytes))
+// A frame of the first maximum, but for the zeros at its end: the header, no flags, the empty body, and one sequence of 50331621
+// bytes with the identifier `a` and one document of 50331615 bytes.
+const GREATEST: [u8; 37] = [
+    0, 0, 0, 3, 0, 0, 0, 0, 0, 0, 0, 0, 0xdd, 0x07, 0, 0, 0, 0, 0, 0, 0, 5, 0, 0, 0, 0, 1, 0xe5,
+    0xff, 0xff, 2, 0x61, 0, 0xdf, 0xff, 0xff, 2,
+];
+
+// What the read of that frame answers, and how many bytes the buffer holds.
+fn greatest_read(alloc: Global) -> Result<(Answer, usize), Fail> {
+    let mut link = giving_zeros(alloc, &GREATEST, 50_331_611)?;
+    let mut buffer = FrameBuffer::new(alloc);
+    let answer = read_by(Way::ReadFrame, alloc, &mut link, &mut buffer);
+    Ok((answer, buffer.as_bytes().len()))
 }
 
 #[test]
 fn the_greatest_frame_is_read(rt: HostRuntime) -> Result<(), Fail> {
-    let mut link = MemoryLink::new(rt.alloc(), greatest_frame(rt.alloc())?);
-    let mut buffer = FrameBuffer::new(rt.alloc());
-    let numbers = read_by(Way::ReadFrame, rt.alloc(), &mut link, &mut buffer);
-    assert_eq!(rt; numbers, Ok(Some((50_331_648, 0, 50_331_628, 5))));
-    assert_eq!(rt; buffer.as_bytes().len(), 50_331_632);
+    let answer = Ok(Some((50_331_648, 0, 50_331_628, 5)));
+    assert_eq!(rt; greatest_read(rt.alloc())?, (answer, 50_331_632));
     Ok(())
 }

@@ -2,9 +2,8 @@
 use super::reading::header;
 use super::small::document_end;
 use super::ways::{Way, read_by};
-use super::{Told, read_end};
-use mongo_bson::Bytes;
-use mongo_wire::{Error, Failed, FrameBuffer, MemoryLink, Outside, Source};
+use super::{Told, giving_zeros, read_end};
+use mongo_wire::{Failed, FrameBuffer, MemoryLink, Outside, Source};
 use std::alloc::Global;
 use std::test::Fail;
 
@@ -35,29 +34,26 @@ impl<S: Source> Source for Widest<S> {
 }
 
 // A source of this start and so many zeros.
-fn announcing(alloc: Global, start: &[u8], came: usize) -> Result<Widest<MemoryLink>, Error> {
-    let mut bytes = Vec::new(alloc);
-    bytes.extend_from_slice(start)?;
-    bytes.resize(start.len().saturating_add(came), 0)?;
-    let source = MemoryLink::new(alloc, Bytes::from_vec(bytes));
+fn announcing(alloc: Global, start: &[u8], came: usize) -> Result<Widest<MemoryLink>, Fail> {
+    let source = giving_zeros(alloc, start, came)?;
     Ok(Widest { source, room: 0 })
 }
 
 // The greatest buffer that a call hands to the source, or none where the call isn't refused.
-fn room_of_frame(way: Way, alloc: Global, came: usize) -> Result<Option<usize>, Error> {
+fn room_of_frame(way: Way, alloc: Global, came: usize) -> Result<Option<usize>, Fail> {
     let mut source = announcing(alloc, &header(50_331_648, 2013), came)?;
     let mut buffer = FrameBuffer::new(alloc);
     let refused = read_by(way, alloc, &mut source, &mut buffer).is_err();
     Ok(if refused { Some(source.room) } else { None })
 }
 
-fn room_of_message(alloc: Global, came: usize) -> Result<Option<usize>, Error> {
+fn room_of_message(alloc: Global, came: usize) -> Result<Option<usize>, Fail> {
     let mut source = announcing(alloc, &header(50_331_648, 2013), came)?;
     let refused = read_end(alloc, &mut source) == Told::EndOfInput;
     Ok(if refused { Some(source.room) } else { None })
 }
 
-fn room_of_document(alloc: Global, came: usize) -> Result<Option<usize>, Error> {
+fn room_of_document(alloc: Global, came: usize) -> Result<Option<usize>, Fail> {
     let mut source = announcing(alloc, &[0xff, 0xff, 0xff, 0x7f], came)?;
     let refused = document_end(alloc, &mut source) == Told::EndOfInput;
     Ok(if refused { Some(source.room) } else { None })
@@ -68,17 +64,23 @@ fn is_within(room: Option<usize>, came: usize) -> bool {
     room.is_some_and(|room| room <= came.saturating_add(4096))
 }
 
+// The rooms of each call that reads a frame, a message or a document.
+fn rooms(alloc: Global, came: usize) -> Result<[Option<usize>; 5], Fail> {
+    Ok([
+        room_of_frame(Way::TakeFrame, alloc, came)?,
+        room_of_frame(Way::ReadFrame, alloc, came)?,
+        room_of_frame(Way::NextFrame, alloc, came)?,
+        room_of_message(alloc, came)?,
+        room_of_document(alloc, came)?,
+    ])
+}
+
 #[test]
 fn memory_is_taken_for_what_came(rt: HostRuntime) -> Result<(), Fail> {
     for came in [0, 100, 4096, 10_000, 100_000] {
-        for way in [Way::TakeFrame, Way::ReadFrame, Way::NextFrame] {
-            let room = room_of_frame(way, rt.alloc(), came)?;
-            assert!(rt; is_within(room, came), "{way:?} {came} {room:?}");
+        for room in rooms(rt.alloc(), came)? {
+            assert!(rt; is_within(room, came), "{came} {room:?}");
         }
-        let of_message = room_of_message(rt.alloc(), came)?;
-        assert!(rt; is_within(of_message, came), "{came} {of_message:?}");
-        let of_document = room_of_document(rt.alloc(), came)?;
-        assert!(rt; is_within(of_document, came), "{came} {of_document:?}");
     }
     Ok(())
 }

@@ -1,4 +1,5 @@
-use super::{Told, end, failing_link, giving, message_with_sequence, or_told};
+use super::{Told, end, failing_link, given, giving, message_with_sequence, or_told};
+use mongo_bson::RawDocumentBuf;
 use mongo_wire::{
     ArgumentFault, Header, MemoryLink, OpCode, RequestIds, ResponseFault, Sink, Source,
     SyncCountReader, SyncLittleEndianRead, read_document_bytes,
@@ -29,13 +30,20 @@ fn next_header<S: Source>(source: &mut S) -> Result<Header, Told> {
     or_told(Header::read_from(source))
 }
 
+// What is seen where the header is written to a link that gives its bytes, three a call, and is read from it: how the write
+// ends, whether its bytes were written, what is read, and how much is left.
+fn there_and_back(alloc: Global) -> Result<(Told, bool, Result<Header, Told>, usize), Fail> {
+    let mut link = failing_link(alloc, &HEADER, 1000, 3)?;
+    let told = end(READ_HEADER.write_to(&mut link));
+    let is_written = link.written() == HEADER.as_slice();
+    let read = next_header(&mut link);
+    Ok((told, is_written, read, link.left().len()))
+}
+
 #[test]
 fn a_header_is_written_and_read_back(rt: HostRuntime) -> Result<(), Fail> {
-    let mut link = failing_link(rt.alloc(), &HEADER, 1000, 3)?;
-    assert!(rt; READ_HEADER.write_to(&mut link).is_ok());
-    assert_eq!(rt; link.written(), HEADER.as_slice());
-    assert!(rt; next_header(&mut link) == Ok(READ_HEADER));
-    assert_eq!(rt; link.left().len(), 0);
+    let seen = there_and_back(rt.alloc())?;
+    assert!(rt; seen == (Told::Done, true, Ok(READ_HEADER), 0));
     Ok(())
 }
 
@@ -48,22 +56,31 @@ fn an_unknown_op_code_is_told_after_16_bytes(rt: HostRuntime) -> Result<(), Fail
     Ok(())
 }
 
-// The next three numbers, where they are read.
-fn numbers(reader: &mut SyncCountReader<MemoryLink>) -> Option<(i32, u32, u8)> {
-    let signed = reader.read_i32_sync().ok()?;
-    let unsigned = reader.read_u32_sync().ok()?;
-    let byte = reader.read_u8_sync().ok()?;
-    Some((signed, unsigned, byte))
+// The next three numbers, or why one isn't read.
+fn numbers(reader: &mut SyncCountReader<MemoryLink>) -> Result<(i32, u32, u8), Told> {
+    let signed = or_told(reader.read_i32_sync())?;
+    let unsigned = or_told(reader.read_u32_sync())?;
+    let byte = or_told(reader.read_u8_sync())?;
+    Ok((signed, unsigned, byte))
+}
+
+// What is seen of ten bytes: three numbers and how many bytes they took, and whether a fourth is refused, with the source's count
+// of ends and the bytes that it took.
+type Counted = (Result<(i32, u32, u8), Told>, u64, bool, u64, u64);
+
+fn counted(alloc: Global) -> Result<Counted, Fail> {
+    let bytes = [0xfe, 0xff, 0xff, 0xff, 1, 2, 3, 0x84, 7, 9];
+    let mut reader = SyncCountReader::new(giving(alloc, &bytes)?);
+    let read = numbers(&mut reader);
+    let taken = reader.bytes_read();
+    let refused = end(reader.read_u32_sync()) != Told::Done;
+    Ok((read, taken, refused, reader.ends(), reader.bytes_read()))
 }
 
 #[test]
 fn numbers_have_their_low_byte_first(rt: HostRuntime) -> Result<(), Fail> {
-    let bytes = [0xfe, 0xff, 0xff, 0xff, 1, 2, 3, 0x84, 7, 9];
-    let mut reader = SyncCountReader::new(giving(rt.alloc(), &bytes)?);
-    assert!(rt; numbers(&mut reader) == Some((-2, 0x8403_0201, 7)));
-    assert_eq!(rt; reader.bytes_read(), 9);
-    assert!(rt; reader.read_u32_sync().is_err());
-    assert!(rt; reader.ends() == 1 && reader.bytes_read() == 10);
+    let seen = counted(rt.alloc())?;
+    assert!(rt; seen == (Ok((-2, 0x8403_0201, 7)), 9, true, 1, 10));
     Ok(())
 }
 
@@ -72,16 +89,18 @@ pub(crate) fn document_end<S: Source>(alloc: Global, source: &mut S) -> Told {
     end(read_document_bytes(alloc, source))
 }
 
+// How the read of a document of this length ends, and how many of its six bytes are left.
+fn document_seen(alloc: Global, length: u8) -> Result<(Told, usize), Fail> {
+    let mut link = giving(alloc, &[length, 0, 0, 0, 0, 0xff])?;
+    let told = document_end(alloc, &mut link);
+    Ok((told, link.left().len()))
+}
+
 #[test]
 fn a_document_is_read_by_its_length(rt: HostRuntime) -> Result<(), Fail> {
-    for (length, told, left) in [
-        (5, Told::Done, 1),
-        (3, Told::Argument(ArgumentFault::CheckedFailure), 2),
-    ] {
-        let mut link = giving(rt.alloc(), &[length, 0, 0, 0, 0, 0xff])?;
-        assert_eq!(rt; document_end(rt.alloc(), &mut link), told);
-        assert_eq!(rt; link.left().len(), left);
-    }
+    let seen = [document_seen(rt.alloc(), 5)?, document_seen(rt.alloc(), 3)?];
+    let refused = Told::Argument(ArgumentFault::CheckedFailure);
+    assert_eq!(rt; seen, [(Told::Done, 1), (refused, 2)]);
     Ok(())
 }
 
@@ -91,18 +110,21 @@ const COMMAND_DOCUMENT: [u8; 29] = [
     0x30, 0, 5, 0, 0, 0, 0, 0, 0,
 ];
 
+fn command_document(alloc: Global) -> Result<RawDocumentBuf, Fail> {
+    let message = message_with_sequence(alloc)?;
+    given(message.get_raw_command_document(alloc))
+}
+
 #[test]
 fn a_sequence_is_an_array_of_the_command_document(rt: HostRuntime) -> Result<(), Fail> {
-    let alloc = rt.alloc();
-    let document = message_with_sequence(alloc)?.get_raw_command_document(alloc)?;
-    assert_eq!(rt; document.as_bytes(), COMMAND_DOCUMENT.as_slice());
+    let document = command_document(rt.alloc())?;
+    assert!(rt; document.as_bytes() == COMMAND_DOCUMENT.as_slice());
     Ok(())
 }
 
 #[test]
 fn request_ids_go_round(rt: HostRuntime) {
     let mut ids = RequestIds::new(2_147_483_647);
-    assert_eq!(rt; ids.draw(), 2_147_483_647);
-    assert_eq!(rt; ids.draw(), -2_147_483_648);
-    assert_eq!(rt; ids.next(), -2_147_483_647);
+    let drawn = [ids.draw(), ids.draw(), ids.next()];
+    assert_eq!(rt; drawn, [2_147_483_647, -2_147_483_648, -2_147_483_647]);
 }

@@ -1,6 +1,6 @@
 // Readers and writers of std that fail, end, take little or take nothing. No clause says what they give or take.
 use super::{EMPTY_MESSAGE, Told, empty_message, read_end, write_end};
-use mongo_wire::{Message, RequestIds, Sink, Source, StdLink, StdSink, StdSource};
+use mongo_wire::{Link, RequestIds, Sink, Source, StdLink, StdSink, StdSource};
 use std::alloc::Global;
 use std::io;
 use std::io::{Read, Write};
@@ -70,83 +70,85 @@ fn reader(failing: usize) -> FailingReader<'static> {
     }
 }
 
-// How the first read ends of a source whose reader fails there.
-fn first_end(failing: usize) -> Told {
+// How a read ended, and a source's counts of faults and of ends after it.
+type ReadSeen = (Told, u64, u64);
+
+// How a read ends, and a source's counts of faults and of ends.
+fn read_through<S: Source>(alloc: Global, source: &mut S) -> ReadSeen {
+    let told = read_end(alloc, source);
+    (told, source.read_faults(), source.ends())
+}
+
+// What is seen of each of two reads of a source whose reader fails there.
+fn two_reads(alloc: Global, failing: usize) -> (ReadSeen, ReadSeen) {
+    let mut source = StdSource::new(reader(failing));
+    let first = read_through(alloc, &mut source);
+    (first, read_through(alloc, &mut source))
+}
+
+// What is to be seen of the first read.
+fn first_seen(failing: usize) -> ReadSeen {
     if failing < 26 {
-        Told::ReadFault
+        (Told::ReadFault, 1, 0)
     } else {
-        Told::Done
+        (Told::Done, 0, 0)
     }
+}
+
+// Whether this is to be seen of the second read: fewer than the 16 bytes of a header are left where 11 or more were given, and
+// none after the whole frame.
+fn is_second(failing: usize, seen: ReadSeen) -> bool {
+    let (told, faults, ends) = seen;
+    (told == Told::ReadFault) == (failing == 26)
+        && (told == Told::Done) == (failing == 0)
+        && (ends == 1) == (failing > 10 && failing != 26)
+        && (faults == 1) == (failing < 27)
 }
 
 #[test]
 fn a_reader_that_fails_is_told_from_one_that_ends(rt: HostRuntime) {
-    let alloc = rt.alloc();
     for failing in 0..28 {
-        let mut source = StdSource::new(reader(failing));
-        assert_eq!(rt; read_end(alloc, &mut source), first_end(failing));
-        assert!(rt; (source.read_faults() == 1) == (failing < 26) && source.ends() == 0);
-        // fewer than the 16 bytes of a header are left where 11 or more were given, and none after the whole frame
-        let second = read_end(alloc, &mut source);
-        assert_eq!(rt; second == Told::ReadFault, failing == 26);
-        assert_eq!(rt; second == Told::Done, failing == 0);
-        assert_eq!(rt; source.ends() == 1, failing > 10 && failing != 26);
-        assert_eq!(rt; source.read_faults() == 1, failing < 27);
+        let (first, second) = two_reads(rt.alloc(), failing);
+        assert_eq!(rt; first, first_seen(failing));
+        assert!(rt; is_second(failing, second), "{failing} {second:?}");
     }
 }
 
 // What is seen of a write: how it ended, the sink's count of faults, the bytes that the writer holds and its flushes.
-#[derive(Clone, Copy, Debug, PartialEq)]
-struct Written {
-    told: Told,
-    faults: u64,
-    held: usize,
-    flushes: u32,
-}
+type WriteSeen = (Told, u64, usize, u32);
 
-// How the write of a message ends, and the sink's count of faults.
-fn write_through<K: Sink>(alloc: Global, message: &Message, sink: &mut K) -> (Told, u64) {
+// How the write of the empty message ends, and the sink's count of faults.
+fn write_through<K: Sink>(alloc: Global, sink: &mut K) -> Result<(Told, u64), Fail> {
+    let message = empty_message(alloc)?;
     let mut ids = RequestIds::new(0);
-    let told = write_end(alloc, message, sink, None, &mut ids);
-    (told, sink.write_faults())
+    let told = write_end(alloc, &message, sink, None, &mut ids);
+    Ok((told, sink.write_faults()))
 }
 
 // What is seen where the writer holds a front of the message, and nothing else.
-fn seen(told: Told, faults: u64, writer: &FailingWriter) -> Option<Written> {
+fn seen(told: Told, faults: u64, writer: &FailingWriter) -> Option<WriteSeen> {
     if EMPTY_MESSAGE.starts_with(writer.held.as_slice()) {
-        Some(Written {
-            told,
-            faults,
-            held: writer.held.len(),
-            flushes: writer.flushes,
-        })
+        Some((told, faults, writer.held.len(), writer.flushes))
     } else {
         None
     }
 }
 
 // What is seen of a write through a sink over the writer.
-fn through_sink(alloc: Global, message: &Message, writer: &mut FailingWriter) -> Option<Written> {
-    let (told, faults) = write_through(alloc, message, &mut StdSink::new(&mut *writer));
-    seen(told, faults, writer)
-}
-
-// How a read ends, and a source's counts of faults and of ends.
-fn read_through<S: Source>(alloc: Global, source: &mut S) -> (Told, u64, u64) {
-    let told = read_end(alloc, source);
-    (told, source.read_faults(), source.ends())
+fn through_sink(alloc: Global, mut writer: FailingWriter) -> Result<Option<WriteSeen>, Fail> {
+    let (told, faults) = write_through(alloc, &mut StdSink::new(&mut writer))?;
+    Ok(seen(told, faults, &writer))
 }
 
 // The same of a write and of a read through a link over the writer and a reader that fails at once.
 fn through_link(
     alloc: Global,
-    message: &Message,
-    writer: &mut FailingWriter,
-) -> (Option<Written>, (Told, u64, u64)) {
-    let mut link = StdLink::new(reader(0), &mut *writer);
-    let (told, faults) = write_through(alloc, message, &mut link);
+    mut writer: FailingWriter,
+) -> Result<(Option<WriteSeen>, ReadSeen), Fail> {
+    let mut link = StdLink::new(reader(0), &mut writer);
+    let (told, faults) = write_through(alloc, &mut link)?;
     let read = read_through(alloc, &mut link);
-    (seen(told, faults, writer), read)
+    Ok((seen(told, faults, &writer), read))
 }
 
 // A writer that takes so many bytes a call and fails so, and holds nothing yet.
@@ -160,9 +162,29 @@ fn writer(alloc: Global, most: usize, failing: Option<usize>, flush_fails: bool)
     }
 }
 
+// What is seen through a sink and through a link, each over a writer of its own.
+fn through_both(
+    alloc: Global,
+    most: usize,
+    failing: Option<usize>,
+    flush_fails: bool,
+) -> Result<(Option<WriteSeen>, Option<WriteSeen>, ReadSeen), Fail> {
+    let sunk = through_sink(alloc, writer(alloc, most, failing, flush_fails))?;
+    let (linked, read) = through_link(alloc, writer(alloc, most, failing, flush_fails))?;
+    Ok((sunk, linked, read))
+}
+
+// What is to be seen of a write that ends with a fault or with none.
+fn write_seen(held: usize, flushes: u32, faults: u64) -> Option<WriteSeen> {
+    if faults == 0 {
+        Some((Told::Done, faults, held, flushes))
+    } else {
+        Some((Told::WriteFault, faults, held, flushes))
+    }
+}
+
 #[test]
 fn a_writer_that_fails_or_takes_nothing_is_told(rt: HostRuntime) -> Result<(), Fail> {
-    let message = empty_message(rt.alloc())?;
     // most bytes a call, where it fails, whether its flush fails; then bytes written, flushes, faults
     for (most, failing, flush_fails, held, flushes, faults) in [
         (1, None, false, 26, 1, 0),
@@ -173,39 +195,33 @@ fn a_writer_that_fails_or_takes_nothing_is_told(rt: HostRuntime) -> Result<(), F
         (100, Some(21), false, 21, 0, 1),
         (1, None, true, 26, 1, 1),
     ] {
-        let wanted = Some(Written {
-            told: if faults == 0 {
-                Told::Done
-            } else {
-                Told::WriteFault
-            },
-            faults,
-            held,
-            flushes,
-        });
-        let mut first = writer(rt.alloc(), most, failing, flush_fails);
-        let seen = through_sink(rt.alloc(), &message, &mut first);
-        assert_eq!(rt; seen, wanted);
-        let mut second = writer(rt.alloc(), most, failing, flush_fails);
-        let (wrote, read) = through_link(rt.alloc(), &message, &mut second);
-        assert_eq!(rt; wrote, wanted);
-        assert_eq!(rt; read, (Told::ReadFault, 1, 0));
+        let wanted = write_seen(held, flushes, faults);
+        let seen = through_both(rt.alloc(), most, failing, flush_fails)?;
+        assert_eq!(rt; seen, (wanted, wanted, (Told::ReadFault, 1, 0)));
     }
     Ok(())
 }
 
-#[test]
-fn a_link_counts_each_direction_apart(rt: HostRuntime) -> Result<(), Fail> {
-    let alloc = rt.alloc();
-    let message = empty_message(alloc)?;
+// How a write through a link ends and two reads of one frame, and what it counts after them of ends and of faults.
+fn both_ways<L: Link>(alloc: Global, link: &mut L) -> Result<([Told; 3], [u64; 3]), Fail> {
+    let (wrote, _) = write_through(alloc, link)?;
+    let first = read_end(alloc, link);
+    let second = read_end(alloc, link);
+    let counts = [link.ends(), link.read_faults(), link.write_faults()];
+    Ok(([wrote, first, second], counts))
+}
+
+// Whether a link over a slice and a list is seen so, and the frame is written.
+fn is_counted_apart(alloc: Global) -> Result<bool, Fail> {
     let mut held = Vec::new(alloc);
     let mut link = StdLink::new(EMPTY_MESSAGE.as_slice(), &mut held);
-    let mut ids = RequestIds::new(0);
-    let told = write_end(alloc, &message, &mut link, None, &mut ids);
-    assert_eq!(rt; told, Told::Done);
-    assert_eq!(rt; read_end(alloc, &mut link), Told::Done);
-    assert_eq!(rt; read_end(alloc, &mut link), Told::EndOfInput);
-    assert!(rt; link.ends() == 1 && link.read_faults() == 0 && link.write_faults() == 0);
-    assert_eq!(rt; held.as_slice(), EMPTY_MESSAGE.as_slice());
+    let (told, counts) = both_ways(alloc, &mut link)?;
+    let is_told = told == [Told::Done, Told::Done, Told::EndOfInput] && counts == [1, 0, 0];
+    Ok(is_told && held.as_slice() == EMPTY_MESSAGE.as_slice())
+}
+
+#[test]
+fn a_link_counts_each_direction_apart(rt: HostRuntime) -> Result<(), Fail> {
+    assert!(rt; is_counted_apart(rt.alloc())?);
     Ok(())
 }

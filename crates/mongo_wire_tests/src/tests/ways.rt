@@ -1,6 +1,6 @@
 // The calls that read a frame into a buffer, and what each answers.
-use super::{Told, or_told, told_by};
-use mongo_wire::{Error, FrameBuffer, FrameFault, MessageRef, Source, next_frame, read_frame};
+use super::{Told, or_told};
+use mongo_wire::{FrameBuffer, MessageRef, Source, next_frame, read_frame};
 use std::alloc::Global;
 
 // One of these calls.
@@ -51,24 +51,8 @@ fn found(frame: Result<Option<MessageRef<'_>>, Told>) -> Answer {
     }
 }
 
-fn fault_told(fault: FrameFault) -> Told {
-    told_by(&Error::from(fault).kind)
-}
-
-// What a call of the buffer gave, or the cause that it told.
-fn or_fault_told<T>(answer: Result<T, FrameFault>) -> Result<T, Told> {
-    match answer {
-        Ok(given) => Ok(given),
-        Err(fault) => Err(fault_told(fault)),
-    }
-}
-
-fn take_frame<S: Source>(source: &mut S, buffer: &mut FrameBuffer) -> Result<(), Told> {
-    or_fault_told(buffer.take_frame(source, None))
-}
-
 fn by_take_frame<S: Source>(source: &mut S, buffer: &mut FrameBuffer) -> Answer {
-    take_frame(source, buffer)?;
+    or_told(buffer.take_frame(source, None))?;
     Ok(numbers_found(&buffer.message()))
 }
 
@@ -81,11 +65,11 @@ fn by_next_frame<S: Source>(alloc: Global, source: &mut S, buffer: &mut FrameBuf
 }
 
 fn by_read<S: Source>(source: &mut S, buffer: &mut FrameBuffer) -> Answer {
-    shown(or_fault_told(buffer.read(source, None)))
+    shown(or_told(buffer.read(source, None)))
 }
 
 fn by_next<S: Source>(source: &mut S, buffer: &mut FrameBuffer) -> Answer {
-    found(or_fault_told(buffer.next(source, None)))
+    found(or_told(buffer.next(source, None)))
 }
 
 // What the call answers of the source's next frame.

@@ -1,12 +1,14 @@
+ghost use Rattle.std.specs.Prelude.{◌<◌};
+
 use super::{
-    MESSAGE_WITH_SEQUENCE, Told, empty_message, failing_link, giving, message_with_sequence,
-    one_empty_document, write_end,
+    MESSAGE_WITH_SEQUENCE, Told, end, failing_link, giving, message_over, message_with_sequence,
+    one_empty_document, one_sequence, write_end, written,
 };
 use bitflags::Flags;
 use mongo_bson::{Documents, Text};
 use mongo_wire::{
-    ArgumentFault, DocumentSequence, Error, MemoryLink, Message, MessageFlags, RequestIds,
-    Sequences, Sink, write_sections,
+    ArgumentFault, DocumentSequence, MemoryLink, Message, MessageFlags, RequestIds, Sequences,
+    Sink, write_sections,
 };
 use std::alloc::Global;
 use std::test::Fail;
@@ -19,7 +21,7 @@ const WHOLE_MESSAGE: [u8; 51] = [
 ];
 
 // The sequence of no document under the identifier `aa`.
-fn no_document(alloc: Global) -> Result<DocumentSequence, Error> {
+fn no_document(alloc: Global) -> Result<DocumentSequence, Fail> {
     Ok(DocumentSequence {
         identifier: Text::from_slice(alloc, "aa")?,
         documents: Documents::new(alloc),
@@ -27,17 +29,15 @@ fn no_document(alloc: Global) -> Result<DocumentSequence, Error> {
 }
 
 // The sequences of that message.
-fn two_sequences(alloc: Global) -> Result<Sequences, Error> {
-    let mut sequences = Sequences::new(alloc);
-    sequences.push(one_empty_document(alloc, "bb")?)?;
+fn two_sequences(alloc: Global) -> Result<Sequences, Fail> {
+    let mut sequences = one_sequence(alloc, "bb")?;
     sequences.push(no_document(alloc)?)?;
     Ok(sequences)
 }
 
 // That message, without a request id.
-fn whole_message(alloc: Global) -> Result<Message, Error> {
-    let mut message = empty_message(alloc)?;
-    message.document_sequences = two_sequences(alloc)?;
+fn whole_message(alloc: Global) -> Result<Message, Fail> {
+    let mut message = message_over(alloc, two_sequences(alloc)?)?;
     message.response_to = -2;
     message.flags = MessageFlags::from_bits_retain(0x10005);
     message.checksum = Some(0x0102_0304);
@@ -47,44 +47,79 @@ fn whole_message(alloc: Global) -> Result<Message, Error> {
 
 #[test]
 fn a_sequence_follows_the_body(rt: HostRuntime) -> Result<(), Fail> {
-    let mut ids = RequestIds::new(7);
-    let mut link = giving(rt.alloc(), &[])?;
-    let message = message_with_sequence(rt.alloc())?;
-    let told = write_end(rt.alloc(), &message, &mut link, None, &mut ids);
-    assert_eq!(rt; told, Told::Done);
-    assert_eq!(rt; link.written(), MESSAGE_WITH_SEQUENCE.as_slice());
-    assert_eq!(rt; ids.next(), 7);
+    let alloc = rt.alloc();
+    let seen = written(
+        alloc,
+        message_with_sequence(alloc),
+        None,
+        7,
+        &MESSAGE_WITH_SEQUENCE,
+    )?;
+    assert_eq!(rt; seen, (Told::Done, true, 7));
     Ok(())
+}
+
+// The size of the sequence of one empty document under this identifier.
+fn size_under(alloc: Global, identifier: &str) -> Result<Option<u32>, Fail> {
+    Ok(one_empty_document(alloc, identifier)?.size())
 }
 
 #[test]
 fn a_sequence_has_the_size_that_its_section_tells(rt: HostRuntime) -> Result<(), Fail> {
     // the low byte of the first sequence's size, after the header, the flags, the body's section and the kind byte
-    for (identifier, size) in [
-        ("documents", MESSAGE_WITH_SEQUENCE[27]),
-        ("bb", WHOLE_MESSAGE[27]),
-    ] {
-        let sequence = one_empty_document(rt.alloc(), identifier)?;
-        assert_eq!(rt; sequence.size(), Some(size as u32));
-    }
+    let sizes = [
+        size_under(rt.alloc(), "documents")?,
+        size_under(rt.alloc(), "bb")?,
+    ];
+    let [first, second] = [MESSAGE_WITH_SEQUENCE[27], WHOLE_MESSAGE[27]];
+    assert_eq!(rt; sizes, [Some(first as u32), Some(second as u32)]);
     Ok(())
+}
+
+// What is seen of a write of the whole message to a link that takes so many bytes a call and fails at just this call: how it
+// ends, the count of faults, how many bytes were written, whether they are a front of the frame, and the next id after 9.
+type Seen = (Told, u64, usize, bool, i32);
+
+fn write_failing(
+    alloc: Global,
+    call: usize,
+    most: usize,
+    maximum: Option<i32>,
+) -> Result<Seen, Fail>
+    requires { 0 < most }
+{
+    let message = whole_message(alloc)?;
+    let mut link = failing_link(alloc, &[], call, most)?;
+    let mut ids = RequestIds::new(9);
+    let told = write_end(alloc, &message, &mut link, maximum, &mut ids);
+    let is_front = WHOLE_MESSAGE.starts_with(link.written());
+    Ok((
+        told,
+        link.write_faults(),
+        link.written().len(),
+        is_front,
+        ids.next(),
+    ))
 }
 
 #[test]
 fn sequences_and_checksum_go_out_byte_by_byte(rt: HostRuntime) -> Result<(), Fail> {
-    let mut ids = RequestIds::new(9);
-    let mut link = failing_link(rt.alloc(), &[], 1000, 1)?;
-    let message = whole_message(rt.alloc())?;
-    let told = write_end(rt.alloc(), &message, &mut link, Some(51), &mut ids);
-    assert_eq!(rt; told, Told::Done);
-    assert_eq!(rt; link.written(), WHOLE_MESSAGE.as_slice());
-    assert_eq!(rt; ids.next(), 10);
+    let seen = write_failing(rt.alloc(), 1000, 1, Some(51))?;
+    assert_eq!(rt; seen, (Told::Done, 0, 51, true, 10));
     Ok(())
+}
+
+// What is to be seen where the write fails at this call, which would be past the flush from 12 on.
+fn front_seen(call: usize, written: usize) -> Seen {
+    if call < 12 {
+        (Told::WriteFault, 1, written, true, 10)
+    } else {
+        (Told::Done, 0, written, true, 10)
+    }
 }
 
 #[test]
 fn a_write_that_fails_at_any_call_leaves_a_front(rt: HostRuntime) -> Result<(), Fail> {
-    let message = whole_message(rt.alloc())?;
     // the header, the flags and the kind byte, the body; kind and size, identifier, zero and document of one sequence, and
     // the first three of the other; the checksum; the flush; and no failure
     for (call, written) in [
@@ -102,33 +137,24 @@ fn a_write_that_fails_at_any_call_leaves_a_front(rt: HostRuntime) -> Result<(), 
         (11, 51),
         (12, 51),
     ] {
-        let mut link = failing_link(rt.alloc(), &[], call, 100)?;
-        let mut ids = RequestIds::new(9);
-        let told = write_end(rt.alloc(), &message, &mut link, None, &mut ids);
-        assert_eq!(rt; told == Told::WriteFault, call < 12);
-        assert_eq!(rt; link.write_faults() == 1, call < 12);
-        assert_eq!(rt; link.written().len(), written);
-        assert!(rt; WHOLE_MESSAGE.starts_with(link.written()));
+        let seen = write_failing(rt.alloc(), call, 100, None)?;
+        assert_eq!(rt; seen, front_seen(call, written));
     }
     Ok(())
 }
 
-// The empty message with a sequence whose identifier holds a zero.
-fn message_with_zero(alloc: Global) -> Result<Message, Error> {
-    let mut message = empty_message(alloc)?;
-    message
-        .document_sequences
-        .push(one_empty_document(alloc, "a\0b")?)?;
-    Ok(message)
-}
-
 // The message that is refused, or not, for a zero in an identifier.
-fn message_of(alloc: Global, has_zero: bool) -> Result<Message, Error> {
+fn message_of(alloc: Global, has_zero: bool) -> Result<Message, Fail> {
     if has_zero {
-        message_with_zero(alloc)
+        message_over(alloc, one_sequence(alloc, "a\0b")?)
     } else {
         whole_message(alloc)
     }
+}
+
+// How the write of that message ends within this maximum, whether nothing was written, and the next id after 9.
+fn refused(alloc: Global, has_zero: bool, maximum: i32) -> Result<(Told, bool, i32), Fail> {
+    written(alloc, message_of(alloc, has_zero), Some(maximum), 9, &[])
 }
 
 #[test]
@@ -138,12 +164,8 @@ fn a_message_is_refused_before_anything_is_done(rt: HostRuntime) -> Result<(), F
         (false, -1, ArgumentFault::MaximumNegative),
         (true, -1, ArgumentFault::IdentifierHasZero),
     ] {
-        let message = message_of(rt.alloc(), has_zero)?;
-        let mut link = giving(rt.alloc(), &[])?;
-        let mut ids = RequestIds::new(9);
-        let told = write_end(rt.alloc(), &message, &mut link, Some(maximum), &mut ids);
-        assert_eq!(rt; told, Told::Argument(fault));
-        assert!(rt; link.written().is_empty() && ids.next() == 9);
+        let seen = refused(rt.alloc(), has_zero, maximum)?;
+        assert_eq!(rt; seen, (Told::Argument(fault), true, 9));
     }
     Ok(())
 }
@@ -158,24 +180,37 @@ const SECTIONS: [u8; 6] = [0, 5, 0, 0, 0, 0];
 
 // Whether these sections are written under the id 5 within this maximum.
 fn writes(flags: MessageFlags, maximum: i32, link: &mut MemoryLink) -> bool {
-    write_sections(link, 5, 0, flags, &SECTIONS, Some(maximum)).is_ok()
+    end(write_sections(link, 5, 0, flags, &SECTIONS, Some(maximum))) == Told::Done
+}
+
+// Whether the sections are written within 26 bytes and refused within 25 on one link, and whether just this frame was written.
+fn sections_seen(
+    alloc: Global,
+    flags: MessageFlags,
+    frame: &[u8],
+) -> Result<(bool, bool, bool), Fail> {
+    let mut link = giving(alloc, &[])?;
+    let are_written = writes(flags, 26, &mut link);
+    let are_refused = !writes(flags, 25, &mut link);
+    Ok((are_written, are_refused, link.written() == frame))
 }
 
 #[test]
 fn sections_are_written_as_they_are(rt: HostRuntime) -> Result<(), Fail> {
-    let mut link = giving(rt.alloc(), &[])?;
-    assert!(rt; writes(MessageFlags::empty(), 26, &mut link));
-    assert_eq!(rt; link.written(), FRAME_OF_SECTIONS.as_slice());
+    let seen = sections_seen(rt.alloc(), MessageFlags::empty(), &FRAME_OF_SECTIONS)?;
+    assert_eq!(rt; seen, (true, true, true));
     Ok(())
 }
+
+// That frame with the flags 0x10002.
+const FLAGGED_FRAME: [u8; 26] = [
+    0x1a, 0, 0, 0, 5, 0, 0, 0, 0, 0, 0, 0, 0xdd, 0x07, 0, 0, 2, 0, 1, 0, 0, 5, 0, 0, 0, 0,
+];
 
 #[test]
 fn sections_carry_no_checksum_flag(rt: HostRuntime) -> Result<(), Fail> {
     let flags = MessageFlags::from_bits_retain(0x10007);
-    let mut link = giving(rt.alloc(), &[])?;
-    assert!(rt; writes(flags, 26, &mut link));
-    assert!(rt; !writes(flags, 25, &mut link));
-    assert_eq!(rt; link.written().len(), 26);
-    assert!(rt; link.written().get(16..20) == Some([2, 0, 1, 0].as_slice()));
+    let seen = sections_seen(rt.alloc(), flags, &FLAGGED_FRAME)?;
+    assert_eq!(rt; seen, (true, true, true));
     Ok(())
 }
