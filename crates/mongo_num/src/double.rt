@@ -105,7 +105,8 @@ fn whole(ratio: Ratio) -> Option<u128>
     if is_next_after_one(ratio) {
         return Some(1);
     }
-    if ratio.units % ratio.one == 0 {
+    let is_whole = ratio.units % ratio.one == 0;
+    if is_whole {
         return Some(ratio.units / ratio.one);
     }
     None

@@ -1,4 +1,5 @@
 use Rattle.std.proofs.Common.{arith}
+use Rattle.std.proofs.lemmas.List.{take_all}
 use Rattle.mongo_mac.proofs.SameBytes.{no_difference_more}
 use Rattle.mongo_mac.proofs.compare.are_same_bytes.Goals as goal
 
@@ -13,3 +14,6 @@ loop-i-preserved c =
     in_left
     (omega arith)
     c.loop-i.invariant
+
+pub returns : goal.returns
+returns c = grind (arith, take_all)

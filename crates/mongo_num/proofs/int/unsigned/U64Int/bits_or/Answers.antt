@@ -4,4 +4,4 @@ use Rattle.mongo_num.proofs.BitLemmas.{unsigned_bits}
 use Rattle.mongo_num.proofs.int.unsigned.U64Int.bits_or.Goals as goal
 
 pub returns : goal.returns
-returns c = unsigned_bits bit_or or_lt c.args.self c.args.other (omega arith) (omega arith)
+returns c = unsigned_bits 64 bit_or or_lt c.args.self c.args.other (omega arith) (omega arith)

@@ -4,4 +4,4 @@ use Rattle.mongo_num.proofs.BitLemmas.{unsigned_bits}
 use Rattle.mongo_num.proofs.int.unsigned.UsizeInt.bits_xor.Goals as goal
 
 pub returns : goal.returns
-returns c = unsigned_bits bit_xor xor_lt c.args.self c.args.other (omega arith) (omega arith)
+returns c = unsigned_bits 64 bit_xor xor_lt c.args.self c.args.other (omega arith) (omega arith)
