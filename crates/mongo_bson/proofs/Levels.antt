@@ -1,7 +1,7 @@
 -- Elements that are readable down to some level, one after another.
 use Rattle.std.proofs.Common.{◌≡◌, ◌≢◌, ℕ, suc, ◌-◌, ◌<◌, List, [], ◌∷◌, ◌++◌, length, sym, ap, ◌∙◌, subst, inl, inr, Some, true, false, ◌==◌, arith}
 use Rattle.std.specs.List.{AllByRecursion, flat_map}
-use Rattle.std.proofs.lemmas.List.{append_cancel_left, nil_from_length}
+use Rattle.std.proofs.lemmas.List.{append_cancel_left, length-append, nil_from_length}
 use Rattle.std.proofs.lemmas.Bool.Decides.{Decides-eqb}
 use Rattle.std.proofs.lemmas.Bool.{false≢true}
 use Rattle.mongo_bson.specs.Framed.{IsFramed, body_of}
@@ -20,6 +20,10 @@ pub record Reads (levels : ℕ) (bytes : List ℕ) : Type 0 where
   pub spelled : bytes ≡ flat_map spell elements
   pub each : AllByRecursion IsElement elements
   pub inside : AllByRecursion (InsideIsReadable levels) elements
+
+-- what is left after an element is shorter
+pub shorter : (bytes rest : List ℕ) (e : Element) → BeginsWithElement bytes e rest → length rest < length bytes
+shorter bytes rest e begins = omega (arith, ap length begins.spelled, length-append (e.key ++ 0 ∷ e.value) rest)
 
 pub reads_nothing : (levels : ℕ) (bytes : List ℕ) → bytes ≡ [] → Reads levels bytes
 reads_nothing levels bytes e = record { elements = []; spelled = e; each = tt; inside = tt }

@@ -17,3 +17,4 @@ pub mod Found
 pub mod Numbers
 pub mod OneAnswer
 pub mod Splits
+pub mod Written

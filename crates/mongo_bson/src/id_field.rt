@@ -30,13 +30,21 @@ pub fn get_or_prepend_id_field(
     ensures refused { IfErr result IdRefuses }
 {
     match document.borrow().get_bytes("_id") {
-        Ok(Some((kind, bytes))) => match Bytes::from_slice(alloc, bytes) {
-            Ok(bytes) => Ok(OwnedValue { kind, bytes }),
-            Err(fault) => Err(fault),
-        },
+        Ok(Some((kind, bytes))) => owned(alloc, kind, bytes),
         Ok(None) => prepend_id(alloc, document, id),
         Err(fault) => Err(fault),
     }
+}
+
+// A copy of a value by its kind byte and its bytes.
+fn owned(alloc: Global, kind: u8, bytes: &[u8]) -> Result<OwnedValue, BsonFault>
+    ensures copied { IfOk result (λ value. (value.kind ≡ kind) × (value.bytes ≡ bytes.now)) }
+    ensures refused { IfErr result (λ fault. fault ≡ BsonFault.OutOfMemory) }
+{
+    Ok(OwnedValue {
+        kind,
+        bytes: Bytes::from_slice(alloc, bytes)?,
+    })
 }
 
 // Puts the object id first in a document that has no `_id`, and answers it.
@@ -51,10 +59,7 @@ fn prepend_id(
     ensures unchanged { OnErr result (document.new ≡ document.old) }
     ensures refused { IfErr result PushRefuses }
 {
-    let value = OwnedValue {
-        kind: 0x07,
-        bytes: Bytes::from_slice(alloc, &id.0)?,
-    };
+    let value = owned(alloc, 0x07, &id.0)?;
     match with_id_first(alloc, document.as_bytes(), id) {
         Ok(with_id) => {
             *document = with_id;

@@ -133,27 +133,57 @@ fn write_value(out: &mut Vec<u8>, value: RawValue<'_>) -> Result<(), BsonFault>
     ensures refused { IfErr result (λ fault. fault ≡ BsonFault.OutOfMemory) }
 {
     match value {
-        RawValue::Double(bits) => out.extend_from_slice(&bits.to_le_bytes())?,
-        RawValue::Str(text) => {
-            out.extend_from_slice(&(text.len() as u32 + 1).to_le_bytes())?;
-            out.extend_from_slice(text.as_bytes())?;
-            out.push(0)?;
-        }
-        RawValue::Document(document) => out.extend_from_slice(document.as_bytes())?,
-        RawValue::Array(array) => out.extend_from_slice(array.as_bytes())?,
-        RawValue::Binary(subtype, content) => {
-            out.extend_from_slice(&(content.len() as u32).to_le_bytes())?;
-            out.push(subtype)?;
-            out.extend_from_slice(content)?;
-        }
-        RawValue::ObjectId(id) => out.extend_from_slice(&id.0)?,
-        RawValue::Bool(boolean) => out.push(u8::from(boolean))?,
-        RawValue::DateTime(milliseconds) => out.extend_from_slice(&milliseconds.to_le_bytes())?,
-        RawValue::Null => {}
-        RawValue::Int32(number) => out.extend_from_slice(&number.to_le_bytes())?,
-        RawValue::Int64(number) => out.extend_from_slice(&number.to_le_bytes())?,
-        RawValue::Other(_, content) => out.extend_from_slice(content)?,
+        RawValue::Double(bits) => write_bytes(out, &bits.to_le_bytes()),
+        RawValue::Str(text) => write_string(out, text),
+        RawValue::Document(document) => write_bytes(out, document.as_bytes()),
+        RawValue::Array(array) => write_bytes(out, array.as_bytes()),
+        RawValue::Binary(subtype, content) => write_binary(out, subtype, content),
+        RawValue::ObjectId(id) => write_bytes(out, &id.0),
+        RawValue::Bool(boolean) => write_bytes(out, &[u8::from(boolean)]),
+        RawValue::DateTime(milliseconds) => write_bytes(out, &milliseconds.to_le_bytes()),
+        RawValue::Null => Ok(()),
+        RawValue::Int32(number) => write_bytes(out, &number.to_le_bytes()),
+        RawValue::Int64(number) => write_bytes(out, &number.to_le_bytes()),
+        RawValue::Other(_, content) => write_bytes(out, content),
     }
+}
+
+// Writes bytes after what is there. What was there stays, whatever the result.
+#[inline(always)]
+fn write_bytes(out: &mut Vec<u8>, bytes: &[u8]) -> Result<(), BsonFault>
+    ensures added { OnOk result (out.new.items ≡ out.old.items ++ bytes.now) }
+    ensures kept { take (length out.old.items) out.new.items ≡ out.old.items }
+    ensures refused { IfErr result (λ fault. fault ≡ BsonFault.OutOfMemory) }
+{
+    out.extend_from_slice(bytes)?;
+    Ok(())
+}
+
+// Writes the length of a text with its final zero, the text and the zero. What was there stays, whatever the result.
+#[inline(always)]
+fn write_string(out: &mut Vec<u8>, text: &str) -> Result<(), BsonFault>
+    requires { length text.now + 1 < 2 ^ 32 }
+    ensures added { OnOk result (out.new.items ≡ out.old.items ++ (to_le_bytes w32 (length text.now + 1) ++ (text.now ++ 0 ∷ []))) }
+    ensures kept { take (length out.old.items) out.new.items ≡ out.old.items }
+    ensures refused { IfErr result (λ fault. fault ≡ BsonFault.OutOfMemory) }
+{
+    out.extend_from_slice(&(text.len() as u32 + 1).to_le_bytes())?;
+    out.extend_from_slice(text.as_bytes())?;
+    out.push(0)?;
+    Ok(())
+}
+
+// Writes the length of a binary's content, the subtype and the content. What was there stays, whatever the result.
+#[inline(always)]
+fn write_binary(out: &mut Vec<u8>, subtype: u8, content: &[u8]) -> Result<(), BsonFault>
+    requires { length content.now < 2 ^ 32 }
+    ensures added { OnOk result (out.new.items ≡ out.old.items ++ (to_le_bytes w32 (length content.now) ++ subtype ∷ content.now)) }
+    ensures kept { take (length out.old.items) out.new.items ≡ out.old.items }
+    ensures refused { IfErr result (λ fault. fault ≡ BsonFault.OutOfMemory) }
+{
+    out.extend_from_slice(&(content.len() as u32).to_le_bytes())?;
+    out.push(subtype)?;
+    out.extend_from_slice(content)?;
     Ok(())
 }
 

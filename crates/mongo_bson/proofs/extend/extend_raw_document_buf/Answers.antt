@@ -9,3 +9,9 @@ returns-in-Ok-false-clause-duplicate_key c =
     let other = c.args.other.now in
     let none : ShareNoKey this other = search rules in
     no_duplicate this other c.append_elements.result none c.append_elements.ensures.refused
+
+pub returns-in-Ok-true-clause-malformed : goal.returns-in-Ok-true-clause-malformed
+returns-in-Ok-true-clause-malformed c = search rules
+
+pub returns-in-Ok-true-clause-duplicate_key : goal.returns-in-Ok-true-clause-duplicate_key
+returns-in-Ok-true-clause-duplicate_key c = search rules

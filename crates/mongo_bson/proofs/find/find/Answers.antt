@@ -3,7 +3,7 @@ use Rattle.std.proofs.lemmas.Bool.{false≢true}
 use Rattle.std.proofs.lemmas.Slice.Eq.{bytes_eq-Decides}
 use Rattle.mongo_bson.specs.Reading.{element_read}
 use Rattle.mongo_bson.specs.Find.{IsFirstOf}
-use Rattle.mongo_bson.proofs.Levels.{none_left}
+use Rattle.mongo_bson.proofs.Levels.{none_left, shorter}
 use Rattle.mongo_bson.proofs.Passed.{passes_one, passes_all}
 use Rattle.mongo_bson.proofs.OneAnswer.{found_or_broken, none_or_broken}
 use Rattle.mongo_bson.proofs.find.find.Goals as goal
@@ -34,3 +34,6 @@ returns-clause-breaks_off c =
     let rest = c.elements.rest.now in
     let none = passes_all bytes key rest c.elements.invariant (none_left rest c.elements-test.ensures) in
     (λ f. absurd (false≢true f), λ broken. absurd (none_or_broken bytes key none broken))
+
+pub elements-smaller : goal.elements-smaller
+elements-smaller c = shorter c.elements.rest.now c.in-Some.after.now (element_read c.in-Some.element) c.in-Some.ensures

@@ -1,8 +1,8 @@
-use Rattle.std.proofs.Common.{◌-◌, ◌<◌, sym, ◌∙◌, subst, arith}
+use Rattle.std.proofs.Common.{◌-◌, ◌<◌, refl, sym, ◌∙◌, subst, arith}
 use Rattle.std.proofs.lemmas.Bool.{false≢true}
 use Rattle.mongo_bson.specs.Document.{IsReadable}
 use Rattle.mongo_bson.specs.Reading.{element_read}
-use Rattle.mongo_bson.proofs.Levels.{Reads, InsideIsReadable, nothing_readable, readable_reads, reads_readable, reads_more, reads_back, reads_stop, only_readable, left_over}
+use Rattle.mongo_bson.proofs.Levels.{Reads, InsideIsReadable, nothing_readable, readable_reads, reads_readable, reads_more, reads_back, reads_stop, only_readable, left_over, none_left, reads_nothing, shorter}
 use Rattle.mongo_bson.proofs.readable.+is_readable.Goals as goal
 
 pub returns-then-levels-eq0 : goal.returns-then-levels-eq0
@@ -57,3 +57,15 @@ elements-preserved-else-not-is_readable t c =
       to = λ r. c.elements.invariant.to (reads_more levels c.elements.rest.now c.in-Some.after.now e c.in-Some.ensures inside r);
       from = λ r. (reads_back levels c.elements.rest.now c.in-Some.after.now e c.in-Some.ensures (c.elements.invariant.from r)).1;
     }
+
+pub elements-smaller : goal.elements-smaller
+elements-smaller t c = shorter c.elements.rest.now c.in-Some.after.now (element_read c.in-Some.element) c.in-Some.ensures
+
+pub elements-smaller-else-not-is_readable : goal.elements-smaller-else-not-is_readable
+elements-smaller-else-not-is_readable t c =
+    shorter c.elements.rest.now c.in-Some.after.now (element_read c.in-Some.element) c.in-Some.ensures
+
+pub returns : goal.returns
+returns t c =
+    let rest = c.elements.rest.now in
+    (λ _. c.elements.invariant.to (reads_nothing (c.args.levels - 1) rest (none_left rest c.elements-test.ensures)), λ _. refl)

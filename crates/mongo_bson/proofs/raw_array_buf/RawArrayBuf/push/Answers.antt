@@ -1,9 +1,9 @@
-use Rattle.std.proofs.Common.{◌≤◌, length, Err, sym, ap, subst, arith}
+use Rattle.std.proofs.Common.{◌≡◌, ◌≤◌, ◌++◌, length, Err, sym, ap, subst, arith}
 use Rattle.std.specs.Fmt.{decimal}
 use Rattle.std.specs.List.{Contains}
-use Rattle.mongo_bson.specs.Framed.{IsFramed}
+use Rattle.mongo_bson.specs.Framed.{IsFramed, body_of, enclosed}
 use Rattle.mongo_bson.specs.Array.{IsArray}
-use Rattle.mongo_bson.specs.Document.{AddsElement}
+use Rattle.mongo_bson.specs.Document.{AddsElement, spell}
 use Rattle.mongo_bson.specs.Value.{kind_of, bytes_of, element_of}
 use Rattle.mongo_bson.proofs.Numbered.{number_text, decimal_no_zero, push_refuses, too_long_at_number, array_goes_on}
 use Rattle.mongo_bson.proofs.raw_array_buf.RawArrayBuf.push.Goals as goal
@@ -37,3 +37,13 @@ pub returns-in-Ok-clause-one_more : goal.returns-in-Ok-clause-one_more
 returns-in-Ok-clause-one_more c =
     let array = c.args.self.now in
     subst (λ key. AddsElement array.document c.append.new.self (element_of key c.args.value)) (number_text _ _ array.count (omega arith) c.format.ensures.text) c.in-Ok.ensures.one_more
+
+pub returns-in-Ok-clause-added : goal.returns-in-Ok-clause-added
+returns-in-Ok-clause-added c =
+    let array = c.args.self.now in
+    subst (λ key. c.append.new.self ≡ enclosed (body_of array.document ++ spell (element_of key c.args.value))) (number_text _ _ array.count (omega arith) c.format.ensures.text) c.in-Ok.ensures.added
+
+pub returns-in-Ok-clause-too_long : goal.returns-in-Ok-clause-too_long
+returns-in-Ok-clause-too_long c =
+    let array = c.args.self.now in
+    too_long_at_number array.document (bytes_of c.args.value) c.format.result.now (decimal array.count) _ (number_text _ _ array.count (omega arith) c.format.ensures.text) (decimal_no_zero array.count (omega arith)) c.in-Ok.ensures.too_long
