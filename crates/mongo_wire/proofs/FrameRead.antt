@@ -1,5 +1,5 @@
 -- What the exits of reading a frame say.
-use Rattle.std.proofs.Common.{◌≡◌, ℕ, ℤ, pos, ◌≤ℤ◌, ◌+◌, ◌-◌, ◌*◌, ◌<◌, ◌≤◌, max, inl, inr, Bool, true, false, is_some, Option, None, Some, Result, Ok, Err, OnOk, IfErr, List, [], ◌++◌, length, refl, sym, ap, ◌∙◌, subst, arith, length-append, append-nil}
+use Rattle.std.proofs.Common.{◌≡◌, ℕ, ℤ, pos, ◌≤ℤ◌, ◌+◌, ◌-◌, ◌*◌, ◌<◌, ◌≤◌, max, ◌⊎◌, inl, inr, Bool, true, false, is_some, Option, None, Some, Result, Ok, Err, OnOk, IfErr, List, [], ◌++◌, length, refl, sym, ap, ◌∙◌, subst, arith, length-append, append-nil}
 use Rattle.std.specs.Prelude.{int_lt, if◌then◌else◌}
 use Rattle.std.proofs.lemmas.Int.{ints}
 use Rattle.std.proofs.lemmas.Bool.{false≢true}
@@ -13,7 +13,7 @@ use Rattle.mongo_wire.specs.Message.{ReadRefused, IsUnreadable}
 use Rattle.std.proofs.lemmas.List.{drop_at}
 use Rattle.mongo_wire.specs.Held.{NoFrame, IsHeld}
 use Rattle.mongo_wire.specs.declared.held_frame.HeldFrame.{HeldFrame}
-use Rattle.mongo_wire.specs.Buffer.{HoldsFrame, held_bytes, IsFrameTaken, TakesAgain, GrowsFor, memory_of}
+use Rattle.mongo_wire.specs.Buffer.{HoldsFrame, held_bytes, IsFrameTaken, TakesAgain, GrowsFor, StaysWithin, memory_of}
 use Rattle.mongo_wire.specs.declared.op_code.OpCode.{OpCode}
 use Rattle.mongo_wire.specs.declared.op_code.OpCode.TheVariants as op_code
 use Rattle.mongo_wire.specs.declared.fault.ArgumentFault.{ArgumentFault}
@@ -196,6 +196,11 @@ frame_taken maximum before mid new head bytes rest held buffer p q sixteen size 
   within = omega (arith, ints, length-append head bytes, sixteen, size, within);
   taken = Consumes-trans before.left mid.left new.left head bytes p q;
 }
+
+-- no more memory than a buffer has that stays within the maximum
+pub stays_within : (maximum : ℤ) (start first : FrameBuffer) (memory : ℕ) → memory ≤ memory_of first → StaysWithin maximum start first → (memory ≤ memory_of start) ⊎ (pos memory ≤ℤ maximum)
+stays_within maximum start first memory less (inl p) = inl (omega (arith, less, p))
+stays_within maximum start first memory less (inr p) = inr (omega (arith, ints, less, p))
 
 -- memory for what came behind other bytes
 pub grows_later : (old mid new : State) (taken : List ℕ) (start first last : FrameBuffer) → memory_of first ≡ memory_of start → Consumes old.left mid.left taken → GrowsFor mid new first last → GrowsFor old new start last

@@ -38,6 +38,15 @@ stop_cases P PasswordNotAscii _ _ _ s fault end memory = absurd s
 pub rose_after : (first old new : ℕ) → first ≤ old → Rose old new → Rose first new
 rose_after first old new q r = omega arith
 
+-- two reads one after another
+pub reads_on : (old mid new : State) → ReadsOn old mid → ReadsOn mid new → ReadsOn old new
+reads_on old mid new p q = record {
+  tells = q.tells ∙ p.tells;
+  faults_stay = omega (arith, p.faults_stay, q.faults_stay);
+  ends_stay = omega (arith, p.ends_stay, q.ends_stay);
+  unwritten = record { written = q.unwritten.written ∙ p.unwritten.written; flushed = q.unwritten.flushed ∙ p.unwritten.flushed; writes = q.unwritten.writes ∙ p.unwritten.writes };
+}
+
 -- a later part was refused, of no more than was wanted in all
 pub stops_after : (kind : ErrorKind) (old mid new : State) (taken : List ℕ) (part wanted : ℕ)
     → Consumes old.left mid.left taken → ReadsOn old mid → length taken + part ≤ wanted → ReadStops kind mid new part → ReadStops kind old new wanted

@@ -4,7 +4,7 @@ use Rattle.std.specs.Io.KnownBytes.{Consumes}
 use Rattle.mongo_wire.specs.Error.{kind_of_frame_fault}
 use Rattle.mongo_wire.specs.Header.{signed_at}
 use Rattle.mongo_wire.proofs.DocumentCut.{length_cut, document_cut, memory_after}
-use Rattle.mongo_wire.proofs.ReadStopped.{came_then}
+use Rattle.mongo_wire.proofs.ReadStopped.{came_then, reads_on}
 use Rattle.mongo_wire.proofs.read_document.take_document_bytes.Goals as goal
 
 pub returns-in-Err-clause-refused : goal.returns-in-Err-clause-refused
@@ -31,3 +31,9 @@ returns-in-Err-take_into-clause-came g c = λ had left had_is left_is.
     let refused = c.in-Err-take_into.ensures in
     let some = came_then (kind_of_frame_fault c.in-Err-take_into.fault) (g.S.Outside.state c.args.source.now) _ _ field _ had left taken had_is left_is refused.refused in
     memory_after _ _ _ field had left _ _ _ taken had_is left_is some four (λ h l p q. omega (arith, first.came h l p q)) refused.came
+
+pub returns-in-Err-clause-on : goal.returns-in-Err-clause-on
+returns-in-Err-clause-on g c = c.in-Err.ensures.on
+
+pub returns-in-Err-take_into-clause-on : goal.returns-in-Err-take_into-clause-on
+returns-in-Err-take_into-clause-on g c = reads_on _ _ _ c.in-Ok.ensures.on c.in-Err-take_into.ensures.on

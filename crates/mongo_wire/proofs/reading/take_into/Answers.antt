@@ -3,7 +3,7 @@ use Rattle.std.proofs.lemmas.List.{length-take-le, length-drop}
 use Rattle.std.proofs.KnownBytes.{Consumes-trans}
 use Rattle.std.specs.Io.KnownBytes.{Consumes}
 use Rattle.mongo_wire.specs.Error.{kind_of_frame_fault}
-use Rattle.mongo_wire.proofs.ReadStopped.{stops_after, same_front, next_part, came_before, came_then}
+use Rattle.mongo_wire.proofs.ReadStopped.{stops_after, same_front, next_part, came_before, came_then, reads_on}
 use Rattle.mongo_wire.proofs.reading.take_into.Goals as goal
 
 pub returns-in-Err-fill_store-clause-refused : goal.returns-in-Err-fill_store-clause-refused
@@ -68,6 +68,15 @@ returns-clause-came g c = λ had left had_is left_is.
     let came = came_before _ _ taken had left invariant.taken had_is left_is in
     omega (arith, invariant.came, invariant.behind, size, came)
 
+pub returns-in-Err-clause-on : goal.returns-in-Err-clause-on
+returns-in-Err-clause-on g c = c.taking.invariant.on
+
+pub returns-in-Err-fill_store-clause-on : goal.returns-in-Err-fill_store-clause-on
+returns-in-Err-fill_store-clause-on g c = reads_on _ _ _ c.taking.invariant.on c.in-Err-fill_store.ensures.on
+
+pub returns-clause-on : goal.returns-clause-on
+returns-clause-on g c = c.taking.invariant.on
+
 pub taking-preserved : goal.taking-preserved
 taking-preserved g c =
     let at = c.taking.at in
@@ -91,5 +100,5 @@ taking-preserved g c =
       size = omega (arith, filled.size, room.size, invariant.size);
       wanted = omega (arith, filled.memory, room.wanted, invariant.wanted);
       came = omega (arith, filled.memory, room.came, invariant.came, after);
-      on = search rules;
+      on = reads_on _ _ _ invariant.on filled.on;
     }

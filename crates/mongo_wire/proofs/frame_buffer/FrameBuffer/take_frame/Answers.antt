@@ -1,5 +1,63 @@
-use Rattle.std.proofs.Common.{rules}
+use Rattle.std.proofs.Common.{rules, arith}
+use Rattle.mongo_wire.specs.Header.{maximum_of}
+use Rattle.mongo_wire.proofs.FrameRead.{stays_within}
 use Rattle.mongo_wire.proofs.frame_buffer.FrameBuffer.take_frame.Goals as goal
+
+pub returns-in-Ok-true-clause-taken : goal.returns-in-Ok-true-clause-taken
+returns-in-Ok-true-clause-taken g c =
+    let taken = c.in-Ok-true.ensures.taken c.in-Ok-true.field-0-test in
+    let holds = taken.holds in
+    record {
+      frame = taken.frame;
+      parts = taken.parts;
+      holds = record { held = holds.held; last_is = holds.last_is; is_held = holds.is_held; bytes_are = holds.bytes_are };
+      within = taken.within;
+      taken = taken.taken;
+    }
 
 pub returns-in-Ok-true-clause-again : goal.returns-in-Ok-true-clause-again
 returns-in-Ok-true-clause-again g c = λ frame rest parts is frame_is within. let (found, holds, left) = c.in-Ok-true.ensures.again frame rest parts is frame_is within in (record { held = holds.held; last_is = holds.last_is; is_held = holds.is_held; bytes_are = holds.bytes_are }, search (rules, left))
+
+pub returns-in-Ok-true-clause-counted : goal.returns-in-Ok-true-clause-counted
+returns-in-Ok-true-clause-counted g c = c.in-Ok-true.ensures.counted c.in-Ok-true.field-0-test
+
+pub returns-in-Ok-true-clause-came : goal.returns-in-Ok-true-clause-came
+returns-in-Ok-true-clause-came g c = c.in-Ok-true.ensures.came
+
+pub returns-in-Ok-true-clause-within : goal.returns-in-Ok-true-clause-within
+returns-in-Ok-true-clause-within g c = c.in-Ok-true.ensures.within
+
+pub returns-in-Ok-true-clause-on : goal.returns-in-Ok-true-clause-on
+returns-in-Ok-true-clause-on g c = c.in-Ok-true.ensures.on
+
+pub returns-in-Ok-false-clause-emptied : goal.returns-in-Ok-false-clause-emptied
+returns-in-Ok-false-clause-emptied g c =
+    let cleared = c.in-Ok-false.ensures.none c.in-Ok-false.field-0-test in
+    record {
+      nothing = record { none = cleared.nothing.none; start = search (rules, cleared.nothing.start); empty = search (rules, cleared.nothing.empty) };
+      frames = cleared.frames;
+    }
+
+pub returns-in-Ok-false-clause-came : goal.returns-in-Ok-false-clause-came
+returns-in-Ok-false-clause-came g c = λ had left had_is left_is. omega (arith, c.in-Ok-false.ensures.came had left had_is left_is)
+
+pub returns-in-Ok-false-clause-within : goal.returns-in-Ok-false-clause-within
+returns-in-Ok-false-clause-within g c = stays_within (maximum_of c.args.maximum) c.args.self.now c.take_next_frame.new.self _ (omega arith) c.in-Ok-false.ensures.within
+
+pub returns-in-Ok-false-clause-on : goal.returns-in-Ok-false-clause-on
+returns-in-Ok-false-clause-on g c = c.in-Ok-false.ensures.on
+
+pub returns-in-Err-clause-refused : goal.returns-in-Err-clause-refused
+returns-in-Err-clause-refused g c = c.in-Err.ensures.refused
+
+pub returns-in-Err-clause-emptied : goal.returns-in-Err-clause-emptied
+returns-in-Err-clause-emptied g c = c.in-Err.ensures.emptied
+
+pub returns-in-Err-clause-came : goal.returns-in-Err-clause-came
+returns-in-Err-clause-came g c = c.in-Err.ensures.came
+
+pub returns-in-Err-clause-within : goal.returns-in-Err-clause-within
+returns-in-Err-clause-within g c = c.in-Err.ensures.within
+
+pub returns-in-Err-clause-on : goal.returns-in-Err-clause-on
+returns-in-Err-clause-on g c = c.in-Err.ensures.on

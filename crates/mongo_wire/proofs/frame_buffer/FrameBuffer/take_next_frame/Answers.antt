@@ -1,7 +1,9 @@
-use Rattle.std.proofs.Common.{refl, ap, vec_capacity}
+use Rattle.std.proofs.Common.{refl, ap, ◌∙◌, vec_capacity}
 use Rattle.mongo_wire.specs.Error.{kind_of_frame_fault}
 use Rattle.mongo_wire.specs.Header.{maximum_of}
+use Rattle.mongo_wire.specs.Outside.{risen}
 use Rattle.mongo_wire.proofs.FrameRead.{header_stopped, same_taken, no_refusal, grows_later}
+use Rattle.mongo_wire.proofs.ReadStopped.{reads_on}
 use Rattle.mongo_wire.proofs.frame_buffer.FrameBuffer.take_next_frame.Goals as goal
 
 pub returns-in-Ok-clause-again : goal.returns-in-Ok-clause-again
@@ -30,3 +32,41 @@ pub returns-in-Err-take_rest-clause-came : goal.returns-in-Err-take_rest-clause-
 returns-in-Err-take_rest-clause-came g c =
     let state = g.S.Outside.state in
     grows_later (state c.args.source.now) (state c.fill_or_end.new.source) (state c.take_rest.new.source) _ c.args.self.now c.clear.new.self c.take_rest.new.self (ap (λ s. vec_capacity s) c.clear.ensures.store) (c.in-Ok-true.ensures.filled c.in-Ok-true.field-0-test) c.in-Err-take_rest.ensures.came
+
+pub returns-in-Ok-clause-taken : goal.returns-in-Ok-clause-taken
+returns-in-Ok-clause-taken g c = λ _. c.in-Ok.ensures.taken (g.S.Outside.state c.args.source.now) (c.in-Ok-true.ensures.filled c.in-Ok-true.field-0-test)
+
+pub returns-in-Ok-clause-counted : goal.returns-in-Ok-clause-counted
+returns-in-Ok-clause-counted g c = λ _. c.in-Ok.ensures.counted ∙ ap risen c.clear.ensures.frames
+
+pub returns-in-Ok-clause-on : goal.returns-in-Ok-clause-on
+returns-in-Ok-clause-on g c = reads_on _ _ _ c.in-Ok-true.ensures.on c.in-Ok.ensures.on
+
+pub returns-in-Err-take_rest-clause-refused : goal.returns-in-Err-take_rest-clause-refused
+returns-in-Err-take_rest-clause-refused g c = c.in-Err-take_rest.ensures.refused (g.S.Outside.state c.args.source.now) (c.in-Ok-true.ensures.filled c.in-Ok-true.field-0-test) c.in-Ok-true.ensures.on
+
+pub returns-in-Err-take_rest-clause-emptied : goal.returns-in-Err-take_rest-clause-emptied
+returns-in-Err-take_rest-clause-emptied g c =
+    let emptied = c.in-Err-take_rest.ensures.emptied in
+    record { nothing = emptied.nothing; frames = emptied.frames ∙ c.clear.ensures.frames }
+
+pub returns-in-Err-take_rest-clause-on : goal.returns-in-Err-take_rest-clause-on
+returns-in-Err-take_rest-clause-on g c = reads_on _ _ _ c.in-Ok-true.ensures.on c.in-Err-take_rest.ensures.on
+
+pub returns-in-Ok-false-clause-ended : goal.returns-in-Ok-false-clause-ended
+returns-in-Ok-false-clause-ended g c = λ _. c.in-Ok-false.ensures.ended c.in-Ok-false.field-0-test
+
+pub returns-in-Ok-false-clause-none : goal.returns-in-Ok-false-clause-none
+returns-in-Ok-false-clause-none g c = λ _. record { nothing = c.clear.ensures.nothing; frames = c.clear.ensures.frames }
+
+pub returns-in-Ok-false-clause-on : goal.returns-in-Ok-false-clause-on
+returns-in-Ok-false-clause-on g c = c.in-Ok-false.ensures.on
+
+pub returns-in-Err-clause-emptied : goal.returns-in-Err-clause-emptied
+returns-in-Err-clause-emptied g c = record { nothing = c.clear.ensures.nothing; frames = c.clear.ensures.frames }
+
+pub returns-in-Err-clause-more : goal.returns-in-Err-clause-more
+returns-in-Err-clause-more g c = c.in-Err.ensures.more
+
+pub returns-in-Err-clause-on : goal.returns-in-Err-clause-on
+returns-in-Err-clause-on g c = c.in-Err.ensures.on

@@ -63,3 +63,18 @@ returns-in-Some-clause-came g c = λ had left had_is left_is. omega (arith, c.ke
 
 pub returns-in-None-clause-came : goal.returns-in-None-clause-came
 returns-in-None-clause-came g c = λ had left had_is left_is. omega (arith, c.in-Ok-take_into.ensures.came had left had_is left_is)
+
+pub returns-in-Err-clause-on : goal.returns-in-Err-clause-on
+returns-in-Err-clause-on g c = search rules
+
+pub returns-in-Err-take_into-clause-on : goal.returns-in-Err-take_into-clause-on
+returns-in-Err-take_into-clause-on g c = c.in-Err-take_into.ensures.on
+
+pub returns-in-None-clause-on : goal.returns-in-None-clause-on
+returns-in-None-clause-on g c = c.in-Ok-take_into.ensures.on
+
+pub returns-in-Some-clause-on : goal.returns-in-Some-clause-on
+returns-in-Some-clause-on g c = c.in-Ok-take_into.ensures.on
+
+pub returns-in-Some-clause-counted : goal.returns-in-Some-clause-counted
+returns-in-Some-clause-counted g c = c.keep.ensures.frames

@@ -11,6 +11,9 @@ use Rattle.mongo_wire.proofs.IsFrame.{written_is_frame}
 use Rattle.mongo_wire.proofs.Written.{always, both, checksum_cut, cut_at_end, frame_cut, frame_written, passed_on, write_refused}
 use Rattle.mongo_wire.proofs.message.Message.write_op_msg_to.Goals as goal
 
+pub returns-in-Err-clause-refused : goal.returns-in-Err-clause-refused
+returns-in-Err-clause-refused g c = search rules
+
 pub returns-in_err-write_before_checksum-clause-refused :
     goal.returns-in_err-write_before_checksum-clause-refused
 returns-in_err-write_before_checksum-clause-refused g c =
