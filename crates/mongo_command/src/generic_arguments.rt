@@ -10,9 +10,10 @@ use crate::arguments::{
     ArgumentField, append_arguments, boolean_field, copy_with_room, document_field, int64_field,
     size_of_field, size_of_fields, version_field, write_concern_field,
 };
+use crate::copies::copies_of;
 use crate::keys::{CLUSTER_TIME, DB};
 use crate::read_concern::ReadConcern;
-use mongo_bson::{BsonFault, RawDocumentBuf, RawValue, copy_of};
+use mongo_bson::{BsonFault, RawDocumentBuf, RawValue};
 use std::alloc::Global;
 
 // The fields that a command of any name can carry beside its body, in the order in which they are sent.
@@ -125,21 +126,29 @@ impl GenericArguments {
         ensures copied { IfOk result (λ arguments. arguments ≡ self.now) }
         ensures refused { IfErr result (λ fault. fault ≡ BsonFault.OutOfMemory) }
     {
-        let read_concern = match &self.read_concern {
-            Some(concern) => Some(concern.try_clone(alloc)?),
-            None => None,
-        };
+        let (lsid, cluster_time, read_preference) = copies_of(
+            alloc,
+            &self.lsid,
+            &self.cluster_time,
+            &self.read_preference,
+        )?;
+        let (read_concern, write_concern, recovery_token) = copies_of(
+            alloc,
+            &self.read_concern,
+            &self.write_concern,
+            &self.recovery_token,
+        )?;
         Ok(GenericArguments {
-            lsid: copy_of(alloc, &self.lsid)?,
-            cluster_time: copy_of(alloc, &self.cluster_time)?,
+            lsid,
+            cluster_time,
             server_api: self.server_api,
-            read_preference: copy_of(alloc, &self.read_preference)?,
+            read_preference,
             txn_number: self.txn_number,
             start_transaction: self.start_transaction,
             autocommit: self.autocommit,
             read_concern,
-            write_concern: copy_of(alloc, &self.write_concern)?,
-            recovery_token: copy_of(alloc, &self.recovery_token)?,
+            write_concern,
+            recovery_token,
         })
     }
 }

@@ -4,7 +4,7 @@ ghost use Rattle.mongo_command.specs.Command.{read_concern_elements, read_concer
 ghost use Rattle.mongo_command.specs.Arguments.{field_elements, IsNamed, TooLongFor};
 
 use crate::arguments::{ArgumentField, append_fields, text_field, timestamp_field};
-use mongo_bson::{BsonFault, RawDocumentBuf, Text, copy_of};
+use mongo_bson::{BsonFault, RawDocumentBuf, Text, TryClone, copy_of};
 use std::alloc::Global;
 
 // What a read may see, by the read concern specification. A time is in seconds since 1970, with a count within the second.
@@ -49,12 +49,10 @@ impl ReadConcern {
             timestamp_field("afterClusterTime", after_cluster_time),
         ]
     }
+}
 
-    // A copy of the read concern.
-    pub(crate) fn try_clone(&self, alloc: Global) -> Result<ReadConcern, BsonFault>
-        ensures copied { IfOk result (λ concern. concern ≡ self.now) }
-        ensures refused { IfErr result (λ fault. fault ≡ BsonFault.OutOfMemory) }
-    {
+impl TryClone for ReadConcern {
+    fn try_clone(&self, alloc: Global) -> Result<ReadConcern, BsonFault> {
         Ok(ReadConcern {
             level: copy_of(alloc, &self.level)?,
             at_cluster_time: self.at_cluster_time,

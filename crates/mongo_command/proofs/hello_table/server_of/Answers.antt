@@ -4,10 +4,10 @@ use Rattle.mongo_command.proofs.FieldAnswers.{refused, required_refused}
 use Rattle.mongo_command.proofs.hello_table.server_of.Goals as goal
 
 pub returns-in_err-compressors : goal.returns-in_err-compressors
-returns-in_err-compressors c = λ els are. refused IsServerTable els _ _ _ _ c.from_residual.ensures.1 (λ t is. (t.compressors, is.compressors)) (c.in_err-compressors.ensures els are)
+returns-in_err-compressors c = λ els are. refused IsServerTable els _ _ _ _ c.from_residual-in_err-compressors.ensures.1 (λ t is. (t.compressors, is.compressors)) (c.in_err-compressors.ensures els are)
 
 pub returns-in_err-logical_session_timeout_minutes : goal.returns-in_err-logical_session_timeout_minutes
-returns-in_err-logical_session_timeout_minutes c = λ els are. refused IsServerTable els _ _ _ _ c.from_residual-in_err-logical_session_timeout_minutes.ensures.1 (λ t is. (t.logical_session_timeout_minutes, is.logical_session_timeout_minutes)) (c.in_err-logical_session_timeout_minutes.ensures els are)
+returns-in_err-logical_session_timeout_minutes c = λ els are. refused IsServerTable els _ _ _ _ c.from_residual.ensures.1 (λ t is. (t.logical_session_timeout_minutes, is.logical_session_timeout_minutes)) (c.in_err-logical_session_timeout_minutes.ensures els are)
 
 pub returns-in_err-min_wire_version : goal.returns-in_err-min_wire_version
 returns-in_err-min_wire_version c = λ els are. refused IsServerTable els _ _ _ _ c.from_residual-in_err-min_wire_version.ensures.1 (λ t is. (t.min_wire_version, is.min_wire_version)) (c.in_err-min_wire_version.ensures els are)

@@ -7,7 +7,7 @@ pub returns-in_err-server : goal.returns-in_err-server
 returns-in_err-server c = λ els are. part_fault IsSetTable IsServerTable els els c.in_err-server.field-0.0 c.from_residual-in_err-server.result c.from_residual-in_err-server.ensures.1 (λ t is. (t, is.server)) (c.in_err-server.ensures els are)
 
 pub returns-in_err-hosts : goal.returns-in_err-hosts
-returns-in_err-hosts c = λ els are. refused IsSetTable els _ _ _ _ c.from_residual.ensures.1 (λ t is. (t.hosts, is.hosts)) (c.in_err-hosts.ensures els are)
+returns-in_err-hosts c = λ els are. refused IsSetTable els _ _ _ _ c.from_residual-in_err-hosts.ensures.1 (λ t is. (t.hosts, is.hosts)) (c.in_err-hosts.ensures els are)
 
 pub returns-in_err-passives : goal.returns-in_err-passives
 returns-in_err-passives c = λ els are. refused IsSetTable els _ _ _ _ c.from_residual-in_err-passives.ensures.1 (λ t is. (t.passives, is.passives)) (c.in_err-passives.ensures els are)
@@ -19,7 +19,7 @@ pub returns-in_err-primary : goal.returns-in_err-primary
 returns-in_err-primary c = λ els are. refused IsSetTable els _ _ _ _ c.from_residual-in_err-primary.ensures.1 (λ t is. (t.primary, is.primary)) (c.in_err-primary.ensures els are)
 
 pub returns-in_err-set_version : goal.returns-in_err-set_version
-returns-in_err-set_version c = λ els are. refused IsSetTable els _ _ _ _ c.from_residual-in_err-set_version.ensures.1 (λ t is. (t.set_version, is.set_version)) (c.in_err-set_version.ensures els are)
+returns-in_err-set_version c = λ els are. refused IsSetTable els _ _ _ _ c.from_residual.ensures.1 (λ t is. (t.set_version, is.set_version)) (c.in_err-set_version.ensures els are)
 
 pub returns-in_err-set_name : goal.returns-in_err-set_name
 returns-in_err-set_name c = λ els are. refused IsSetTable els _ _ _ _ c.from_residual-in_err-set_name.ensures.1 (λ t is. (t.set_name, is.set_name)) (c.in_err-set_name.ensures els are)
