@@ -1,4 +1,4 @@
-use Rattle.std.proofs.Common.{◌≡◌, ℕ, List, Option, None, Some, sym, ◌∙◌, subst}
+use Rattle.std.proofs.Common.{◌≡◌, ℕ, List, Option, None, Some, sym, ◌∙◌, subst, rules}
 use Rattle.mongo_bson.specs.Framed.{body_of}
 use Rattle.mongo_bson.specs.Find.{FindsValue}
 use Rattle.mongo_bson.specs.Number.{u64_of_kind}
@@ -20,3 +20,6 @@ pub returns-in-None-clause-refused : goal.returns-in-None-clause-refused
 returns-in-None-clause-refused c =
     let found = rw c.in-Ok-Some.field-0-is at c.in-Ok-Some.ensures.found in
     no_number (reply_document c.args.self.now) c.in-Ok-Some.n c.into.result.kind c.get_u64_raw.result c.into.ensures (rw (c.borrow.ensures) at found) c.get_u64_raw.ensures.meaning c.in-None.is
+
+pub returns-in-Some-clause-count : goal.returns-in-Some-clause-count
+returns-in-Some-clause-count c = search rules

@@ -6,3 +6,6 @@ pub returns-clause-negotiated : goal.returns-clause-negotiated
 returns-clause-negotiated c =
     let says : c.as_str.result.now ≡ codes "admin." ++ c.in-Some.username = search rules in
     asked c.in-Some.username c.as_str.result.now c.args.self.now.username c.args.self.now.mechanism c.args.command.now c.append.new.self c.in-Some.is (sym c.is_some.ensures ∙ c.if-is_some.false) says c.in_ok-append.ensures.added
+
+pub returns-then-is_some-clause-negotiated : goal.returns-then-is_some-clause-negotiated
+returns-then-is_some-clause-negotiated c = search rules

@@ -17,3 +17,6 @@ returns-clause-heard c =
       is_first = subst (λ name. IsClientFirst message name first.nonce.now) named holds.is_first;
       bare_is = holds.bare_is ∙ ap (λ name. bare_message name first.nonce.now) named;
     }
+
+pub returns-then-ne-clause-refused : goal.returns-then-ne-clause-refused
+returns-then-ne-clause-refused c = search rules

@@ -1,0 +1,8 @@
+use Rattle.std.proofs.Common.{arith}
+use Rattle.std.proofs.lemmas.Grind.{common_steps}
+use Rattle.mongo_scram.specs.Messages.{bare_message, open_message}
+use Rattle.mongo_scram.proofs.client_texts.open_text.Goals as goal
+
+pub returns-clause-message : goal.returns-clause-message
+unfolding bare_message open_message
+returns-clause-message c = grind (arith, common_steps)
