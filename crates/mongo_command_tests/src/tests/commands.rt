@@ -1,6 +1,6 @@
 use super::failing::{Told, new_connection, send_message};
+use super::given;
 use super::notation::document;
-use super::{Answered, given};
 use mongo_bson::{Bytes, ObjectId, RawDocumentBuf, RawValue, Text};
 use mongo_command::{
     AwaitableHelloOptions, Command, Connection, ServerApi, ServerApiVersion, TopologyVersion,
@@ -72,40 +72,60 @@ fn set_all(alloc: Global, command: &mut Command) -> Result<(), Fail> {
     set_first(alloc, command, &inner)
 }
 
-// Whether a copy of the command has these fields.
-fn copy_has_fields(alloc: Global, command: &Command, fields: &str) -> Result<bool, Fail> {
-    has_fields(alloc, &command.try_clone(alloc)?, fields)
+// The command `ping` with everything set.
+fn all_set(alloc: Global) -> Result<Command, Fail> {
+    let mut command = ping(alloc)?;
+    set_all(alloc, &mut command)?;
+    Ok(command)
 }
 
-// The same of a copy with memory for more.
-fn roomy_copy_has_fields(alloc: Global, command: &Command, fields: &str) -> Result<bool, Fail> {
-    has_fields(alloc, &command.try_clone_with_room(alloc, 100)?, fields)
+// A copy of it.
+fn copy_of_all(alloc: Global) -> Result<Command, Fail> {
+    let command = all_set(alloc)?;
+    given(command.try_clone(alloc))
+}
+
+// A copy of it with memory for more.
+fn roomy_copy_of_all(alloc: Global) -> Result<Command, Fail> {
+    let command = all_set(alloc)?;
+    given(command.try_clone_with_room(alloc, 100))
+}
+
+// It without its concerns.
+fn all_but_concerns(alloc: Global) -> Result<Command, Fail> {
+    let mut command = all_set(alloc)?;
+    command.clear_concerns();
+    Ok(command)
 }
 
 #[test]
 fn fields_stand_in_their_order_whatever_that_of_the_calls(rt: HostRuntime) -> Result<(), Fail> {
-    let mut command = ping(rt.alloc())?;
-    set_all(rt.alloc(), &mut command)?;
-    assert!(rt; copy_has_fields(rt.alloc(), &command, ALL)?);
-    assert!(rt; roomy_copy_has_fields(rt.alloc(), &command, ALL)?);
-    command.clear_concerns();
-    assert!(rt; has_fields(rt.alloc(), &command, WITHOUT_CONCERNS)?);
+    assert!(rt; is_given(rt.alloc(), copy_of_all(rt.alloc()), ALL, false)?);
+    assert!(rt; is_given(rt.alloc(), roomy_copy_of_all(rt.alloc()), ALL, false)?);
+    assert!(rt;
+        is_given(
+            rt.alloc(),
+            all_but_concerns(rt.alloc()),
+            WITHOUT_CONCERNS,
+            false
+        )?
+    );
     Ok(())
 }
 
 const SNAPSHOT: &str =
     "ping=int:1 $db=text:admin readConcern={ level=text:snapshot atClusterTime=timestamp:38654705672 }";
 
-// Sets the time of a snapshot.
-fn set_snapshot(alloc: Global, command: &mut Command) -> Result<(), Fail> {
-    given(command.set_snapshot_read_concern(alloc, Some((9, 8))))
+// The command `ping` that reads the snapshot of a time.
+fn snapshot(alloc: Global) -> Result<Command, Fail> {
+    let mut command = ping(alloc)?;
+    given(command.set_snapshot_read_concern(alloc, Some((9, 8))))?;
+    Ok(command)
 }
 
 #[test]
 fn a_snapshot_has_its_time(rt: HostRuntime) -> Result<(), Fail> {
-    let mut command = ping(rt.alloc())?;
-    set_snapshot(rt.alloc(), &mut command)?;
-    assert!(rt; has_fields(rt.alloc(), &command, SNAPSHOT)?);
+    assert!(rt; is_given(rt.alloc(), snapshot(rt.alloc()), SNAPSHOT, false)?);
     Ok(())
 }
 
@@ -151,7 +171,12 @@ fn hello(alloc: Global, words: &str) -> Result<Command, Error> {
 // Whether the row's hello has the fields behind the arrow, and may be answered more than once exactly where it waits.
 fn is_hello(alloc: Global, row: &str) -> Result<bool, Fail> {
     let (words, fields) = row.split_once(" => ").unwrap_or((row, "no arrow"));
-    is_given(alloc, hello(alloc, words), fields, words.ends_with("await"))
+    is_given(
+        alloc,
+        given(hello(alloc, words)),
+        fields,
+        words.ends_with("await"),
+    )
 }
 
 // What is asked of a command: whether it has these fields, and whether it may be answered more than once exactly where it waits.
@@ -166,17 +191,15 @@ impl Asked for Command {
     }
 }
 
-fn is_given<A: Asked + Drop, E: Drop>(
+// Whether a command that was made is so.
+fn is_given<A: Asked + Drop>(
     alloc: Global,
-    answer: Result<A, E>,
+    command: Result<A, Fail>,
     fields: &str,
     waits: bool,
 ) -> Result<bool, Fail> {
-    let given = Answered { answer };
-    match &given.answer {
-        Ok(command) => command.has(alloc, fields, waits),
-        Err(_) => Ok(false),
-    }
+    let command = command?;
+    command.has(alloc, fields, waits)
 }
 
 const HELLOS: &str = "true - - => hello=int:1 backpressure=text:2 $db=text:admin

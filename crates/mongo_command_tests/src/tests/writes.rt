@@ -109,10 +109,11 @@ index=int:0 code=int:1 errInfo={ } => details: Some(RawDocumentBuf { held: [5, 0
 index=int:0 code=int:1 errInfo=[ ] => InvalidResponse(Body)
 index=int:0 code=int:1 code=int:1 => InvalidResponse(Body)"#;
 
-// The row of the reply that has the write error of a row.
-fn error_row(alloc: Global, row: &str) -> Result<String, Fail> {
+// The same of the reply that has the write error of a row.
+fn are_told_of_error(alloc: Global, row: &str) -> Result<bool, Fail> {
     let (fields, pieces) = row.split_once(" => ").unwrap_or((row, "no arrow"));
-    Ok(format!(in alloc; "writeErrors=[ 0={{ {fields} }} ] => {pieces}")?)
+    let whole = format!(in alloc; "writeErrors=[ 0={{ {fields} }} ] => {pieces}")?;
+    are_told(alloc, whole.as_str())
 }
 
 #[test]
@@ -121,8 +122,7 @@ fn a_reply_says_what_was_refused(rt: HostRuntime) -> Result<(), Fail> {
         assert!(rt; are_told(rt.alloc(), row)?, "{row}");
     }
     for row in ERRORS.lines() {
-        let whole = error_row(rt.alloc(), row)?;
-        assert!(rt; are_told(rt.alloc(), whole.as_str())?, "{row}");
+        assert!(rt; are_told_of_error(rt.alloc(), row)?, "{row}");
     }
     Ok(())
 }
