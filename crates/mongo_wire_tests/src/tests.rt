@@ -10,7 +10,7 @@ mod ways;
 mod writing;
 
 use bitflags::Flags;
-use mongo_bson::{Bytes, Documents, RawDocumentBuf, Text};
+use mongo_bson::{Bytes, Documents, Items, RawDocumentBuf, Text};
 use mongo_wire::{
     ArgumentFault, DocumentSequence, Error, ErrorKind, FailingLink, FrameFault, MemoryLink,
     Message, MessageFlags, RequestIds, ResponseFault, Sequences, Sink, Source,
@@ -48,24 +48,31 @@ pub(crate) fn empty_message(alloc: Global) -> Result<Message, Fail> {
     message_over(alloc, Sequences::new(alloc))
 }
 
+// A list of this item alone.
+pub(crate) fn only<T: Drop>(alloc: Global, item: T) -> Result<Items<T>, Fail> {
+    let mut items = Items::new(alloc);
+    items.push(item)?;
+    Ok(items)
+}
+
+fn one_document(alloc: Global) -> Result<Documents, Fail> {
+    only(alloc, RawDocumentBuf::new(alloc)?)
+}
+
 // The sequence of one empty document under this identifier.
 pub(crate) fn one_empty_document(
     alloc: Global,
     identifier: &str,
 ) -> Result<DocumentSequence, Fail> {
-    let mut documents = Documents::new(alloc);
-    documents.push(RawDocumentBuf::new(alloc)?)?;
     Ok(DocumentSequence {
         identifier: Text::from_slice(alloc, identifier)?,
-        documents,
+        documents: one_document(alloc)?,
     })
 }
 
 // That sequence alone.
 pub(crate) fn one_sequence(alloc: Global, identifier: &str) -> Result<Sequences, Fail> {
-    let mut sequences = Sequences::new(alloc);
-    sequences.push(one_empty_document(alloc, identifier)?)?;
-    Ok(sequences)
+    only(alloc, one_empty_document(alloc, identifier)?)
 }
 
 // The empty message with the sequence `documents` of one empty document.
@@ -144,7 +151,7 @@ impl Cause for FrameFault {
     }
 }
 
-fn told_by<E: Cause + Drop>(cause: E) -> Told {
+pub(crate) fn told_by<E: Cause + Drop>(cause: E) -> Told {
     cause.told()
 }
 

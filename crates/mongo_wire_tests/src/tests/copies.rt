@@ -1,5 +1,5 @@
 // A copy wants memory, and where it is there each copy says what it was made of.
-use super::message_with_sequence;
+use super::{message_with_sequence, only};
 use mongo_bson::{BsonFault, RawDocumentBuf, Text, Texts};
 use mongo_wire::{
     AuthFault, CommandError, Error, ErrorKind, IndexedWriteError, InsertManyError, Message,
@@ -11,9 +11,39 @@ use std::test::Fail;
 
 // The label `Transient`.
 fn labels(alloc: Global) -> Result<Texts, Fail> {
-    let mut labels = Texts::new(alloc);
-    labels.push(Text::from_slice(alloc, "Transient")?)?;
-    Ok(labels)
+    only(alloc, Text::from_slice(alloc, "Transient")?)
+}
+
+fn callback(alloc: Global) -> Result<Error, Fail> {
+    Ok(Error {
+        kind: ErrorKind::Callback(Text::from_slice(alloc, "no callback")?),
+    })
+}
+
+fn refused(alloc: Global) -> Result<Error, Fail> {
+    let fault = AuthFault::Refused(Text::from_slice(alloc, "no")?);
+    Ok(Error {
+        kind: ErrorKind::Authentication(fault),
+    })
+}
+
+fn server_error(alloc: Global) -> Result<Error, Fail> {
+    let fault = AuthFault::ServerError(Text::from_slice(alloc, "other-error")?);
+    Ok(Error {
+        kind: ErrorKind::Authentication(fault),
+    })
+}
+
+fn command(alloc: Global) -> Result<Error, Fail> {
+    let error = CommandError {
+        code: 18,
+        code_name: Text::from_slice(alloc, "AuthenticationFailed")?,
+        message: Text::from_slice(alloc, "no")?,
+        labels: labels(alloc)?,
+    };
+    Ok(Error {
+        kind: ErrorKind::Command(error),
+    })
 }
 
 fn write_error(alloc: Global) -> Result<WriteError, Fail> {
@@ -35,74 +65,53 @@ fn concern_error(alloc: Global) -> Result<WriteConcernError, Fail> {
     })
 }
 
-fn command_error(alloc: Global) -> Result<CommandError, Fail> {
-    Ok(CommandError {
-        code: 18,
-        code_name: Text::from_slice(alloc, "AuthenticationFailed")?,
-        message: Text::from_slice(alloc, "no")?,
-        labels: labels(alloc)?,
-    })
+fn write_failure(labels: Texts, cause: WriteFailureCause) -> Error {
+    Error {
+        kind: ErrorKind::Write(WriteFailure { cause, labels }),
+    }
 }
 
-fn write_failure(alloc: Global, cause: WriteFailureCause) -> Result<ErrorKind, Fail> {
-    Ok(ErrorKind::Write(WriteFailure {
-        cause,
-        labels: labels(alloc)?,
-    }))
+fn write(alloc: Global) -> Result<Error, Fail> {
+    let labels = labels(alloc)?;
+    let cause = WriteFailureCause::WriteError(write_error(alloc)?);
+    Ok(write_failure(labels, cause))
+}
+
+fn concern(alloc: Global) -> Result<Error, Fail> {
+    let labels = labels(alloc)?;
+    let cause = WriteFailureCause::WriteConcernError(concern_error(alloc)?);
+    Ok(write_failure(labels, cause))
 }
 
 fn write_errors(alloc: Global) -> Result<WriteErrors, Fail> {
-    let mut errors = WriteErrors::new(alloc);
-    errors.push(IndexedWriteError {
-        index: 7,
-        error: write_error(alloc)?,
-    })?;
-    Ok(errors)
+    let error = write_error(alloc)?;
+    only(alloc, IndexedWriteError { index: 7, error })
 }
 
-fn insert_error(alloc: Global) -> Result<InsertManyError, Fail> {
-    Ok(InsertManyError {
+fn insert(alloc: Global) -> Result<Error, Fail> {
+    let error = InsertManyError {
         write_errors: Some(write_errors(alloc)?),
         write_concern_error: Some(concern_error(alloc)?),
         labels: labels(alloc)?,
+    };
+    Ok(Error {
+        kind: ErrorKind::InsertMany(error),
     })
 }
 
-fn callback(alloc: Global, text: &str) -> Result<ErrorKind, Fail> {
-    Ok(ErrorKind::Callback(Text::from_slice(alloc, text)?))
-}
-
-fn refused(alloc: Global, text: &str) -> Result<ErrorKind, Fail> {
-    let fault = AuthFault::Refused(Text::from_slice(alloc, text)?);
-    Ok(ErrorKind::Authentication(fault))
-}
-
-fn server_error(alloc: Global, text: &str) -> Result<ErrorKind, Fail> {
-    let fault = AuthFault::ServerError(Text::from_slice(alloc, text)?);
-    Ok(ErrorKind::Authentication(fault))
-}
-
-fn refused_write(alloc: Global) -> Result<ErrorKind, Fail> {
-    let cause = WriteFailureCause::WriteError(write_error(alloc)?);
-    write_failure(alloc, cause)
-}
-
-fn refused_concern(alloc: Global) -> Result<ErrorKind, Fail> {
-    let cause = WriteFailureCause::WriteConcernError(concern_error(alloc)?);
-    write_failure(alloc, cause)
-}
-
-// The cause of this name.
-fn cause(alloc: Global, name: &str) -> Result<ErrorKind, Fail> {
+// The error of the cause of this name.
+fn error(alloc: Global, name: &str) -> Result<Error, Fail> {
     match name {
-        "callback" => callback(alloc, "no callback"),
-        "refused" => refused(alloc, "no"),
-        "server error" => server_error(alloc, "other-error"),
-        "command" => Ok(ErrorKind::Command(command_error(alloc)?)),
-        "write" => refused_write(alloc),
-        "concern" => refused_concern(alloc),
-        "insert" => Ok(ErrorKind::InsertMany(insert_error(alloc)?)),
-        _ => Ok(ErrorKind::EndOfInput),
+        "callback" => callback(alloc),
+        "refused" => refused(alloc),
+        "server error" => server_error(alloc),
+        "command" => command(alloc),
+        "write" => write(alloc),
+        "concern" => concern(alloc),
+        "insert" => insert(alloc),
+        _ => Ok(Error {
+            kind: ErrorKind::EndOfInput,
+        }),
     }
 }
 
@@ -132,24 +141,23 @@ impl Copied for Message {
     }
 }
 
+fn is_printed_as<T: Debug>(alloc: Global, value: &T, text: &str) -> Result<bool, Fail> {
+    Ok(format!(in alloc; "{value:?}")?.as_str() == text)
+}
+
 // Whether a copy of what was made is printed so.
 fn is_copied_as<T: Copied>(alloc: Global, made: Result<T, Fail>, text: &str) -> Result<bool, Fail> {
     let made = made?;
     let copy = made.copy(alloc)?;
-    Ok(format!(in alloc; "{copy:?}")?.as_str() == text)
-}
-
-// The error of this cause.
-fn error(alloc: Global, name: &str) -> Result<Error, Fail> {
-    Ok(Error {
-        kind: cause(alloc, name)?,
-    })
+    is_printed_as(alloc, &copy, text)
 }
 
 // Whether a row says how the copy of its cause's error is printed.
 fn holds(alloc: Global, row: &str) -> Result<bool, Fail> {
-    let (name, text) = row.split_once(" => ").unwrap_or((row, "no arrow"));
-    is_copied_as(alloc, error(alloc, name), text)
+    match row.split_once(" => ") {
+        Some((name, text)) => is_copied_as(alloc, error(alloc, name), text),
+        None => Ok(false),
+    }
 }
 
 #[test]

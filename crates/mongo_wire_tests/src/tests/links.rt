@@ -8,7 +8,7 @@ use std::test::Fail;
 fn empty_message_is_26_bytes(rt: HostRuntime) -> Result<(), Fail> {
     let alloc = rt.alloc();
     let seen = written(alloc, empty_message(alloc), None, 7, &EMPTY_MESSAGE)?;
-    assert_eq!(rt; seen, (Told::Done, true, 7));
+    assert!(rt; seen == (Told::Done, true, 7));
     Ok(())
 }
 
@@ -53,7 +53,7 @@ pub(crate) fn plain_read(
 
 #[test]
 fn empty_message_is_read_back(rt: HostRuntime) -> Result<(), Fail> {
-    assert_eq!(rt; plain_read(rt.alloc(), &EMPTY_MESSAGE, 0)?, (true, 0));
+    assert!(rt; plain_read(rt.alloc(), &EMPTY_MESSAGE, 0)? == (true, 0));
     Ok(())
 }
 

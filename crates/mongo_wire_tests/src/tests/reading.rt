@@ -25,31 +25,35 @@ pub(crate) fn header(length: i32, op_code: i32) -> [u8; 16] {
     [a, b, c, d, 0, 0, 0, 0, 0, 0, 0, 0, e, f, g, h]
 }
 
-// How the read of a message of these bytes ends.
-fn end_on(alloc: Global, bytes: &[u8]) -> Result<Told, Fail> {
-    Ok(read_end(alloc, &mut giving(alloc, bytes)?))
-}
-
 #[test]
 fn a_message_with_a_sequence_is_read(rt: HostRuntime) -> Result<(), Fail> {
-    assert_eq!(rt;
-        plain_read(rt.alloc(), &MESSAGE_WITH_SEQUENCE, 1)?,
-        (true, 0)
-    );
+    let seen = plain_read(rt.alloc(), &MESSAGE_WITH_SEQUENCE, 1)?;
+    assert!(rt; seen == (true, 0));
     Ok(())
+}
+
+// A header's length and op code, and how the read of its message ends.
+type HeaderRow = (i32, i32, Told);
+
+const HEADERS: [HeaderRow; 6] = [
+    (15, 2013, Told::Argument(ArgumentFault::CheckedFailure)),
+    (50_331_649, 2013, Told::Response(ResponseFault::OverMaximum)),
+    (26, 2012, Told::Response(ResponseFault::Compressed)),
+    (26, 1, Told::Response(ResponseFault::NotMessage)),
+    (26, 2004, Told::Response(ResponseFault::NotMessage)),
+    (50_331_649, 7, Told::Response(ResponseFault::OpCode(7))),
+];
+
+fn is_refused_so(alloc: Global, row: &HeaderRow) -> Result<bool, Fail> {
+    let (length, op_code, told) = row;
+    let mut link = giving(alloc, &header(*length, *op_code))?;
+    Ok(read_end(alloc, &mut link) == *told)
 }
 
 #[test]
 fn a_header_is_refused_by_the_first_row_that_applies(rt: HostRuntime) -> Result<(), Fail> {
-    for (length, op_code, told) in [
-        (15, 2013, Told::Argument(ArgumentFault::CheckedFailure)),
-        (50_331_649, 2013, Told::Response(ResponseFault::OverMaximum)),
-        (26, 2012, Told::Response(ResponseFault::Compressed)),
-        (26, 1, Told::Response(ResponseFault::NotMessage)),
-        (26, 2004, Told::Response(ResponseFault::NotMessage)),
-        (50_331_649, 7, Told::Response(ResponseFault::OpCode(7))),
-    ] {
-        assert_eq!(rt; end_on(rt.alloc(), &header(length, op_code))?, told);
+    for row in &HEADERS {
+        assert!(rt; is_refused_so(rt.alloc(), row)?, "{row:?}");
     }
     Ok(())
 }
@@ -80,7 +84,9 @@ fn end_by(way: Way) -> Answer {
 }
 
 // What three reads of two frames answer, whether the second frame was held after it came, and whether nothing was at the end.
-fn three_reads(way: Way, alloc: Global) -> Result<([Answer; 3], bool, bool), Fail> {
+type ThreeReads = (Answer, Answer, Answer, bool, bool);
+
+fn three_reads(way: Way, alloc: Global) -> Result<ThreeReads, Fail> {
     let mut link = giving_all(alloc, &[REPLY.as_slice(), EMPTY_MESSAGE.as_slice()])?;
     let mut buffer = FrameBuffer::new(alloc);
     let first = read_by(way, alloc, &mut link, &mut buffer);
@@ -88,20 +94,21 @@ fn three_reads(way: Way, alloc: Global) -> Result<([Answer; 3], bool, bool), Fai
     let was_held = buffer.frames() == 2 && buffer.as_bytes() == &EMPTY_MESSAGE[16..];
     let third = read_by(way, alloc, &mut link, &mut buffer);
     let is_empty = buffer.frames() == 2 && buffer.as_bytes().is_empty();
-    Ok(([first, second, third], was_held, is_empty))
+    Ok((first, second, third, was_held, is_empty))
 }
 
 // What is to be seen of them.
-fn three_seen(way: Way) -> ([Answer; 3], bool, bool) {
+fn three_seen(way: Way) -> ThreeReads {
     let first = Ok(Some((86, 1, 66, 65)));
     let second = Ok(Some((26, 0, 6, 5)));
-    ([first, second, end_by(way)], true, true)
+    (first, second, end_by(way), true, true)
 }
 
 #[test]
 fn frames_come_one_after_another_through_one_buffer(rt: HostRuntime) -> Result<(), Fail> {
     for way in EACH {
-        assert_eq!(rt; three_reads(way, rt.alloc())?, three_seen(way), "{way:?}");
+        let seen = three_reads(way, rt.alloc())?;
+        assert!(rt; seen == three_seen(way), "{way:?}");
     }
     Ok(())
 }
@@ -124,7 +131,8 @@ fn a_frame_is_read_byte_by_byte_unless_a_call_fails(rt: HostRuntime) -> Result<(
             } else {
                 (true, 0, false)
             };
-            assert_eq!(rt; read_failing(way, rt.alloc(), call)?, wanted);
+            let seen = read_failing(way, rt.alloc(), call)?;
+            assert!(rt; seen == wanted, "{:?}", (way, call));
         }
     }
     Ok(())
@@ -135,54 +143,65 @@ fn is_cleared(buffer: &FrameBuffer) -> bool {
     buffer.as_bytes().is_empty() && buffer.message().is_none() && buffer.frames() == 1
 }
 
-// Whether a frame comes by this call, and after it a header of this length and op code, with four bytes of zeros, is refused
-// and shows nothing.
+// Whether the empty message comes by this call, and what follows it is refused and shows nothing.
+fn is_one_shown(way: Way, alloc: Global, link: &mut MemoryLink, buffer: &mut FrameBuffer) -> bool {
+    read_by(way, alloc, link, buffer).is_ok()
+        && buffer.as_bytes() == &EMPTY_MESSAGE[16..]
+        && read_by(way, alloc, link, buffer).is_err()
+        && is_cleared(buffer)
+}
+
+// Whether this is seen of a header of this length and op code, with four bytes of zeros, after the empty message.
 fn is_refused(way: Way, alloc: Global, length: i32, op_code: i32) -> Result<bool, Fail> {
     let second = header(length, op_code);
     let pieces = [EMPTY_MESSAGE.as_slice(), second.as_slice(), &[0; 4]];
     let mut link = giving_all(alloc, &pieces)?;
     let mut buffer = FrameBuffer::new(alloc);
-    let first = read_by(way, alloc, &mut link, &mut buffer).is_ok();
-    let was_shown = buffer.as_bytes() == &EMPTY_MESSAGE[16..];
-    let refused = read_by(way, alloc, &mut link, &mut buffer).is_err();
-    Ok(first && was_shown && refused && is_cleared(&buffer))
+    Ok(is_one_shown(way, alloc, &mut link, &mut buffer))
 }
+
+// A length below 16, one past the maximum, other op codes, a frame cut short, and one without a body.
+const REFUSED: [(i32, i32); 7] = [
+    (15, 2013),
+    (50_331_649, 2013),
+    (26, 2012),
+    (26, 1),
+    (26, 7),
+    (26, 2013),
+    (20, 2013),
+];
 
 #[test]
 fn a_refused_read_shows_nothing(rt: HostRuntime) -> Result<(), Fail> {
-    // a length below 16, one past the maximum, other op codes, a frame cut short, and one without a body
-    for (length, op_code) in [
-        (15, 2013),
-        (50_331_649, 2013),
-        (26, 2012),
-        (26, 1),
-        (26, 7),
-        (26, 2013),
-        (20, 2013),
-    ] {
+    for (length, op_code) in REFUSED {
         for way in EACH {
-            assert!(rt;
-                is_refused(way, rt.alloc(), length, op_code)?,
-                "{way:?} {length} {op_code}"
-            );
+            let refused = is_refused(way, rt.alloc(), length, op_code)?;
+            assert!(rt; refused, "{:?}", (way, length, op_code));
         }
     }
     Ok(())
 }
 
-// Whether a header of the first maximum with a hundred bytes is refused, and how many frames the buffer took.
-fn lying_length(alloc: Global) -> Result<(bool, u64), Fail> {
-    let mut link = giving_zeros(alloc, &header(50_331_648, 2013), 100)?;
+// What a read of these bytes and so many zeros answers, and how many bytes and frames the buffer took.
+fn padded_read(
+    way: Way,
+    alloc: Global,
+    start: &[u8],
+    zeros: usize,
+) -> Result<(Answer, usize, u64), Fail> {
+    let mut link = giving_zeros(alloc, start, zeros)?;
     let mut buffer = FrameBuffer::new(alloc);
-    let refused = read_by(Way::TakeFrame, alloc, &mut link, &mut buffer).is_err();
-    Ok((refused, buffer.frames()))
+    let answer = read_by(way, alloc, &mut link, &mut buffer);
+    Ok((answer, buffer.as_bytes().len(), buffer.frames()))
 }
 
 #[test]
 fn a_length_that_lies_is_refused_in_time(rt: HostRuntime) -> Result<(), Fail> {
+    let start = header(50_331_648, 2013);
     // whoever took memory for the length, and cleared it, would clear a terabyte
     for _ in 0..20_000 {
-        assert_eq!(rt; lying_length(rt.alloc())?, (true, 0));
+        let (answer, _, frames) = padded_read(Way::TakeFrame, rt.alloc(), &start, 100)?;
+        assert!(rt; answer.is_err() && frames == 0);
     }
     Ok(())
 }
@@ -194,17 +213,10 @@ const GREATEST: [u8; 37] = [
     0xff, 0xff, 2, 0x61, 0, 0xdf, 0xff, 0xff, 2,
 ];
 
-// What the read of that frame answers, and how many bytes the buffer holds.
-fn greatest_read(alloc: Global) -> Result<(Answer, usize), Fail> {
-    let mut link = giving_zeros(alloc, &GREATEST, 50_331_611)?;
-    let mut buffer = FrameBuffer::new(alloc);
-    let answer = read_by(Way::ReadFrame, alloc, &mut link, &mut buffer);
-    Ok((answer, buffer.as_bytes().len()))
-}
-
 #[test]
 fn the_greatest_frame_is_read(rt: HostRuntime) -> Result<(), Fail> {
     let answer = Ok(Some((50_331_648, 0, 50_331_628, 5)));
-    assert_eq!(rt; greatest_read(rt.alloc())?, (answer, 50_331_632));
+    let seen = padded_read(Way::ReadFrame, rt.alloc(), &GREATEST, 50_331_611)?;
+    assert!(rt; seen == (answer, 50_331_632, 1));
     Ok(())
 }

@@ -14,6 +14,13 @@ struct Widest<S> {
     room: usize,
 }
 
+impl<S> Widest<S> {
+    // The room where a call was refused, and more than any where it was done.
+    fn room_unless(&self, is_done: bool) -> usize {
+        if is_done { usize::MAX } else { self.room }
+    }
+}
+
 impl<S: Source> Outside for Widest<S> {
     ghost state = { λ s. S.state s.source };
 }
@@ -39,48 +46,48 @@ fn announcing(alloc: Global, start: &[u8], came: usize) -> Result<Widest<MemoryL
     Ok(Widest { source, room: 0 })
 }
 
-// The greatest buffer that a call hands to the source, or none where the call isn't refused.
-fn room_of_frame(way: Way, alloc: Global, came: usize) -> Result<Option<usize>, Fail> {
+// The greatest buffer that a call hands to the source, or more than there can be where the call isn't refused.
+fn room_of_frame(way: Way, alloc: Global, came: usize) -> Result<usize, Fail> {
     let mut source = announcing(alloc, &header(50_331_648, 2013), came)?;
     let mut buffer = FrameBuffer::new(alloc);
-    let refused = read_by(way, alloc, &mut source, &mut buffer).is_err();
-    Ok(if refused { Some(source.room) } else { None })
+    let answer = read_by(way, alloc, &mut source, &mut buffer);
+    Ok(source.room_unless(answer.is_ok()))
 }
 
-fn room_of_message(alloc: Global, came: usize) -> Result<Option<usize>, Fail> {
+fn room_of_message(alloc: Global, came: usize) -> Result<usize, Fail> {
     let mut source = announcing(alloc, &header(50_331_648, 2013), came)?;
-    let refused = read_end(alloc, &mut source) == Told::EndOfInput;
-    Ok(if refused { Some(source.room) } else { None })
+    let told = read_end(alloc, &mut source);
+    Ok(source.room_unless(told != Told::EndOfInput))
 }
 
-fn room_of_document(alloc: Global, came: usize) -> Result<Option<usize>, Fail> {
+fn room_of_document(alloc: Global, came: usize) -> Result<usize, Fail> {
     let mut source = announcing(alloc, &[0xff, 0xff, 0xff, 0x7f], came)?;
-    let refused = document_end(alloc, &mut source) == Told::EndOfInput;
-    Ok(if refused { Some(source.room) } else { None })
+    let told = document_end(alloc, &mut source);
+    Ok(source.room_unless(told != Told::EndOfInput))
 }
 
-// Whether there is a room, for what came and one piece at most.
-fn is_within(room: Option<usize>, came: usize) -> bool {
-    room.is_some_and(|room| room <= came.saturating_add(4096))
+// The greatest of the rooms of each call that reads a frame.
+fn room_of_frames(alloc: Global, came: usize) -> Result<usize, Fail> {
+    let taken = room_of_frame(Way::TakeFrame, alloc, came)?;
+    let read = room_of_frame(Way::ReadFrame, alloc, came)?;
+    let next = room_of_frame(Way::NextFrame, alloc, came)?;
+    Ok(taken.max(read).max(next))
 }
 
-// The rooms of each call that reads a frame, a message or a document.
-fn rooms(alloc: Global, came: usize) -> Result<[Option<usize>; 5], Fail> {
-    Ok([
-        room_of_frame(Way::TakeFrame, alloc, came)?,
-        room_of_frame(Way::ReadFrame, alloc, came)?,
-        room_of_frame(Way::NextFrame, alloc, came)?,
-        room_of_message(alloc, came)?,
-        room_of_document(alloc, came)?,
-    ])
+// The greatest of the rooms of each call that reads a frame, a message or a document.
+fn greatest_room(alloc: Global, came: usize) -> Result<usize, Fail> {
+    let frames = room_of_frames(alloc, came)?;
+    let message = room_of_message(alloc, came)?;
+    let document = room_of_document(alloc, came)?;
+    Ok(frames.max(message).max(document))
 }
 
 #[test]
 fn memory_is_taken_for_what_came(rt: HostRuntime) -> Result<(), Fail> {
     for came in [0, 100, 4096, 10_000, 100_000] {
-        for room in rooms(rt.alloc(), came)? {
-            assert!(rt; is_within(room, came), "{came} {room:?}");
-        }
+        let room = greatest_room(rt.alloc(), came)?;
+        // what came and one piece at most
+        assert!(rt; room <= came.saturating_add(4096), "{:?}", (came, room));
     }
     Ok(())
 }

@@ -52,7 +52,7 @@ fn an_unknown_op_code_is_told_after_16_bytes(rt: HostRuntime) -> Result<(), Fail
     let mut link = giving(rt.alloc(), &[1; 17])?;
     let unknown = Told::Response(ResponseFault::OpCode(0x0101_0101));
     assert!(rt; next_header(&mut link) == Err(unknown));
-    assert_eq!(rt; link.left().len(), 1);
+    assert!(rt; link.left().len() == 1);
     Ok(())
 }
 
@@ -98,9 +98,9 @@ fn document_seen(alloc: Global, length: u8) -> Result<(Told, usize), Fail> {
 
 #[test]
 fn a_document_is_read_by_its_length(rt: HostRuntime) -> Result<(), Fail> {
-    let seen = [document_seen(rt.alloc(), 5)?, document_seen(rt.alloc(), 3)?];
     let refused = Told::Argument(ArgumentFault::CheckedFailure);
-    assert_eq!(rt; seen, [(Told::Done, 1), (refused, 2)]);
+    assert!(rt; document_seen(rt.alloc(), 5)? == (Told::Done, 1));
+    assert!(rt; document_seen(rt.alloc(), 3)? == (refused, 2));
     Ok(())
 }
 
