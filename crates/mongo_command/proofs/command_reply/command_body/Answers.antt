@@ -1,5 +1,4 @@
-use Rattle.std.proofs.Common.{rules}
 use Rattle.mongo_command.proofs.command_reply.command_body.Goals as goal
 
 pub returns-in-Some-clause-succeeded : goal.returns-in-Some-clause-succeeded
-returns-in-Some-clause-succeeded c = search rules
+returns-in-Some-clause-succeeded c = tt

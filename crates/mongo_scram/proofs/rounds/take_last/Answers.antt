@@ -1,4 +1,4 @@
-use Rattle.std.proofs.Common.{◌≡◌, ◌⊎◌, inl, inr, rules}
+use Rattle.std.proofs.Common.{◌≡◌, ◌⊎◌, inl, inr}
 use Rattle.mongo_wire.specs.declared.error.ErrorKind.TheVariants.{OutOfMemory}
 use Rattle.mongo_scram.specs.Client.{auth_message_of, final_conversation}
 use Rattle.mongo_scram.specs.Messages.{verifier}
@@ -20,4 +20,4 @@ returns-else-done-clause-refused c =
     inl (inr (c.in_ok-last.last, c.in_ok-last.ensures.read, inr (valid_final_row _ _ _ c.in_ok-validate_by.ensures.valid, (c.refused.ensures, c.if-done.false))))
 
 pub returns-else-done-clause-taken : goal.returns-else-done-clause-taken
-returns-else-done-clause-taken c = search rules
+returns-else-done-clause-taken c = tt

@@ -9,3 +9,6 @@ returns-clause-negotiated c =
 
 pub returns-then-is_some-clause-negotiated : goal.returns-then-is_some-clause-negotiated
 returns-then-is_some-clause-negotiated c = search rules
+
+pub returns-in_err-append-clause-refused : goal.returns-in_err-append-clause-refused
+returns-in_err-append-clause-refused c = search rules
