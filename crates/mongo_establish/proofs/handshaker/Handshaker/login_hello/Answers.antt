@@ -12,3 +12,9 @@ pub returns-in_err-speculate-clause-refused : goal.returns-in_err-speculate-clau
 returns-in_err-speculate-clause-refused c =
     let common = ap (λ hello. hello.body) (c.in_ok-hello.ensures.copied ∙ c.args.self.now.hello_is) in
     speculating_refused _ c.args.self.now.options (option_copied c.args.credential) (option_map first_document c.args.first.now) c.ask_mechanisms.new.body (c.in_ok-ask_mechanisms.ensures.asked ∙ ap (asking_mechanisms (option_copied c.args.credential)) common) (search rules)
+
+pub returns-clause-hello : goal.returns-clause-hello
+returns-clause-hello c = search rules
+
+pub returns-in_err-introduce_client-clause-refused : goal.returns-in_err-introduce_client-clause-refused
+returns-in_err-introduce_client-clause-refused c = search rules
