@@ -1,4 +1,4 @@
-use Rattle.std.proofs.Common.{ℕ, sym, subst, Option, None, Some, Result, Ok, Err, List, length, OnErr}
+use Rattle.std.proofs.Common.{rules, ℕ, sym, subst, Option, None, Some, Result, Ok, Err, List, length, OnErr}
 use Rattle.std.proofs.Math.Seq.{take-length}
 use Rattle.std.specs.Io.KnownBytes.{Appends, Keeps}
 use Rattle.mongo_wire.specs.Outside.{AppendsFront}
@@ -17,3 +17,6 @@ whole (Err e) old mid new text grown still = (length text, subst (Appends old ne
 
 pub returns-clause-refused : goal.returns-clause-refused
 returns-clause-refused g c = whole c.flush.result _ _ _ c.args.text.now c.in_ok-write_all.ensures.written c.flush.ensures.bytes
+
+pub returns-clause-flushed : goal.returns-clause-flushed
+returns-clause-flushed g c = search rules
