@@ -1,3 +1,4 @@
+use Rattle.std.proofs.Common.{rules}
 use Rattle.mongo_serve.proofs.Carried.{start_opens, next_continues}
 use Rattle.mongo_serve.proofs.Sent.{remembers_later}
 use Rattle.mongo_serve.proofs.answer.answer.Goals as goal
@@ -42,3 +43,6 @@ pub returns-in_ok-go_on-in-SaslContinue-clause-answered :
     goal.returns-in_ok-go_on-in-SaslContinue-clause-answered
 returns-in_ok-go_on-in-SaslContinue-clause-answered g c =
     rw c.in-SaslContinue.is (c.in_ok-go_on-in-SaslContinue.field-0, c.login_reply-in-SaslContinue.ensures, c.in_ok-go_on-in-SaslContinue.ensures.answered)
+
+pub returns-in-Ping-clause-answered : goal.returns-in-Ping-clause-answered
+returns-in-Ping-clause-answered g c = search rules

@@ -1,4 +1,4 @@
-use Rattle.std.proofs.Common.{Option, None, Some, subst}
+use Rattle.std.proofs.Common.{rules, Option, None, Some, subst}
 use Rattle.std.specs.Borrow.{Bor}
 use Rattle.mongo_serve.specs.Opened.{FindsAccount}
 use Rattle.mongo_serve.specs.declared.settings.Account.{Account}
@@ -25,3 +25,6 @@ returns-in-None-clause-opened g c =
     let found : FindsAccount settings.accounts.items version message.now none =
     subst (λ accounts. FindsAccount accounts version message.now none) c.as_slice.ensures.value (rw c.in-None.is at c.in_ok-account.ensures) in
     none_suits settings c.args.start version message c.in-Some-Some.is-0 c.in-Some-Some.is-1 found
+
+pub returns-in_default-clause-opened : goal.returns-in_default-clause-opened
+returns-in_default-clause-opened g c = search rules
