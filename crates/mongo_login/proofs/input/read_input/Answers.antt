@@ -32,3 +32,15 @@ pub returns-clause-judged_alike : goal.returns-clause-judged_alike
 returns-clause-judged_alike g c =
     let past : length c.reading.held.items ≡ limit + 1 = omega arith in
     λ task input told. judged-front task _ _ _ input told c.reading.invariant.front past
+
+pub returns-in-Err-clause-ended : goal.returns-in-Err-clause-ended
+returns-in-Err-clause-ended g c = tt
+
+pub returns-in-Err-clause-consumed : goal.returns-in-Err-clause-consumed
+returns-in-Err-clause-consumed g c = tt
+
+pub returns-in-Err-clause-read : goal.returns-in-Err-clause-read
+returns-in-Err-clause-read g c = λ input told. tt
+
+pub returns-in-Err-clause-judged_alike : goal.returns-in-Err-clause-judged_alike
+returns-in-Err-clause-judged_alike g c = λ task input told. tt
