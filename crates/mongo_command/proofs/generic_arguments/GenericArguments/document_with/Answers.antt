@@ -17,3 +17,8 @@ pub returns-in_err-append_arguments-clause-refused : goal.returns-in_err-append_
 returns-in_err-append_arguments-clause-refused c =
     let e = err_from_is_err_and c.from_residual-in_err-append_arguments.result c.from_residual-in_err-append_arguments.ensures.1 in
     rw (e.1, e.2) (subst (λ (es : List Element). TooLongFor c.in_err-append_arguments.field-0.0 (enclosed (body_of c.args.body.now ++ flat_map spell (text_element db_key c.args.target_db.now ∷ es)))) c.fields-fields.ensures.elements (rw c.in_ok-document.ensures.copied at c.in_err-append_arguments.ensures.refused))
+
+pub returns-in_err-document-clause-refused : goal.returns-in_err-document-clause-refused
+returns-in_err-document-clause-refused c =
+    let e = err_from_is_err_and c.from_residual-in_err-document.result c.from_residual-in_err-document.ensures.1 in
+    rw (e.1, e.2, c.in_err-document.ensures.refused) tt
