@@ -4,6 +4,7 @@ mod descriptions;
 mod failing;
 mod hellos;
 mod notation;
+mod rows;
 mod writes;
 
 use mongo_bson::{BsonFault, RawDocumentBuf, Text};

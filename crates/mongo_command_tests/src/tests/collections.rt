@@ -1,5 +1,6 @@
 use super::given;
 use super::notation::document;
+use super::rows::wants;
 use mongo_bson::{Bytes, Documents, RawArrayBuf, RawDocumentBuf, Text};
 use mongo_command::{Command, RawDocumentCollection};
 use mongo_wire::{MemoryLink, Message, RequestIds};
@@ -31,7 +32,8 @@ fn fill<C: RawDocumentCollection>(
 }
 
 // An insert that carries nothing yet.
-fn insert(alloc: Global, body: RawDocumentBuf) -> Result<Command, Fail> {
+fn insert(alloc: Global) -> Result<Command, Fail> {
+    let body = document(alloc, "insert=text:c")?;
     given(Command::new_raw(alloc, "insert", "d", body))
 }
 
@@ -48,15 +50,48 @@ fn frame_of(alloc: Global, command: Command) -> Result<Bytes, Fail> {
     frame(alloc, &message)
 }
 
-// The frame of an insert of this body that carries the collection.
-fn frame_with<C: RawDocumentCollection + Drop>(
+// What is done with an insert, in functions that are generic over it, so that no other proof holds a command.
+trait Carries {
+    fn add<C: RawDocumentCollection>(&mut self, alloc: Global, collection: C) -> Result<(), Fail>;
+
+    fn add_one(&mut self, alloc: Global) -> Result<(), Fail>;
+
+    fn into_frame(self, alloc: Global) -> Result<Bytes, Fail>;
+}
+
+impl Carries for Command {
+    fn add<C: RawDocumentCollection>(&mut self, alloc: Global, collection: C) -> Result<(), Fail> {
+        given(collection.add_to_command(alloc, "documents", self))
+    }
+
+    fn add_one(&mut self, alloc: Global) -> Result<(), Fail> {
+        add_one(alloc, self)
+    }
+
+    fn into_frame(self, alloc: Global) -> Result<Bytes, Fail> {
+        frame_of(alloc, self)
+    }
+}
+
+// The frame of an insert that carries the collection.
+fn frame_with<I: Carries + Drop, C: RawDocumentCollection + Drop>(
     alloc: Global,
-    body: RawDocumentBuf,
+    insert: Result<I, Fail>,
     collection: C,
 ) -> Result<Bytes, Fail> {
-    let mut command = insert(alloc, body)?;
-    given(collection.add_to_command(alloc, "documents", &mut command))?;
-    frame_of(alloc, command)
+    let mut insert = insert?;
+    insert.add(alloc, collection)?;
+    insert.into_frame(alloc)
+}
+
+// The frame of an insert to which a sequence of one empty document was added by its name.
+fn frame_with_one<I: Carries + Drop>(
+    alloc: Global,
+    insert: Result<I, Fail>,
+) -> Result<Bytes, Fail> {
+    let mut insert = insert?;
+    insert.add_one(alloc)?;
+    insert.into_frame(alloc)
 }
 
 // The frame of an insert that carries the collection, after so many empty documents were put in, and what they were to add.
@@ -66,8 +101,7 @@ fn carried<C: RawDocumentCollection + Drop>(
     count: usize,
 ) -> Result<(Bytes, usize), Fail> {
     let sum = fill(alloc, &mut collection, count)?;
-    let body = document(alloc, "insert=text:c")?;
-    Ok((frame_with(alloc, body, collection)?, sum))
+    Ok((frame_with(alloc, insert(alloc), collection)?, sum))
 }
 
 // The same beside the document.
@@ -97,6 +131,22 @@ fn size(carried: (Bytes, usize)) -> [usize; 2] {
     [carried.0.as_bytes().len(), carried.1]
 }
 
+// Fails where so many documents add something else than this, beside the document and in it.
+fn add(alloc: Global, count: usize, beside: usize, inside: usize) -> Result<(), Fail> {
+    let sizes = sizes(alloc, count)?;
+    let wanted = [
+        SEQUENCE_FRAME.saturating_add(beside),
+        beside,
+        ARRAY_FRAME.saturating_add(inside),
+        inside,
+    ];
+    if sizes == wanted {
+        Ok(())
+    } else {
+        Err(Fail::new(format_args!("{count}: {sizes:?}, not {wanted:?}")))
+    }
+}
+
 #[test]
 fn documents_add_what_they_were_to_add(rt: HostRuntime) -> Result<(), Fail> {
     // An element of an array has a kind byte, the digits of its number, a zero and the document.
@@ -108,13 +158,7 @@ fn documents_add_what_they_were_to_add(rt: HostRuntime) -> Result<(), Fail> {
         (100, 500, 890),
         (101, 505, 900),
     ] {
-        let wanted = [
-            SEQUENCE_FRAME + beside,
-            beside,
-            ARRAY_FRAME + inside,
-            inside,
-        ];
-        assert_eq!(rt; sizes(rt.alloc(), count)?, wanted, "{count}");
+        add(rt.alloc(), count, beside, inside)?;
     }
     Ok(())
 }
@@ -127,13 +171,6 @@ fn add_one(alloc: Global, command: &mut Command) -> Result<(), Fail> {
     given(command.add_document_sequence(name, documents))
 }
 
-// The frame of an insert to which a sequence was added by its name.
-fn with_sequence(alloc: Global) -> Result<Bytes, Fail> {
-    let mut command = insert(alloc, document(alloc, "insert=text:c")?)?;
-    add_one(alloc, &mut command)?;
-    frame_of(alloc, command)
-}
-
 // Both frames with one document, laid out by the OP_MSG specification and BSON 1.1.
 const BESIDE: &[u8] =
     b"\x47\0\0\0\0\0\0\0\0\0\0\0\xdd\x07\0\0\0\0\0\0\0\x1e\0\0\0\x02insert\0\x02\0\0\0c\0\x02$db\0\x02\0\0\0d\0\0\x01\x13\0\0\0documents\0\x05\0\0\0\0";
@@ -141,15 +178,15 @@ const BESIDE: &[u8] =
 const INSIDE: &[u8] =
     b"\x4b\0\0\0\0\0\0\0\0\0\0\0\xdd\x07\0\0\0\0\0\0\0\x36\0\0\0\x02insert\0\x02\0\0\0c\0\x04documents\0\x0d\0\0\0\x030\0\x05\0\0\0\0\0\x02$db\0\x02\0\0\0d\0\0";
 
-// Whether a frame has these bytes.
-fn is_frame(frame: Bytes, wanted: &[u8]) -> bool {
-    frame.as_bytes() == wanted
+// Fails where a frame that was made so has other bytes than these.
+fn wants_frame(name: &str, frame: Bytes, wanted: &[u8]) -> Result<(), Fail> {
+    wants(name, frame.as_bytes() == wanted, "another frame")
 }
 
 #[test]
 fn a_sequence_stands_behind_the_document_and_an_array_in_it(rt: HostRuntime) -> Result<(), Fail> {
-    assert!(rt; is_frame(in_sequence(rt.alloc(), 1)?.0, BESIDE));
-    assert!(rt; is_frame(with_sequence(rt.alloc())?, BESIDE));
-    assert!(rt; is_frame(in_array(rt.alloc(), 1)?.0, INSIDE));
-    Ok(())
+    wants_frame("a collection beside", in_sequence(rt.alloc(), 1)?.0, BESIDE)?;
+    let named = frame_with_one(rt.alloc(), insert(rt.alloc()))?;
+    wants_frame("a sequence by its name", named, BESIDE)?;
+    wants_frame("a collection inside", in_array(rt.alloc(), 1)?.0, INSIDE)
 }

@@ -1,6 +1,7 @@
 use super::failing::{Told, new_connection, send_message};
 use super::given;
 use super::notation::document;
+use super::rows::{RowCheck, check_rows, parts, wants};
 use mongo_bson::{Bytes, ObjectId, RawDocumentBuf, RawValue, Text};
 use mongo_command::{
     AwaitableHelloOptions, Command, Connection, ServerApi, ServerApiVersion, TopologyVersion,
@@ -74,21 +75,17 @@ fn set_all(alloc: Global, command: &mut Command) -> Result<(), Fail> {
 
 // The command `ping` with everything set.
 fn all_set(alloc: Global) -> Result<Command, Fail> {
-    let mut command = ping(alloc)?;
-    set_all(alloc, &mut command)?;
-    Ok(command)
+    with(alloc, ping(alloc), Setting::All)
 }
 
 // A copy of it.
 fn copy_of_all(alloc: Global) -> Result<Command, Fail> {
-    let command = all_set(alloc)?;
-    given(command.try_clone(alloc))
+    copied(alloc, all_set(alloc), None)
 }
 
 // A copy of it with memory for more.
 fn roomy_copy_of_all(alloc: Global) -> Result<Command, Fail> {
-    let command = all_set(alloc)?;
-    given(command.try_clone_with_room(alloc, 100))
+    copied(alloc, all_set(alloc), Some(100))
 }
 
 // It without its concerns.
@@ -100,17 +97,12 @@ fn all_but_concerns(alloc: Global) -> Result<Command, Fail> {
 
 #[test]
 fn fields_stand_in_their_order_whatever_that_of_the_calls(rt: HostRuntime) -> Result<(), Fail> {
-    assert!(rt; is_given(rt.alloc(), copy_of_all(rt.alloc()), ALL, false)?);
-    assert!(rt; is_given(rt.alloc(), roomy_copy_of_all(rt.alloc()), ALL, false)?);
-    assert!(rt;
-        is_given(
-            rt.alloc(),
-            all_but_concerns(rt.alloc()),
-            WITHOUT_CONCERNS,
-            false
-        )?
-    );
-    Ok(())
+    let copy = copy_of_all(rt.alloc());
+    wants_fields(rt.alloc(), "a copy", copy, ALL)?;
+    let roomy = roomy_copy_of_all(rt.alloc());
+    wants_fields(rt.alloc(), "a copy with memory for more", roomy, ALL)?;
+    let cleared = all_but_concerns(rt.alloc());
+    wants_fields(rt.alloc(), "without concerns", cleared, WITHOUT_CONCERNS)
 }
 
 const SNAPSHOT: &str =
@@ -118,9 +110,7 @@ const SNAPSHOT: &str =
 
 // The command `ping` that reads the snapshot of a time.
 fn snapshot(alloc: Global) -> Result<Command, Fail> {
-    let mut command = ping(alloc)?;
-    given(command.set_snapshot_read_concern(alloc, Some((9, 8))))?;
-    Ok(command)
+    with(alloc, ping(alloc), Setting::Snapshot)
 }
 
 #[test]
@@ -170,7 +160,7 @@ fn hello(alloc: Global, words: &str) -> Result<Command, Error> {
 
 // Whether the row's hello has the fields behind the arrow, and may be answered more than once exactly where it waits.
 fn is_hello(alloc: Global, row: &str) -> Result<bool, Fail> {
-    let (words, fields) = row.split_once(" => ").unwrap_or((row, "no arrow"));
+    let (words, fields) = parts(row);
     is_given(
         alloc,
         given(hello(alloc, words)),
@@ -179,16 +169,77 @@ fn is_hello(alloc: Global, row: &str) -> Result<bool, Fail> {
     )
 }
 
-// What is asked of a command: whether it has these fields, and whether it may be answered more than once exactly where it waits.
-trait Asked {
+// What is set in a command.
+#[derive(Clone, Copy)]
+enum Setting {
+    All,
+    Snapshot,
+}
+
+fn set_snapshot(alloc: Global, command: &mut Command) -> Result<(), Fail> {
+    given(command.set_snapshot_read_concern(alloc, Some((9, 8))))
+}
+
+// What is asked of a command, in functions that are generic over it, so that no other proof holds one.
+trait Asked: Sized {
+    fn set(&mut self, alloc: Global, setting: Setting) -> Result<(), Fail>;
+
+    // A copy, with memory for so many more bytes where it is asked for.
+    fn copy(&self, alloc: Global, room: Option<usize>) -> Result<Self, Fail>;
+
+    // Whether it has these fields, and whether it may be answered more than once exactly where it waits.
     fn has(&self, alloc: Global, fields: &str, waits: bool) -> Result<bool, Fail>;
 }
 
 impl Asked for Command {
+    fn set(&mut self, alloc: Global, setting: Setting) -> Result<(), Fail> {
+        match setting {
+            Setting::All => set_all(alloc, self),
+            Setting::Snapshot => set_snapshot(alloc, self),
+        }
+    }
+
+    fn copy(&self, alloc: Global, room: Option<usize>) -> Result<Command, Fail> {
+        match room {
+            Some(room) => given(self.try_clone_with_room(alloc, room)),
+            None => given(self.try_clone(alloc)),
+        }
+    }
+
     fn has(&self, alloc: Global, fields: &str, waits: bool) -> Result<bool, Fail> {
         let has_fields = has_fields(alloc, self, fields)?;
         Ok(has_fields && self.exhaust_allowed == waits)
     }
+}
+
+fn with<A: Asked + Drop>(
+    alloc: Global,
+    command: Result<A, Fail>,
+    setting: Setting,
+) -> Result<A, Fail> {
+    let mut command = command?;
+    command.set(alloc, setting)?;
+    Ok(command)
+}
+
+fn copied<A: Asked + Drop>(
+    alloc: Global,
+    command: Result<A, Fail>,
+    room: Option<usize>,
+) -> Result<A, Fail> {
+    let command = command?;
+    command.copy(alloc, room)
+}
+
+// Fails where a command that was made so doesn't have these fields.
+fn wants_fields<A: Asked + Drop>(
+    alloc: Global,
+    name: &str,
+    command: Result<A, Fail>,
+    fields: &str,
+) -> Result<(), Fail> {
+    let has_fields = is_given(alloc, command, fields, false)?;
+    wants(name, has_fields, "other fields")
 }
 
 // Whether a command that was made is so.
@@ -242,7 +293,7 @@ fn is_written(alloc: Global, connection: &mut Connection, words: &str) -> Result
 
 // Whether the row's hello is written so.
 fn is_flagged(alloc: Global, row: &str) -> Result<bool, Fail> {
-    let (words, _) = row.split_once(" => ").unwrap_or((row, "no arrow"));
+    let (words, _) = parts(row);
     is_sent(alloc, new_connection(alloc), words)
 }
 
@@ -278,12 +329,20 @@ fn is_spelled(alloc: Global, fields: &str, bytes: &[u8]) -> Result<bool, Fail> {
     Ok(document(alloc, fields)?.as_bytes() == bytes)
 }
 
+// A hello has its fields, and is written with its flags.
+#[derive(Clone, Copy)]
+struct Hellos;
+
+impl RowCheck for Hellos {
+    fn check(self, alloc: Global, row: &str) -> Result<(), Fail> {
+        wants(row, is_hello(alloc, row)?, "another command")?;
+        wants(row, is_flagged(alloc, row)?, "other flags")
+    }
+}
+
 #[test]
 fn a_hello_has_the_name_that_the_server_knows(rt: HostRuntime) -> Result<(), Fail> {
-    for row in HELLOS.lines() {
-        assert!(rt; is_hello(rt.alloc(), row)?, "{row}");
-        assert!(rt; is_flagged(rt.alloc(), row)?, "{row}");
-    }
+    check_rows(rt.alloc(), Hellos, HELLOS)?;
     assert!(rt; is_sent_as(rt.alloc(), HELLO)?);
     assert!(rt; is_spelled(rt.alloc(), "ping=int:1 $db=text:admin", PING)?);
     Ok(())

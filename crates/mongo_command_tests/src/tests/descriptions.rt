@@ -1,4 +1,5 @@
 use super::notation::document;
+use super::rows::{RowCheck, check_rows, parts, wants_piece};
 use super::{Answered, hello_reply, response, text_of};
 use mongo_bson::{RawDocumentBuf, Text};
 use mongo_command::{
@@ -92,10 +93,15 @@ fn told_of(alloc: Global, fields: &str) -> Result<String, Fail> {
     told(alloc, hello_reply(alloc, hello_document(alloc, fields)?))
 }
 
-// Whether the description holds a piece: a row has the piece behind the hello's fields and an arrow.
-fn is_told(alloc: Global, row: &str) -> Result<bool, Fail> {
-    let (fields, piece) = row.split_once(" => ").unwrap_or((row, "no arrow"));
-    Ok(told_of(alloc, fields)?.as_str().find(piece).is_some())
+// The description holds a piece: a row has the piece behind the hello's fields and an arrow.
+#[derive(Clone, Copy)]
+struct Describes;
+
+impl RowCheck for Describes {
+    fn check(self, alloc: Global, row: &str) -> Result<(), Fail> {
+        let (fields, piece) = parts(row);
+        wants_piece(row, piece, told_of(alloc, fields)?)
+    }
 }
 
 const DESCRIPTIONS: &str =
@@ -126,10 +132,7 @@ logicalSessionTimeoutMinutes=int:30 maxWireVersion=int:6 => retries: false"#;
 
 #[test]
 fn a_server_is_described_by_its_hello(rt: HostRuntime) -> Result<(), Fail> {
-    for row in DESCRIPTIONS.lines() {
-        assert!(rt; is_told(rt.alloc(), row)?, "{row}");
-    }
-    Ok(())
+    check_rows(rt.alloc(), Describes, DESCRIPTIONS)
 }
 
 // A server's address by its host and port.
@@ -242,10 +245,15 @@ fn is_reply_copied(alloc: Global, reply: &RawCommandResponse) -> Result<bool, Fa
     Ok(copy.as_bytes() == reply.as_bytes() && copy.source_address() == reply.source_address())
 }
 
+// Whether the reply of these fields is copied.
+fn is_copied_of(alloc: Global, fields: &str) -> Result<bool, Fail> {
+    let reply = response(alloc, document(alloc, fields)?)?;
+    is_reply_copied(alloc, &reply)
+}
+
 /// A copy of a reply has the bytes of its document and its address.
 #[test]
 fn a_reply_is_copied(rt: HostRuntime) -> Result<(), Fail> {
-    let reply = response(rt.alloc(), document(rt.alloc(), "ok=int:1")?)?;
-    assert!(rt; is_reply_copied(rt.alloc(), &reply)?);
+    assert!(rt; is_copied_of(rt.alloc(), "ok=int:1")?);
     Ok(())
 }

@@ -384,6 +384,19 @@ fn holds_over<T: Talks + Drop>(
     talk.holds(alloc, asked)
 }
 
+// Fails where something else is seen than this, of four calls of which the first is made in each way.
+fn each_is_seen(alloc: Global, failing: usize, most: usize, wanted: [Seen; 4]) -> Result<(), Fail>
+    requires { 0 < most }
+{
+    for first in EACH {
+        let seen = four_calls(alloc, first, failing, most)?;
+        if seen != wanted {
+            return Err(Fail::new(format_args!("{first:?} {failing}: {seen:?}, not {wanted:?}")));
+        }
+    }
+    Ok(())
+}
+
 #[test]
 fn a_fault_in_any_piece_is_told_and_kept(rt: HostRuntime) -> Result<(), Fail> {
     // the header, the flags and the kind byte, the document; the flush; the reply's header and its rest; and no failure
@@ -396,11 +409,8 @@ fn a_fault_in_any_piece_is_told_and_kept(rt: HostRuntime) -> Result<(), Fail> {
         (5, Told::ReadFault, 85, 16),
         (24, Told::Done, 85, 86),
     ] {
-        for first in EACH {
-            let seen = four_calls(rt.alloc(), first, call, 4096)?;
-            let wanted = seen_of_four(seen_first(told, written, taken));
-            assert_eq!(rt; seen, wanted, "{first:?} {call}");
-        }
+        let wanted = seen_of_four(seen_first(told, written, taken));
+        each_is_seen(rt.alloc(), call, 4096, wanted)?;
     }
     Ok(())
 }
@@ -419,24 +429,16 @@ fn seen_byte_by_byte(call: usize) -> Seen {
 fn a_fault_at_any_byte_is_told_and_kept(rt: HostRuntime) -> Result<(), Fail> {
     // 85 writes, the flush and 86 reads
     for call in 0..172 {
-        for first in EACH {
-            let seen = four_calls(rt.alloc(), first, call, 1)?;
-            let wanted = seen_of_four(seen_byte_by_byte(call));
-            assert_eq!(rt; seen, wanted, "{first:?} {call}");
-        }
+        each_is_seen(rt.alloc(), call, 1, seen_of_four(seen_byte_by_byte(call)))?;
     }
     Ok(())
 }
 
 #[test]
 fn a_connection_without_a_fault_goes_on_byte_by_byte(rt: HostRuntime) -> Result<(), Fail> {
-    for first in EACH {
-        // the fifth exchange would begin with this call
-        let seen = four_calls(rt.alloc(), first, 688, 1)?;
-        let wanted = seen_of_four(seen_first(Told::Done, HELLO_LEN, REPLY_LEN));
-        assert_eq!(rt; seen, wanted, "{first:?}");
-    }
-    Ok(())
+    let wanted = seen_of_four(seen_first(Told::Done, HELLO_LEN, REPLY_LEN));
+    // the fifth exchange would begin with this call
+    each_is_seen(rt.alloc(), 688, 1, wanted)
 }
 
 // The reply with a sequence without documents under the identifier `a` behind its body, by the OP_MSG specification: 7 bytes

@@ -1,8 +1,9 @@
 use super::notation::{document, document_behind};
+use super::rows::{RowCheck, check_rows, parts, wants_piece, wants_whole};
 use super::{Answered, hello_reply, printed};
 use mongo_bson::{RawDocument, RawValue};
 use mongo_command::{Fields, HelloReply};
-use std::alloc::Global;
+use std::alloc::{AllocError, Global};
 use std::test::Fail;
 
 // What the reply of these fields says as the reply to a hello, as it is printed.
@@ -10,15 +11,46 @@ fn told(alloc: Global, fields: &str) -> Result<String, Fail> {
     printed(alloc, hello_reply(alloc, document(alloc, fields)?))
 }
 
-// Whether what a reply says holds a piece: a row has the piece behind the reply's fields and an arrow.
-fn is_told(alloc: Global, row: &str) -> Result<bool, Fail> {
-    let (fields, piece) = row.split_once(" => ").unwrap_or((row, "no arrow"));
-    Ok(told(alloc, fields)?.as_str().find(piece).is_some())
+// What is asked of a reply.
+#[derive(Clone, Copy)]
+enum Asked {
+    // What it says holds a piece: a row has the piece behind the reply's fields and an arrow.
+    Told,
+    // The same of a row of fields beside the required ones.
+    ToldBeside,
+    // It is refused where it has these fields beside the required ones.
+    RefusedBeside,
+    // The field of a row takes the values that the row has, and refuses each other one.
+    Kinds,
+    // A code makes a command error beside `ok` of this value.
+    Coded,
+    // `ok` of this value alone is no hello.
+    Bare,
 }
 
-// Whether the reply of these fields is refused as no hello.
-fn is_no_hello(alloc: Global, fields: &str) -> Result<bool, Fail> {
-    Ok(told(alloc, fields)?.as_str() == "Err(Error { kind: InvalidResponse(Hello) })")
+impl RowCheck for Asked {
+    fn check(self, alloc: Global, row: &str) -> Result<(), Fail> {
+        match self {
+            Asked::Told => is_told(alloc, row),
+            Asked::ToldBeside => is_told_beside(alloc, row),
+            Asked::RefusedBeside => is_no_hello_beside(alloc, row),
+            Asked::Kinds => check_rows(alloc, KindOf { row }, VALUES),
+            Asked::Coded => is_coded(alloc, row),
+            Asked::Bare => is_bare(alloc, row),
+        }
+    }
+}
+
+fn is_told(alloc: Global, row: &str) -> Result<(), Fail> {
+    let (fields, piece) = parts(row);
+    wants_piece(row, piece, told(alloc, fields)?)
+}
+
+// What is said of a reply that is refused as no hello.
+const NO_HELLO: &str = "Err(Error { kind: InvalidResponse(Hello) })";
+
+fn is_no_hello(alloc: Global, fields: &str) -> Result<(), Fail> {
+    wants_whole(fields, NO_HELLO, told(alloc, fields)?)
 }
 
 // The fields that a successful hello has to have, `ok: 1.0` and two sizes.
@@ -72,19 +104,15 @@ maxWireVersion=long:-2147483648 => max_wire_version: Some(-2147483648)
 code=int:18 => Ok(
 code=int:18 helloOk=int:1 => Err(Error { kind: Command(CommandError { code: 18,"#;
 
-// The same of a row of fields beside the required ones.
-fn is_told_beside(alloc: Global, row: &str) -> Result<bool, Fail> {
+fn is_told_beside(alloc: Global, row: &str) -> Result<(), Fail> {
     let whole = format!(in alloc; "{REQUIRED} {row}")?;
     is_told(alloc, whole.as_str())
 }
 
 #[test]
 fn each_field_of_a_hello_is_read(rt: HostRuntime) -> Result<(), Fail> {
-    assert_eq!(rt; told(rt.alloc(), REQUIRED)?.as_str(), TOLD);
-    for row in FIELDS.lines() {
-        assert!(rt; is_told_beside(rt.alloc(), row)?, "{row}");
-    }
-    Ok(())
+    wants_whole(REQUIRED, TOLD, told(rt.alloc(), REQUIRED)?)?;
+    check_rows(rt.alloc(), Asked::ToldBeside, FIELDS)
 }
 
 // Fields that aren't what a hello has, each of which takes a reply that has all else.
@@ -111,23 +139,30 @@ maxWireVersion=long:-2147483649
 logicalSessionTimeoutMinutes=int:-1
 logicalSessionTimeoutMinutes=long:-1";
 
-// Whether the reply of these fields beside the required ones is refused as no hello.
-fn is_no_hello_beside(alloc: Global, row: &str) -> Result<bool, Fail> {
+fn is_no_hello_beside(alloc: Global, row: &str) -> Result<(), Fail> {
     let whole = format!(in alloc; "{REQUIRED} {row}")?;
     is_no_hello(alloc, whole.as_str())
 }
 
 #[test]
 fn other_fields_are_refused(rt: HostRuntime) -> Result<(), Fail> {
-    for row in REFUSED.lines() {
-        assert!(rt; is_no_hello_beside(rt.alloc(), row)?, "{row}");
-    }
-    Ok(())
+    check_rows(rt.alloc(), Asked::RefusedBeside, REFUSED)
 }
 
 // A value of each kind of BSON that has a meaning here, and of some that have none.
-const VALUES: &str =
-    "double:3ff0000000000000 text:text { [ binary:1 id:1 true date:1 null int:1 long:1 timestamp:1 undefined";
+const VALUES: &str = "double:3ff0000000000000
+text:text
+{
+[
+binary:1
+id:1
+true
+date:1
+null
+int:1
+long:1
+timestamp:1
+undefined";
 
 // Each field and the values that it takes. An empty document holds neither a date nor a topology version.
 const TAKEN: &str = "isWritablePrimary true null
@@ -172,19 +207,28 @@ fn end_of(value: &str) -> &'static str {
     }
 }
 
-// Whether a reply with this value under this key, and with those of the required fields that have another, is refused as no
-// hello.
-fn is_refused(alloc: Global, key: &str, value: &str) -> Result<bool, Fail> {
+// The required fields but the one under this key, each behind a blank.
+fn required_but(alloc: Global, key: &str) -> Result<String, Fail> {
     let mut fields = String::new(alloc);
     for field in REQUIRED.split_whitespace() {
         if !field.starts_with(key) {
-            fields.push_str(field)?;
-            fields.push_str(" ")?;
+            push_field(&mut fields, field)?;
         }
     }
+    Ok(fields)
+}
+
+fn push_field(fields: &mut String, field: &str) -> Result<(), AllocError> {
+    fields.push_str(" ")?;
+    fields.push_str(field)
+}
+
+// What a reply says with this value under this key, and with those of the required fields that have another.
+fn told_with(alloc: Global, key: &str, value: &str) -> Result<String, Fail> {
+    let fields = required_but(alloc, key)?;
     let end = end_of(value);
     let whole = format!(in alloc; "{fields} {key}={value} {end}")?;
-    is_no_hello(alloc, whole.as_str())
+    told(alloc, whole.as_str())
 }
 
 fn has_word(words: &str, wanted: &str) -> bool {
@@ -196,20 +240,32 @@ fn has_word(words: &str, wanted: &str) -> bool {
     false
 }
 
-// Whether a field takes a value where its row has it, and else refuses it.
-fn takes_its_kind(alloc: Global, row: &str, value: &str) -> Result<bool, Fail> {
+// A field takes a value where its row has it, and else refuses it.
+#[derive(Clone, Copy)]
+struct KindOf<'a> {
+    row: &'a str,
+}
+
+impl RowCheck for KindOf<'_> {
+    fn check(self, alloc: Global, value: &str) -> Result<(), Fail> {
+        takes_its_kind(alloc, self.row, value)
+    }
+}
+
+fn takes_its_kind(alloc: Global, row: &str, value: &str) -> Result<(), Fail> {
     let (key, taken) = row.split_once(' ').unwrap_or((row, ""));
-    Ok(is_refused(alloc, key, value)? != has_word(taken, value))
+    let told = told_with(alloc, key, value)?;
+    let is_taken = told.as_str() != NO_HELLO;
+    if is_taken == has_word(taken, value) {
+        Ok(())
+    } else {
+        Err(Fail::new(format_args!("{row}: {value}: told {told}")))
+    }
 }
 
 #[test]
 fn each_field_takes_its_kinds(rt: HostRuntime) -> Result<(), Fail> {
-    for row in TAKEN.lines() {
-        for value in VALUES.split_whitespace() {
-            assert!(rt; takes_its_kind(rt.alloc(), row, value)?, "{row}: {value}");
-        }
-    }
-    Ok(())
+    check_rows(rt.alloc(), Asked::Kinds, TAKEN)
 }
 
 // Replies that have no success, and what they say. `ok` is 1 where it is 1 + 2^-52, and it is neither 0.5 nor 2.
@@ -235,15 +291,13 @@ ok=long:0 maxBsonObjectSize=int:5 maxMessageSizeBytes=int:5 => InvalidResponse(H
 ok=double:3fe0000000000000 maxBsonObjectSize=int:5 maxMessageSizeBytes=int:5 => InvalidResponse(Hello)
 ok=double:3ff0000000000001 maxBsonObjectSize=int:5 maxMessageSizeBytes=int:5 => Ok("#;
 
-// Whether a code makes a command error beside `ok` of this value.
-fn is_coded(alloc: Global, ok: &str) -> Result<bool, Fail> {
+fn is_coded(alloc: Global, ok: &str) -> Result<(), Fail> {
     let end = end_of(ok);
     let row = format!(in alloc; "ok={ok} {end} code=int:18 => Command(CommandError {{ code: 18,")?;
     is_told(alloc, row.as_str())
 }
 
-// Whether `ok` of this value alone is no hello.
-fn is_bare(alloc: Global, ok: &str) -> Result<bool, Fail> {
+fn is_bare(alloc: Global, ok: &str) -> Result<(), Fail> {
     let end = end_of(ok);
     let fields = format!(in alloc; "ok={ok} {end}")?;
     is_no_hello(alloc, fields.as_str())
@@ -251,15 +305,10 @@ fn is_bare(alloc: Global, ok: &str) -> Result<bool, Fail> {
 
 #[test]
 fn other_replies_are_command_errors_or_no_hellos(rt: HostRuntime) -> Result<(), Fail> {
-    for row in OTHERS.lines() {
-        assert!(rt; is_told(rt.alloc(), row)?, "{row}");
-    }
+    check_rows(rt.alloc(), Asked::Told, OTHERS)?;
     // `ok` of any kind makes a command error
-    for ok in VALUES.split_whitespace() {
-        assert!(rt; is_coded(rt.alloc(), ok)?, "{ok}");
-        assert!(rt; is_bare(rt.alloc(), ok)?, "{ok}");
-    }
-    Ok(())
+    check_rows(rt.alloc(), Asked::Coded, VALUES)?;
+    check_rows(rt.alloc(), Asked::Bare, VALUES)
 }
 
 // Each element of a key of six digits and a text of this length takes 161 bytes, so that 300,000 make 48 MB.

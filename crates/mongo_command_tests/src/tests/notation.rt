@@ -4,13 +4,13 @@
 use itoa::Buffer;
 use mongo_bson::{Bytes, RawDocumentBuf};
 use std::alloc::{AllocError, Global};
+use std::num::ParseIntError;
 use std::ops::Range;
 use std::test::Fail;
 
 // The document of these fields.
 pub(crate) fn document(alloc: Global, fields: &str) -> Result<RawDocumentBuf, Fail> {
-    let bytes = spelled(alloc, fields)?;
-    Ok(RawDocumentBuf::from_bytes(Bytes::from_vec(bytes))?)
+    document_behind(alloc, 0..0, "", fields)
 }
 
 // The document of these fields behind one of this text under each of these numbers.
@@ -20,44 +20,37 @@ pub(crate) fn document_behind(
     text: &str,
     fields: &str,
 ) -> Result<RawDocumentBuf, Fail> {
-    let bytes = spelled_behind(alloc, numbers, text, fields)?;
+    let bytes = spelled(alloc, numbers, text, fields)?;
     Ok(RawDocumentBuf::from_bytes(Bytes::from_vec(bytes))?)
 }
 
-fn spelled_behind(
-    alloc: Global,
+fn spelled(alloc: Global, numbers: Range<u32>, text: &str, fields: &str) -> Result<Vec<u8>, Fail> {
+    let mut bytes = Vec::new(alloc);
+    let mut open = Vec::new(alloc);
+    spell_document(&mut bytes, &mut open, numbers, text, fields)?;
+    Ok(bytes)
+}
+
+fn spell_document(
+    bytes: &mut Vec<u8>,
+    open: &mut Vec<usize>,
     numbers: Range<u32>,
     text: &str,
     fields: &str,
-) -> Result<Vec<u8>, Fail> {
-    let mut bytes = Vec::new(alloc);
-    let mut open = Vec::new(alloc);
-    begin(&mut bytes, &mut open)?;
+) -> Result<(), Fail> {
+    begin(bytes, open)?;
     for number in numbers {
-        spell_numbered(&mut bytes, number, text)?;
+        spell_numbered(bytes, number, text)?;
     }
-    spell_all(&mut bytes, &mut open, fields)?;
-    end(&mut bytes, &mut open)?;
-    Ok(bytes)
+    spell_all(bytes, open, fields)?;
+    Ok(end(bytes, open)?)
 }
 
 // Writes a text under a number.
 fn spell_numbered(bytes: &mut Vec<u8>, number: u32, text: &str) -> Result<(), Fail> {
     let mut digits = Buffer::new();
-    bytes.push(0x02)?;
-    bytes.extend_from_slice(digits.format(number).as_bytes())?;
-    bytes.push(0)?;
+    spell_key(bytes, 0x02, digits.format(number))?;
     spell_text(bytes, text)
-}
-
-// The bytes of the document of these fields.
-fn spelled(alloc: Global, fields: &str) -> Result<Vec<u8>, Fail> {
-    let mut bytes = Vec::new(alloc);
-    let mut open = Vec::new(alloc);
-    begin(&mut bytes, &mut open)?;
-    spell_all(&mut bytes, &mut open, fields)?;
-    end(&mut bytes, &mut open)?;
-    Ok(bytes)
 }
 
 // Writes fields.
@@ -101,15 +94,19 @@ fn write_length(document: &mut [u8], length: usize) {
 fn spell(bytes: &mut Vec<u8>, open: &mut Vec<usize>, field: &str) -> Result<(), Fail> {
     let (key, value) = field.split_once('=').unwrap_or((field, ""));
     let (kind, number) = value.split_once(':').unwrap_or((value, ""));
-    bytes.push(kind_byte(kind))?;
-    bytes.extend_from_slice(key.as_bytes())?;
-    bytes.push(0)?;
+    spell_key(bytes, kind_byte(kind), key)?;
     match kind {
-        "{" | "[" => begin(bytes, open)?,
-        "text" => spell_text(bytes, number)?,
-        _ => spell_number(bytes, kind, number)?,
+        "{" | "[" => Ok(begin(bytes, open)?),
+        "text" => spell_text(bytes, number),
+        _ => spell_number(bytes, kind, number),
     }
-    Ok(())
+}
+
+// Writes what stands before a value.
+fn spell_key(bytes: &mut Vec<u8>, kind: u8, key: &str) -> Result<(), AllocError> {
+    bytes.push(kind)?;
+    bytes.extend_from_slice(key.as_bytes())?;
+    bytes.extend_from_slice(&[0])
 }
 
 fn kind_byte(kind: &str) -> u8 {
@@ -133,27 +130,40 @@ fn kind_byte(kind: &str) -> u8 {
 
 // Writes a text of less than 255 bytes.
 fn spell_text(bytes: &mut Vec<u8>, text: &str) -> Result<(), Fail> {
-    bytes.push(u8::try_from(text.len().saturating_add(1))?)?;
-    bytes.extend_from_slice(&[0; 3])?;
+    let length = u8::try_from(text.len().saturating_add(1))?;
+    bytes.extend_from_slice(&[length, 0, 0, 0])?;
     bytes.extend_from_slice(text.as_bytes())?;
-    bytes.push(0)?;
-    Ok(())
+    Ok(bytes.push(0)?)
 }
 
 // Writes the value of another kind.
 fn spell_number(bytes: &mut Vec<u8>, kind: &str, number: &str) -> Result<(), Fail> {
+    let value = value_of(kind, number)?.to_le_bytes();
+    Ok(spell_value(bytes, kind, value)?)
+}
+
+// The number that a value is spelled with, or 0 where its kind has no value.
+fn value_of(kind: &str, number: &str) -> Result<u64, ParseIntError> {
     match kind {
-        "double" => bytes.extend_from_slice(&u64::from_str_radix(number, 16)?.to_le_bytes())?,
-        "int" => bytes.extend_from_slice(&i32::from_str_radix(number, 10)?.to_le_bytes())?,
-        "long" | "date" | "timestamp" => {
-            bytes.extend_from_slice(&i64::from_str_radix(number, 10)?.to_le_bytes())?;
-        }
-        "id" => bytes.extend_from_slice(&[u8::from_str_radix(number, 10)?; 12])?,
-        "binary" => bytes.extend_from_slice(&[1, 0, 0, 0, 0, u8::from_str_radix(number, 10)?])?,
-        "true" => bytes.push(1)?,
-        "false" => bytes.push(0)?,
-        "broken" => bytes.push(2)?,
-        _ => (),
+        "double" => u64::from_str_radix(number, 16),
+        "int" => Ok(i64::from(i32::from_str_radix(number, 10)?).cast_unsigned()),
+        "long" | "date" | "timestamp" => Ok(i64::from_str_radix(number, 10)?.cast_unsigned()),
+        "id" | "binary" => Ok(u64::from(u8::from_str_radix(number, 10)?)),
+        "true" => Ok(1),
+        "broken" => Ok(2),
+        _ => Ok(0),
     }
-    Ok(())
+}
+
+// Writes as many bytes of a number as its kind has.
+fn spell_value(bytes: &mut Vec<u8>, kind: &str, value: [u8; 8]) -> Result<(), AllocError> {
+    let [a, b, c, d, ..] = value;
+    match kind {
+        "double" | "long" | "date" | "timestamp" => bytes.extend_from_slice(&value),
+        "int" => bytes.extend_from_slice(&[a, b, c, d]),
+        "id" => bytes.extend_from_slice(&[a; 12]),
+        "binary" => bytes.extend_from_slice(&[1, 0, 0, 0, 0, a]),
+        "true" | "false" | "broken" => bytes.extend_from_slice(&[a]),
+        _ => Ok(()),
+    }
 }

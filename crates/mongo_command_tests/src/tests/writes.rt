@@ -1,4 +1,5 @@
 use super::notation::document;
+use super::rows::{RowCheck, check_rows, parts, wants_piece};
 use super::{Answered, printed, response};
 use mongo_bson::{RawArrayBuf, RawDocumentBuf, RawValue};
 use mongo_command::{RawCommandResponse, command_body};
@@ -42,33 +43,52 @@ fn auth_body(alloc: Global, reply: &RawCommandResponse) -> Result<String, Fail> 
     printed(alloc, reply.auth_response_body(alloc))
 }
 
-// What a call answers of the reply of these fields, as it is printed.
-fn told(alloc: Global, call: Call, fields: &str) -> Result<String, Fail> {
-    let reply = response(alloc, document(alloc, fields)?)?;
+// What a call answers of a reply, as it is printed.
+fn answer(alloc: Global, call: Call, reply: &RawCommandResponse) -> Result<String, Fail> {
     match call {
-        Call::SingleWrite => single_write(alloc, &reply),
-        Call::InsertMany => printed(alloc, insert_many(alloc, &reply)),
-        Call::Count => count(alloc, &reply),
-        Call::CommandBody => command_document(alloc, &reply),
-        Call::Body => body(alloc, &reply),
-        Call::AuthBody => auth_body(alloc, &reply),
+        Call::SingleWrite => single_write(alloc, reply),
+        Call::InsertMany => printed(alloc, insert_many(alloc, reply)),
+        Call::Count => count(alloc, reply),
+        Call::CommandBody => command_document(alloc, reply),
+        Call::Body => body(alloc, reply),
+        Call::AuthBody => auth_body(alloc, reply),
     }
 }
 
-// Whether what a call answers holds a piece: a row has the piece behind the reply's fields and an arrow.
-fn is_told(alloc: Global, call: Call, row: &str) -> Result<bool, Fail> {
-    let (fields, piece) = row.split_once(" => ").unwrap_or((row, "no arrow"));
-    Ok(told(alloc, call, fields)?.as_str().find(piece).is_some())
+// The same of the reply of these fields.
+fn told(alloc: Global, call: Call, fields: &str) -> Result<String, Fail> {
+    let reply = response(alloc, document(alloc, fields)?)?;
+    answer(alloc, call, &reply)
 }
 
-// Whether both calls of writes answer so: a row has both pieces behind arrows.
-fn are_told(alloc: Global, row: &str) -> Result<bool, Fail> {
-    let (fields, pieces) = row.split_once(" => ").unwrap_or((row, "no arrow"));
-    let (single, many) = pieces.split_once(" => ").unwrap_or((pieces, pieces));
-    let of_single = told(alloc, Call::SingleWrite, fields)?;
-    let of_many = told(alloc, Call::InsertMany, fields)?;
-    Ok(of_single.as_str().find(single).is_some() && of_many.as_str().find(many).is_some())
+// What a call answers holds a piece: a row has the piece behind the reply's fields and an arrow.
+impl RowCheck for Call {
+    fn check(self, alloc: Global, row: &str) -> Result<(), Fail> {
+        let (fields, piece) = parts(row);
+        wants_piece(row, piece, told(alloc, self, fields)?)
+    }
 }
+
+// Two calls of which each answers so: a row has both pieces behind arrows, or one piece for both.
+#[derive(Clone, Copy)]
+struct Both {
+    first: Call,
+    second: Call,
+}
+
+impl RowCheck for Both {
+    fn check(self, alloc: Global, row: &str) -> Result<(), Fail> {
+        let (fields, pieces) = parts(row);
+        let (first, second) = pieces.split_once(" => ").unwrap_or((pieces, pieces));
+        wants_piece(row, first, told(alloc, self.first, fields)?)?;
+        wants_piece(row, second, told(alloc, self.second, fields)?)
+    }
+}
+
+const WRITE_CALLS: Both = Both {
+    first: Call::SingleWrite,
+    second: Call::InsertMany,
+};
 
 // Replies, what they say of a single write, and what of an insert of many.
 const WRITES: &str = r#"ok=int:1 => Ok(()) => Ok(())
@@ -109,22 +129,22 @@ index=int:0 code=int:1 errInfo={ } => details: Some(RawDocumentBuf { held: [5, 0
 index=int:0 code=int:1 errInfo=[ ] => InvalidResponse(Body)
 index=int:0 code=int:1 code=int:1 => InvalidResponse(Body)"#;
 
-// The same of the reply that has the write error of a row.
-fn are_told_of_error(alloc: Global, row: &str) -> Result<bool, Fail> {
-    let (fields, pieces) = row.split_once(" => ").unwrap_or((row, "no arrow"));
-    let whole = format!(in alloc; "writeErrors=[ 0={{ {fields} }} ] => {pieces}")?;
-    are_told(alloc, whole.as_str())
+// Both calls of writes answer so of the reply that has the write error of a row.
+#[derive(Clone, Copy)]
+struct WriteErrorCalls;
+
+impl RowCheck for WriteErrorCalls {
+    fn check(self, alloc: Global, row: &str) -> Result<(), Fail> {
+        let (fields, pieces) = parts(row);
+        let whole = format!(in alloc; "writeErrors=[ 0={{ {fields} }} ] => {pieces}")?;
+        WRITE_CALLS.check(alloc, whole.as_str())
+    }
 }
 
 #[test]
 fn a_reply_says_what_was_refused(rt: HostRuntime) -> Result<(), Fail> {
-    for row in WRITES.lines() {
-        assert!(rt; are_told(rt.alloc(), row)?, "{row}");
-    }
-    for row in ERRORS.lines() {
-        assert!(rt; are_told_of_error(rt.alloc(), row)?, "{row}");
-    }
-    Ok(())
+    check_rows(rt.alloc(), WRITE_CALLS, WRITES)?;
+    check_rows(rt.alloc(), WriteErrorCalls, ERRORS)
 }
 
 // Puts a write error of this place at the end.
@@ -178,11 +198,16 @@ fn last_of(errors: &WriteErrors) -> Option<(usize, u32)> {
     Some((errors.len(), last.index))
 }
 
+// The same of the insert of so many documents each of which is refused.
+fn count_and_last_of(alloc: Global, count: u32) -> Result<Option<(usize, u32)>, Fail> {
+    let errors = many_errors(alloc, count)?;
+    let reply = response(alloc, refusing(alloc, &errors)?)?;
+    Ok(count_and_last(insert_many(alloc, &reply)))
+}
+
 #[test]
 fn a_hundred_thousand_write_errors_are_read_in_time(rt: HostRuntime) -> Result<(), Fail> {
-    let errors = many_errors(rt.alloc(), 100_000)?;
-    let reply = response(rt.alloc(), refusing(rt.alloc(), &errors)?)?;
-    let counted = count_and_last(insert_many(rt.alloc(), &reply));
+    let counted = count_and_last_of(rt.alloc(), 100_000)?;
     assert_eq!(rt; counted, Some((100_000, 99_999)));
     Ok(())
 }
@@ -216,32 +241,20 @@ const BODIES: &str =
 a=null a=null => InvalidResponse(Body) => Authentication(Malformed)
 a=broken => InvalidResponse(Body) => Authentication(Malformed)";
 
-// Whether a body and that of a login are given so: a row has both pieces behind arrows.
-fn are_bodies_told(alloc: Global, row: &str) -> Result<bool, Fail> {
-    let (fields, pieces) = row.split_once(" => ").unwrap_or((row, "no arrow"));
-    let (body, auth) = pieces.split_once(" => ").unwrap_or((pieces, pieces));
-    let of_body = told(alloc, Call::Body, fields)?;
-    let of_auth = told(alloc, Call::AuthBody, fields)?;
-    Ok(of_body.as_str().find(body).is_some() && of_auth.as_str().find(auth).is_some())
-}
+const BODY_CALLS: Both = Both {
+    first: Call::Body,
+    second: Call::AuthBody,
+};
 
 #[test]
 fn a_reply_has_a_count(rt: HostRuntime) -> Result<(), Fail> {
-    for row in COUNTS.lines() {
-        assert!(rt; is_told(rt.alloc(), Call::Count, row)?, "{row}");
-    }
-    Ok(())
+    check_rows(rt.alloc(), Call::Count, COUNTS)
 }
 
 #[test]
 fn a_reply_has_a_body(rt: HostRuntime) -> Result<(), Fail> {
-    for row in COMMANDS.lines() {
-        assert!(rt; is_told(rt.alloc(), Call::CommandBody, row)?, "{row}");
-    }
-    for row in BODIES.lines() {
-        assert!(rt; are_bodies_told(rt.alloc(), row)?, "{row}");
-    }
+    check_rows(rt.alloc(), Call::CommandBody, COMMANDS)?;
+    check_rows(rt.alloc(), BODY_CALLS, BODIES)?;
     // a look at the write errors alone says nothing of `ok`
-    assert!(rt; is_told(rt.alloc(), Call::InsertMany, FAILED)?);
-    Ok(())
+    Call::InsertMany.check(rt.alloc(), FAILED)
 }
