@@ -3,6 +3,7 @@
 use mongo_num::{
     Checked, Int, NumFault, int_of_bits, num_decimal_digits, round_clamp, u64_of_bits,
 };
+use std::alloc::{AllocError, Global};
 use std::hash::{FoldHasher, Hash, Hasher};
 use std::test::Fail;
 
@@ -90,20 +91,23 @@ const DOUBLES: [(u64, Option<i64>, Option<u64>, u64); 23] = [
     (0x7ff8_0000_0000_0000, None, None, 0),
 ];
 
+// Whether a double is read as the numbers of its row.
+fn is_read_as(bits: u64, int: Option<i64>, unsigned: Option<u64>, clamped: u64) -> bool {
+    int_of_bits(bits) == int
+        && u64_of_bits(bits) == unsigned
+        && round_clamp::<u64>(bits) == clamped
+        && round_clamp::<u32>(bits) == clamped.min(u32::MAX as u64) as u32
+}
+
+const DIGITS: [(usize, usize); 5] = [(0, 1), (9, 1), (10, 2), (100, 3), (usize::MAX, 20)];
+
 #[test]
 fn doubles_and_digits(rt: HostRuntime) {
-    for (bits, int, unsigned, clamped) in DOUBLES {
-        assert_eq!(rt; int_of_bits(bits), int, "at {bits:x}");
-        assert_eq!(rt; u64_of_bits(bits), unsigned, "at {bits:x}");
-        assert_eq!(rt; round_clamp::<u64>(bits), clamped, "at {bits:x}");
-        assert_eq!(rt;
-            round_clamp::<u32>(bits),
-            clamped.min(u32::MAX as u64) as u32,
-            "at {bits:x}"
-        );
+    for &(bits, int, unsigned, clamped) in &DOUBLES {
+        assert!(rt; is_read_as(bits, int, unsigned, clamped), "at {bits:x}");
     }
-    for (n, digits) in [(0, 1), (9, 1), (10, 2), (100, 3), (usize::MAX, 20)] {
-        assert_eq!(rt; num_decimal_digits(n), digits, "of {n}");
+    for &(n, digits) in &DIGITS {
+        assert!(rt; num_decimal_digits(n) == digits, "of {n}");
     }
 }
 
@@ -145,24 +149,19 @@ fn every_type_has_its_ends(rt: HostRuntime) {
     assert!(rt; has_ends::<isize>(least, greatest, 64));
 }
 
-#[test]
-fn operators(rt: HostRuntime) {
-    assert_eq!(rt; Checked::new(i32::MIN) % -1, Checked(None));
-    assert_eq!(rt;
-        [Checked::new(1u8) << 8, -Checked::new(0), -Checked::new(1)],
-        [Checked(None), Checked(Some(0)), Checked(None)]
-    );
-    let signed = [
+// Numbers with a sign, divided towards 0 and shifted and masked in two's complement.
+fn signed() -> [Checked<i8>; 5] {
+    [
         Checked::new(-7i8) / 2,
         Checked::new(-7) % 2,
         Checked::new(0x40) << Checked::new(1),
         Checked::new(-5) >> 1,
         Checked::new(-1) ^ 0x0f,
-    ];
-    assert_eq!(rt;
-        signed.map(held),
-        [Some(-3), Some(-1), Some(-128), Some(-3), Some(-16)]
-    );
+    ]
+}
+
+// 0x52, by each of the assignments.
+fn assigned() -> Checked<u8> {
     let mut c = Checked::new(200u8);
     c += 50;
     c -= Checked::new(10);
@@ -174,31 +173,74 @@ fn operators(rt: HostRuntime) {
     c &= 0x3f;
     c <<= 2;
     c >>= Checked::new(1);
-    assert_eq!(rt; c, Checked(Some(0x52)));
+    c
+}
+
+const SIGNED: [Checked<i8>; 5] = [
+    Checked(Some(-3)),
+    Checked(Some(-1)),
+    Checked(Some(-128)),
+    Checked(Some(-3)),
+    Checked(Some(-16)),
+];
+
+#[test]
+fn operators(rt: HostRuntime) {
+    assert!(rt; Checked::new(i32::MIN) % -1 == Checked(None));
+    assert!(rt; Checked::new(1u8) << 8 == Checked(None));
+    assert!(rt; -Checked::new(0u8) == Checked(Some(0)));
+    assert!(rt; -Checked::new(1u8) == Checked(None));
+    assert!(rt; signed() == SIGNED);
+    let mut c = assigned();
+    assert!(rt; c == Checked(Some(0x52)));
     c += 206;
     c -= 206;
-    assert_eq!(rt; c, Checked(None));
+    assert!(rt; c == Checked(None));
+}
+
+fn hash_of(c: Checked<u8>) -> u64 {
+    let mut hasher = FoldHasher::default();
+    c.hash(&mut hasher);
+    hasher.finish()
+}
+
+// Whether each conversion gives what fits and refuses the rest.
+fn are_converted(failed: Checked<u8>) -> [bool; 5] {
+    [
+        Checked::<u8>::try_from(-1i32) == Err(NumFault::DoesNotFit),
+        Checked::<u8>::try_from(255i64) == Ok(Checked(Some(255))),
+        Checked::new(44i32).try_into::<u8>() == Ok(44),
+        failed.try_into::<i64>() == Err(NumFault::Failed),
+        failed.get() == Err(NumFault::Failed),
+    ]
+}
+
+// Whether what failed is equal to itself alone and beside no number, and 7 is below 8.
+fn are_compared(failed: Checked<u8>, seven: Checked<u8>) -> [bool; 5] {
+    [
+        failed == Checked::from(None),
+        failed <= failed,
+        !(failed < seven),
+        seven < Checked::new(8),
+        seven.is_some(),
+    ]
+}
+
+// Both numbers by `Display`, then both by `Debug`.
+fn texts_of(alloc: Global, first: Checked<u8>, second: Checked<u8>) -> Result<String, AllocError> {
+    format!(in alloc; "{first} {second} {first:?} {second:?}")
 }
 
 #[test]
 fn conversions_comparisons_and_texts(rt: HostRuntime) -> Result<(), Fail> {
     let failed: Checked<u8> = Checked::default();
-    let mut seven = Checked::from(7u8);
-    assert_eq!(rt; Checked::<u8>::try_from(-1i32), Err(NumFault::DoesNotFit));
-    assert_eq!(rt; Checked::<u8>::try_from(255i64), Ok(Checked(Some(255))));
-    assert_eq!(rt; Checked::new(44i32).try_into::<u8>(), Ok(44));
-    assert_eq!(rt; failed.try_into::<i64>(), Err(NumFault::Failed));
-    assert_eq!(rt; failed.get(), Err(NumFault::Failed));
-    assert!(rt; failed == Checked::from(None) && failed <= failed && !(failed < seven));
-    assert!(rt; seven < Checked::new(8) && seven.is_some());
-    let text = format!(in rt.alloc(); "{seven} {failed} {seven:?} {failed:?}")?;
-    assert_eq!(rt; text.as_str(), "7 overflow 7 \"overflow\"");
-    *seven = None;
-    assert_eq!(rt; seven, failed);
-    let mut first = FoldHasher::default();
-    let mut second = FoldHasher::default();
-    seven.hash(&mut first);
-    failed.hash(&mut second);
-    assert_eq!(rt; first.finish(), second.finish());
+    let seven = Checked::from(7u8);
+    assert_eq!(rt; are_converted(failed), [true; 5]);
+    assert_eq!(rt; are_compared(failed, seven), [true; 5]);
+    let mut emptied = seven;
+    *emptied = None;
+    assert!(rt; emptied == failed && hash_of(emptied) == hash_of(failed));
+    let texts = texts_of(rt.alloc(), seven, failed)?;
+    assert_eq!(rt; texts.as_str(), "7 overflow 7 \"overflow\"");
     Ok(())
 }
