@@ -12,7 +12,7 @@ use Rattle.mongo_wire.specs.declared.write_error.WriteConcernError.{WriteConcern
 use Rattle.mongo_wire.specs.declared.write_error.WriteFailure.{WriteFailure}
 use Rattle.mongo_wire.specs.declared.write_error.InsertManyError.{InsertManyError}
 use Rattle.mongo_command.specs.Field.{field_of}
-use Rattle.mongo_command.specs.WriteReply.{HoldsTable, EachReads, ReadsUnsigned32, IsWriteErrorTable, ReadsWriteError, HoldsWriteErrors, ReadsWriteErrors, TextsOrNone, IsConcernErrorTable, ReadsConcernError, IsWriteReplyTable, write_failure, insert_failure, SaysOfWrite, SingleWriteRefused, InsertManyRefused, IsKindFor, Validates}
+use Rattle.mongo_command.specs.WriteReply.{HoldsTable, EachReads, ReadsUnsigned32, IsWriteErrorTable, ReadsWriteError, HoldsWriteErrors, ReadsWriteErrors, TextsOrNone, IsConcernErrorTable, ReadsConcernError, IsWriteReplyTable, IsWriteReply, write_failure, insert_failure, SaysOfWrite, SingleWriteRefused, InsertManyRefused, IsKindFor, Validates}
 use Rattle.mongo_command.specs.Keys.{code_name_key, errmsg_key, error_labels_key}
 use Rattle.mongo_command.proofs.OneField.{ReadsOne, optional_one, required_one, text_or_empty_one, labels_one, text_one, texts_one, int32_one, minutes_one, document_one}
 use Rattle.mongo_command.proofs.OneReply.{◌·◌}
@@ -126,3 +126,18 @@ single_validated document (Err e) done refused failure says = single_kind e.kind
 pub many_validated : (document : List ℕ) (result : Result (Unit {0}) Error) → OnOk result (SaysOfWrite insert_failure document None) → IfErr result (λ e. InsertManyRefused e.kind document) → (failure : Option InsertManyError) → SaysOfWrite insert_failure document failure → Validates InsertMany failure result
 many_validated document (Ok x) done refused failure says = one_said insert_failure document failure None says done
 many_validated document (Err e) done refused failure says = many_kind e.kind document failure refused says
+
+-- ---- what is told of a reply
+
+kind_told : (kind : ErrorKind) (document : List ℕ) (reply : InsertManyError) (failure : Option WriteFailure) → IsWriteReply document reply → write_failure reply ≡ failure → IsKindFor Write failure kind → SingleWriteRefused kind document
+kind_told kind document reply None is said memory = subst (λ k. SingleWriteRefused k document) (sym memory) tt
+kind_told kind document reply (Some failure) is said (inl memory) = subst (λ k. SingleWriteRefused k document) (sym memory) tt
+kind_told kind document reply (Some failure) is said (inr write) = subst (λ k. SingleWriteRefused k document) (sym write) (reply, is, said)
+
+pub done_told : (document : List ℕ) (reply : InsertManyError) (result : Result (Unit {0}) Error) → IsWriteReply document reply → Validates Write (write_failure reply) result → OnOk result (SaysOfWrite write_failure document None)
+done_told document reply (Ok x) is told = (reply, is, told)
+done_told document reply (Err e) is told = tt
+
+pub refused_told : (document : List ℕ) (reply : InsertManyError) (result : Result (Unit {0}) Error) → IsWriteReply document reply → Validates Write (write_failure reply) result → IfErr result (λ e. SingleWriteRefused e.kind document)
+refused_told document reply (Ok x) is told = tt
+refused_told document reply (Err e) is told = kind_told e.kind document reply (write_failure reply) is refl told

@@ -29,6 +29,11 @@ Optional Reads None (Some value) = ⊥
 Optional Reads (Some e) None = e.kind ≡ 0x0A
 Optional Reads (Some e) (Some value) = (e.kind ≢ 0x0A) × Reads e value
 
+-- three such fields, by their keys
+abbrev pub OptionalThree : {A B C : Type 0} → (Element → A → Type 0) → (Element → B → Type 0) → (Element → C → Type 0) → List ℕ → List ℕ → List ℕ → List Element → Option A × Option B × Option C → Type 0
+OptionalThree ReadsFirst ReadsSecond ReadsThird first second third elements values =
+    Optional ReadsFirst (field_of first elements) values.0 × Optional ReadsSecond (field_of second elements) values.1 × Optional ReadsThird (field_of third elements) values.2
+
 -- ---- what an element reads as, kind by kind
 
 -- the number of an int32 or int64

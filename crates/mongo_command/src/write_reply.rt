@@ -1,5 +1,6 @@
 ghost use Rattle.std.specs.Prelude.{◌≡◌, None, option_copied, IfOk, IfErr, OnOk};
-ghost use Rattle.mongo_command.specs.WriteReply.{IsWriteReply, WriteReplyRefused, first_error, first_cause, write_failure, insert_failure, SaysOfWrite, SingleWriteRefused, InsertManyRefused};
+ghost use Rattle.mongo_wire.specs.declared.error.ErrorKind.TheVariants.{Write};
+ghost use Rattle.mongo_command.specs.WriteReply.{IsWriteReply, WriteReplyRefused, first_error, first_cause, write_failure, insert_failure, SaysOfWrite, SingleWriteRefused, InsertManyRefused, Validates};
 
 use crate::command_reply::refused_as;
 use crate::error_table::labels_of;
@@ -37,7 +38,14 @@ pub(crate) fn single_write(alloc: Global, document: RawDocument<'_>) -> Result<(
     ensures refused { IfErr result (λ e. SingleWriteRefused e.kind document.entry.bytes.now) }
 {
     let reply = read_write_reply(alloc, document)?;
-    match failure_of_write(alloc, &reply)? {
+    told_of_write(alloc, &reply)
+}
+
+// Whether a single write was done, by what the reply to it says.
+fn told_of_write(alloc: Global, reply: &InsertManyError) -> Result<(), Error>
+    ensures { Validates Write (write_failure reply.now) result }
+{
+    match failure_of_write(alloc, reply)? {
         Some(failure) => Err(ErrorKind::Write(failure).into()),
         None => Ok(()),
     }

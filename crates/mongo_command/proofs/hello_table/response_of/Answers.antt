@@ -1,75 +1,62 @@
 use Rattle.std.proofs.Common.{rules}
 use Rattle.mongo_command.specs.Hello.{IsHelloTable, IsSetTable}
-use Rattle.mongo_command.proofs.FieldAnswers.{refused, part_fault}
+use Rattle.mongo_command.proofs.FieldAnswers.{refused, three_refused, part_fault}
 use Rattle.mongo_command.proofs.hello_table.response_of.Goals as goal
 
 pub returns-in_err-set : goal.returns-in_err-set
 returns-in_err-set c = λ els are. part_fault IsHelloTable IsSetTable els els c.in_err-set.field-0.0 c.from_residual-in_err-set.result c.from_residual-in_err-set.ensures.1 (λ t is. (t, is.set)) (c.in_err-set.ensures els are)
 
 pub returns-in_err-is_writable_primary : goal.returns-in_err-is_writable_primary
-returns-in_err-is_writable_primary c = λ els are. refused IsHelloTable els _ _ _ _ c.from_residual.ensures.1 (λ t is. (t.is_writable_primary, is.is_writable_primary)) (c.in_err-is_writable_primary.ensures els are)
-
-pub returns-in_err-is_master : goal.returns-in_err-is_master
-returns-in_err-is_master c = λ els are. refused IsHelloTable els _ _ _ _ c.from_residual-in_err-is_master.ensures.1 (λ t is. (t.is_master, is.is_master)) (c.in_err-is_master.ensures els are)
-
-pub returns-in_err-hello_ok : goal.returns-in_err-hello_ok
-returns-in_err-hello_ok c = λ els are. refused IsHelloTable els _ _ _ _ c.from_residual-in_err-hello_ok.ensures.1 (λ t is. (t.hello_ok, is.hello_ok)) (c.in_err-hello_ok.ensures els are)
-
-pub returns-in_err-msg : goal.returns-in_err-msg
-returns-in_err-msg c = λ els are. refused IsHelloTable els _ _ _ _ c.from_residual-in_err-msg.ensures.1 (λ t is. (t.msg, is.msg)) (c.in_err-msg.ensures els are)
-
-pub returns-in_err-me : goal.returns-in_err-me
-returns-in_err-me c = λ els are. refused IsHelloTable els _ _ _ _ c.from_residual-in_err-me.ensures.1 (λ t is. (t.me, is.me)) (c.in_err-me.ensures els are)
+returns-in_err-is_writable_primary c = λ els are. three_refused IsHelloTable els _ _ _ _ _ _ _ _ c.from_residual.ensures.1 (λ t is. ((t.is_writable_primary, t.is_master, t.hello_ok), (is.is_writable_primary, is.is_master, is.hello_ok))) (c.in_err-is_writable_primary.ensures els are)
 
 pub returns-in_err-hidden : goal.returns-in_err-hidden
-returns-in_err-hidden c = λ els are. refused IsHelloTable els _ _ _ _ c.from_residual-in_err-hidden.ensures.1 (λ t is. (t.hidden, is.hidden)) (c.in_err-hidden.ensures els are)
-
-pub returns-in_err-secondary : goal.returns-in_err-secondary
-returns-in_err-secondary c = λ els are. refused IsHelloTable els _ _ _ _ c.from_residual-in_err-secondary.ensures.1 (λ t is. (t.secondary, is.secondary)) (c.in_err-secondary.ensures els are)
-
-pub returns-in_err-arbiter_only : goal.returns-in_err-arbiter_only
-returns-in_err-arbiter_only c = λ els are. refused IsHelloTable els _ _ _ _ c.from_residual-in_err-arbiter_only.ensures.1 (λ t is. (t.arbiter_only, is.arbiter_only)) (c.in_err-arbiter_only.ensures els are)
+returns-in_err-hidden c = λ els are. three_refused IsHelloTable els _ _ _ _ _ _ _ _ c.from_residual-in_err-hidden.ensures.1 (λ t is. ((t.hidden, t.secondary, t.arbiter_only), (is.hidden, is.secondary, is.arbiter_only))) (c.in_err-hidden.ensures els are)
 
 pub returns-in_err-is_replica_set : goal.returns-in_err-is_replica_set
 returns-in_err-is_replica_set c = λ els are. refused IsHelloTable els _ _ _ _ c.from_residual-in_err-is_replica_set.ensures.1 (λ t is. (t.is_replica_set, is.is_replica_set)) (c.in_err-is_replica_set.ensures els are)
 
 pub returns-in_err-last_write : goal.returns-in_err-last_write
-returns-in_err-last_write c = λ els are. refused IsHelloTable els _ _ _ _ c.from_residual-in_err-last_write.ensures.1 (λ t is. (t.last_write, is.last_write)) (c.in_err-last_write.ensures els are)
+returns-in_err-last_write c = λ els are. three_refused IsHelloTable els _ _ _ _ _ _ _ _ c.from_residual-in_err-last_write.ensures.1 (λ t is. ((t.last_write, t.msg, t.me), (is.last_write, is.msg, is.me))) (c.in_err-last_write.ensures els are)
 
 pub returns : goal.returns
-returns c = λ els are. let set = c.in_ok-set.ensures els are in record {
-  set = record {
-    server = record {
-      compressors = set.server.compressors;
-      logical_session_timeout_minutes = set.server.logical_session_timeout_minutes;
-      min_wire_version = set.server.min_wire_version;
-      max_wire_version = set.server.max_wire_version;
-      sasl_supported_mechs = set.server.sasl_supported_mechs;
-      speculative_authenticate = set.server.speculative_authenticate;
-      max_bson_object_size = search rules;
-      max_message_size_bytes = search rules;
-      max_write_batch_size = set.server.max_write_batch_size;
-      service_id = set.server.service_id;
-      topology_version = set.server.topology_version;
-      connection_id = set.server.connection_id;
-    };
-    hosts = set.hosts;
-    passives = set.passives;
-    arbiters = set.arbiters;
-    primary = set.primary;
-    set_version = set.set_version;
-    set_name = set.set_name;
-    tags = set.tags;
-    election_id = set.election_id;
-  };
-  is_writable_primary = c.in_ok-is_writable_primary.ensures els are;
-  is_master = c.in_ok-is_master.ensures els are;
-  hello_ok = c.in_ok-hello_ok.ensures els are;
-  msg = c.in_ok-msg.ensures els are;
-  me = c.in_ok-me.ensures els are;
-  hidden = c.in_ok-hidden.ensures els are;
-  secondary = c.in_ok-secondary.ensures els are;
-  arbiter_only = c.in_ok-arbiter_only.ensures els are;
-  is_replica_set = c.in_ok-is_replica_set.ensures els are;
-  last_write = c.in_ok-last_write.ensures els are;
-}
+returns c = λ els are.
+    let set = c.in_ok-set.ensures els are in
+    let flags = c.in_ok-is_writable_primary.ensures els are in
+    let roles = c.in_ok-hidden.ensures els are in
+    let last = c.in_ok-last_write.ensures els are in
+    record {
+      set = record {
+        server = record {
+          compressors = set.server.compressors;
+          logical_session_timeout_minutes = set.server.logical_session_timeout_minutes;
+          min_wire_version = set.server.min_wire_version;
+          max_wire_version = set.server.max_wire_version;
+          sasl_supported_mechs = set.server.sasl_supported_mechs;
+          speculative_authenticate = set.server.speculative_authenticate;
+          max_bson_object_size = search rules;
+          max_message_size_bytes = search rules;
+          max_write_batch_size = set.server.max_write_batch_size;
+          service_id = set.server.service_id;
+          topology_version = set.server.topology_version;
+          connection_id = set.server.connection_id;
+        };
+        hosts = set.hosts;
+        passives = set.passives;
+        arbiters = set.arbiters;
+        primary = set.primary;
+        set_version = set.set_version;
+        set_name = set.set_name;
+        tags = set.tags;
+        election_id = set.election_id;
+      };
+      is_writable_primary = flags.0;
+      is_master = flags.1;
+      hello_ok = flags.2;
+      msg = last.1;
+      me = last.2;
+      hidden = roles.0;
+      secondary = roles.1;
+      arbiter_only = roles.2;
+      is_replica_set = c.in_ok-is_replica_set.ensures els are;
+      last_write = last.0;
+    }
