@@ -10,13 +10,25 @@ use std::alloc::{AllocError, Global};
 use std::sync::ledger::Ledger;
 
 /// A client that logs in as one user again and again, and the server that knows this user.
-#[derive(Drop)]
 pub struct Peers {
     hash: Hash,
     client: Client,
     login: Login,
     server: ServerCore,
     state: LoginState,
+}
+
+// Dropped by a call, so that the proofs of its owners don't walk through its parts.
+impl Drop for Peers {
+    fn drop(self) {
+        let Peers {
+            hash: _,
+            client: _,
+            login: _,
+            server: _,
+            state: _,
+        } = self;
+    }
 }
 
 impl Peers {

@@ -1,4 +1,4 @@
--- What a connection keeps of an exchange: a fault, and all that isn't one.
+-- What an exchange leaves to be kept is a fault that a connection keeps.
 use Rattle.std.proofs.Common.{◌≡◌, ℕ, ℤ, pos, Bool, true, false, refl, sym, ap, ◌∙◌, inl, inr, Option, None, Some, List, if◌then◌else◌}
 use Rattle.std.specs.Prelude.{int_lt}
 use Rattle.mongo_wire.specs.declared.error.ErrorKind.{ErrorKind}
@@ -11,10 +11,8 @@ use Rattle.mongo_wire.specs.Header.{signed_at, op_code_of}
 use Rattle.mongo_wire.specs.Message.{ReadRefused}
 use Rattle.mongo_wire.specs.Outside.{State}
 use Rattle.mongo_wire.specs.Rows.{code_row, length_row, IsRow}
-use Rattle.mongo_command.specs.Connection.{KeepsRest}
 use Rattle.mongo_command.specs.Exchange.{ReceiveRefused}
 use Rattle.mongo_command.specs.Fault.{is_kept}
-use Rattle.mongo_command.specs.declared.connection.Connection.{Connection}
 
 some_kept : (a kind : ErrorKind) → is_kept a ≡ true → Some a ≡ Some kind → is_kept kind ≡ true
 some_kept a kind kept row = let same : a ≡ kind = cc in ap is_kept (sym same) ∙ kept
@@ -54,12 +52,3 @@ read_kept kind maximum old new refused = absurd refused
 
 pub received_kept : (kind : ErrorKind) (maximum : ℤ) (old new : State) → ReceiveRefused kind maximum old new → is_kept kind ≡ true
 received_kept kind maximum old new refused = read_kept kind maximum old new refused.refused
-
-pub keeps_on : (old middle new : Connection) → KeepsRest old middle → KeepsRest middle new → KeepsRest old new
-keeps_on old middle new p q = record {
-  address = q.address ∙ p.address;
-  id = q.id ∙ p.id;
-  description = q.description ∙ p.description;
-  server_id = q.server_id ∙ p.server_id;
-  token = q.token ∙ p.token;
-}

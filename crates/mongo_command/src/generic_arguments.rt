@@ -17,7 +17,7 @@ use mongo_bson::{BsonFault, RawDocumentBuf, RawValue};
 use std::alloc::Global;
 
 // The fields that a command of any name can carry beside its body, in the order in which they are sent.
-#[derive(Debug, Default, Drop)]
+#[derive(Debug, Default)]
 pub(crate) struct GenericArguments {
     // the session (`lsid`)
     pub(crate) lsid: Option<RawDocumentBuf>,
@@ -39,6 +39,24 @@ pub(crate) struct GenericArguments {
     pub(crate) write_concern: Option<RawDocumentBuf>,
     // what a router needs to find a transaction again (`recoveryToken`)
     pub(crate) recovery_token: Option<RawDocumentBuf>,
+}
+
+// Dropped by a call, so that the proofs of its owners don't walk through its parts.
+impl Drop for GenericArguments {
+    fn drop(self) {
+        let GenericArguments {
+            lsid: _,
+            cluster_time: _,
+            server_api: _,
+            read_preference: _,
+            txn_number: _,
+            start_transaction: _,
+            autocommit: _,
+            read_concern: _,
+            write_concern: _,
+            recovery_token: _,
+        } = self;
+    }
 }
 
 impl GenericArguments {

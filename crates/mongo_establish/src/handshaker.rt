@@ -24,11 +24,21 @@ use std::sync::ledger::Ledger;
 const LOGIN_ROOM: usize = 448;
 
 /// Says hello and logs in.
-#[derive(Debug, Drop)]
+#[derive(Debug)]
 pub struct Handshaker {
     hello: Command,
     options: HandshakerOptions,
     pub ghost hello_is: { hello ≡ common_hello options },
+}
+
+// Dropped by a call, so that the proofs of its owners don't walk through its parts.
+impl Drop for Handshaker {
+    fn drop(self) {
+        let Handshaker {
+            hello: _,
+            options: _,
+        } = self;
+    }
 }
 
 impl Handshaker {

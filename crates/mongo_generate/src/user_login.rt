@@ -11,13 +11,23 @@ use mongo_scram::ClientFirst;
 use std::alloc::{AllocError, Global};
 
 /// A user who logs in by SCRAM, and the nonces of the login.
-#[derive(Drop)]
 pub struct Login {
     pub(crate) credential: Credential,
     pub(crate) inputs: LoginInputs,
     // The client's first message.
     pub(crate) client_first: Text,
     pub ghost scram: { IsTrue (is_scram credential.mechanism) },
+}
+
+// Dropped by a call, so that the proofs of its owners don't walk through its parts.
+impl Drop for Login {
+    fn drop(self) {
+        let Login {
+            credential: _,
+            inputs: _,
+            client_first: _,
+        } = self;
+    }
 }
 
 impl Login {

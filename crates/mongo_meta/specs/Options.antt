@@ -2,6 +2,7 @@
 use Rattle.std.specs.Prelude.{◌≡◌, ℕ, ◌⊎◌, Option, None, Some, option_map, List, [], ◌∷◌, ◌++◌, codes, Contains}
 use Rattle.mongo_meta.specs.declared.client_metadata.AppMetadata.{AppMetadata}
 use Rattle.mongo_meta.specs.declared.client_metadata.ClientMetadata.{ClientMetadata}
+use Rattle.mongo_meta.specs.declared.client_metadata.DriverMetadata.{DriverMetadata}
 use Rattle.mongo_meta.specs.declared.client_options.ClientOptions.{ClientOptions}
 use Rattle.mongo_meta.specs.declared.driver_info.DriverInfo.{DriverInfo}
 use Rattle.mongo_meta.specs.Providers.{runtime_environment_in}
@@ -30,11 +31,15 @@ Appends old info new = (Contains old.appended info × (new ≡ old)) ⊎ ((Conta
 abbrev pub named : List ℕ → AppMetadata
 named name = record { name = name }
 
+-- the driver, with no library behind it
+abbrev pub this_driver : DriverMetadata
+this_driver = record { name = codes "mongo-rust-driver"; version = codes "3.9.1" }
+
 -- the metadata of the client alone
 abbrev pub client_metadata_of : ClientOptions → ClientMetadata
 client_metadata_of o = record {
   application = option_map named o.app_name;
-  driver = record { name = codes "mongo-rust-driver"; version = codes "3.9.1" };
+  driver = this_driver;
   os = o.os;
   platform = o.platform;
   platform_short = o.platform_short;

@@ -5,7 +5,7 @@ ghost use Rattle.mongo_meta.specs.Options.{with_part, bar};
 use crate::driver_info::holds;
 use crate::fields::{document_of, text_field};
 use crate::{ClientOptions, DriverInfo, DriverInfos, OsMetadata, RuntimeEnvironment};
-use mongo_bson::{BsonFault, RawDocumentBuf, Text};
+use mongo_bson::{BsonFault, RawDocumentBuf, Text, copy_of};
 use mongo_wire::Error;
 use std::alloc::Global;
 
@@ -49,6 +49,7 @@ pub struct DriverMetadata {
 
 impl DriverMetadata {
     ghost use Rattle.mongo_meta.specs.Metadata.{driver_document};
+    ghost use Rattle.mongo_meta.specs.Options.{this_driver};
 
     /// A copy.
     pub fn try_clone(&self, alloc: Global) -> Result<DriverMetadata, BsonFault>
@@ -58,6 +59,17 @@ impl DriverMetadata {
         Ok(DriverMetadata {
             name: self.name.try_clone(alloc)?,
             version: self.version.try_clone(alloc)?,
+        })
+    }
+
+    // The driver itself.
+    fn of_driver(alloc: Global) -> Result<DriverMetadata, BsonFault>
+        ensures driver { IfOk result (λ driver. driver ≡ this_driver) }
+        ensures refused { IfErr result (λ fault. fault ≡ BsonFault.OutOfMemory) }
+    {
+        Ok(DriverMetadata {
+            name: Text::from_slice(alloc, "mongo-rust-driver")?,
+            version: Text::from_slice(alloc, "3.9.1")?,
         })
     }
 
@@ -97,7 +109,7 @@ pub struct ClientMetadata {
 
 impl ClientMetadata {
     ghost use Rattle.mongo_meta.specs.declared.client_metadata.ClientMetadata.{ClientMetadata};
-    ghost use Rattle.mongo_meta.specs.Options.{metadata_of, client_metadata_of, Appends};
+    ghost use Rattle.mongo_meta.specs.Options.{metadata_of, client_metadata_of, with_library, Appends};
     ghost use Rattle.mongo_wire.specs.declared.error.ErrorKind.TheVariants.{OutOfMemory};
 
     /// The metadata of a client with these options: the application, the driver `mongo-rust-driver` of version 3.9.1,
@@ -107,15 +119,12 @@ impl ClientMetadata {
         ensures metadata { IfOk result (λ metadata. metadata ≡ metadata_of options.now) }
         ensures refused { IfErr result (λ e. e.kind ≡ OutOfMemory) }
     {
+        let library = copy_of(alloc, &options.driver_info)?;
         let mut metadata = ClientMetadata::of_client(alloc, options)?;
-        match &options.driver_info {
-            Some(info) => {
-                let info = info.try_clone(alloc)?;
-                metadata.append(info)?;
-                Ok(metadata)
-            }
-            None => Ok(metadata),
+        if let Some(info) = library {
+            metadata.append(info)?;
         }
+        Ok(metadata)
     }
 
     // The metadata without the library that the options name.
@@ -123,22 +132,24 @@ impl ClientMetadata {
         ensures metadata { IfOk result (λ metadata. metadata ≡ client_metadata_of options.now) }
         ensures refused { IfErr result (λ e. e.kind ≡ OutOfMemory) }
     {
+        let driver = DriverMetadata::of_driver(alloc)?;
         let application = match &options.app_name {
             Some(name) => Some(AppMetadata {
                 name: name.try_clone(alloc)?,
             }),
             None => None,
         };
+        let env = RuntimeEnvironment::from_environment(alloc, &options.environment)?;
+        let (os, platform, platform_short) = options
+            .os
+            .copy_with(alloc, &options.platform, &options.platform_short)?;
         Ok(ClientMetadata {
             application,
-            driver: DriverMetadata {
-                name: Text::from_slice(alloc, "mongo-rust-driver")?,
-                version: Text::from_slice(alloc, "3.9.1")?,
-            },
-            os: options.os.try_clone(alloc)?,
-            platform: options.platform.try_clone(alloc)?,
-            platform_short: options.platform_short.try_clone(alloc)?,
-            env: RuntimeEnvironment::from_environment(alloc, &options.environment)?,
+            driver,
+            os,
+            platform,
+            platform_short,
+            env,
             appended: DriverInfos::new(alloc),
         })
     }
@@ -157,13 +168,23 @@ impl ClientMetadata {
         if holds(self.appended.as_slice(), &info) {
             return Ok(());
         }
+        let (driver, platform) = self.grown_by(&info)?;
+        self.appended.push(info)?;
+        self.driver = driver;
+        self.platform = platform;
+        Ok(())
+    }
+
+    // The driver and the platform with what a library adds to them.
+    fn grown_by(&self, info: &DriverInfo) -> Result<(DriverMetadata, Text), BsonFault>
+        ensures driver { IfOk result (λ grown. grown.0 ≡ (with_library self.now info.now).driver) }
+        ensures platform { IfOk result (λ grown. grown.1 ≡ (with_library self.now info.now).platform) }
+        ensures refused { IfErr result (λ fault. fault ≡ BsonFault.OutOfMemory) }
+    {
         let name = with_name(&self.driver.name, &info.name)?;
         let version = with_part(&self.driver.version, &info.version)?;
         let platform = with_part(&self.platform, &info.platform)?;
-        self.appended.push(info)?;
-        self.driver = DriverMetadata { name, version };
-        self.platform = platform;
-        Ok(())
+        Ok((DriverMetadata { name, version }, platform))
     }
 
     /// A copy.
@@ -171,6 +192,8 @@ impl ClientMetadata {
         ensures copied { IfOk result (λ metadata. metadata ≡ self.now) }
         ensures refused { IfErr result (λ fault. fault ≡ BsonFault.OutOfMemory) }
     {
+        let appended = self.appended.try_clone(alloc)?;
+        let driver = self.driver.try_clone(alloc)?;
         let application = match &self.application {
             Some(application) => Some(application.try_clone(alloc)?),
             None => None,
@@ -179,14 +202,17 @@ impl ClientMetadata {
             Some(env) => Some(env.try_clone(alloc)?),
             None => None,
         };
+        let (os, platform, platform_short) = self
+            .os
+            .copy_with(alloc, &self.platform, &self.platform_short)?;
         Ok(ClientMetadata {
             application,
-            driver: self.driver.try_clone(alloc)?,
-            os: self.os.try_clone(alloc)?,
-            platform: self.platform.try_clone(alloc)?,
-            platform_short: self.platform_short.try_clone(alloc)?,
+            driver,
+            os,
+            platform,
+            platform_short,
             env,
-            appended: self.appended.try_clone(alloc)?,
+            appended,
         })
     }
 }

@@ -32,15 +32,21 @@ impl ClientOptions {
         ensures copied { IfOk result (λ options. options ≡ self.now) }
         ensures refused { IfErr result (λ fault. fault ≡ BsonFault.OutOfMemory) }
     {
+        let environment = self.environment.try_clone(alloc)?;
+        let app_name = copy_of(alloc, &self.app_name)?;
+        let driver_info = copy_of(alloc, &self.driver_info)?;
+        let (os, platform, platform_short) = self
+            .os
+            .copy_with(alloc, &self.platform, &self.platform_short)?;
         Ok(ClientOptions {
-            app_name: copy_of(alloc, &self.app_name)?,
-            driver_info: copy_of(alloc, &self.driver_info)?,
+            app_name,
+            driver_info,
             server_api: self.server_api,
             load_balanced: self.load_balanced,
-            os: self.os.try_clone(alloc)?,
-            platform: self.platform.try_clone(alloc)?,
-            platform_short: self.platform_short.try_clone(alloc)?,
-            environment: self.environment.try_clone(alloc)?,
+            os,
+            platform,
+            platform_short,
+            environment,
         })
     }
 }

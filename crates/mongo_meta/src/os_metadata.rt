@@ -35,6 +35,22 @@ impl OsMetadata {
         })
     }
 
+    // A copy, and one of the long and of the short text of a platform: what the options of a client hand on to its metadata
+    // as it is. What each refusal lets go is no more than three values here.
+    pub(crate) fn copy_with(
+        &self,
+        alloc: Global,
+        platform: &Text,
+        platform_short: &Text,
+    ) -> Result<(OsMetadata, Text, Text), BsonFault>
+        ensures copied { IfOk result (λ copies. (copies.0 ≡ self.now) × (copies.1 ≡ platform.now) × (copies.2 ≡ platform_short.now)) }
+        ensures refused { IfErr result (λ fault. fault ≡ BsonFault.OutOfMemory) }
+    {
+        let platform = platform.try_clone(alloc)?;
+        let platform_short = platform_short.try_clone(alloc)?;
+        Ok((self.try_clone(alloc)?, platform, platform_short))
+    }
+
     // The document of what is there.
     pub(crate) fn document(&self, alloc: Global) -> Result<RawDocumentBuf, BsonFault>
         ensures document { IfOk result (λ document. document ≡ os_document self.now) }

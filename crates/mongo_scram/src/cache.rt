@@ -13,7 +13,6 @@ use std::collections::BTreeMap;
 use std::fmt;
 
 /// What a salted password is derived from.
-#[derive(Drop)]
 pub struct SaltedKey {
     /// The version of SCRAM.
     pub version: ScramVersion,
@@ -25,6 +24,19 @@ pub struct SaltedKey {
     pub salt: Bytes,
     /// The iteration count.
     pub count: u32,
+}
+
+// Dropped by a call, so that the proofs of its owners don't walk through its parts.
+impl Drop for SaltedKey {
+    fn drop(self) {
+        let SaltedKey {
+            version: _,
+            username: _,
+            password: _,
+            salt: _,
+            count: _,
+        } = self;
+    }
 }
 
 impl SaltedKey {

@@ -24,7 +24,7 @@ pub fn nonce_text(alloc: Global, nonce: &[u8; 32]) -> Result<Text, Error>
 }
 
 /// The client's first message.
-#[derive(Debug, Drop)]
+#[derive(Debug)]
 pub struct ClientFirst {
     source: Text,
     message: String,
@@ -32,6 +32,19 @@ pub struct ClientFirst {
     include_db: bool,
     server_api: Option<ServerApi>,
     pub ghost opens: { take 3 (string_bytes message) ≡ codes "n,," },
+}
+
+// Dropped by a call, so that the proofs of its owners don't walk through its parts.
+impl Drop for ClientFirst {
+    fn drop(self) {
+        let ClientFirst {
+            source: _,
+            message: _,
+            nonce: _,
+            include_db: _,
+            server_api: _,
+        } = self;
+    }
 }
 
 impl ClientFirst {
@@ -180,13 +193,25 @@ impl ClientFirst {
 }
 
 /// The client's last message, and what it and the server sign.
-#[derive(Drop)]
 pub struct ClientFinal {
     source: Text,
     message: String,
     auth_message: String,
     conversation_id: OwnedValue,
     server_api: Option<ServerApi>,
+}
+
+// Dropped by a call, so that the proofs of its owners don't walk through its parts.
+impl Drop for ClientFinal {
+    fn drop(self) {
+        let ClientFinal {
+            source: _,
+            message: _,
+            auth_message: _,
+            conversation_id: _,
+            server_api: _,
+        } = self;
+    }
 }
 
 // A proof is never shown: who knows it can try passwords against it.

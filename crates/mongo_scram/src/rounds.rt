@@ -46,12 +46,21 @@ pub struct Login<'a> {
 }
 
 /// The first messages of both sides.
-#[derive(Drop)]
 pub struct Opened {
     /// The client's.
     pub client_first: ClientFirst,
     /// The server's.
     pub server_first: ServerFirst,
+}
+
+// Dropped by a call, so that the proofs of its owners don't walk through its parts.
+impl Drop for Opened {
+    fn drop(self) {
+        let Opened {
+            client_first: _,
+            server_first: _,
+        } = self;
+    }
 }
 
 impl<'a> Login<'a> {

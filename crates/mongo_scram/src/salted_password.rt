@@ -10,10 +10,16 @@ use std::marker::Model;
 
 /// A salted password, and its keys in one version of SCRAM beside it, so that each login with it signs and derives no key
 /// anew. A clause sees the salted password alone.
-#[derive(Drop)]
 pub struct SaltedPassword {
     tag: Tag,
     keys: Keys,
+}
+
+// Dropped by a call, so that the proofs of its owners don't walk through its parts.
+impl Drop for SaltedPassword {
+    fn drop(self) {
+        let SaltedPassword { tag: _, keys: _ } = self;
+    }
 }
 
 impl Model for SaltedPassword {

@@ -68,16 +68,23 @@ impl From<FrameFault> for ServeFault {
     }
 }
 
-// What a write is refused for.
+// What a write is refused for, or a user's key.
 impl From<Error> for ServeFault {
     ghost from_gives = { λ given fault. fault ≡ fault_of_kind given.kind };
 
     fn from(error: Error) -> ServeFault {
-        match error.kind {
-            ErrorKind::WriteFault => ServeFault::WriteFault,
-            ErrorKind::OutOfMemory => ServeFault::OutOfMemory,
-            _ => ServeFault::ReplyTooLong,
-        }
+        fault_of(&error.kind)
+    }
+}
+
+// By reference: behind each arm of a `match` on an error that is owned all of its parts would be let go.
+fn fault_of(kind: &ErrorKind) -> ServeFault
+    ensures { result ≡ fault_of_kind kind.now }
+{
+    match kind {
+        ErrorKind::WriteFault => ServeFault::WriteFault,
+        ErrorKind::OutOfMemory => ServeFault::OutOfMemory,
+        _ => ServeFault::ReplyTooLong,
     }
 }
 

@@ -13,7 +13,6 @@ use mongo_bson::Text;
 use mongo_mac::Steps;
 use mongo_scram::{ScramVersion, push_user_name};
 use mongo_server::{ServerCore, ServerFault, ServerUser};
-use mongo_wire::ErrorKind;
 use std::alloc::{AllocError, Global};
 use std::sync::ledger::Ledger;
 
@@ -120,8 +119,8 @@ fn open<G: Ledger>(
     ) {
         Ok(user) => user,
         Err(error) => {
-            return match error.kind {
-                ErrorKind::OutOfMemory => Err(ServeFault::OutOfMemory),
+            return match ServeFault::from(error) {
+                ServeFault::OutOfMemory => Err(ServeFault::OutOfMemory),
                 _ => Ok(None),
             };
         }

@@ -13,12 +13,21 @@ use std::alloc::Global;
 use std::fmt;
 
 /// A conversation that has begun.
-#[derive(Drop)]
 pub(crate) struct Conversation {
     // The client's nonce with the suffix behind it.
     nonce: Text,
     // What the client and the server sign (RFC 5802, `AuthMessage`).
     auth_message: Text,
+}
+
+// Dropped by a call, so that the proofs of its owners don't walk through its parts.
+impl Drop for Conversation {
+    fn drop(self) {
+        let Conversation {
+            nonce: _,
+            auth_message: _,
+        } = self;
+    }
 }
 
 // A conversation, and the server's first message in it.
@@ -29,7 +38,6 @@ pub(crate) struct Opening {
 }
 
 /// A server that knows one user, and holds the conversation that was begun last.
-#[derive(Drop)]
 pub struct ServerCore {
     user: ServerUser,
     suffix: Text,
@@ -38,6 +46,18 @@ pub struct ServerCore {
     verifier: Tag,
     pub ghost printable: { IsNonce suffix },
     pub ghost signed: { ForSome conversation (λ held. verifier ≡ verifier_under user.keys held.auth_message) },
+}
+
+// Dropped by a call, so that the proofs of its owners don't walk through its parts.
+impl Drop for ServerCore {
+    fn drop(self) {
+        let ServerCore {
+            user: _,
+            suffix: _,
+            conversation: _,
+            verifier: _,
+        } = self;
+    }
 }
 
 impl ServerCore {

@@ -11,7 +11,6 @@ use std::fmt;
 use std::sync::ledger::Ledger;
 
 /// What a server keeps of a user: the name, the salt, the iteration count and the keys, and never the password.
-#[derive(Drop)]
 pub struct ServerUser {
     pub(crate) username: Text,
     // The name as a message carries it.
@@ -20,6 +19,19 @@ pub struct ServerUser {
     pub(crate) count: u32,
     pub(crate) keys: Keys,
     pub ghost said: { saslname ≡ escaped username },
+}
+
+// Dropped by a call, so that the proofs of its owners don't walk through its parts.
+impl Drop for ServerUser {
+    fn drop(self) {
+        let ServerUser {
+            username: _,
+            saslname: _,
+            salt: _,
+            count: _,
+            keys: _,
+        } = self;
+    }
 }
 
 impl ServerUser {

@@ -87,15 +87,15 @@ optional_spoken (Some d) credential is judged = credential_spoken (credential_in
 -- ---- settings
 
 -- settings of their parts
-abbrev settings_of_parts : Option PendingConnection → Option (Option (List ℕ)) → Option (Option Credential) → Option (Option Nonces) → Option (Option ℤ) → Option ClientOptions → Option (Option ℕ) → Option Settings
-settings_of_parts pending replies credential nonces first_id options iterations = do
-  p ← pending
-  r ← replies
-  c ← credential
+abbrev settings_of_parts : Option (Option Nonces) → Option (Option ℤ) → Option (Option ℕ) → Option (Option (List ℕ)) → Option PendingConnection → Option (Option Credential) → Option ClientOptions → Option Settings
+settings_of_parts nonces first_id iterations replies pending credential options = do
   n ← nonces
   f ← first_id
-  o ← options
   i ← iterations
+  r ← replies
+  p ← pending
+  c ← credential
+  o ← options
   Some (record {
     pending = p;
     replies = unwrap_or r [];
@@ -106,22 +106,22 @@ settings_of_parts pending replies credential nonces first_id options iterations 
     max_iterations = unwrap_or i default_iterations;
   })
 
-their_credential : (pending : Option PendingConnection) (replies : Option (Option (List ℕ))) (credential : Option (Option Credential)) (nonces : Option (Option Nonces)) (first_id : Option (Option ℤ)) (options : Option ClientOptions) (iterations : Option (Option ℕ)) (s : Settings)
-    → settings_of_parts pending replies credential nonces first_id options iterations ≡ Some s → credential ≡ Some s.credential
-their_credential (Some p) (Some r) (Some c) (Some n) (Some f) (Some o) (Some i) s is = ap (option_map (λ (x : Settings). x.credential)) is
-their_credential None r c n f o i s is = cc
-their_credential (Some p) None c n f o i s is = cc
-their_credential (Some p) (Some r) None n f o i s is = cc
-their_credential (Some p) (Some r) (Some c) None f o i s is = cc
-their_credential (Some p) (Some r) (Some c) (Some n) None o i s is = cc
-their_credential (Some p) (Some r) (Some c) (Some n) (Some f) None i s is = cc
-their_credential (Some p) (Some r) (Some c) (Some n) (Some f) (Some o) None s is = cc
+their_credential : (nonces : Option (Option Nonces)) (first_id : Option (Option ℤ)) (iterations : Option (Option ℕ)) (replies : Option (Option (List ℕ))) (pending : Option PendingConnection) (credential : Option (Option Credential)) (options : Option ClientOptions) (s : Settings)
+    → settings_of_parts nonces first_id iterations replies pending credential options ≡ Some s → credential ≡ Some s.credential
+their_credential (Some n) (Some f) (Some i) (Some r) (Some p) (Some c) (Some o) s is = ap (option_map (λ (x : Settings). x.credential)) is
+their_credential None f i r p c o s is = cc
+their_credential (Some n) None i r p c o s is = cc
+their_credential (Some n) (Some f) None r p c o s is = cc
+their_credential (Some n) (Some f) (Some i) None p c o s is = cc
+their_credential (Some n) (Some f) (Some i) (Some r) None c o s is = cc
+their_credential (Some n) (Some f) (Some i) (Some r) (Some p) None o s is = cc
+their_credential (Some n) (Some f) (Some i) (Some r) (Some p) (Some c) None s is = cc
 
 credential_of : (d : Data) (s : Settings) → settings_in d ≡ Some s → optional credential_key credential_in d ≡ Some s.credential
 unfolding settings_in
 credential_of d s is =
-    their_credential (pending_in d) (optional replies_key joined_hex_in d) (optional credential_key credential_in d) (optional nonces_key nonces_in d)
-    (optional first_id_key int32_in d) (client_options_in d) (optional max_iterations_key iterations_in d) s is
+    their_credential (optional nonces_key nonces_in d) (optional first_id_key int32_in d) (optional max_iterations_key iterations_in d)
+    (optional replies_key joined_hex_in d) (pending_in d) (optional credential_key credential_in d) (client_options_in d) s is
 
 settings_spoken : (d : Data) (s : Settings) → settings_of d ≡ Ok s → SpeaksFor s.credential
 settings_spoken d s is =

@@ -25,13 +25,13 @@ default_iterations = 10000000
 -- The settings that an object is.
 unfoldable pub settings_in : Data → Option Settings
 settings_in d = do
-  pending ← pending_in d
-  replies ← optional replies_key joined_hex_in d
-  credential ← optional credential_key credential_in d
   nonces ← optional nonces_key nonces_in d
   first_id ← optional first_id_key int32_in d
-  options ← client_options_in d
   iterations ← optional max_iterations_key iterations_in d
+  replies ← optional replies_key joined_hex_in d
+  pending ← pending_in d
+  credential ← optional credential_key credential_in d
+  options ← client_options_in d
   Some (record {
     pending = pending;
     replies = unwrap_or replies [];

@@ -83,14 +83,14 @@ environment_in d = do
 
 unfoldable pub client_options_in : Data → Option ClientOptions
 client_options_in d = do
-  app_name ← optional app_name_key as_str d
-  driver_info ← optional driver_info_key driver_info_in d
   server_api ← optional server_api_key server_api_in d
   load_balanced ← optional load_balanced_key as_bool d
-  os ← or_absent default_os (optional os_key os_in d)
   platform ← or_absent default_platform (optional platform_key as_str d)
   platform_short ← or_absent default_platform_short (optional platform_short_key as_str d)
   environment ← environment_in d
+  app_name ← optional app_name_key as_str d
+  driver_info ← optional driver_info_key driver_info_in d
+  os ← or_absent default_os (optional os_key os_in d)
   Some (record {
     app_name = app_name;
     driver_info = driver_info;

@@ -70,13 +70,31 @@ fn establisher(
 ) -> Result<ConnectionEstablisher, Error>
     ensures options { IfOk result (λ establisher. options_of_establisher establisher ≡ options_of (record { options = options; metadata = metadata_of options; max_iterations = max_iterations })) }
 {
+    let spec = spec_of(alloc, options, max_iterations)?;
+    establisher_of(alloc, &spec)
+}
+
+// What such a client is made of.
+fn spec_of(
+    alloc: Global,
+    options: ClientOptions,
+    max_iterations: u32,
+) -> Result<TopologySpec, Error>
+    ensures spec { IfOk result (λ spec. spec ≡ record { options = options; metadata = metadata_of options; max_iterations = max_iterations }) }
+{
     let metadata = ClientMetadata::from_options(alloc, &options)?;
-    let spec = TopologySpec {
+    Ok(TopologySpec {
         options,
         metadata,
         max_iterations,
-    };
-    ConnectionEstablisher::new(alloc, EstablisherOptions::from_spec(alloc, &spec)?)
+    })
+}
+
+// The establisher of a client that is made so.
+fn establisher_of(alloc: Global, spec: &TopologySpec) -> Result<ConnectionEstablisher, Error>
+    ensures options { IfOk result (λ establisher. options_of_establisher establisher ≡ options_of spec.now) }
+{
+    ConnectionEstablisher::new(alloc, EstablisherOptions::from_spec(alloc, spec)?)
 }
 
 // What is drawn for the login: its nonces. No mechanism that is spoken asks for the time.

@@ -22,13 +22,14 @@ impl SettingValue for Settings {
 
     #[tactic(auto, unfolding(crate::specs::Meaning::settings_in))]
     fn read(alloc: Global, value: &Value) -> Result<Settings, SettingsError> {
-        let pending = PendingConnection::read(alloc, value)?;
-        let replies = optional::<Bytes>(alloc, value, keys::REPLIES)?;
-        let credential = optional::<Credential>(alloc, value, keys::CREDENTIAL)?;
+        // What owns no memory is read first, and what owns most last: each refusal lets go of what was read before it.
         let nonces = optional::<Nonces>(alloc, value, keys::NONCES)?;
         let first_id = optional::<i32>(alloc, value, keys::FIRST_ID)?;
-        let options = ClientOptions::read(alloc, value)?;
         let iterations = optional::<Iterations>(alloc, value, keys::MAX_ITERATIONS)?;
+        let replies = optional::<Bytes>(alloc, value, keys::REPLIES)?;
+        let pending = PendingConnection::read(alloc, value)?;
+        let credential = optional::<Credential>(alloc, value, keys::CREDENTIAL)?;
+        let options = ClientOptions::read(alloc, value)?;
         Ok(Settings {
             pending,
             replies: replies.unwrap_or(Bytes::new(alloc)),

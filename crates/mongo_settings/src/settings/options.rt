@@ -22,14 +22,14 @@ impl SettingValue for ClientOptions {
 
     #[tactic(auto, unfolding(crate::specs::Options::client_options_in))]
     fn read(alloc: Global, value: &Value) -> Result<ClientOptions, SettingsError> {
-        let app_name = optional::<Text>(alloc, value, keys::APP_NAME)?;
-        let driver_info = optional::<DriverInfo>(alloc, value, keys::DRIVER_INFO)?;
         let server_api = optional::<ServerApi>(alloc, value, keys::SERVER_API)?;
         let load_balanced = optional::<bool>(alloc, value, keys::LOAD_BALANCED)?;
-        let os = os_or_default(alloc, value)?;
         let platform = text_or(alloc, value, keys::PLATFORM, "rattle / sync")?;
         let platform_short = text_or(alloc, value, keys::PLATFORM_SHORT, "rattle")?;
         let environment = Environment::read(alloc, value)?;
+        let app_name = optional::<Text>(alloc, value, keys::APP_NAME)?;
+        let driver_info = optional::<DriverInfo>(alloc, value, keys::DRIVER_INFO)?;
+        let os = os_or_default(alloc, value)?;
         Ok(ClientOptions {
             app_name,
             driver_info,

@@ -1,11 +1,25 @@
-use Rattle.std.proofs.Common.{inl, inr, refl, subst}
+use Rattle.std.proofs.Common.{◌≡◌, ◌∙◌, Option, None, Some, inl, inr, refl, subst, sym}
 use Rattle.std.proofs.lemmas.Result.{err_from_is_err_and}
 use Rattle.std.specs.Io.KnownBytes.{Consumes}
 use Rattle.mongo_wire.specs.Buffer.{IsFrameTaken}
+use Rattle.mongo_command.specs.Connection.{KeepsRest}
 use Rattle.mongo_command.specs.Exchange.{frame_maximum}
-use Rattle.mongo_command.proofs.Kept.{received_kept, keeps_on}
+use Rattle.mongo_command.specs.declared.connection.Connection.{Connection}
+use Rattle.mongo_command.proofs.Kept.{received_kept}
 use Rattle.mongo_command.proofs.Talked.{counts_on}
-use Rattle.mongo_command.proofs.connection.Connection.exchange_frame.Goals as goal
+use Rattle.mongo_command.proofs.connection.Connection.exchange_into.Goals as goal
+
+none_some : {T : Type 0} {x : T} → None ≡ Some x → ⊥
+none_some p = cc
+
+keeps_on : (old middle new : Connection) → KeepsRest old middle → KeepsRest middle new → KeepsRest old new
+keeps_on old middle new p q = record {
+  address = q.address ∙ p.address;
+  id = q.id ∙ p.id;
+  description = q.description ∙ p.description;
+  server_id = q.server_id ∙ p.server_id;
+  token = q.token ∙ p.token;
+}
 
 pub returns-in-Ok-clause-exchanged : goal.returns-in-Ok-clause-exchanged
 returns-in-Ok-clause-exchanged g c = record {
@@ -29,7 +43,7 @@ returns-in-Ok-clause-taken g c =
     }
 
 pub returns-in-Err-clause-refused : goal.returns-in-Err-clause-refused
-returns-in-Err-clause-refused g c =
+returns-in-Err-clause-refused g c unkept =
     rw (c.keep.ensures.refused) (inr (record {
       middle = g.L.Outside.state c.send.new.link;
       sends = c.in_ok-send.ensures.sent;
@@ -38,7 +52,7 @@ returns-in-Err-clause-refused g c =
     }))
 
 pub returns-in-Err-clause-buffer : goal.returns-in-Err-clause-buffer
-returns-in-Err-clause-buffer g c =
+returns-in-Err-clause-buffer g c unkept =
     rw (c.keep.ensures.refused) (inr (
       record {
         middle = g.L.Outside.state c.send.new.link;
@@ -52,14 +66,23 @@ returns-in-Err-clause-buffer g c =
 pub keep-requires : goal.keep-requires
 keep-requires g c = received_kept _ _ _ _ c.in-Err.ensures.refused
 
+pub returns-in-Ok-clause-kept : goal.returns-in-Ok-clause-kept
+returns-in-Ok-clause-kept g c = λ kind is. absurd (none_some (sym (c.in_ok-without_fault.ensures.none.0 refl) ∙ is))
+
+pub returns-in-Err-clause-kept : goal.returns-in-Err-clause-kept
+returns-in-Err-clause-kept g c = λ kind is. absurd (none_some (sym (c.in_ok-without_fault.ensures.none.0 refl) ∙ is))
+
+pub returns-in_err-send-clause-kept : goal.returns-in_err-send-clause-kept
+returns-in_err-send-clause-kept g c = λ kind is. absurd (none_some (sym (c.in_ok-without_fault.ensures.none.0 refl) ∙ is))
+
 pub returns-in_err-send-clause-refused : goal.returns-in_err-send-clause-refused
-returns-in_err-send-clause-refused g c =
-    let e = err_from_is_err_and c.from_residual.result c.from_residual.ensures.1 in
+returns-in_err-send-clause-refused g c unkept =
+    let e = err_from_is_err_and c.from_residual-in_err-send.result c.from_residual-in_err-send.ensures.1 in
     rw (e.1, e.2) (inl c.in_err-send.ensures.refused)
 
 pub returns-in_err-send-clause-buffer : goal.returns-in_err-send-clause-buffer
-returns-in_err-send-clause-buffer g c =
-    let e = err_from_is_err_and c.from_residual.result c.from_residual.ensures.1 in
+returns-in_err-send-clause-buffer g c unkept =
+    let e = err_from_is_err_and c.from_residual-in_err-send.result c.from_residual-in_err-send.ensures.1 in
     rw (e.1, e.2) (inl (c.in_err-send.ensures.refused, refl))
 
 pub returns-in-Err-clause-connection : goal.returns-in-Err-clause-connection
