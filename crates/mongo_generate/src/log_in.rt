@@ -1,5 +1,6 @@
 //! One login: a client against a server.
 ghost use Rattle.std.specs.Prelude.{◌≡◌, IfOk, OnOk, MatchOption};
+ghost use Rattle.mongo_wire.specs.declared.error.ErrorKind.TheVariants.{OutOfMemory};
 ghost use Rattle.mongo_establish.specs.declared.generation.PoolGeneration.TheVariants.{Normal};
 ghost use Rattle.mongo_server.specs.Exchange.{Exchange};
 ghost use Rattle.mongo_server.specs.Server.{Serves, HasBegun};
@@ -12,7 +13,7 @@ use crate::written::client_final;
 use crate::{Acceptance, Client, Login};
 use mongo_bson::Bytes;
 use mongo_establish::{
-    ErrorKind, EstablishError, LoginState, MemoryLink, PendingConnection, PoolGeneration,
+    Error, ErrorKind, EstablishError, LoginState, MemoryLink, PendingConnection, PoolGeneration,
     PooledConnection, RequestIds, ServerAddress, Text,
 };
 use mongo_mac::Steps;
@@ -108,6 +109,13 @@ impl Client {
 fn is_accepted(ended: Result<PooledConnection, EstablishError>) -> Result<bool, AllocError>
     ensures { IfOk result (IsAcceptedAs ended) }
 {
+    acceptance(&ended)
+}
+
+// The same by reference: what owns the end lets all of its parts go once.
+fn acceptance(ended: &Result<PooledConnection, EstablishError>) -> Result<bool, AllocError>
+    ensures { IfOk result (IsAcceptedAs ended.now) }
+{
     match ended {
         Ok(_) => Ok(true),
         Err(refusal) => match refusal.cause.kind {
@@ -137,10 +145,24 @@ fn heard(alloc: Global, login: &Login, server: &mut ServerCore) -> Result<Option
     };
     match replies_of(alloc, first.as_bytes(), last.as_bytes()) {
         Ok(replies) => Ok(Some(replies)),
-        Err(error) => match error.kind {
-            ErrorKind::OutOfMemory => Err(AllocError),
-            _ => Ok(None),
-        },
+        Err(error) => no_replies(error),
+    }
+}
+
+// No replies where a message doesn't fit into one; want of memory is handed on.
+fn no_replies(refusal: Error) -> Result<Option<Bytes>, AllocError>
+    ensures too_long { OnOk result (refusal.kind ≡ OutOfMemory → ⊥) }
+{
+    none_for(&refusal.kind)
+}
+
+// By reference, for the same reason.
+fn none_for(kind: &ErrorKind) -> Result<Option<Bytes>, AllocError>
+    ensures too_long { OnOk result (kind.now ≡ OutOfMemory → ⊥) }
+{
+    match kind {
+        ErrorKind::OutOfMemory => Err(AllocError),
+        _ => Ok(None),
     }
 }
 
