@@ -5,9 +5,9 @@ use Rattle.mongo_generate.specs.Replies.{AreReplies}
 use Rattle.mongo_generate.proofs.ReplySizes.{short_first, short_final}
 use Rattle.mongo_generate.proofs.log_in.heard.Goals as goal
 
-never : {A E : Type 0} {P : A → Type 0} {Q : Type 0} (r : Result A E) → OnOk r (Q → ⊥) → Q → IfOk r P
-never (Ok v) not q = absurd (not q)
-never (Err e) not q = tt
+never : {A E Q : Type 0} (P : A → Type 0) (r : Result A E) → OnOk r (Q → ⊥) → Q → IfOk r P
+never P (Ok v) not q = absurd (not q)
+never P (Err e) not q = tt
 
 pub returns-in-Ok-replies_of-clause-heard : goal.returns-in-Ok-replies_of-clause-heard
 returns-in-Ok-replies_of-clause-heard c = λ x logs serves.
@@ -23,10 +23,10 @@ returns-in-Ok-replies_of-clause-heard c = λ x logs serves.
     }
 
 -- its messages fit
-pub returns-in-Err-replies_of-clause-heard : goal.returns-in-Err-replies_of-clause-heard
-returns-in-Err-replies_of-clause-heard c = λ x logs serves.
+pub returns-clause-heard : goal.returns-clause-heard
+returns-clause-heard c = λ x logs serves.
     let one = c.in-Ok.ensures.accepts x serves logs.possible.printable (c.as_bytes.ensures ∙ logs.first_is) in
     let two = c.in-Ok-expected_final.ensures.accepts x one.1 in
     let first : c.as_bytes-2.result.now ≡ first_of x = c.as_bytes-2.ensures ∙ one.0.text_is in
     let last : c.as_bytes-3.result.now ≡ server_final_of x = c.as_bytes-3.ensures ∙ two.0 in
-    never c.no_replies.result c.no_replies.ensures.too_long (c.in-Err-replies_of.ensures.short (subst (λ t. length t < 2 ^ 24) (sym first) (short_first x logs.possible)) (subst (λ t. length t < 2 ^ 24) (sym last) (short_final x)))
+    never _ c.no_replies.result c.no_replies.ensures.too_long (c.in-Err-replies_of.ensures.short (subst (λ t. length t < 2 ^ 24) (sym first) (short_first x logs.possible)) (subst (λ t. length t < 2 ^ 24) (sym last) (short_final x)))
