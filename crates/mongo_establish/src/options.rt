@@ -8,7 +8,7 @@ use mongo_wire::Error;
 use std::alloc::Global;
 
 /// What a client is made of: its options, and the metadata that they come to.
-#[derive(Debug, Drop)]
+#[derive(Debug)]
 pub struct TopologySpec {
     /// The client's options.
     pub options: ClientOptions,
@@ -18,8 +18,19 @@ pub struct TopologySpec {
     pub max_iterations: u32,
 }
 
+// Dropped by a call, so that the proofs of its owners don't walk through its parts.
+impl Drop for TopologySpec {
+    fn drop(self) {
+        let TopologySpec {
+            options: _,
+            metadata: _,
+            max_iterations: _,
+        } = self;
+    }
+}
+
 /// What the handshakes of a client are made of.
-#[derive(Debug, Drop)]
+#[derive(Debug)]
 pub struct HandshakerOptions {
     /// The stable API that the hello asks for.
     pub server_api: Option<ServerApi>,
@@ -31,6 +42,19 @@ pub struct HandshakerOptions {
     pub metadata: ClientMetadata,
     /// The most iterations by which a SCRAM login derives its key.
     pub max_iterations: u32,
+}
+
+// Dropped by a call, so that the proofs of its owners don't walk through its parts.
+impl Drop for HandshakerOptions {
+    fn drop(self) {
+        let HandshakerOptions {
+            server_api: _,
+            load_balanced: _,
+            auth_options: _,
+            metadata: _,
+            max_iterations: _,
+        } = self;
+    }
 }
 
 /// What an establisher is made of.

@@ -39,12 +39,22 @@ impl AppMetadata {
 }
 
 /// The driver, and the libraries that added themselves to it.
-#[derive(Debug, Drop, PartialEq)]
+#[derive(Debug, PartialEq)]
 pub struct DriverMetadata {
     /// Its name.
     pub name: Text,
     /// Its version.
     pub version: Text,
+}
+
+// Dropped by a call, so that the proofs of its owners don't walk through its parts.
+impl Drop for DriverMetadata {
+    fn drop(self) {
+        let DriverMetadata {
+            name: _,
+            version: _,
+        } = self;
+    }
 }
 
 impl DriverMetadata {
@@ -89,7 +99,7 @@ impl DriverMetadata {
 }
 
 /// What a client tells a server of itself.
-#[derive(Debug, Drop, PartialEq)]
+#[derive(Debug, PartialEq)]
 pub struct ClientMetadata {
     /// The application.
     pub application: Option<AppMetadata>,
@@ -105,6 +115,21 @@ pub struct ClientMetadata {
     pub env: Option<RuntimeEnvironment>,
     /// The libraries that added themselves.
     pub appended: DriverInfos,
+}
+
+// Dropped by a call, so that the proofs of its owners don't walk through its parts.
+impl Drop for ClientMetadata {
+    fn drop(self) {
+        let ClientMetadata {
+            application: _,
+            driver: _,
+            os: _,
+            platform: _,
+            platform_short: _,
+            env: _,
+            appended: _,
+        } = self;
+    }
 }
 
 impl ClientMetadata {

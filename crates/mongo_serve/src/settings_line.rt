@@ -56,10 +56,7 @@ fn read_line<S: Source>(alloc: Global, source: &mut S) -> Result<Vec<u8>, LineEr
 {
     let mut line = Vec::new(alloc);
     'reading: while line.len() <= LIMIT {
-        let byte = match source.read_u8_sync() {
-            Ok(byte) => byte,
-            Err(error) => return Err(line_error_of(&error)),
-        };
+        let byte = next_byte(source)?;
         if byte == b'\n' {
             return Ok(line);
         }
@@ -69,6 +66,18 @@ fn read_line<S: Source>(alloc: Global, source: &mut S) -> Result<Vec<u8>, LineEr
         }
     }
     Err(LineError::BadSettings)
+}
+
+// The next byte, or why there is none.
+fn next_byte<S: Source>(source: &mut S) -> Result<u8, LineError>
+    ensures byte { IfOk result (λ byte. Consumes (S.state source.old).left (S.state source.new).left (byte ∷ [])) }
+    ensures failed { IsErrOf result LineError.Fault → Rose (S.state source.old).read_faults (S.state source.new).read_faults }
+    ensures on { ReadsOn (S.state source.old) (S.state source.new) }
+{
+    match source.read_u8_sync() {
+        Ok(byte) => Ok(byte),
+        Err(error) => Err(line_error_of(&error)),
+    }
 }
 
 fn line_error_of(error: &Error) -> LineError

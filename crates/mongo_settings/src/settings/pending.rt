@@ -93,9 +93,9 @@ fn generations_of(alloc: Global, members: &Map<String, Value>) -> Result<Generat
     for (key, value) in members.iter() {
         let service_id = service_in(key.as_str())?;
         let number = u32::read(alloc, value)?;
-        if generations.insert(service_id, number).is_err() {
+        let Some(()) = generations.insert(service_id, number).ok() else {
             return Err(SettingsError::OutOfMemory);
-        }
+        };
     }
     Ok(generations)
 }
