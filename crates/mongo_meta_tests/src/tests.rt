@@ -8,6 +8,8 @@ use mongo_meta::{
 };
 use mongo_wire::Error;
 use std::alloc::Global;
+use std::fmt::Debug;
+use std::test::Fail;
 
 /// What a client gives of its own: the name of its application, the version of the library `mapper` that stands on the
 /// driver, the name and the version of its operating system, and the variables of its environment as a row.
@@ -27,6 +29,11 @@ const NOTHING: Given<'static> = Given {
     os_version: None,
     row: "",
 };
+
+// What a call gives, or its error as why the test fails. An `Error` is large where a proof holds it, so it is held here alone.
+fn outcome<T: Drop, E: Debug + Drop>(answer: Result<T, E>) -> Result<T, Fail> {
+    Ok(answer?)
+}
 
 // A copy of this variable.
 fn variable(alloc: Global, name: &str, value: &str) -> Result<Variable, BsonFault> {

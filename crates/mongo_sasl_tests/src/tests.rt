@@ -7,6 +7,8 @@ use mongo_bson::{BsonFault, Bytes, Text};
 use mongo_sasl::Credential;
 use mongo_wire::{AuthFault, Error, ErrorKind};
 use std::alloc::Global;
+use std::fmt::Debug;
+use std::test::Fail;
 
 fn bytes(alloc: Global, given: &[u8]) -> Result<Bytes, BsonFault> {
     Bytes::from_slice(alloc, given)
@@ -28,11 +30,27 @@ type Parts = (
 
 fn credential(alloc: Global, parts: Parts) -> Result<Credential, BsonFault> {
     let (username, source, password) = parts;
-    let mut made = Credential::new();
-    made.username = text(alloc, username)?;
-    made.source = text(alloc, source)?;
-    made.password = text(alloc, password)?;
-    Ok(made)
+    let username = text(alloc, username)?;
+    let source = text(alloc, source)?;
+    let password = text(alloc, password)?;
+    Ok(Credential {
+        username,
+        source,
+        password,
+        ..Credential::new()
+    })
+}
+
+// What a call gives, or its error as why the test fails. An `Error` is large where a proof holds it, so it is held here alone and
+// behind the references of those that ask what it is.
+fn given<T: Drop, E: Debug + Drop>(answer: Result<T, E>) -> Result<T, Fail> {
+    Ok(answer?)
+}
+
+// How a call was answered, for functions that are generic over the error.
+#[derive(Drop)]
+struct Answered<E> {
+    answer: Result<(), E>,
 }
 
 // The name of the fault that a login or a reply was refused for, or what the server says of it.

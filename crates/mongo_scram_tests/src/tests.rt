@@ -4,6 +4,45 @@ mod messages;
 use mongo_bson::{BsonFault, RawDocumentBuf, RawValue};
 use mongo_wire::{AuthFault, Error, ErrorKind};
 use std::alloc::Global;
+use std::fmt::Debug;
+use std::test::Fail;
+
+// What a call gives, or its error as why the test fails. An `Error` is large where a proof holds it, so it is held here alone and
+// behind the references of those that ask what it is.
+fn given<T: Drop, E: Debug + Drop>(answer: Result<T, E>) -> Result<T, Fail> {
+    Ok(answer?)
+}
+
+// What comes of a call: the name of the fault that it is refused for, or "none".
+trait Outcome {
+    fn fault(&self) -> &'static str;
+}
+
+impl Outcome for () {
+    fn fault(&self) -> &'static str {
+        "none"
+    }
+}
+
+impl Outcome for Error {
+    fn fault(&self) -> &'static str {
+        name_of(self)
+    }
+}
+
+// How a call was answered, for functions that are generic over what it gives and over the error.
+#[derive(Drop)]
+struct Answered<T, E> {
+    answer: Result<T, E>,
+}
+
+fn fault_of<T: Outcome + Drop, E: Outcome + Drop>(answer: Result<T, E>) -> &'static str {
+    let answered = Answered { answer };
+    match &answered.answer {
+        Ok(made) => made.fault(),
+        Err(error) => error.fault(),
+    }
+}
 
 // A reply to a command of a login, in the conversation of this number.
 fn reply(

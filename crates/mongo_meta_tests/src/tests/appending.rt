@@ -1,8 +1,7 @@
-use super::{Given, NOTHING, library, metadata};
-use mongo_bson::BsonFault;
+use super::{Given, NOTHING, library, metadata, outcome};
 use mongo_meta::ClientMetadata;
-use mongo_wire::Error;
 use std::alloc::Global;
+use std::test::Fail;
 
 // A client of the library `mapper` 2, for an application in a container.
 const MAPPED: Given<'static> = Given {
@@ -13,9 +12,9 @@ const MAPPED: Given<'static> = Given {
 };
 
 // Adds the library of this version, and says whether the metadata is another than its copy then.
-fn changes(alloc: Global, metadata: &mut ClientMetadata, version: &str) -> Result<bool, Error> {
+fn changes(alloc: Global, metadata: &mut ClientMetadata, version: &str) -> Result<bool, Fail> {
     let made = metadata.try_clone(alloc)?;
-    metadata.append(library(alloc, version)?)?;
+    outcome(metadata.append(library(alloc, version)?))?;
     Ok(*metadata != made)
 }
 
@@ -27,25 +26,37 @@ fn is_driver(metadata: &ClientMetadata, name: &str, version: &str) -> bool {
 }
 
 // Whether the application has this name, in a copy of it.
-fn is_application(alloc: Global, metadata: &ClientMetadata, name: &str) -> Result<bool, BsonFault> {
+fn is_application(alloc: Global, metadata: &ClientMetadata, name: &str) -> Result<bool, Fail> {
     match &metadata.application {
         Some(application) => Ok(application.try_clone(alloc)?.name.as_str() == name),
         None => Ok(false),
     }
 }
 
-#[test]
-fn a_library_adds_itself_once(rt: HostRuntime) {
-    match metadata(rt.alloc(), &MAPPED) {
-        Ok(mut metadata) => {
-            assert!(rt; matches!(is_application(rt.alloc(), &metadata, "shop"), Ok(true)));
-            let changed = changes(rt.alloc(), &mut metadata, "2");
-            assert!(rt; matches!(changed, Ok(false)));
-            assert!(rt; is_driver(&metadata, "mongo-rust-driver|mapper", "3.9.1|2"));
-            let changed = changes(rt.alloc(), &mut metadata, "3");
-            assert!(rt; matches!(changed, Ok(true)));
-            assert!(rt; is_driver(&metadata, "mongo-rust-driver|mapper|mapper", "3.9.1|2|3"));
-        }
-        Err(_) => assert!(rt; false),
+// What is asked of metadata, in a function that is generic over them, so that no other proof holds them.
+trait Grows {
+    fn grows_once(&mut self, alloc: Global) -> Result<bool, Fail>;
+}
+
+// Whether a library that added itself before adds nothing, and one of another version its name and its version.
+impl Grows for ClientMetadata {
+    fn grows_once(&mut self, alloc: Global) -> Result<bool, Fail> {
+        let again = changes(alloc, self, "2")?;
+        let is_once = is_driver(self, "mongo-rust-driver|mapper", "3.9.1|2");
+        let other = changes(alloc, self, "3")?;
+        let is_twice = is_driver(self, "mongo-rust-driver|mapper|mapper", "3.9.1|2|3");
+        Ok(!again && is_once && other && is_twice && is_application(alloc, self, "shop")?)
     }
+}
+
+fn grows_once<G: Grows + Drop>(alloc: Global, metadata: Result<G, Fail>) -> Result<bool, Fail> {
+    let mut metadata = metadata?;
+    metadata.grows_once(alloc)
+}
+
+#[test]
+fn a_library_adds_itself_once(rt: HostRuntime) -> Result<(), Fail> {
+    let mapped = outcome(metadata(rt.alloc(), &MAPPED));
+    assert!(rt; grows_once(rt.alloc(), mapped)?);
+    Ok(())
 }

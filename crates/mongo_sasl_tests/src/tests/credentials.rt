@@ -1,4 +1,4 @@
-use super::{Parts, bytes, credential};
+use super::{Parts, bytes, credential, given};
 use mongo_bson::{BsonFault, RawDocumentBuf};
 use mongo_sasl::{AuthMechanism, Credential, Moment};
 use mongo_wire::ArgumentFault;
@@ -30,15 +30,31 @@ fn whole(alloc: Global) -> Result<Credential, BsonFault> {
     Ok(made)
 }
 
+// Whether nothing of a credential is shown, its copy is it, and it is another than none.
+fn is_hidden(alloc: Global, user: &Credential) -> bool {
+    is_shown_as(alloc, user, "Credential(\"REDACTED\")")
+        && is_copied(alloc, user)
+        && user.resolved_source() == "$external"
+}
+
+// Whether a credential isn't the one that says nothing.
+fn says_something(user: &Credential) -> bool {
+    let none = Credential::new();
+    *user != none && none.resolved_source() == "admin"
+}
+
 #[test]
 fn nothing_of_a_credential_is_shown(rt: HostRuntime) -> Result<(), Fail> {
     let ann = whole(rt.alloc())?;
-    assert!(rt; is_shown_as(rt.alloc(), &ann, "Credential(\"REDACTED\")"));
-    assert!(rt; is_copied(rt.alloc(), &ann));
-    assert!(rt; ann != Credential::new());
-    assert_eq!(rt; ann.resolved_source(), "$external");
-    assert_eq!(rt; Credential::new().resolved_source(), "admin");
+    assert!(rt; is_hidden(rt.alloc(), &ann) && says_something(&ann));
     Ok(())
+}
+
+// The hello of an empty document, as a credential asks in it.
+fn asking(alloc: Global, user: &Credential) -> Result<RawDocumentBuf, Fail> {
+    let mut hello = RawDocumentBuf::new(alloc)?;
+    given(user.append_needed_mechanism_negotiation(alloc, &mut hello))?;
+    Ok(hello)
 }
 
 // Whether a credential of these parts and this mechanism makes a hello of an empty document this.
@@ -47,23 +63,24 @@ fn asks(
     parts: Parts,
     mechanism: Option<AuthMechanism>,
     wanted: &[u8],
-) -> Result<bool, BsonFault> {
-    let mut hello = RawDocumentBuf::new(alloc)?;
-    let mut user = credential(alloc, parts)?;
-    user.mechanism = mechanism;
-    let answer = user.append_needed_mechanism_negotiation(alloc, &mut hello);
-    Ok(answer.is_ok() && hello.as_bytes() == wanted)
+) -> Result<bool, Fail> {
+    let user = Credential {
+        mechanism,
+        ..credential(alloc, parts)?
+    };
+    Ok(asking(alloc, &user)?.as_bytes() == wanted)
 }
 
 // Who is asked for: a user without a mechanism, one with a mechanism, and none.
 #[test]
-fn mechanisms_are_asked_for(rt: HostRuntime) {
+fn mechanisms_are_asked_for(rt: HostRuntime) -> Result<(), Fail> {
     const ASKED: &[u8] = b"'\0\0\0\x02saslSupportedMechs\0\x0a\0\0\0admin.ann\0\0";
     const SILENT: &[u8] = b"\x05\0\0\0\0";
     let scram = Some(AuthMechanism::ScramSha1);
-    assert!(rt; matches!(asks(rt.alloc(), ANN, None, ASKED), Ok(true)));
-    assert!(rt; matches!(asks(rt.alloc(), ANN, scram, SILENT), Ok(true)));
-    assert!(rt; matches!(asks(rt.alloc(), (None, None, None), None, SILENT), Ok(true)));
+    assert!(rt; asks(rt.alloc(), ANN, None, ASKED)?);
+    assert!(rt; asks(rt.alloc(), ANN, scram, SILENT)?);
+    assert!(rt; asks(rt.alloc(), (None, None, None), None, SILENT)?);
+    Ok(())
 }
 
 // Each mechanism, its name, and its source without and with a database of the connection string.

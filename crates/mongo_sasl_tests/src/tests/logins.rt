@@ -1,9 +1,10 @@
-use super::{Parts, bytes, credential, fault_of};
+use super::{Answered, Parts, bytes, credential, fault_of, given};
 use mongo_bson::{BsonFault, Text};
 use mongo_command::{Connection, ServerAddress};
 use mongo_sasl::{Credential, plain, x509};
 use mongo_wire::{Error, FrameBuffer, MemoryLink, RequestIds};
 use std::alloc::Global;
+use std::test::Fail;
 
 // The commands of `user` with the password `pencil` and of `CN=a`, as id 1.
 const START: &[u8] =
@@ -207,19 +208,32 @@ fn x509_answer(
     x509::authenticate_stream(alloc, connection, link, ids, buffer, user, None, answered)
 }
 
-fn is_fault(answer: &Result<(), Error>, fault: &str) -> bool {
-    match answer {
+// How a call ended that was refused.
+trait Refusal {
+    fn fault(&self) -> &str;
+}
+
+impl Refusal for Error {
+    fn fault(&self) -> &str {
+        fault_of(self)
+    }
+}
+
+// Whether a call ended with this fault.
+fn is_fault<E: Refusal + Drop>(answer: Result<(), E>, fault: &str) -> bool {
+    let answered = Answered { answer };
+    match &answered.answer {
         Ok(()) => fault == "none",
-        Err(refused) => fault_of(refused) == fault,
+        Err(refused) => refused.fault() == fault,
     }
 }
 
 // Whether the user's login ends with the row's fault.
 fn ends_so(alloc: Global, row: &Row, session: &mut Session, user: &Credential) -> bool {
     match row.by {
-        By::Plain => is_fault(&plain_answer(alloc, session, user), row.fault),
-        By::X509 => is_fault(&x509_answer(alloc, session, user, false), row.fault),
-        By::Answered => is_fault(&x509_answer(alloc, session, user, true), row.fault),
+        By::Plain => is_fault(plain_answer(alloc, session, user), row.fault),
+        By::X509 => is_fault(x509_answer(alloc, session, user, false), row.fault),
+        By::Answered => is_fault(x509_answer(alloc, session, user, true), row.fault),
     }
 }
 
@@ -259,22 +273,21 @@ fn logins_of_one_command(rt: HostRuntime) {
 }
 
 // Whether the message of a user is this, RFC 4616.
-fn is_message(alloc: Global, username: &str, password: &str, message: &[u8]) -> bool {
-    match plain::payload_bytes(alloc, username, password) {
-        Ok(payload) => payload.as_bytes() == message,
-        Err(_) => false,
-    }
+fn is_message(alloc: Global, username: &str, password: &str, message: &[u8]) -> Result<bool, Fail> {
+    let payload = given(plain::payload_bytes(alloc, username, password))?;
+    Ok(payload.as_bytes() == message)
 }
 
 #[test]
-fn a_message_has_two_zeros(rt: HostRuntime) {
+fn a_message_has_two_zeros(rt: HostRuntime) -> Result<(), Fail> {
     assert!(rt;
         is_message(
             rt.alloc(),
             "tim",
             "tanstaaftanstaaf",
             b"\0tim\0tanstaaftanstaaf"
-        )
+        )?
     );
-    assert!(rt; is_message(rt.alloc(), "", "", b"\0\0"));
+    assert!(rt; is_message(rt.alloc(), "", "", b"\0\0")?);
+    Ok(())
 }

@@ -1,6 +1,6 @@
 ghost use Rattle.std.specs.Prelude.{◌≡◌, ◌<◌};
 
-use super::{kind_name, name_of, reply};
+use super::{fault_of, given, kind_name, reply};
 use mongo_bson::{BsonFault, Bytes, Text};
 use mongo_command::{Connection, ServerAddress};
 use mongo_mac::Steps;
@@ -136,10 +136,13 @@ fn text(alloc: Global, given: Option<&str>) -> Result<Option<Text>, BsonFault> {
 }
 
 fn credential(alloc: Global, login: &Login) -> Result<Credential, BsonFault> {
-    let mut made = Credential::new();
-    made.username = text(alloc, login.username)?;
-    made.password = text(alloc, login.password)?;
-    Ok(made)
+    let username = text(alloc, login.username)?;
+    let password = text(alloc, login.password)?;
+    Ok(Credential {
+        username,
+        password,
+        ..Credential::new()
+    })
 }
 
 // A round that went with a hello, by a nonce of 32 bytes of 0.
@@ -186,12 +189,12 @@ struct Session {
     round: Option<FirstRound>,
 }
 
-fn new_session(alloc: Global, login: &Login) -> Result<Session, Error> {
+fn new_session(alloc: Global, login: &Login) -> Result<Session, Fail> {
+    let round = given(round_of(alloc, login))?;
     let connection = connection(alloc)?;
-    let user = credential(alloc, login)?;
     Ok(Session {
-        user,
-        round: round_of(alloc, login)?,
+        user: credential(alloc, login)?,
+        round,
         connection,
         ids: RequestIds::new(1),
         buffer: FrameBuffer::new(alloc),
@@ -219,7 +222,7 @@ fn fault_with<L: Link, G: Ledger>(
         buffer,
         round,
     } = session;
-    let answer = version.authenticate_stream(
+    fault_of(version.authenticate_stream(
         alloc,
         connection,
         link,
@@ -232,11 +235,7 @@ fn fault_with<L: Link, G: Ledger>(
         10_000_000,
         cache,
         &mut steps,
-    );
-    match answer {
-        Ok(()) => "none",
-        Err(error) => name_of(&error),
-    }
+    ))
 }
 
 // The fault that the connection keeps.
@@ -279,7 +278,7 @@ fn fault_over<L: Link, G: Ledger>(
     login: &Login,
     link: &mut L,
     cache: &mut SaltedCache,
-) -> Result<Refusal, Error>
+) -> Result<Refusal, Fail>
     requires name { blank.name ≡ G.name }
     requires parts { blank.parts ≡ G.parts }
     requires has_a_part { 0 < G.parts }
@@ -298,7 +297,7 @@ fn fault_in_memory(
     login: &Login,
     link: &mut MemoryLink,
     cache: &mut SaltedCache,
-) -> Result<Refusal, Error> {
+) -> Result<Refusal, Fail> {
     fault_over::<MemoryLink, Brand>(Blank::new(1), alloc, login, link, cache)
 }
 
@@ -307,7 +306,7 @@ fn fault_over_failing(
     login: &Login,
     link: &mut FailingLink,
     cache: &mut SaltedCache,
-) -> Result<Refusal, Error> {
+) -> Result<Refusal, Fail> {
     fault_over::<FailingLink, Brand>(Blank::new(1), alloc, login, link, cache)
 }
 
@@ -325,12 +324,7 @@ fn is_joined(said: &[u8], commands: &[&[u8]; 2]) -> bool {
 }
 
 // Whether a login over a link that doesn't fail ends so; its connection keeps no fault.
-fn ends_so(
-    alloc: Global,
-    login: &Login,
-    end: &End,
-    cache: &mut SaltedCache,
-) -> Result<bool, Error> {
+fn ends_so(alloc: Global, login: &Login, end: &End, cache: &mut SaltedCache) -> Result<bool, Fail> {
     let mut link = MemoryLink::new(alloc, heard_by(alloc, login)?);
     let refusal = fault_in_memory(alloc, login, &mut link, cache)?;
     Ok(
@@ -343,7 +337,7 @@ fn ends_so(
 }
 
 // A link that moves one byte a call, of which just this one fails.
-fn failing_at(alloc: Global, call: usize) -> Result<FailingLink, Error> {
+fn failing_at(alloc: Global, call: usize) -> Result<FailingLink, Fail> {
     let mut schedule = Vec::new(alloc);
     schedule.resize(call, 0)?;
     schedule.push(1)?;
@@ -356,7 +350,7 @@ fn failing_at(alloc: Global, call: usize) -> Result<FailingLink, Error> {
 fn end_where_one_fails(
     alloc: Global,
     call: usize,
-) -> Result<(&'static str, &'static str, u64, usize), Error> {
+) -> Result<(&'static str, &'static str, u64, usize), Fail> {
     let mut link = failing_at(alloc, call)?;
     let mut cache = SaltedCache::new(alloc);
     let refusal = fault_over_failing(alloc, &BY_SHA_1, &mut link, &mut cache)?;
@@ -364,13 +358,14 @@ fn end_where_one_fails(
 }
 
 #[test]
-fn logins_with_one_cache(rt: HostRuntime) {
+fn logins_with_one_cache(rt: HostRuntime) -> Result<(), Fail> {
     let mut cache = SaltedCache::new(rt.alloc());
     assert!(rt; cache.is_empty() && cache.rounds() == 0);
     for place in 0..10 {
-        let ends = ends_so(rt.alloc(), &login_at(place), &end_at(place), &mut cache);
-        assert!(rt; matches!(ends, Ok(true)), "{place}");
+        let ends = ends_so(rt.alloc(), &login_at(place), &end_at(place), &mut cache)?;
+        assert!(rt; ends, "{place}");
     }
+    Ok(())
 }
 
 // Of the calls to a link that moves one byte a call, the first and the last of their kind: 187 writes and a flush, 162

@@ -1,6 +1,6 @@
 ghost use Rattle.std.specs.Prelude.{◌≡◌, ◌<◌, ◌≤◌};
 
-use super::{name_of, reply};
+use super::{Outcome, fault_of, given, reply};
 use base64::engine::general_purpose::STANDARD;
 use mongo_command::{Command, ServerApi, ServerApiVersion};
 use mongo_mac::{Sha1Fn, Steps, Tag, hi};
@@ -168,27 +168,25 @@ fn first_message(place: u8) -> (&'static [u8], i32, bool, &'static str) {
     }
 }
 
-fn is_validated(first: &ServerFirst, fault: &str) -> bool {
-    match first.validate("nonce", 10_000_000) {
-        Ok(()) => fault == "none",
-        Err(error) => name_of(&error) == fault,
+// What a client with that nonce and that ceiling answers the message.
+impl Outcome for ServerFirst {
+    fn fault(&self) -> &'static str {
+        fault_of(self.validate("nonce", 10_000_000))
     }
 }
 
-// Whether the client answers the message so.
-fn first_is_answered(alloc: Global, ok: i32, done: bool, message: &[u8], fault: &str) -> bool {
-    match server_first(alloc, ok, done, message) {
-        Ok(first) => is_validated(&first, fault),
-        Err(error) => name_of(&error) == fault,
-    }
+// What the client answers the message.
+fn first_is_answered(alloc: Global, ok: i32, done: bool, message: &[u8]) -> &'static str {
+    fault_of(server_first(alloc, ok, done, message))
 }
 
 #[test]
 fn server_first_messages(rt: HostRuntime) {
     for place in 0..24 {
         let (message, ok, done, fault) = first_message(place);
-        assert!(rt;
-            first_is_answered(rt.alloc(), ok, done, message, fault),
+        assert_eq!(rt;
+            first_is_answered(rt.alloc(), ok, done, message),
+            fault,
             "{place}"
         );
     }
@@ -204,19 +202,15 @@ fn is_read(first: &ServerFirst) -> bool {
         && first.i == 5
 }
 
-fn copy_is_read(alloc: Global, first: &ServerFirst) -> bool {
-    match first.try_clone(alloc) {
-        Ok(copy) => is_read(&copy),
-        Err(_) => false,
-    }
+fn copy_is_read(alloc: Global, first: &ServerFirst) -> Result<bool, Fail> {
+    Ok(is_read(&given(first.try_clone(alloc))?))
 }
 
 #[test]
-fn a_server_first_message_is_read(rt: HostRuntime) {
-    match server_first(rt.alloc(), 1, true, b"r=nonce,s=AQI=,i=+5,x=more") {
-        Ok(first) => assert!(rt; is_read(&first) && copy_is_read(rt.alloc(), &first)),
-        Err(_) => assert!(rt; false),
-    }
+fn a_server_first_message_is_read(rt: HostRuntime) -> Result<(), Fail> {
+    let first = given(server_first(rt.alloc(), 1, true, b"r=nonce,s=AQI=,i=+5,x=more"))?;
+    assert!(rt; is_read(&first) && copy_is_read(rt.alloc(), &first)?);
+    Ok(())
 }
 
 /// What a client has when it has said all.
@@ -252,10 +246,7 @@ fn salted_of(row: &Exchange, first: &ServerFirst) -> Option<Tag> {
     if first.i == 0 {
         return None;
     }
-    match salted_with::<Brand>(Blank::new(1), row, first) {
-        Ok(salted) => Some(salted),
-        Err(_) => None,
-    }
+    salted_with::<Brand>(Blank::new(1), row, first).ok()
 }
 
 fn closed(
@@ -274,12 +265,13 @@ type Held = (Tag, Conversation);
 
 // A row's conversation up to the client's last message.
 fn conversation_of(alloc: Global, row: &Exchange) -> Result<Held, Fail> {
-    let first = server_first(alloc, 1, false, row.server_first.as_bytes())?;
+    let first = given(server_first(alloc, 1, false, row.server_first.as_bytes()))?;
     let Some(salted) = salted_of(row, &first) else {
         return Err(Fail::from("no salted password"));
     };
-    let open = client_first(alloc, row.username, row.nonce)?;
-    Ok((salted, closed(alloc, row, &salted, open, &first)?))
+    let open = given(client_first(alloc, row.username, row.nonce))?;
+    let conversation = given(closed(alloc, row, &salted, open, &first))?;
+    Ok((salted, conversation))
 }
 
 fn is_encoded(alloc: Global, tag: &Tag, text: Option<&str>) -> bool {
@@ -303,7 +295,19 @@ fn signs_so(alloc: Global, row: &Exchange, keys: &Keys, transcript: &[u8]) -> bo
         )
 }
 
-// Whether the client of a row's conversation answers a copy of the last message so.
+// What the client of a row's conversation answers a copy of the last message.
+fn final_answer(
+    alloc: Global,
+    version: &ScramVersion,
+    held: &Held,
+    number: i32,
+    message: &[u8],
+) -> Result<(), Error> {
+    let (salted, conversation) = held;
+    copied_final(alloc, number, message)?.validate(salted, &conversation.close, version)
+}
+
+// Whether it answers so.
 fn final_is_answered(
     alloc: Global,
     version: &ScramVersion,
@@ -312,15 +316,7 @@ fn final_is_answered(
     message: &[u8],
     fault: &str,
 ) -> bool {
-    let (salted, conversation) = held;
-    let answer = match copied_final(alloc, number, message) {
-        Ok(last) => last.validate(salted, &conversation.close, version),
-        Err(error) => Err(error),
-    };
-    match answer {
-        Ok(()) => fault == "none",
-        Err(error) => name_of(&error) == fault,
-    }
+    fault_of(final_answer(alloc, version, held, number, message)) == fault
 }
 
 #[test]
@@ -328,25 +324,21 @@ fn conversations_of_the_standards(rt: HostRuntime) -> Result<(), Fail> {
     for place in 0..5 {
         let row = row_at(place);
         let held = conversation_of(rt.alloc(), &row)?;
-        assert!(rt; is_as_it_stands(rt.alloc(), &row, &held), "{place}");
+        assert!(rt; is_as_it_stands(rt.alloc(), &row, &held)?, "{place}");
     }
     Ok(())
 }
 
-fn copy_closes(alloc: Global, close: &ClientFinal, message: &str) -> bool {
-    match close.try_clone(alloc) {
-        Ok(copy) => copy.message() == message,
-        Err(_) => false,
-    }
+fn copy_closes(alloc: Global, close: &ClientFinal, message: &str) -> Result<bool, Fail> {
+    Ok(given(close.try_clone(alloc))?.message() == message)
 }
 
 // Whether the messages are the row's, the client's last in its copy too, and the server's last is taken.
-fn is_as_it_stands(alloc: Global, row: &Exchange, held: &Held) -> bool {
+fn is_as_it_stands(alloc: Global, row: &Exchange, held: &Held) -> Result<bool, Fail> {
     let (salted, conversation) = held;
     let transcript = conversation.close.auth_message().as_bytes();
-    conversation.open.message() == row.open
+    let stands = conversation.open.message() == row.open
         && conversation.close.message() == row.close
-        && copy_closes(alloc, &conversation.close, row.close)
         && signs_so(alloc, row, &Keys::new(row.version, salted), transcript)
         && final_is_answered(
             alloc,
@@ -355,7 +347,8 @@ fn is_as_it_stands(alloc: Global, row: &Exchange, held: &Held) -> bool {
             1,
             row.verifier.as_bytes(),
             "none",
-        )
+        );
+    Ok(stands && copy_closes(alloc, &conversation.close, row.close)?)
 }
 
 // A server's last message, the conversation that it names, and what the client of the first conversation answers it.
@@ -397,7 +390,7 @@ fn server_final_messages(rt: HostRuntime) -> Result<(), Fail> {
         );
     }
     assert!(rt; is_shown_as(rt.alloc(), &held.1.close, "ClientFinal { .. }"));
-    assert!(rt; is_continued(rt.alloc(), &held.1.close, CLOSING));
+    assert!(rt; is_continued(rt.alloc(), &held.1.close, CLOSING)?);
     Ok(())
 }
 
@@ -416,29 +409,36 @@ const WITH_HELLO: &[u8] =
 // The end of a command on `orders` that declares the server API.
 const DECLARED: &[u8] = b"\x02$db\0\x07\0\0\0orders\0\x02apiVersion\0\x02\0\0\x001\0\0";
 
-fn ends_with(alloc: Global, command: &Command, end: &[u8]) -> bool {
-    match command.to_document(alloc) {
-        Ok(document) => document.as_bytes().ends_with(end) || command.body.as_bytes() == end,
-        Err(_) => false,
-    }
+fn ends_with(alloc: Global, command: &Command, end: &[u8]) -> Result<bool, Fail> {
+    let document = given(command.to_document(alloc))?;
+    Ok(document.as_bytes().ends_with(end) || command.body.as_bytes() == end)
 }
 
 // The command of the first conversation's last message, BSON 1.1.
 const CLOSING: &[u8] =
     b"\x9a\0\0\0\x10saslContinue\0\x01\0\0\0\x10conversationId\0\x01\0\0\0\x05payload\0R\0\0\0\0c=biws,r=fyko+d2lbbFgONRv9qkxdawL3rfcNHYJY1ZVvWVs7j,p=v0X8v3Bz2T0CJGbJQyF0X+HI4Ts=\x02$db\0\x06\0\0\0admin\0\0";
 
-fn is_continued(alloc: Global, close: &ClientFinal, document: &[u8]) -> bool {
-    match close.to_command(alloc) {
-        Ok(command) => ends_with(alloc, &command, document),
-        Err(_) => false,
-    }
+fn is_continued(alloc: Global, close: &ClientFinal, document: &[u8]) -> Result<bool, Fail> {
+    ends_with(alloc, &given(close.to_command(alloc))?, document)
 }
 
-fn is_sent(alloc: Global, first: &ClientFirst, version: ScramVersion, end: &[u8]) -> bool {
-    match first.to_command(alloc, &version) {
-        Ok(command) => ends_with(alloc, &command, end),
-        Err(_) => false,
-    }
+fn is_sent(
+    alloc: Global,
+    first: &ClientFirst,
+    version: ScramVersion,
+    end: &[u8],
+) -> Result<bool, Fail> {
+    ends_with(alloc, &given(first.to_command(alloc, &version))?, end)
+}
+
+// The first message of `user` with this source, by a nonce of 32 bytes of 0.
+fn first_of_user(
+    alloc: Global,
+    source: &str,
+    with_hello: bool,
+    api: Option<ServerApi>,
+) -> Result<ClientFirst, Fail> {
+    given(ClientFirst::new(alloc, source, "user", with_hello, api, &[0; 32]))
 }
 
 #[test]
@@ -449,26 +449,21 @@ fn commands_of_a_first_message(rt: HostRuntime) -> Result<(), Fail> {
         deprecation_errors: None,
     };
     let alloc = rt.alloc();
-    let first = ClientFirst::new(alloc, "orders", "user", false, Some(api), &[0; 32])?;
-    assert!(rt; is_sent(alloc, &first, ScramVersion::Sha1, DECLARED));
-    let first = ClientFirst::new(alloc, "admin", "user", true, None, &[0; 32])?;
-    assert!(rt; is_sent(alloc, &first, ScramVersion::Sha256, WITH_HELLO));
+    let first = first_of_user(alloc, "orders", false, Some(api))?;
+    assert!(rt; is_sent(alloc, &first, ScramVersion::Sha1, DECLARED)?);
+    let first = first_of_user(alloc, "admin", true, None)?;
+    assert!(rt; is_sent(alloc, &first, ScramVersion::Sha256, WITH_HELLO)?);
     Ok(())
 }
 
-fn copy_is(alloc: Global, first: &ClientFirst, message: &str) -> bool {
-    match first.try_clone(alloc) {
-        Ok(copy) => copy.message() == message,
-        Err(_) => false,
-    }
+fn copy_is(alloc: Global, first: &ClientFirst, message: &str) -> Result<bool, Fail> {
+    Ok(given(first.try_clone(alloc))?.message() == message)
 }
 
 // Whether the user's first message is this, and its copy's too.
-fn is_message(alloc: Global, username: &str, message: &str) -> bool {
-    match client_first(alloc, username, "x") {
-        Ok(first) => first.message() == message && copy_is(alloc, &first, message),
-        Err(_) => false,
-    }
+fn is_message(alloc: Global, username: &str, message: &str) -> Result<bool, Fail> {
+    let first = given(client_first(alloc, username, "x"))?;
+    Ok(first.message() == message && copy_is(alloc, &first, message)?)
 }
 
 fn is_pushed(alloc: Global, username: &str, escaped: &str) -> Result<bool, AllocError> {
@@ -485,7 +480,7 @@ fn is_nonce(alloc: Global, nonce: &[u8; 32], text: &str) -> bool {
 }
 
 #[test]
-fn user_names_are_escaped(rt: HostRuntime) {
+fn user_names_are_escaped(rt: HostRuntime) -> Result<(), Fail> {
     assert!(rt; matches!(is_pushed(rt.alloc(), "a=b,c", "a=3Db=2Cc"), Ok(true)));
     assert!(rt;
         is_nonce(
@@ -494,7 +489,8 @@ fn user_names_are_escaped(rt: HostRuntime) {
             "AQEBAQEBAQEBAQEBAQEBAQEBAQEBAQEBAQEBAQEBAQE="
         )
     );
-    assert!(rt; is_message(rt.alloc(), "a=b", "n,,n=a=3Db,r=x"));
-    assert!(rt; is_message(rt.alloc(), "=,=", "n,,n==3D=2C=3D,r=x"));
-    assert!(rt; is_message(rt.alloc(), "\u{fc},", "n,,n=\u{fc}=2C,r=x"));
+    assert!(rt; is_message(rt.alloc(), "a=b", "n,,n=a=3Db,r=x")?);
+    assert!(rt; is_message(rt.alloc(), "=,=", "n,,n==3D=2C=3D,r=x")?);
+    assert!(rt; is_message(rt.alloc(), "\u{fc},", "n,,n=\u{fc}=2C,r=x")?);
+    Ok(())
 }
