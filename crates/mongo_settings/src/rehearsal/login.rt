@@ -49,7 +49,7 @@ pub fn prepare(alloc: Global, settings: Settings) -> Result<(Login, Bytes), Allo
         options,
         max_iterations,
     } = settings;
-    let Some(establisher) = establisher(alloc, options, max_iterations).ok() else {
+    let Ok(establisher) = establisher(alloc, options, max_iterations) else {
         return Err(AllocError);
     };
     let login = Login {
