@@ -3,6 +3,7 @@ pub mod Answers
 pub mod Cut
 pub mod Faults
 pub mod Last
+pub mod Line
 pub mod Login
 pub mod Opened
 pub mod PutBack

@@ -1,20 +1,15 @@
 -- How a run ends.
-use Rattle.std.specs.Prelude.{◌≡◌, ℕ, ◌⊎◌, Option, None, Some, List, [], ◌∷◌, ◌++◌}
-use Rattle.std.specs.Io.KnownBytes.{Consumes}
-use Rattle.mongo_wire.specs.Outside.{State, ReadsOn, Rose, AppendsFront}
-use Rattle.mongo_wire.specs.declared.error.ErrorKind.{ErrorKind}
-use Rattle.mongo_wire.specs.declared.error.ErrorKind.TheVariants as kind
+use Rattle.std.specs.Prelude.{◌≡◌, ℕ, ◌⊎◌, Option, None, Some, List}
+use Rattle.mongo_wire.specs.Outside.{State, Rose, AppendsFront}
 use Rattle.mongo_serve.specs.declared.fault.ServeFault.{ServeFault}
 use Rattle.mongo_serve.specs.declared.fault.ServeFault.TheVariants as fault
 use Rattle.mongo_serve.specs.declared.serve.Served.{Served}
 use Rattle.mongo_serve.specs.declared.settings.Settings.{Settings}
-use Rattle.mongo_serve.specs.declared.settings_line.LineError.{LineError}
-use Rattle.mongo_serve.specs.declared.settings_line.LineError.TheVariants as line
 use Rattle.mongo_serve.specs.declared.status.Status.{Status}
 use Rattle.mongo_serve.specs.declared.status.Status.TheVariants.{Ended, Broken, BadSettings, Usage, NoMemory}
+use Rattle.mongo_serve.specs.Line.{IsAfterLine, HasNoSettings}
 use Rattle.mongo_serve.specs.Report.{report_text, no_settings}
 use Rattle.mongo_serve.specs.Served.{IsServed}
-use Rattle.mongo_serve.specs.Settings.{AreSettings}
 
 -- the number that the process ends with
 abbrev pub serve_code : Status → ℕ
@@ -23,19 +18,6 @@ serve_code Broken = 1
 serve_code BadSettings = 2
 serve_code Usage = 3
 serve_code NoMemory = 6
-
--- what a fault of reading is to the line
-abbrev pub line_error_of : ErrorKind → LineError
-line_error_of kind.EndOfInput = line.BadSettings
-line_error_of kind.OutOfMemory = line.OutOfMemory
-line_error_of other = line.Fault
-
--- a line and its line feed were taken, nothing was written, and the line says these settings
-pub record IsAfterLine (old new : State) (settings : Settings) : Type 0 where
-  pub on : ReadsOn old new
-  pub line : List ℕ
-  pub taken : Consumes old.left new.left (line ++ 10 ∷ [])
-  pub are_settings : AreSettings line settings
 
 -- the status by how the stream was left
 abbrev pub status_of_fault : Option ServeFault → Status
@@ -72,6 +54,6 @@ SendsNothing run = run.new.written ≡ run.old.written
 abbrev pub RunEnds : ServeRun → Status → Type 0
 RunEnds run Ended = Ran run Ended
 RunEnds run Broken = Ran run Broken ⊎ (Rose run.old.read_faults run.new.read_faults × SendsNothing run)
-RunEnds run BadSettings = SendsNothing run × WritesReport run no_settings
+RunEnds run BadSettings = HasNoSettings run.old run.new × SendsNothing run × WritesReport run no_settings
 RunEnds run NoMemory = Ran run NoMemory ⊎ SendsNothing run
 RunEnds run Usage = ⊥

@@ -1,9 +1,9 @@
 //! The first line of a stream: the settings.
 
-ghost use Rattle.std.specs.Prelude.{◌≡◌, [], ◌∷◌, ◌++◌, IfOk, IsErrOf};
+ghost use Rattle.std.specs.Prelude.{◌≡◌, [], ◌∷◌, IfOk, IsErrOf};
 ghost use Rattle.std.specs.Io.KnownBytes.{Consumes};
-ghost use Rattle.mongo_wire.specs.Outside.{ReadsOn, Rose};
-ghost use Rattle.mongo_serve.specs.Run.{IsAfterLine, line_error_of};
+ghost use Rattle.mongo_wire.specs.Outside.{ReadsOn, Rose, RanOut};
+ghost use Rattle.mongo_serve.specs.Line.{IsAfterLine, HasNoLine, HasNoSettings, TakesLine, line_error_of};
 
 use crate::settings::{Settings, SettingsError, settings_of};
 use mongo_wire::{Error, ErrorKind, Source, SyncLittleEndianRead};
@@ -37,6 +37,7 @@ impl From<AllocError> for LineError {
 /// Reads the settings that the stream's first line is. Nothing after the line's end is read.
 pub fn read_settings<S: Source>(alloc: Global, source: &mut S) -> Result<Settings, LineError>
     ensures line { IfOk result (IsAfterLine (S.state source.old) (S.state source.new)) }
+    ensures none { IsErrOf result LineError.BadSettings → HasNoSettings (S.state source.old) (S.state source.new) }
     ensures failed { IsErrOf result LineError.Fault → Rose (S.state source.old).read_faults (S.state source.new).read_faults }
     ensures on { ReadsOn (S.state source.old) (S.state source.new) }
 {
@@ -50,7 +51,8 @@ pub fn read_settings<S: Source>(alloc: Global, source: &mut S) -> Result<Setting
 
 // The bytes before the first line feed, which is taken too. It reads byte by byte, so that nothing after it is taken.
 fn read_line<S: Source>(alloc: Global, source: &mut S) -> Result<Vec<u8>, LineError>
-    ensures taken { IfOk result (λ line. Consumes (S.state source.old).left (S.state source.new).left (line.items ++ 10 ∷ [])) }
+    ensures line { IfOk result (λ line. TakesLine (S.state source.old) (S.state source.new) line.items) }
+    ensures none { IsErrOf result LineError.BadSettings → HasNoLine (S.state source.old) (S.state source.new) }
     ensures failed { IsErrOf result LineError.Fault → Rose (S.state source.old).read_faults (S.state source.new).read_faults }
     ensures on { ReadsOn (S.state source.old) (S.state source.new) }
 {
@@ -71,6 +73,8 @@ fn read_line<S: Source>(alloc: Global, source: &mut S) -> Result<Vec<u8>, LineEr
 // The next byte, or why there is none.
 fn next_byte<S: Source>(source: &mut S) -> Result<u8, LineError>
     ensures byte { IfOk result (λ byte. Consumes (S.state source.old).left (S.state source.new).left (byte ∷ [])) }
+    ensures ended { IsErrOf result LineError.BadSettings →
+        Rose (S.state source.old).ends (S.state source.new).ends × RanOut (S.state source.old).left (S.state source.new).left 1 }
     ensures failed { IsErrOf result LineError.Fault → Rose (S.state source.old).read_faults (S.state source.new).read_faults }
     ensures on { ReadsOn (S.state source.old) (S.state source.new) }
 {

@@ -9,13 +9,10 @@
 //! A user has a salt for each of its mechanisms, in hex, and one iteration count, 4096 to 4294967295. `nonce` is what the server
 //! adds to a client's nonce: printable ASCII without a comma, and at least one character.
 
-ghost use Rattle.std.specs.Prelude.{◌≡◌, ◌≤◌, [], ◌∷◌, ◌++◌, codes, Some, IfSome, IfOk, OnOk};
-ghost use Rattle.std.specs.List.{AllByRecursion};
-ghost use Rattle.std.specs.Str.{IsUtf8};
-ghost use Rattle.serde_json.specs.Data.{Items};
-ghost use Rattle.serde_json.specs.Read.{read};
+ghost use Rattle.std.specs.Prelude.{◌≡◌, ◌≤◌, [], ◌∷◌, ◌++◌, map, IfSome, IfOk, IfErr, OnOk, IsTrue};
 ghost use Rattle.serde_json.specs.View.{view, items_view};
-ghost use Rattle.mongo_serve.specs.Settings.{text_under, items_in, count_in, scram_version_in, salt_in, IsAmong, SaidBy, AreSettings};
+ghost use Rattle.mongo_server.specs.ClientMessages.{IsNonce};
+ghost use Rattle.mongo_serve.specs.Settings.{text_under, items_in, count_in, scram_version_in, salt_in, is_suffix, suffix_in, json_of, as_said, account_in, accounts_of_user, accounts_of, settings_as_said, settings_said, HaveAtEnd, AnswersSaid, SaysNothing};
 ghost use Rattle.mongo_serve.specs.declared.settings.reading.SettingsError.TheVariants.{OutOfMemory};
 
 use super::{Account, Settings};
@@ -66,28 +63,48 @@ impl From<BsonFault> for SettingsError {
 
 /// The settings that a text is.
 ///
-/// `BadSettings` where it is none: it isn't JSON in UTF-8, a key is absent or has a value of another kind, a user has not as many
-/// salts as mechanisms, a mechanism is neither SCRAM-SHA-1 nor SCRAM-SHA-256, a salt isn't hex, a count isn't within its bounds,
-/// or the nonce isn't printable. Other keys are passed over.
+/// `BadSettings` exactly where it is none, want of memory aside: it isn't JSON in UTF-8, a key is absent or has a value of another
+/// kind, a user has not as many salts as mechanisms, a mechanism is neither SCRAM-SHA-1 nor SCRAM-SHA-256, a salt isn't hex, a count
+/// isn't within its bounds, or the nonce is empty or isn't printable. Other keys are passed over. A user without mechanisms has no
+/// account, and its other keys but `salts` aren't read.
+#[tactic(auto, unfolding(crate::specs::Settings::settings_said, crate::specs::Settings::settings_in))]
 pub fn settings_of(alloc: Global, text: &[u8]) -> Result<Settings, SettingsError>
-    ensures { IfOk result (AreSettings text.now) }
+    ensures { AnswersSaid settings_as_said result (settings_said text.now) }
 {
     let value = json_of(alloc, text)?;
-    let nonce = text_in(&value, "nonce")?;
-    if nonce.is_empty() || !is_nonce(nonce) {
-        return Err(SettingsError::BadSettings);
-    }
+    let suffix = suffix_in(&value)?;
     let users = items_in(&value, "users")?;
     let accounts = accounts_of(alloc, users)?;
     Ok(Settings {
         accounts,
-        suffix: Text::from_slice(alloc, nonce)?,
+        suffix: Text::from_slice(alloc, suffix)?,
     })
+}
+
+// What is put behind a client's nonce.
+fn suffix_in(value: &Value) -> Result<&str, SettingsError>
+    ensures said { AnswersSaid (λ suffix. suffix.now) result (suffix_in (view value.now)) }
+    ensures printable { IfOk result (λ suffix. IsNonce suffix.now) }
+{
+    let nonce = text_in(value, "nonce")?;
+    if is_suffix(nonce) {
+        Ok(nonce)
+    } else {
+        Err(SettingsError::BadSettings)
+    }
+}
+
+// Whether a text can be put behind a client's nonce.
+fn is_suffix(nonce: &str) -> bool
+    ensures said { result ≡ is_suffix nonce.now }
+    ensures printable { IsTrue result → IsNonce nonce.now }
+{
+    !nonce.is_empty() && is_nonce(nonce)
 }
 
 // The accounts of users, one after another.
 fn accounts_of(alloc: Global, users: &[Value]) -> Result<Vec<Account>, SettingsError>
-    ensures { IfOk result (λ accounts. AllByRecursion (SaidBy (items_view users.now)) accounts.items) }
+    ensures { AnswersSaid (λ accounts. map as_said accounts.items) result (accounts_of (items_view users.now)) }
 {
     let mut accounts = Vec::new(alloc);
     'users: for user in users {
@@ -97,12 +114,14 @@ fn accounts_of(alloc: Global, users: &[Value]) -> Result<Vec<Account>, SettingsE
 }
 
 // Adds a user's accounts, one for each mechanism.
+#[tactic(auto, unfolding(crate::specs::Settings::accounts_of_user))]
 fn push_accounts(
     alloc: Global,
     accounts: &mut Vec<Account>,
     user: &Value,
 ) -> Result<(), SettingsError>
-    ensures { (users : Items) → AllByRecursion (SaidBy users) accounts.old.items → IsAmong users (view user.now) → OnOk result (AllByRecursion (SaidBy users) accounts.new.items) }
+    ensures added { OnOk result (HaveAtEnd (accounts_of_user (view user.now)) accounts.old.items accounts.new.items) }
+    ensures refused { IfErr result (λ error. SaysNothing error (accounts_of_user (view user.now))) }
 {
     let mechanisms = items_in(user, "mechanisms")?;
     let salts = items_in(user, "salts")?;
@@ -117,24 +136,22 @@ fn push_accounts(
 }
 
 fn push(accounts: &mut Vec<Account>, account: Account) -> Result<(), SettingsError>
-    ensures { OnOk result (accounts.new.items ≡ accounts.old.items ++ account ∷ []) }
+    ensures pushed { OnOk result (accounts.new.items ≡ accounts.old.items ++ account ∷ []) }
+    ensures refused { IfErr result (λ error. error ≡ OutOfMemory) }
 {
     accounts.push(account)?;
     Ok(())
 }
 
 // A user's account by a mechanism, with its salt.
+#[tactic(auto, unfolding(crate::specs::Settings::account_in))]
 fn account_of(
     alloc: Global,
     user: &Value,
     mechanism: &Value,
     salt: &Value,
 ) -> Result<Account, SettingsError>
-    ensures name { IfOk result (λ a. text_under (codes "name") (view user.now) ≡ Some a.name) }
-    ensures password { IfOk result (λ a. text_under (codes "password") (view user.now) ≡ Some a.password) }
-    ensures count { IfOk result (λ a. count_in (view user.now) ≡ Some a.count) }
-    ensures version { IfOk result (λ a. scram_version_in (view mechanism.now) ≡ Some a.version) }
-    ensures salt { IfOk result (λ a. salt_in (view salt.now) ≡ Some a.salt) }
+    ensures { AnswersSaid as_said result (account_in (view user.now) (view mechanism.now) (view salt.now)) }
 {
     let name = text_in(user, "name")?;
     let password = text_in(user, "password")?;
@@ -151,7 +168,7 @@ fn account_of(
 }
 
 fn json_of(alloc: Global, text: &[u8]) -> Result<Value, SettingsError>
-    ensures { IfOk result (λ value. IsUtf8 text.now × (read text.now ≡ Some (view value))) }
+    ensures { AnswersSaid view result (json_of text.now) }
 {
     match Value::from_slice(alloc, text) {
         Ok(value) => Ok(value),
@@ -164,7 +181,7 @@ fn json_of(alloc: Global, text: &[u8]) -> Result<Value, SettingsError>
 
 // The text of a key.
 fn text_in<'a>(value: &'a Value, key: &str) -> Result<&'a str, SettingsError>
-    ensures { IfOk result (λ text. text_under key.now (view value.now) ≡ Some text.now) }
+    ensures { AnswersSaid (λ text. text.now) result (text_under key.now (view value.now)) }
 {
     match value.get(key) {
         Some(member) => match member.as_str() {
@@ -177,7 +194,7 @@ fn text_in<'a>(value: &'a Value, key: &str) -> Result<&'a str, SettingsError>
 
 // The array of a key.
 fn items_in<'a>(value: &'a Value, key: &str) -> Result<&'a [Value], SettingsError>
-    ensures { IfOk result (λ items. items_in key.now (view value.now) ≡ Some (items_view items.now)) }
+    ensures { AnswersSaid (λ items. items_view items.now) result (items_in key.now (view value.now)) }
 {
     match value.get(key) {
         Some(member) => match member.as_array() {
@@ -190,7 +207,7 @@ fn items_in<'a>(value: &'a Value, key: &str) -> Result<&'a [Value], SettingsErro
 
 // A user's iteration count.
 fn count_in(user: &Value) -> Option<u32>
-    ensures count { IfSome result (λ count. count_in (view user.now) ≡ Some count) }
+    ensures count { result ≡ count_in (view user.now) }
     ensures least { IfSome result (λ count. 4096 ≤ count) }
 {
     match user.get("count") {
@@ -204,7 +221,7 @@ fn count_in(user: &Value) -> Option<u32>
 
 // The mechanism of this name.
 fn version_of(name: &Value) -> Result<ScramVersion, SettingsError>
-    ensures { IfOk result (λ version. scram_version_in (view name.now) ≡ Some version) }
+    ensures { AnswersSaid (λ version. version) result (scram_version_in (view name.now)) }
 {
     match name.as_str() {
         Some(name) => match version_named(name) {
@@ -217,7 +234,7 @@ fn version_of(name: &Value) -> Result<ScramVersion, SettingsError>
 
 // The bytes of a text of hex.
 fn salt_of(alloc: Global, salt: &Value) -> Result<Bytes, SettingsError>
-    ensures { IfOk result (λ bytes. salt_in (view salt.now) ≡ Some bytes) }
+    ensures { AnswersSaid (λ bytes. bytes) result (salt_in (view salt.now)) }
 {
     let Some(text) = salt.as_str() else {
         return Err(SettingsError::BadSettings);
