@@ -1,5 +1,5 @@
 -- The accounts that values say, one after another.
-use Rattle.std.proofs.Common.{◌≡◌, ℕ, suc, ◌+◌, ◌<◌, ◌≤◌, ◌∙◌, refl, sym, ap, Option, None, Some, option_map, List, [], ◌∷◌, ◌++◌, map, length, get_or, drop, add-one, drop-cons, append-nil, arith}
+use Rattle.std.proofs.Common.{◌≡◌, ℕ, suc, ◌+◌, ◌<◌, ◌∙◌, refl, sym, ap, Option, None, Some, option_map, List, [], ◌∷◌, ◌++◌, map, length, get_or, drop, add-one, drop-cons, append-nil}
 use Rattle.std.proofs.lemmas.List.{append_assoc, map-append}
 use Rattle.serde_json.specs.Data.{Data}
 use Rattle.serde_json.specs.View.{view, items_view}
