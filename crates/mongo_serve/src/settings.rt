@@ -29,7 +29,7 @@ pub struct Account {
 /// Who may log in, and what the server adds to a client's nonce.
 #[derive(Drop)]
 pub struct Settings {
-    /// The users, once for each mechanism of theirs.
+    /// The users in the order of the text, once for each mechanism of theirs.
     pub accounts: Vec<Account>,
     /// What is put behind a client's nonce: printable ASCII without a comma.
     pub suffix: Text,

@@ -20,7 +20,7 @@ returns-in_err-account-clause-refused c =
     let within : c.pairs.at < length salts = omega arith in
     rw (p.1, p.2, c.in_ok-mechanisms.ensures, c.in_ok-salts.ensures)
     (pair_stopped c.in_err-account.field-0.0 user mechanisms salts c.pairs.at c.index-mechanisms-at.result c.index-salts-at.result c.args.accounts.now.items c.pairs.accounts.items (accounts_by user (items_view mechanisms) (items_view salts))
-      c.pairs-test.true within c.index-mechanisms-at.is c.index-salts-at.is c.pairs.invariant c.in_err-account.ensures)
+    c.pairs-test.true within c.index-mechanisms-at.is c.index-salts-at.is c.pairs.invariant c.in_err-account.ensures)
 
 pub pairs-preserved : goal.pairs-preserved
 pairs-preserved c =
@@ -31,7 +31,7 @@ pairs-preserved c =
     let within : c.pairs.at < length salts = omega arith in
     subst (λ accounts. SaidTo c.args.accounts.now.items all accounts (by_from user mechanisms salts (c.pairs.at + 1))) (sym c.in_ok-push.ensures.pushed)
     (pair_more user mechanisms salts c.pairs.at c.index-mechanisms-at.result c.index-salts-at.result c.args.accounts.now.items c.pairs.accounts.items c.in_ok-account.account all
-      c.pairs-test.true within c.index-mechanisms-at.is c.index-salts-at.is c.pairs.invariant c.in_ok-account.ensures)
+    c.pairs-test.true within c.index-mechanisms-at.is c.index-salts-at.is c.pairs.invariant c.in_ok-account.ensures)
 
 pub returns-clause-added : goal.returns-clause-added
 unfolding accounts_of_user
@@ -42,4 +42,4 @@ returns-clause-added c =
     let past : length salts ≤ c.pairs.at = omega arith in
     rw (c.in_ok-mechanisms.ensures, c.in_ok-salts.ensures)
     (pairs_ended user mechanisms salts c.pairs.at c.args.accounts.now.items c.pairs.accounts.items (accounts_by user (items_view mechanisms) (items_view salts))
-      (drop_of_length-le mechanisms c.pairs-test.false) (drop_of_length-le salts past) c.pairs.invariant)
+    (drop_of_length-le mechanisms c.pairs-test.false) (drop_of_length-le salts past) c.pairs.invariant)
