@@ -1,14 +1,19 @@
 -- Sequences that are put into a document as arrays.
-use Rattle.std.proofs.Common.{◌≡◌, ◌≢◌, ℕ, ◌+◌, ◌-◌, ◌^◌, ◌<◌, Result, Ok, Err, IfErr, List, ◌++◌, length, take, get_or, refl, sym, ap, ◌∙◌, Contains, append_assoc, length-append, arith}
+use Rattle.std.proofs.Common.{◌≡◌, ◌≢◌, ℕ, ◌+◌, ◌-◌, ◌^◌, ◌<◌, Result, Ok, Err, IfOk, IfErr, List, ◌++◌, length, take, get_or, refl, sym, ap, subst, ◌∙◌, Contains, append_assoc, length-append, arith}
+use Rattle.std.proofs.lemmas.List.{get_or_default}
 use Rattle.std.proofs.lemmas.List.Elements.{All-from_recursion, All-contains}
 use Rattle.std.specs.List.{AllByRecursion}
-use Rattle.mongo_bson.specs.Framed.{body_of, enclosed}
+use Rattle.mongo_bson.specs.Framed.{body_of, enclosed, IsFramed}
 use Rattle.mongo_bson.specs.Document.{spell}
 use Rattle.mongo_bson.specs.Refusals.{AppendRefuses, PushRefuses}
 use Rattle.mongo_bson.specs.declared.fault.BsonFault.{BsonFault}
 use Rattle.mongo_bson.specs.declared.fault.BsonFault.TheVariants.{Malformed, KeyHasZero, TooLong, DuplicateKey, UpdateEmpty, UpdateNotModifiers, ReplacementHasModifiers, OutOfMemory}
-use Rattle.mongo_bson.proofs.Enclosed.{length-enclosed, body_of-enclosed}
-use Rattle.mongo_wire.specs.JoinedDocument.{array_element, arrays_bytes}
+use Rattle.mongo_bson.proofs.Enclosed.{length-enclosed, body_of-enclosed, enclosed-body_of}
+use Rattle.mongo_wire.specs.Error.{kind_of_fault}
+use Rattle.mongo_wire.specs.JoinedDocument.{array_element, arrays_bytes, JoinRefused}
+use Rattle.mongo_wire.specs.Measure.{IsWithoutZero}
+use Rattle.mongo_wire.specs.Message.{HasNames}
+use Rattle.mongo_wire.specs.declared.message.Message.{Message}
 use Rattle.mongo_wire.specs.declared.document_sequence.DocumentSequence.{DocumentSequence}
 use Rattle.mongo_wire.proofs.Passed.{joined_more, length_within}
 
@@ -51,3 +56,28 @@ pub all_too_long : (sequences : List DocumentSequence) (i : ℕ) (s : DocumentSe
 all_too_long sequences i s within at body old p long =
     let before = arrays_bytes (take i sequences) in
     omega (arith, long, ap length p, length-enclosed (body ++ before), length-enclosed (body ++ arrays_bytes sequences), length-append body before, length-append body (arrays_bytes sequences), length_within spelled_array sequences i s within at)
+
+-- a copy of a document is what its body makes, since its bytes are bytes
+pub copied_whole : (bytes : List ℕ) (r : Result (List ℕ) BsonFault) → IsFramed bytes → ((i : ℕ) → get_or bytes i 0 < 256) → IfOk r (λ d. d ≡ bytes) → IfOk r (λ d. d ≡ enclosed (body_of bytes))
+copied_whole bytes (Ok document) framed small is = is ∙ sym (enclosed-body_of bytes framed (λ i other within. subst (λ byte. byte < 256) (get_or_default bytes i 0 other within) (small i)))
+copied_whole bytes (Err fault) framed small is = tt
+
+pub copied_framed : (bytes : List ℕ) (r : Result (List ℕ) BsonFault) → IsFramed bytes → IfOk r (λ d. d ≡ bytes) → IfOk r (λ d. IsFramed d)
+copied_framed bytes (Ok document) framed is = subst IsFramed (sym is) framed
+copied_framed bytes (Err fault) framed is = tt
+
+-- why the joined document isn't made, where the names hold no zero
+pub join_refused : (fault : BsonFault) (m : Message) (sequences : List DocumentSequence) → HasNames m → sequences ≡ m.document_sequences
+    → PushRefuses fault → (fault ≡ TooLong → 2 ^ 31 - 1 < length (enclosed (body_of m.document_payload ++ arrays_bytes sequences))) → JoinRefused (kind_of_fault fault) m
+join_refused TooLong m sequences names same refused long = (names, subst (λ s. 2 ^ 31 - 1 < length (enclosed (body_of m.document_payload ++ arrays_bytes s))) same (long refl))
+join_refused OutOfMemory m sequences names same refused long = names
+join_refused Malformed m sequences names same refused long = absurd refused
+join_refused KeyHasZero m sequences names same refused long = absurd refused
+join_refused DuplicateKey m sequences names same refused long = absurd refused
+join_refused UpdateEmpty m sequences names same refused long = absurd refused
+join_refused UpdateNotModifiers m sequences names same refused long = absurd refused
+join_refused ReplacementHasModifiers m sequences names same refused long = absurd refused
+
+-- the message has names where a slice of its sequences has them
+pub has_names : (m : Message) (sequences : List DocumentSequence) → sequences ≡ m.document_sequences → AllByRecursion IsWithoutZero sequences → HasNames m
+has_names m sequences same named = subst (AllByRecursion IsWithoutZero) same named

@@ -1,6 +1,7 @@
 -- What a document's read has taken, whole or cut short.
-use Rattle.std.proofs.Common.{◌≡◌, ℕ, pos, ◌+◌, ◌-◌, ◌*◌, ◌≤◌, max, Option, None, Some, List, [], ◌++◌, length, is_some, refl, sym, ap, subst, append-nil, length-append, inl, inr, arith}
+use Rattle.std.proofs.Common.{◌≡◌, ℕ, pos, ◌+◌, ◌-◌, ◌*◌, ◌≤◌, max, Option, None, Some, List, [], ◌++◌, length, take, drop, is_some, refl, sym, ap, ◌∙◌, subst, append-nil, length-append, inl, inr, arith}
 use Rattle.std.proofs.lemmas.Int.{ints}
+use Rattle.std.proofs.lemmas.List.{take_all, take-append-drop, length-drop}
 use Rattle.std.proofs.KnownBytes.{Consumes-trans}
 use Rattle.std.specs.Int.{cast_signed, w32}
 use Rattle.std.specs.Io.KnownBytes.{Consumes}
@@ -8,7 +9,7 @@ use Rattle.mongo_bson.proofs.Sizes.{number_at_front}
 use Rattle.mongo_wire.specs.Header.{signed_at}
 use Rattle.mongo_wire.specs.Outside.{State, ReadsOn, ReadStops, ConsumesAtMost, ConsumesFewer, RanOut}
 use Rattle.mongo_wire.specs.Rows.{IsEmptied}
-use Rattle.mongo_wire.specs.Small.{DocumentUnread, IsStartedDocument, IsShortDocument, TakesSuch}
+use Rattle.mongo_wire.specs.Small.{DocumentUnread, IsStartedDocument, IsShortDocument, TakesSuch, TakesDocument}
 use Rattle.mongo_wire.specs.declared.error.ErrorKind.{ErrorKind}
 use Rattle.mongo_wire.proofs.ReadStopped.{stop_cases, rose_after}
 
@@ -60,6 +61,19 @@ document_cut kind old mid new field n part tells p four is least on s =
     (λ _ f. (rose_after old.read_faults mid.read_faults new.read_faults on.faults_stay f.0, unfinished old.left mid.left new.left field n part p four is least f.1))
     (λ _ e. let (taken, empty) = short old.left mid.left new.left field n part tells p four is least e.1 in (rose_after old.ends mid.ends new.ends on.ends_stay e.0, taken, empty))
     (λ _ m. started old.left mid.left new.left field n part p four is least m)
+
+-- ---- the whole document came
+
+pub document_taken : (old mid new : State) (field whole : List ℕ) (n : ℕ) → Consumes old.left mid.left field → length field ≡ 4 → signed_at 0 field ≡ pos n → 4 ≤ n
+    → take 4 whole ≡ take 4 field → length whole ≡ n → Consumes mid.left new.left (take (n - 4) (drop 4 whole)) → TakesDocument old new whole
+document_taken old mid new field whole n p four is least front size q =
+    let rest : take (n - 4) (drop 4 whole) ≡ drop 4 whole = take_all (n - 4) (drop 4 whole) (omega (arith, length-drop 4 whole, size)) in
+    let joined : field ++ drop 4 whole ≡ whole = ap (λ f. f ++ drop 4 whole) (sym (front ∙ take_all 4 field (omega (arith, four)))) ∙ take-append-drop 4 whole in
+    record {
+      taken = subst (Consumes old.left new.left) joined (Consumes-trans old.left mid.left new.left field (drop 4 whole) p (subst (Consumes mid.left new.left) rest q));
+      least = omega (arith, least, size);
+      counted = ap (signed_at 0) (sym joined) ∙ signed_front field (drop 4 whole) four ∙ is ∙ ap pos (sym size);
+    }
 
 -- ---- memory
 

@@ -1,5 +1,5 @@
 -- What the exits of reading a frame say.
-use Rattle.std.proofs.Common.{◌≡◌, ℕ, ℤ, pos, ◌≤ℤ◌, ◌+◌, ◌-◌, ◌*◌, ◌<◌, ◌≤◌, max, ◌⊎◌, inl, inr, Bool, true, false, is_some, Option, None, Some, Result, Ok, Err, OnOk, IfErr, List, [], ◌++◌, length, refl, sym, ap, ◌∙◌, subst, arith, length-append, append-nil}
+use Rattle.std.proofs.Common.{◌≡◌, ℕ, ℤ, pos, ◌≤ℤ◌, ◌+◌, ◌-◌, ◌*◌, ◌<◌, ◌≤◌, max, ◌⊎◌, inl, inr, Bool, true, false, is_some, Option, None, Some, Result, Ok, Err, OnOk, IfErr, IfSome, List, [], ◌++◌, length, refl, sym, ap, ◌∙◌, subst, arith, length-append, append-nil}
 use Rattle.std.specs.Prelude.{int_lt, if◌then◌else◌}
 use Rattle.std.proofs.lemmas.Int.{ints}
 use Rattle.std.proofs.lemmas.Bool.{false≢true}
@@ -25,7 +25,7 @@ use Rattle.mongo_wire.specs.Error.{kind_of_frame_fault}
 use Rattle.mongo_wire.specs.declared.fault.FrameFault.{FrameFault}
 use Rattle.mongo_wire.specs.declared.error.ErrorKind.{ErrorKind}
 use Rattle.mongo_wire.specs.declared.error.ErrorKind.TheVariants.{InvalidArgument, InvalidResponse, Command, Authentication, IncompatibleServer, Write, InsertMany, ReadFault, WriteFault, EndOfInput, Callback, PasswordNotAscii, OutOfMemory}
-use Rattle.mongo_wire.proofs.OneFrame.{one_frame, row_no_frame, row_in, signed_in}
+use Rattle.mongo_wire.proofs.OneFrame.{one_frame, least_frame, row_no_frame, row_in, signed_in}
 use Rattle.mongo_wire.proofs.ReadStopped.{stop_cases, rose_after}
 
 -- where nothing is told, nothing is told after it
@@ -213,3 +213,22 @@ grows_later old mid new taken start first last same p grows had left had_is left
     by (Some bytes) q g =
         let spelled : had ≡ taken ++ bytes = rw had_is at q in
         omega (arith, same, ap length spelled, length-append taken bytes, g bytes left refl left_is)
+
+-- no more memory than a buffer of the same memory has, or than the maximum
+pub stays_later : (maximum : ℤ) (start first last : FrameBuffer) → memory_of first ≡ memory_of start → StaysWithin maximum first last → StaysWithin maximum start last
+stays_later maximum start first last same within = subst (λ memory. (memory_of last ≤ memory) ⊎ (pos (memory_of last) ≤ℤ maximum)) same within
+
+-- ---- what the bytes that were taken say of those that were left
+
+-- where some were taken there were some
+pub more_came : (old new : Option (List ℕ)) (taken : List ℕ) → Consumes old new taken → 0 < length taken → IfSome old (λ bytes. 0 < length bytes)
+more_came None new taken p some = tt
+more_came (Some bytes) None taken p some = absurd p
+more_came (Some bytes) (Some rest) taken p some = let spelled : bytes ≡ taken ++ rest = p in omega (arith, ap length spelled, length-append taken rest, some)
+
+-- where a frame stood there were some
+pub no_end : (old : Option (List ℕ)) (frame rest : List ℕ) (parts : Frame) → old ≡ Some (frame ++ rest) → IsFrame frame parts → IfSome old (λ bytes. bytes ≡ []) → ⊥
+no_end None frame rest parts is frame_is none = absurd (cc)
+no_end (Some bytes) frame rest parts is frame_is none =
+    let same : bytes ≡ frame ++ rest = cc in
+    omega (arith, ap length same, length-append frame rest, ap length none, least_frame frame parts frame_is)

@@ -38,6 +38,10 @@ stop_cases P PasswordNotAscii _ _ _ s fault end memory = absurd s
 pub rose_after : (first old new : ℕ) → first ≤ old → Rose old new → Rose first new
 rose_after first old new q r = omega arith
 
+-- no read at all
+pub reads_still : (state : State) → ReadsOn state state
+reads_still state = record { tells = refl; faults_stay = omega arith; ends_stay = omega arith; unwritten = record { written = refl; flushed = refl; writes = refl } }
+
 -- two reads one after another
 pub reads_on : (old mid new : State) → ReadsOn old mid → ReadsOn mid new → ReadsOn old new
 reads_on old mid new p q = record {

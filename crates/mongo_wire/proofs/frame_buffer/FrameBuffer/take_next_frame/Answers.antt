@@ -1,8 +1,8 @@
-use Rattle.std.proofs.Common.{refl, ap, ◌∙◌, vec_capacity}
+use Rattle.std.proofs.Common.{rules, ◌≡◌, length, refl, ap, inl, ◌∙◌, vec_capacity, arith}
 use Rattle.mongo_wire.specs.Error.{kind_of_frame_fault}
 use Rattle.mongo_wire.specs.Header.{maximum_of}
 use Rattle.mongo_wire.specs.Outside.{risen}
-use Rattle.mongo_wire.proofs.FrameRead.{header_stopped, same_taken, no_refusal, grows_later}
+use Rattle.mongo_wire.proofs.FrameRead.{header_stopped, same_taken, no_refusal, grows_later, stays_later, more_came, no_end}
 use Rattle.mongo_wire.proofs.ReadStopped.{reads_on}
 use Rattle.mongo_wire.proofs.frame_buffer.FrameBuffer.take_next_frame.Goals as goal
 
@@ -70,3 +70,36 @@ returns-in-Err-clause-more g c = c.in-Err.ensures.more
 
 pub returns-in-Err-clause-on : goal.returns-in-Err-clause-on
 returns-in-Err-clause-on g c = c.in-Err.ensures.on
+
+pub returns-in-Ok-clause-within : goal.returns-in-Ok-clause-within
+returns-in-Ok-clause-within g c = stays_later (maximum_of c.args.maximum) c.args.self.now c.clear.new.self c.take_rest.new.self (ap (λ s. vec_capacity s) c.clear.ensures.store) c.in-Ok.ensures.within
+
+pub returns-in-Err-take_rest-clause-more : goal.returns-in-Err-take_rest-clause-more
+returns-in-Err-take_rest-clause-more g c = λ _.
+    let some : length c.fill_or_end.new.buf ≡ 16 = search rules in
+    more_came _ _ c.fill_or_end.new.buf (c.in-Ok-true.ensures.filled c.in-Ok-true.field-0-test) (omega (arith, some))
+
+pub returns-in-Err-take_rest-clause-within : goal.returns-in-Err-take_rest-clause-within
+returns-in-Err-take_rest-clause-within g c = stays_later (maximum_of c.args.maximum) c.args.self.now c.clear.new.self c.take_rest.new.self (ap (λ s. vec_capacity s) c.clear.ensures.store) c.in-Err-take_rest.ensures.within
+
+pub returns-in-Ok-false-clause-again : goal.returns-in-Ok-false-clause-again
+returns-in-Ok-false-clause-again g c = λ frame rest parts is frame_is within.
+    absurd (no_end _ frame rest parts is frame_is (c.in-Ok-false.ensures.ended c.in-Ok-false.field-0-test).none)
+
+pub returns-in-Ok-false-clause-came : goal.returns-in-Ok-false-clause-came
+returns-in-Ok-false-clause-came g c = λ had left had_is left_is. omega (arith, ap (λ s. vec_capacity s) c.clear.ensures.store)
+
+pub returns-in-Ok-false-clause-within : goal.returns-in-Ok-false-clause-within
+returns-in-Ok-false-clause-within g c = inl (omega (arith, ap (λ s. vec_capacity s) c.clear.ensures.store))
+
+pub returns-in-Err-clause-again : goal.returns-in-Err-clause-again
+returns-in-Err-clause-again g c = λ frame rest parts is frame_is within.
+    let refused = c.in-Err.ensures in
+    let kind = kind_of_frame_fault c.in-Err.fault in
+    no_refusal kind (maximum_of c.args.maximum) _ _ frame rest parts is frame_is within (header_stopped kind (maximum_of c.args.maximum) _ _ refused.on.tells refused.refused)
+
+pub returns-in-Err-clause-came : goal.returns-in-Err-clause-came
+returns-in-Err-clause-came g c = λ had left had_is left_is. omega (arith, ap (λ s. vec_capacity s) c.clear.ensures.store)
+
+pub returns-in-Err-clause-within : goal.returns-in-Err-clause-within
+returns-in-Err-clause-within g c = inl (omega (arith, ap (λ s. vec_capacity s) c.clear.ensures.store))

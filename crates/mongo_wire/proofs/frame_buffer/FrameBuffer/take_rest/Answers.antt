@@ -1,4 +1,4 @@
-use Rattle.std.proofs.Common.{rules, arith, ◌≡◌, ℕ, ◌-◌, ◌++◌, length, take, subst}
+use Rattle.std.proofs.Common.{arith, ◌≡◌, ℕ, ◌-◌, ◌++◌, length, take, refl, inl, subst}
 use Rattle.std.proofs.lemmas.List.{length-take-le}
 use Rattle.std.specs.Io.KnownBytes.{Consumes}
 use Rattle.mongo_wire.specs.Error.{kind_of_frame_fault}
@@ -6,6 +6,7 @@ use Rattle.mongo_wire.specs.Outside.{ReadStops}
 use Rattle.mongo_wire.specs.Header.{maximum_of}
 use Rattle.mongo_wire.specs.Held.{NoFrame, IsHeld}
 use Rattle.mongo_wire.proofs.Found.{parts_lie}
+use Rattle.mongo_wire.proofs.ReadStopped.{reads_still}
 use Rattle.mongo_wire.proofs.FrameRead.{header_refused, rest_stopped, sections_refused, frame_taken}
 use Rattle.mongo_wire.proofs.frame_buffer.FrameBuffer.take_rest.Goals as goal
 
@@ -15,44 +16,39 @@ whole n = omega arith
 
 pub returns-in-Err-clause-refused : goal.returns-in-Err-clause-refused
 returns-in-Err-clause-refused g c = λ before p on.
-    let head : length c.args.head.now ≡ 16 = search rules in
-    header_refused (kind_of_frame_fault c.in-Err.fault) (maximum_of c.args.maximum) before _ c.args.head.now p head c.in-Err.ensures.row
+    header_refused (kind_of_frame_fault c.in-Err.fault) (maximum_of c.args.maximum) before _ c.args.head.now p c.told-head c.in-Err.ensures.row
 
 pub returns-in-Err-take_into-clause-refused : goal.returns-in-Err-take_into-clause-refused
 returns-in-Err-take_into-clause-refused g c = λ before p on.
-    let head : length c.args.head.now ≡ 16 = search rules in
     let start = c.in-Ok.ensures in
     let refused = c.in-Err-take_into.ensures in
     let state = g.S.Outside.state in
     let stops = subst (λ n. ReadStops (kind_of_frame_fault c.in-Err-take_into.fault) (state c.args.source.now) (state c.take_into.new.source) n) (whole c.in-Ok.start.rest) refused.refused in
-    rest_stopped (kind_of_frame_fault c.in-Err-take_into.fault) (maximum_of c.args.maximum) before _ _ c.args.head.now c.in-Ok.start.rest p on refused.on.tells head start.passes start.size refused.some stops
+    rest_stopped (kind_of_frame_fault c.in-Err-take_into.fault) (maximum_of c.args.maximum) before _ _ c.args.head.now c.in-Ok.start.rest p on refused.on.tells c.told-head start.passes start.size refused.some stops
 
 pub returns-in-None-clause-refused : goal.returns-in-None-clause-refused
 returns-in-None-clause-refused g c = λ before p on.
-    let head : length c.args.head.now ≡ 16 = search rules in
     let start = c.in-Ok.ensures in
     let rest = c.in-Ok.start.rest in
     let bytes = take rest c.take_into.new.store.items in
     let size : length bytes ≡ rest = length-take-le rest c.take_into.new.store.items c.in-Ok-take_into.ensures.all in
     let state = g.S.Outside.state in
     let taken = subst (λ n. Consumes (state c.args.source.now).left (state c.take_into.new.source).left (take n c.take_into.new.store.items)) (whole rest) c.in-Ok-take_into.ensures.taken in
-    sections_refused (maximum_of c.args.maximum) before (state c.args.source.now) (state c.take_into.new.source) c.args.head.now bytes p taken head start.passes (rw size start.size)
+    sections_refused (maximum_of c.args.maximum) before (state c.args.source.now) (state c.take_into.new.source) c.args.head.now bytes p taken c.told-head start.passes (rw size start.size)
     (subst (λ s. NoFrame (c.args.head.now ++ take rest s)) c.as_slice.ensures.value c.in-None.ensures)
 
 pub keep-requires-clause-lies : goal.keep-requires-clause-lies
 keep-requires-clause-lies g c =
-    let head : length c.args.head.now ≡ 16 = search rules in
-    parts_lie c.args.head.now _ c.in-Some.frame head (subst (λ s. IsHeld (c.args.head.now ++ take c.in-Ok.start.rest s) c.in-Some.frame) c.as_slice.ensures.value c.in-Some.ensures)
+    parts_lie c.args.head.now _ c.in-Some.frame c.told-head (subst (λ s. IsHeld (c.args.head.now ++ take c.in-Ok.start.rest s) c.in-Some.frame) c.as_slice.ensures.value c.in-Some.ensures)
 
 pub returns-in-Some-clause-taken : goal.returns-in-Some-clause-taken
 returns-in-Some-clause-taken g c = λ before p.
-    let head : length c.args.head.now ≡ 16 = search rules in
     let rest = c.in-Ok.start.rest in
     let bytes = take rest c.take_into.new.store.items in
     let size : length bytes ≡ rest = length-take-le rest c.take_into.new.store.items c.in-Ok-take_into.ensures.all in
     let state = g.S.Outside.state in
     let taken = subst (λ n. Consumes (state c.args.source.now).left (state c.take_into.new.source).left (take n c.take_into.new.store.items)) (whole rest) c.in-Ok-take_into.ensures.taken in
-    frame_taken (maximum_of c.args.maximum) before (state c.args.source.now) (state c.take_into.new.source) c.args.head.now bytes rest c.in-Some.frame c.keep.new.self p taken head size c.in-Ok.ensures.within
+    frame_taken (maximum_of c.args.maximum) before (state c.args.source.now) (state c.take_into.new.source) c.args.head.now bytes rest c.in-Some.frame c.keep.new.self p taken c.told-head size c.in-Ok.ensures.within
     (subst (λ s. IsHeld (c.args.head.now ++ take rest s) c.in-Some.frame) c.as_slice.ensures.value c.in-Some.ensures) c.keep.ensures.last c.keep.ensures.held
 
 pub returns-in-Err-take_into-clause-came : goal.returns-in-Err-take_into-clause-came
@@ -65,7 +61,7 @@ pub returns-in-None-clause-came : goal.returns-in-None-clause-came
 returns-in-None-clause-came g c = λ had left had_is left_is. omega (arith, c.in-Ok-take_into.ensures.came had left had_is left_is)
 
 pub returns-in-Err-clause-on : goal.returns-in-Err-clause-on
-returns-in-Err-clause-on g c = search rules
+returns-in-Err-clause-on g c = reads_still (g.S.Outside.state c.args.source.now)
 
 pub returns-in-Err-take_into-clause-on : goal.returns-in-Err-take_into-clause-on
 returns-in-Err-take_into-clause-on g c = c.in-Err-take_into.ensures.on
@@ -78,3 +74,12 @@ returns-in-Some-clause-on g c = c.in-Ok-take_into.ensures.on
 
 pub returns-in-Some-clause-counted : goal.returns-in-Some-clause-counted
 returns-in-Some-clause-counted g c = c.keep.ensures.frames
+
+pub returns-in-Err-clause-came : goal.returns-in-Err-clause-came
+returns-in-Err-clause-came g c = λ had left had_is left_is. omega arith
+
+pub returns-in-Err-clause-within : goal.returns-in-Err-clause-within
+returns-in-Err-clause-within g c = inl (omega arith)
+
+pub returns-in-Err-clause-emptied : goal.returns-in-Err-clause-emptied
+returns-in-Err-clause-emptied g c = record { nothing = c.requires.nothing; frames = refl }
