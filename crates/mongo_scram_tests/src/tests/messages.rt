@@ -113,16 +113,13 @@ fn server_final(alloc: Global, number: i32, message: &[u8]) -> Result<ServerFina
 
 // A copy of it, with a copy of what that says.
 fn copied_final(alloc: Global, number: i32, message: &[u8]) -> Result<ServerFinal, Error> {
-    let ServerFinal {
-        conversation_id,
-        done,
-        body,
-    } = server_final(alloc, number, message)?.try_clone(alloc)?;
-    Ok(ServerFinal {
-        conversation_id,
-        done,
-        body: body.try_clone(alloc)?,
-    })
+    let last = server_final(alloc, number, message)?;
+    with_copied_body(alloc, last.try_clone(alloc)?)
+}
+
+fn with_copied_body(alloc: Global, last: ServerFinal) -> Result<ServerFinal, Error> {
+    let body = last.body.try_clone(alloc)?;
+    Ok(ServerFinal { body, ..last })
 }
 
 // A server's first message, `ok` and `done` of the reply that carries it, and what a client with the nonce `nonce` and the
@@ -266,11 +263,16 @@ type Held = (Tag, Conversation);
 // A row's conversation up to the client's last message.
 fn conversation_of(alloc: Global, row: &Exchange) -> Result<Held, Fail> {
     let first = given(server_first(alloc, 1, false, row.server_first.as_bytes()))?;
-    let Some(salted) = salted_of(row, &first) else {
+    conversation_after(alloc, row, &first)
+}
+
+// The same where the server's first message was read.
+fn conversation_after(alloc: Global, row: &Exchange, first: &ServerFirst) -> Result<Held, Fail> {
+    let Some(salted) = salted_of(row, first) else {
         return Err(Fail::from("no salted password"));
     };
     let open = given(client_first(alloc, row.username, row.nonce))?;
-    let conversation = given(closed(alloc, row, &salted, open, &first))?;
+    let conversation = given(closed(alloc, row, &salted, open, first))?;
     Ok((salted, conversation))
 }
 

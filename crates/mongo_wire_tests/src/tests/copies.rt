@@ -1,106 +1,118 @@
 // A copy wants memory, and where it is there each copy says what it was made of.
-use super::{message_with_sequence, only};
-use mongo_bson::{BsonFault, RawDocumentBuf, Text, Texts};
+use super::message_with_sequence;
+use mongo_bson::{BsonFault, Items, RawDocumentBuf, Text, Texts};
 use mongo_wire::{
     AuthFault, CommandError, Error, ErrorKind, IndexedWriteError, InsertManyError, Message,
-    WriteConcernError, WriteError, WriteErrors, WriteFailure, WriteFailureCause,
+    WriteConcernError, WriteError, WriteFailure, WriteFailureCause,
 };
 use std::alloc::Global;
 use std::fmt::Debug;
 use std::test::Fail;
 
+// What is made of several values is made of all of them at once: where one is lacking, no proof holds the others.
+fn both<A: Drop, B: Drop>(first: Option<A>, second: Option<B>) -> Option<(A, B)> {
+    Some((first?, second?))
+}
+
+// A list of this item alone.
+fn one<T: Drop>(alloc: Global, item: Option<T>) -> Option<Items<T>> {
+    let mut items = Items::new(alloc);
+    items.push(item?).ok()?;
+    Some(items)
+}
+
+fn text(alloc: Global, text: &str) -> Option<Text> {
+    Text::from_slice(alloc, text).ok()
+}
+
+// An empty document.
+fn details(alloc: Global) -> Option<RawDocumentBuf> {
+    RawDocumentBuf::new(alloc).ok()
+}
+
 // The label `Transient`.
-fn labels(alloc: Global) -> Result<Texts, Fail> {
-    only(alloc, Text::from_slice(alloc, "Transient")?)
+fn labels(alloc: Global) -> Option<Texts> {
+    one(alloc, text(alloc, "Transient"))
 }
 
-fn callback(alloc: Global) -> Result<Error, Fail> {
-    Ok(Error {
-        kind: ErrorKind::Callback(Text::from_slice(alloc, "no callback")?),
-    })
+fn callback(alloc: Global) -> Option<ErrorKind> {
+    Some(ErrorKind::Callback(text(alloc, "no callback")?))
 }
 
-fn refused(alloc: Global) -> Result<Error, Fail> {
-    let fault = AuthFault::Refused(Text::from_slice(alloc, "no")?);
-    Ok(Error {
-        kind: ErrorKind::Authentication(fault),
-    })
+fn refused(alloc: Global) -> Option<ErrorKind> {
+    let fault = AuthFault::Refused(text(alloc, "no")?);
+    Some(ErrorKind::Authentication(fault))
 }
 
-fn server_error(alloc: Global) -> Result<Error, Fail> {
-    let fault = AuthFault::ServerError(Text::from_slice(alloc, "other-error")?);
-    Ok(Error {
-        kind: ErrorKind::Authentication(fault),
-    })
+fn server_error(alloc: Global) -> Option<ErrorKind> {
+    let fault = AuthFault::ServerError(text(alloc, "other-error")?);
+    Some(ErrorKind::Authentication(fault))
 }
 
-fn command(alloc: Global) -> Result<Error, Fail> {
-    let error = CommandError {
+fn command(alloc: Global) -> Option<ErrorKind> {
+    let texts = both(text(alloc, "AuthenticationFailed"), text(alloc, "no"));
+    let ((code_name, message), labels) = both(texts, labels(alloc))?;
+    Some(ErrorKind::Command(CommandError {
         code: 18,
-        code_name: Text::from_slice(alloc, "AuthenticationFailed")?,
-        message: Text::from_slice(alloc, "no")?,
-        labels: labels(alloc)?,
-    };
-    Ok(Error {
-        kind: ErrorKind::Command(error),
-    })
+        code_name,
+        message,
+        labels,
+    }))
 }
 
-fn write_error(alloc: Global) -> Result<WriteError, Fail> {
-    Ok(WriteError {
+fn write_error(alloc: Global) -> Option<WriteError> {
+    let texts = both(text(alloc, "DuplicateKey"), text(alloc, "there already"));
+    let ((code_name, message), details) = both(texts, details(alloc))?;
+    Some(WriteError {
         code: 11000,
-        code_name: Some(Text::from_slice(alloc, "DuplicateKey")?),
-        message: Text::from_slice(alloc, "there already")?,
-        details: Some(RawDocumentBuf::new(alloc)?),
+        code_name: Some(code_name),
+        message,
+        details: Some(details),
     })
 }
 
-fn concern_error(alloc: Global) -> Result<WriteConcernError, Fail> {
-    Ok(WriteConcernError {
+fn concern_error(alloc: Global) -> Option<WriteConcernError> {
+    let texts = both(text(alloc, "WriteConcernFailed"), text(alloc, "timeout"));
+    let rest = both(details(alloc), labels(alloc));
+    let ((code_name, message), (details, labels)) = both(texts, rest)?;
+    Some(WriteConcernError {
         code: 64,
-        code_name: Text::from_slice(alloc, "WriteConcernFailed")?,
-        message: Text::from_slice(alloc, "timeout")?,
-        details: Some(RawDocumentBuf::new(alloc)?),
-        labels: labels(alloc)?,
+        code_name,
+        message,
+        details: Some(details),
+        labels,
     })
 }
 
-fn write_failure(labels: Texts, cause: WriteFailureCause) -> Error {
-    Error {
-        kind: ErrorKind::Write(WriteFailure { cause, labels }),
-    }
+fn write(alloc: Global) -> Option<ErrorKind> {
+    let (error, labels) = both(write_error(alloc), labels(alloc))?;
+    let cause = WriteFailureCause::WriteError(error);
+    Some(ErrorKind::Write(WriteFailure { cause, labels }))
 }
 
-fn write(alloc: Global) -> Result<Error, Fail> {
-    let labels = labels(alloc)?;
-    let cause = WriteFailureCause::WriteError(write_error(alloc)?);
-    Ok(write_failure(labels, cause))
+fn concern(alloc: Global) -> Option<ErrorKind> {
+    let (error, labels) = both(concern_error(alloc), labels(alloc))?;
+    let cause = WriteFailureCause::WriteConcernError(error);
+    Some(ErrorKind::Write(WriteFailure { cause, labels }))
 }
 
-fn concern(alloc: Global) -> Result<Error, Fail> {
-    let labels = labels(alloc)?;
-    let cause = WriteFailureCause::WriteConcernError(concern_error(alloc)?);
-    Ok(write_failure(labels, cause))
-}
-
-fn write_errors(alloc: Global) -> Result<WriteErrors, Fail> {
+fn indexed(alloc: Global) -> Option<IndexedWriteError> {
     let error = write_error(alloc)?;
-    only(alloc, IndexedWriteError { index: 7, error })
+    Some(IndexedWriteError { index: 7, error })
 }
 
-fn insert(alloc: Global) -> Result<Error, Fail> {
-    let error = InsertManyError {
-        write_errors: Some(write_errors(alloc)?),
-        write_concern_error: Some(concern_error(alloc)?),
-        labels: labels(alloc)?,
-    };
-    Ok(Error {
-        kind: ErrorKind::InsertMany(error),
-    })
+fn insert(alloc: Global) -> Option<ErrorKind> {
+    let errors = both(one(alloc, indexed(alloc)), concern_error(alloc));
+    let ((write_errors, concern_error), labels) = both(errors, labels(alloc))?;
+    Some(ErrorKind::InsertMany(InsertManyError {
+        write_errors: Some(write_errors),
+        write_concern_error: Some(concern_error),
+        labels,
+    }))
 }
 
-// The error of the cause of this name.
-fn error(alloc: Global, name: &str) -> Result<Error, Fail> {
+// The cause of this name.
+fn cause(alloc: Global, name: &str) -> Option<ErrorKind> {
     match name {
         "callback" => callback(alloc),
         "refused" => refused(alloc),
@@ -109,9 +121,15 @@ fn error(alloc: Global, name: &str) -> Result<Error, Fail> {
         "write" => write(alloc),
         "concern" => concern(alloc),
         "insert" => insert(alloc),
-        _ => Ok(Error {
-            kind: ErrorKind::EndOfInput,
-        }),
+        _ => None,
+    }
+}
+
+// The error of the cause of this name.
+fn error(alloc: Global, name: &str) -> Result<Error, Fail> {
+    match cause(alloc, name) {
+        Some(kind) => Ok(Error { kind }),
+        None => Err(Fail::from("no cause was made")),
     }
 }
 
