@@ -1,5 +1,6 @@
 use Rattle.std.proofs.Common.{◌≡◌, ◌∷◌, ◌++◌, List, subst, IfErr, OnOk}
 use Rattle.std.specs.List.{flat_map}
+use Rattle.std.proofs.lemmas.Result.{err_from_is_err_and}
 use Rattle.mongo_bson.specs.Document.{Element, spell}
 use Rattle.mongo_bson.specs.Framed.{body_of, enclosed}
 use Rattle.mongo_command.specs.Literal.{text_element}
@@ -14,3 +15,11 @@ returns-clause-document c =
 pub returns-clause-refused : goal.returns-clause-refused
 returns-clause-refused c =
     subst (λ (es : List Element). IfErr c.append_arguments.result (λ fault. TooLongFor fault (enclosed (body_of c.args.body.now ++ flat_map spell (text_element db_key c.args.target_db.now ∷ es))))) c.fields-fields.ensures.elements (rw c.in_ok-reserve_exact.ensures.unchanged at c.append_arguments.ensures.refused)
+
+pub append_arguments-requires : goal.append_arguments-requires
+append_arguments-requires c = record { named = c.fields-fields.ensures.named }
+
+pub returns-in_err-reserve_exact-clause-refused : goal.returns-in_err-reserve_exact-clause-refused
+returns-in_err-reserve_exact-clause-refused c =
+    let e = err_from_is_err_and c.from_residual-in_err-reserve_exact.result c.from_residual-in_err-reserve_exact.ensures.1 in
+    rw (e.1, e.2, c.in_err-reserve_exact.ensures.refused) tt

@@ -22,3 +22,9 @@ pub returns-in_err-document-clause-refused : goal.returns-in_err-document-clause
 returns-in_err-document-clause-refused c =
     let e = err_from_is_err_and c.from_residual-in_err-document.result c.from_residual-in_err-document.ensures.1 in
     rw (e.1, e.2, c.in_err-document.ensures.refused) tt
+
+pub append_arguments-requires : goal.append_arguments-requires
+append_arguments-requires c = record { named = c.fields-fields.ensures.named }
+
+pub returns-clause-framed : goal.returns-clause-framed
+returns-clause-framed c = c.in_ok-append_arguments.ensures.framed
