@@ -11,10 +11,10 @@ returns c =
     let hello = c.in_ok-hello.hello in
     let is : hello ≡ hello_of options = c.in_ok-hello.ensures.command ∙ ap (λ api. hello_command api (Some options.load_balanced) None None) c.as_ref.ensures.value in
     elim c.if-options.branch [
-      then-options+in_ok-append w ↦
-        let body = subst (λ b. w.append.new.self ≡ balanced b hello.body) (sym w.if-options.true) w.in_ok-append.ensures.added in
-        record { hello = common_is options hello c.if-options.hello w.append.new.self is w.hello-is body; refused = tt }
+      | then-options+in_ok-append w ↦
+          let body = subst (λ b. w.append.new.self ≡ balanced b hello.body) (sym w.if-options.true) w.in_ok-append.ensures.added in
+          record { hello = common_is options hello c.if-options.hello w.append.new.self is w.hello-is body; refused = tt }
       | else-options w ↦
-        let body = subst (λ b. hello.body ≡ balanced b hello.body) (sym w.if-options.false) refl in
-        record { hello = common_is options hello c.if-options.hello hello.body is w.hello-is body; refused = tt }
+          let body = subst (λ b. hello.body ≡ balanced b hello.body) (sym w.if-options.false) refl in
+          record { hello = common_is options hello c.if-options.hello hello.body is w.hello-is body; refused = tt }
     ]
