@@ -1,4 +1,8 @@
-ghost use Rattle.std.specs.Prelude.{◌≡◌, None, IfOk};
+ghost use Rattle.std.specs.Prelude.{◌≡◌, None, IfOk, IfErr};
+ghost use Rattle.mongo_wire.specs.declared.error.ErrorKind.TheVariants.{OutOfMemory};
+ghost use Rattle.mongo_establish.specs.Establisher.{options_of_establisher};
+ghost use Rattle.mongo_establish.specs.Options.{options_of};
+ghost use Rattle.mongo_example.specs.Example.{example_user, example_options, example_spec, example_handshake};
 
 use mongo_establish::{
     ClientMetadata, ClientOptions, ConnectionEstablisher, Credential, Environment, Error,
@@ -23,17 +27,17 @@ pub struct Pool {
 }
 
 impl Pool {
-    ghost use Rattle.std.specs.Prelude.{◌≡◌, ◌+◌, ◌-◌, ◌^◌, min, Some, IfOk, OnOk, OnErr};
-    ghost use Rattle.mongo_establish.specs.Asked.{asked_for};
-    ghost use Rattle.mongo_establish.specs.Established.{Established};
-    ghost use Rattle.mongo_establish.specs.Establisher.{options_of_establisher};
-    ghost use Rattle.mongo_establish.specs.declared.generation.PoolGeneration.TheVariants.{Normal};
+    ghost use Rattle.std.specs.Prelude.{◌≡◌, ◌+◌, ◌-◌, ◌^◌, min, Some, IfOk, IfErr, OnOk, OnErr};
+    ghost use Rattle.mongo_wire.specs.declared.error.ErrorKind.TheVariants.{OutOfMemory};
     ghost use Rattle.mongo_scram.specs.Cache.{rounds_of};
-    ghost use Rattle.mongo_example.specs.Pool.{IsFresh, IsReady};
+    ghost use Rattle.mongo_establish.specs.declared.generation.PoolGeneration.TheVariants.{Normal};
+    ghost use Rattle.mongo_establish.specs.Established.{Established};
+    ghost use Rattle.mongo_example.specs.Pool.{IsFresh, IsReady, asked_by};
 
     /// A pool for `user` at `db.example.net`, of generation 7, that has made no connection.
     pub fn new(alloc: Global) -> Result<Pool, Error>
         ensures fresh { IfOk result IsFresh }
+        ensures refused { IfErr result (λ e. e.kind ≡ OutOfMemory) }
     {
         let host = Text::from_slice(alloc, "db.example.net")?;
         let credential = credential(alloc)?;
@@ -58,6 +62,7 @@ impl Pool {
         ensures generation { IfOk result (λ pending. pending.generation ≡ Normal self.old.generation) }
         ensures counted { OnOk result (self.new ≡ record self.old { next_id = min (self.old.next_id + 1) (2 ^ 32 - 1) }) }
         ensures unchanged { OnErr result (self.new ≡ self.old) }
+        ensures refused { IfErr result (λ e. e.kind ≡ OutOfMemory) }
     {
         let address = self.address.try_clone(alloc)?;
         let id = self.next_id;
@@ -80,7 +85,7 @@ impl Pool {
     ) -> Result<PooledConnection, EstablishError>
         ensures ready { IfOk result (IsReady pending) }
         // What was written and read is exactly a script of the pool's user: the user has logged in.
-        ensures established { IfOk result (Established (asked_for pending (options_of_establisher self.old.establisher) (Some self.old.credential) inputs.now.nonces self.old.state.ids)
+        ensures established { IfOk result (Established (asked_by self.old pending inputs.now.nonces)
             (L.state link.old) (L.state link.new) self.new.state.ids) }
     {
         self.establisher.establish_connection(
@@ -104,7 +109,8 @@ impl Pool {
 
 // Who logs in.
 fn credential(alloc: Global) -> Result<Credential, Error>
-    ensures { IfOk result (λ credential. credential.mechanism ≡ None) }
+    ensures user { IfOk result (λ credential. credential ≡ example_user) }
+    ensures refused { IfErr result (λ e. e.kind ≡ OutOfMemory) }
 {
     let username = Text::from_slice(alloc, "user")?;
     let password = Text::from_slice(alloc, "pencil")?;
@@ -116,17 +122,26 @@ fn credential(alloc: Global) -> Result<Credential, Error>
 }
 
 // What makes the connections: it holds the hello that they have in common.
-fn establisher(alloc: Global) -> Result<ConnectionEstablisher, Error> {
+fn establisher(alloc: Global) -> Result<ConnectionEstablisher, Error>
+    ensures options { IfOk result (λ establisher. options_of_establisher establisher ≡ example_handshake) }
+    ensures refused { IfErr result (λ e. e.kind ≡ OutOfMemory) }
+{
     let spec = spec(alloc)?;
     establisher_of(alloc, &spec)
 }
 
-fn establisher_of(alloc: Global, spec: &TopologySpec) -> Result<ConnectionEstablisher, Error> {
+fn establisher_of(alloc: Global, spec: &TopologySpec) -> Result<ConnectionEstablisher, Error>
+    ensures options { IfOk result (λ establisher. options_of_establisher establisher ≡ options_of spec.now) }
+    ensures refused { IfErr result (λ e. e.kind ≡ OutOfMemory) }
+{
     ConnectionEstablisher::new(alloc, EstablisherOptions::from_spec(alloc, spec)?)
 }
 
 // What the client is made of.
-fn spec(alloc: Global) -> Result<TopologySpec, Error> {
+fn spec(alloc: Global) -> Result<TopologySpec, Error>
+    ensures spec { IfOk result (λ spec. spec ≡ example_spec) }
+    ensures refused { IfErr result (λ e. e.kind ≡ OutOfMemory) }
+{
     let options = options(alloc)?;
     let metadata = ClientMetadata::from_options(alloc, &options)?;
     Ok(TopologySpec {
@@ -137,7 +152,10 @@ fn spec(alloc: Global) -> Result<TopologySpec, Error> {
 }
 
 // What the client says of itself.
-fn options(alloc: Global) -> Result<ClientOptions, Error> {
+fn options(alloc: Global) -> Result<ClientOptions, Error>
+    ensures options { IfOk result (λ options. options ≡ example_options) }
+    ensures refused { IfErr result (λ e. e.kind ≡ OutOfMemory) }
+{
     let os_type = Text::from_slice(alloc, "linux")?;
     let platform = Text::from_slice(alloc, "rattle / sync")?;
     let platform_short = Text::from_slice(alloc, "rattle")?;
