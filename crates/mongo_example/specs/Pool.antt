@@ -32,3 +32,11 @@ pub record IsReady (pending : PendingConnection) (pooled : PooledConnection) : T
   pub id : pooled.connection.id ≡ pending.id
   pub described : IsSome pooled.connection.stream_description
   pub generation : (n : ℕ) → pending.generation ≡ PoolNormal n → pooled.generation ≡ Normal n
+
+-- nothing has changed but what its logins share
+pub record KeepsRest (old new : Pool) : Type 0 where
+  pub establisher : new.establisher ≡ old.establisher
+  pub address : new.address ≡ old.address
+  pub credential : new.credential ≡ old.credential
+  pub generation : new.generation ≡ old.generation
+  pub next_id : new.next_id ≡ old.next_id

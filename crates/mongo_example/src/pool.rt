@@ -27,12 +27,22 @@ pub struct Pool {
 }
 
 impl Pool {
-    ghost use Rattle.std.specs.Prelude.{◌≡◌, ◌+◌, ◌-◌, ◌^◌, min, Some, IfOk, IfErr, OnOk, OnErr};
-    ghost use Rattle.mongo_wire.specs.declared.error.ErrorKind.TheVariants.{OutOfMemory};
+    ghost use Rattle.std.specs.Prelude.{◌≡◌, ◌⊎◌, ◌+◌, ◌-◌, ◌^◌, min, List, ℕ, Some, IfOk, IfErr, OnOk, OnErr};
+    ghost use Rattle.mongo_wire.specs.declared.error.ErrorKind.TheVariants.{IncompatibleServer, OutOfMemory};
+    ghost use Rattle.mongo_wire.specs.Outside.{Rose};
+    ghost use Rattle.mongo_command.specs.Conversation.{Said, Turn, refuses, Leads, LeftBy};
+    ghost use Rattle.mongo_command.specs.Exchange.{CountsStay};
     ghost use Rattle.mongo_scram.specs.Cache.{rounds_of};
+    ghost use Rattle.mongo_scram.specs.Costs.{ledgers, SameEntries};
     ghost use Rattle.mongo_establish.specs.declared.generation.PoolGeneration.TheVariants.{Normal};
+    ghost use Rattle.mongo_establish.specs.Costs.{EstablishmentCosts};
     ghost use Rattle.mongo_establish.specs.Established.{Established};
-    ghost use Rattle.mongo_example.specs.Pool.{IsFresh, IsReady, asked_by};
+    ghost use Rattle.mongo_establish.specs.Greeting.{Greeting};
+    ghost use Rattle.mongo_establish.specs.KeyCosts.{CostsAsLed};
+    ghost use Rattle.mongo_establish.specs.Plan.{establishment_plan};
+    ghost use Rattle.mongo_establish.specs.Script.{HasScript};
+    ghost use Rattle.mongo_establish.specs.Stopped.{StoppedIn};
+    ghost use Rattle.mongo_example.specs.Pool.{IsFresh, IsReady, KeepsRest, asked_by};
 
     /// A pool for `user` at `db.example.net`, of generation 7, that has made no connection.
     pub fn new(alloc: Global) -> Result<Pool, Error>
@@ -74,7 +84,8 @@ impl Pool {
         })
     }
 
-    /// Makes a connection over a fresh link. Refusals: those of [`ConnectionEstablisher::establish_connection`].
+    /// Makes a connection over a fresh link. What it promises, and how it refuses, is what
+    /// [`ConnectionEstablisher::establish_connection`] says, for a login of the pool's user.
     pub fn establish<L: Link, G: Ledger>(
         &mut self,
         alloc: Global,
@@ -87,6 +98,34 @@ impl Pool {
         // What was written and read is exactly a script of the pool's user: the user has logged in.
         ensures established { IfOk result (Established (asked_by self.old pending inputs.now.nonces)
             (L.state link.old) (L.state link.new) self.new.state.ids) }
+
+        // A refusal says why it comes, how far the establishment had come and what it left.
+        ensures refused { IfErr result (λ e. StoppedIn e.handshake_phase (asked_by self.old pending inputs.now.nonces) e.cause.kind
+            (L.state link.old) (L.state link.new) self.new.state.ids) }
+
+        // A script's replies at the front of the bytes left are answered by a connection, unless the link fails or memory runs out.
+        ensures complete { (bytes : List ℕ) → (L.state link.old).left ≡ Some bytes → HasScript (asked_by self.old pending inputs.now.nonces) bytes →
+            (Rose (L.state link.old).read_faults (L.state link.new).read_faults → ⊥) → (Rose (L.state link.old).write_faults (L.state link.new).write_faults → ⊥) →
+            IfErr result (λ e. e.cause.kind ≡ OutOfMemory) }
+
+        // Bytes left that call for a refusal get just that one.
+        ensures exact { (bytes taken unread : List ℕ) (outcome : Turn Greeting) (commands : List Said) → (L.state link.old).left ≡ Some bytes →
+            Leads (establishment_plan (asked_by self.old pending inputs.now.nonces)) bytes outcome commands taken unread →
+            (Rose (L.state link.old).read_faults (L.state link.new).read_faults → ⊥) → (Rose (L.state link.old).write_faults (L.state link.new).write_faults → ⊥) →
+            IfErr result (λ e. (e.cause.kind ≡ OutOfMemory) ⊎ ((outcome ≡ refuses e.cause.kind) × LeftBy commands unread
+            (L.state link.old) (L.state link.new) self.old.state.ids self.new.state.ids)) }
+
+        // What was derived and which keys the pool holds, by how the login came out, and by the bytes left.
+        ensures costs { EstablishmentCosts result (asked_by self.old pending inputs.now.nonces)
+            (L.state link.old) (L.state link.new) self.new.state.ids (ledgers steps.old self.old.state.salted) (ledgers steps.new self.new.state.salted) }
+        ensures led { CostsAsLed result (asked_by self.old pending inputs.now.nonces)
+            (L.state link.old) (L.state link.new) (ledgers steps.old self.old.state.salted) (ledgers steps.new self.new.state.salted) }
+        // A refusal leaves the keys as they were, unless a login had been accepted.
+        ensures entries { IfErr result (λ e. (e.cause.kind ≡ IncompatibleServer) ⊎ SameEntries (ledgers steps.old self.old.state.salted) (ledgers steps.new self.new.state.salted)) }
+        ensures counts { CountsStay (L.state link.old) (L.state link.new) }
+
+        // The rest of the pool is as it was, its next number among it.
+        ensures rest { KeepsRest self.old self.new }
     {
         self.establisher.establish_connection(
             alloc,
