@@ -1,19 +1,20 @@
 -- Why a stream was left, by what its parts say.
-use Rattle.std.proofs.Common.{◌≡◌, ◌⊎◌, ℕ, ℤ, pos, ◌+◌, ◌<◌, ◌≤◌, ◌≤ℤ◌, Option, None, Some, IfSome, List, [], ◌++◌, length, is_some, inl, inr, refl, sym, ap, subst, arith, length-append, append-nil}
+use Rattle.std.proofs.Common.{◌≡◌, ◌⊎◌, ℕ, ℤ, pos, ◌+◌, ◌<◌, ◌≤◌, ◌≤ℤ◌, Option, None, Some, IfSome, List, [], ◌++◌, length, is_some, inl, inr, refl, sym, ap, ◌∙◌, subst, arith, length-append, append-nil}
 use Rattle.std.proofs.lemmas.Bool.{false≢true}
 use Rattle.std.proofs.lemmas.Int.{ints}
 use Rattle.std.specs.Io.KnownBytes.{Consumes}
+use Rattle.mongo_wire.proofs.OneFrame.{signed_in}
 use Rattle.mongo_wire.proofs.ReadStopped.{rose_after}
 use Rattle.mongo_wire.specs.Error.{kind_of_frame_fault}
 use Rattle.mongo_wire.specs.Header.{code_number, signed_at}
 use Rattle.mongo_wire.specs.Message.{ReadRefused}
 use Rattle.mongo_wire.specs.Outside.{State, ReadStops, RanOut}
-use Rattle.mongo_wire.specs.Rows.{IsRow, IsStarted, IsUnfinished, IsEmptied}
+use Rattle.mongo_wire.specs.Rows.{IsRow, IsStarted, IsUnfinished, IsEmptied, TakesRow}
 use Rattle.mongo_wire.specs.declared.error.ErrorKind.{ErrorKind}
 use Rattle.mongo_wire.specs.declared.error.ErrorKind.TheVariants.{InvalidArgument, InvalidResponse, EndOfInput}
 use Rattle.mongo_wire.specs.declared.fault.FrameFault.{FrameFault}
 use Rattle.mongo_wire.specs.declared.fault.FrameFault.TheVariants as frame
-use Rattle.mongo_wire.specs.declared.op_code.OpCode.TheVariants.{Query}
+use Rattle.mongo_wire.specs.declared.op_code.OpCode.TheVariants.{Message, Query}
 use Rattle.mongo_serve.specs.declared.fault.ServeFault.{ServeFault}
 use Rattle.mongo_serve.specs.declared.fault.ServeFault.TheVariants.{ReadFault, WriteFault, CutFrame, NoFrame, NoHello, ReplyTooLong, TooManyRequests, OutOfMemory}
 use Rattle.mongo_serve.specs.Cut.{HasCause, IsPart, TookSome}
@@ -24,6 +25,7 @@ use Rattle.mongo_serve.specs.Requests.{IsGreeting}
 use Rattle.mongo_serve.specs.Served.{HasCauseAfter, Lasts}
 use Rattle.mongo_serve.specs.Taken.{IsQuery}
 use Rattle.mongo_serve.specs.Turns.{ServerTurn}
+use Rattle.mongo_serve.proofs.NoRequest.{no_message, untold, untold_begins_none}
 
 -- ---- reading was refused
 
@@ -112,17 +114,33 @@ emptied_some (Some xs) mid (Some ys) taken same some p empty =
     let q : xs ≡ taken ++ ys = subst (λ m. Consumes m (Some ys) taken) same p in
     omega (arith, some, ap length q, length-append taken ys, ap length empty)
 
-pub refused : (fault : FrameFault) (old mid new : State) → Lasts old mid → mid.left ≡ old.left → IfSome old.left (λ bytes. 0 < length bytes) → ReadRefused (kind_of_frame_fault fault) frame_maximum mid new
+-- the op code of an OP_MSG
+abbrev IsOfMessage : List ℕ → Type 0
+IsOfMessage bytes = signed_at 12 bytes ≡ code_number Message
+
+message_taken : (xs taken : List ℕ) (new : Option (List ℕ)) → IsOfMessage xs → 16 ≤ length taken → Consumes (Some xs) new taken → IsOfMessage taken
+message_taken xs taken None message whole p = absurd p
+message_taken xs taken (Some ys) message whole p = sym (signed_in 12 taken ys (omega arith)) ∙ ap (signed_at 12) (sym p) ∙ message
+
+-- the bytes of an OP_MSG call for a row; where none are told, any do that begin no request
+row_refused : (kind : ErrorKind) (old mid new : State) (left : Option (List ℕ)) → mid.left ≡ left → (kind ≡ EndOfInput → ⊥) → IfSome mid.left IsOfMessage → TakesRow kind frame_maximum mid.left new.left → Refused NoFrame old mid new
+row_refused kind old mid new None is other message row =
+    record { taken = untold; part = inl (inl (omega arith)); consumed = subst (λ left. Consumes left new.left untold) (sym is) tt; cause = (refl, omega arith, untold_begins_none) }
+row_refused kind old mid new (Some xs) is other message row =
+    let taken = row.0 in
+    let whole = row_whole frame_maximum taken kind other row.2 in
+    let code = message_taken xs taken new.left (subst (λ left. IfSome left IsOfMessage) is message) whole (subst (λ left. Consumes left new.left taken) is row.1) in
+    record { taken = taken; part = inl (row_started frame_maximum taken kind row.2); consumed = row.1; cause = (refl, whole, no_message taken kind whole code other row.2) }
+
+pub refused : (fault : FrameFault) (old mid new : State) → Lasts old mid → mid.left ≡ old.left → IfSome old.left (λ bytes. 0 < length bytes) → IfSome old.left IsOfMessage → ReadRefused (kind_of_frame_fault fault) frame_maximum mid new
     → Refused (fault_of_frame fault) old mid new
-refused frame.ReadFault old mid new lasts same some h =
+refused frame.ReadFault old mid new lasts same some message h =
     record { taken = h.1.0; part = inl (started frame_maximum h.1.0 h.1.2); consumed = h.1.1; cause = (rose_after old.read_faults mid.read_faults new.read_faults lasts.reads h.0, refl) }
-refused frame.EndOfInput old mid new lasts same some h =
+refused frame.EndOfInput old mid new lasts same some message h =
     record { taken = h.1.0; part = inl (row_started frame_maximum h.1.0 EndOfInput h.1.2); consumed = h.1.1; cause = (rose_after old.ends mid.ends new.ends lasts.ends h.0, h.2, refl, emptied_some old.left mid.left new.left h.1.0 same some h.1.1 h.2) }
-refused frame.OutOfMemory old mid new lasts same some h = record { taken = h.0; part = inl h.2; consumed = h.1; cause = tt }
-refused (frame.InvalidArgument f) old mid new lasts same some h =
-    record { taken = h.0; part = inl (row_started frame_maximum h.0 (InvalidArgument f) h.2); consumed = h.1; cause = (refl, row_whole frame_maximum h.0 (InvalidArgument f) (λ e. cc) h.2) }
-refused (frame.InvalidResponse f) old mid new lasts same some h =
-    record { taken = h.0; part = inl (row_started frame_maximum h.0 (InvalidResponse f) h.2); consumed = h.1; cause = (refl, row_whole frame_maximum h.0 (InvalidResponse f) (λ e. cc) h.2) }
+refused frame.OutOfMemory old mid new lasts same some message h = record { taken = h.0; part = inl h.2; consumed = h.1; cause = tt }
+refused (frame.InvalidArgument f) old mid new lasts same some message h = row_refused (InvalidArgument f) old mid new mid.left refl (λ e. cc) (subst (λ left. IfSome left IsOfMessage) (sym same) message) h
+refused (frame.InvalidResponse f) old mid new lasts same some message h = row_refused (InvalidResponse f) old mid new mid.left refl (λ e. cc) (subst (λ left. IfSome left IsOfMessage) (sym same) message) h
 
 -- ---- fronts
 

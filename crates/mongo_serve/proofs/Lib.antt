@@ -2,6 +2,7 @@ pub mod Accounts
 pub mod Asked
 pub mod Sent
 pub mod Lasts
+pub mod NoRequest
 pub mod Causes
 pub mod Turns
 pub mod Begun

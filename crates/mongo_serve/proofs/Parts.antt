@@ -7,7 +7,7 @@ use Rattle.std.specs.Io.KnownBytes.{Consumes, prepend_known}
 use Rattle.mongo_wire.specs.Frame.{Frame, IsFrame}
 use Rattle.mongo_wire.specs.Header.{code_number, signed_at}
 use Rattle.mongo_wire.specs.Outside.{State, AppendsFront, WritesOn}
-use Rattle.mongo_wire.specs.declared.op_code.OpCode.TheVariants.{Query}
+use Rattle.mongo_wire.specs.declared.op_code.OpCode.TheVariants.{Message, Query}
 use Rattle.mongo_serve.specs.declared.fault.ServeFault.{ServeFault}
 use Rattle.mongo_serve.specs.declared.reply.Reply.{Reply}
 use Rattle.mongo_serve.specs.declared.session.Session.{Session}
@@ -21,6 +21,7 @@ use Rattle.mongo_serve.specs.Served.{FollowsHead, IsBackAt, Lasts, PartEnds}
 use Rattle.mongo_serve.specs.Turns.{IsDocumentAnswered}
 use Rattle.mongo_serve.proofs.Lasts.{sent_flushed}
 use Rattle.mongo_serve.specs.Taken.{IsQuery, IsQueryBody}
+use Rattle.mongo_wire.proofs.OneFrame.{signed_in}
 use Rattle.mongo_serve.proofs.Prepended.{put_back_left}
 use Rattle.mongo_serve.proofs.Turns.{turn_taken, turn_cut, none_taken}
 
@@ -99,11 +100,18 @@ has_some None now head sixteen p = tt
 has_some (Some xs) None head sixteen p = absurd p
 has_some (Some xs) (Some ys) head sixteen p = omega (arith, sixteen, ap length p, length-append head ys)
 
+-- the op code of the header that stands at the front
+code_before : (before now : Option (List ℕ)) (head : List ℕ) → length head ≡ 16 → signed_at 12 head ≡ code_number Message → Consumes before now head → IfSome before (λ bytes. signed_at 12 bytes ≡ code_number Message)
+code_before None now head sixteen code p = tt
+code_before (Some xs) None head sixteen code p = absurd p
+code_before (Some xs) (Some ys) head sixteen code p = ap (signed_at 12) p ∙ signed_in 12 head ys (omega (arith, sixteen)) ∙ code
+
 -- a header was put back
-pub back_at : (before now back : State) (head : List ℕ) → length head ≡ 16 → FollowsHead before now head → back ≡ record now { left = prepend_known head now.left } → IsBackAt before back
-back_at before now back head sixteen f e = record {
+pub back_at : (before now back : State) (head : List ℕ) → length head ≡ 16 → signed_at 12 head ≡ code_number Message → FollowsHead before now head → back ≡ record now { left = prepend_known head now.left } → IsBackAt before back
+back_at before now back head sixteen code f e = record {
   left = ap (λ s. s.left) e ∙ put_back_left before.left now.left head f.tells f.taken;
   some = has_some before.left now.left head sixteen f.taken;
+  message = code_before before.left now.left head sixteen code f.taken;
   unwritten = ap (λ s. s.written) e ∙ f.unwritten;
   lasts = subst (Lasts before) (sym e) (record { reads = f.lasts.reads; ends = f.lasts.ends; writes = f.lasts.writes; flushed = f.lasts.flushed });
 }

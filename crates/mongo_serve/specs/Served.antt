@@ -2,7 +2,9 @@
 use Rattle.std.specs.Prelude.{◌≡◌, ℕ, ℤ, pos, ◌-◌, ◌^◌, ◌≤◌, Bool, true, false, None, Result, Ok, Err, List, [], ◌∷◌, ◌++◌, length, is_some, IfSome, ⊤, ◌<◌}
 use Rattle.std.specs.List.{AllByRecursion}
 use Rattle.std.specs.Io.KnownBytes.{Consumes, Appends}
+use Rattle.mongo_wire.specs.Header.{code_number, signed_at}
 use Rattle.mongo_wire.specs.Outside.{State, HasEnded}
+use Rattle.mongo_wire.specs.declared.op_code.OpCode.TheVariants.{Message}
 use Rattle.mongo_serve.specs.declared.fault.ServeFault.{ServeFault}
 use Rattle.mongo_serve.specs.declared.fault.ServeFault.TheVariants.{TooManyRequests}
 use Rattle.mongo_serve.specs.declared.serve.Served.{Served}
@@ -59,10 +61,11 @@ pub record FollowsHead (before now : State) (head : List ℕ) : Type 0 where
   pub unwritten : now.written ≡ before.written
   pub lasts : Lasts before now
 
--- it was put back
+-- it was an OP_MSG's, and was put back
 pub record IsBackAt (before now : State) : Type 0 where
   pub left : now.left ≡ before.left
   pub some : IfSome before.left (λ bytes. 0 < length bytes)
+  pub message : IfSome before.left (λ bytes. signed_at 12 bytes ≡ code_number Message)
   pub unwritten : now.written ≡ before.written
   pub lasts : Lasts before now
 

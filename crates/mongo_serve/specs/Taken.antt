@@ -21,7 +21,11 @@ pub record IsQueryOf (body document : List ℕ) : Type 0 where
   pub flags_four : length flags ≡ 4
   pub numbers_eight : length numbers ≡ 8
 
--- the same, with the command that its document asks for
+-- no document is asked for so
+abbrev pub HasNoQuery : List ℕ → Type 0
+HasNoQuery body = (document : List ℕ) → IsFramed document → IsQueryOf body document → ⊥
+
+-- such a body, with the command that its document asks for
 pub record IsQueryBody (body command : List ℕ) : Type 0 where
   pub document : List ℕ
   pub is_query : IsQueryOf body document

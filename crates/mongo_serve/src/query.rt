@@ -1,7 +1,9 @@
 //! OP_QUERY, the question of old clients, with which new ones still say their first hello.
 
-ghost use Rattle.std.specs.Prelude.{◌≡◌, ℕ, List, ◌++◌, length, IfSome};
-ghost use Rattle.mongo_serve.specs.Taken.{IsCommandOf, IsQueryBody, IsQueryOf};
+ghost use Rattle.std.specs.Prelude.{◌≡◌, ℕ, ◌<◌, List, ◌++◌, length, MatchOption};
+ghost use Rattle.mongo_bson.specs.Framed.{IsFramed};
+ghost use Rattle.mongo_bson.specs.Reading.{NoneAtFront};
+ghost use Rattle.mongo_serve.specs.Taken.{HasNoQuery, IsCommandOf, IsQueryBody, IsQueryOf};
 
 use crate::request::{command_name, document_in};
 use mongo_bson::{RawDocument, take_cstring};
@@ -11,7 +13,7 @@ use mongo_bson::{RawDocument, take_cstring};
 ///
 /// None where the bytes are no such body on `admin.$cmd`.
 pub fn command_of_query<'a>(body: &'a [u8]) -> Option<RawDocument<'a>>
-    ensures { IfSome result (λ command. IsQueryBody body.now command.bytes.now) }
+    ensures { MatchOption result ((command : List ℕ) → IsQueryBody body.now command → ⊥) (λ command. IsQueryBody body.now command.bytes.now) }
 {
     match document_of_query(body) {
         Some(document) => command_of(document),
@@ -21,7 +23,7 @@ pub fn command_of_query<'a>(body: &'a [u8]) -> Option<RawDocument<'a>>
 
 // The command of a query's document.
 fn command_of<'a>(document: RawDocument<'a>) -> Option<RawDocument<'a>>
-    ensures { IfSome result (λ command. IsCommandOf document.entry.bytes.now command.bytes.now) }
+    ensures { MatchOption result ((command : List ℕ) → IsCommandOf document.entry.bytes.now command → ⊥) (λ command. IsCommandOf document.entry.bytes.now command.bytes.now) }
 {
     match command_name(document) {
         "$query" => document_in(document, "$query"),
@@ -31,7 +33,7 @@ fn command_of<'a>(document: RawDocument<'a>) -> Option<RawDocument<'a>>
 
 // The document of a query on `admin.$cmd`.
 fn document_of_query<'a>(body: &'a [u8]) -> Option<RawDocument<'a>>
-    ensures { IfSome result (λ document. IsQueryOf body.now document.bytes.now) }
+    ensures { MatchOption result (HasNoQuery body.now) (λ document. IsQueryOf body.now document.bytes.now) }
 {
     let after_flags = after(body, 4)?;
     let (collection, after_name) = take_cstring(after_flags)?;
@@ -43,7 +45,7 @@ fn document_of_query<'a>(body: &'a [u8]) -> Option<RawDocument<'a>>
 
 // What follows so many bytes.
 fn after(bytes: &[u8], count: usize) -> Option<&[u8]>
-    ensures { IfSome result (λ rest. (front : List ℕ) × (length front ≡ count) × (bytes.now ≡ front ++ rest.now)) }
+    ensures { MatchOption result (length bytes.now < count) (λ rest. (front : List ℕ) × (length front ≡ count) × (bytes.now ≡ front ++ rest.now)) }
 {
     if bytes.len() < count {
         return None;
@@ -54,7 +56,7 @@ fn after(bytes: &[u8], count: usize) -> Option<&[u8]>
 
 // The document at the front of the bytes.
 fn document_at_front<'a>(bytes: &'a [u8]) -> Option<RawDocument<'a>>
-    ensures { IfSome result (λ document. (more : List ℕ) × (bytes.now ≡ document.bytes.now ++ more)) }
+    ensures { MatchOption result (NoneAtFront IsFramed bytes.now) (λ document. (more : List ℕ) × (bytes.now ≡ document.bytes.now ++ more)) }
 {
     let [a, b, c, d, ..] = bytes else {
         return None;

@@ -1,6 +1,6 @@
 //! The server: requests are read one after another, and each is answered before the next is read.
 
-ghost use Rattle.std.specs.Prelude.{◌≡◌, ℕ, pos, ◌+◌, ◌≤ℤ◌, ◌⊎◌, List, [], ◌∷◌, ◌++◌, IfSome, IfOk, IfErr, OnOk, OnErr};
+ghost use Rattle.std.specs.Prelude.{◌≡◌, ℕ, pos, ◌+◌, ◌<ℤ◌, ◌≤ℤ◌, ◌⊎◌, List, [], ◌∷◌, ◌++◌, IsNone, IfSome, IfOk, IfErr, OnOk, OnErr};
 ghost use Rattle.mongo_wire.specs.Header.{code_number, header_with, signed_at};
 ghost use Rattle.mongo_wire.specs.Outside.{State};
 ghost use Rattle.mongo_serve.specs.Login.{Remembers};
@@ -209,6 +209,7 @@ fn take_query<L: Link, G: Ledger>(
 fn length_after(length: i32) -> Option<usize>
     ensures counted { IfSome result (λ rest. pos (16 + rest) ≡ length) }
     ensures within { IfSome result (λ rest. pos (16 + rest) ≤ℤ frame_maximum) }
+    ensures outside { IsNone result → (length <ℤ pos 16) ⊎ (frame_maximum <ℤ length) }
 {
     if length < 16 || length > FRAME_MAXIMUM {
         None

@@ -1,9 +1,12 @@
-use Rattle.std.proofs.Common.{[], ◌≡◌, length, ◌∙◌, ap, refl, sym, subst, rules, arith}
+use Rattle.std.proofs.Common.{[], Some, ◌≡◌, length, ◌∙◌, ap, refl, sym, subst, rules, arith}
 use Rattle.std.specs.Io.KnownBytes.{Consumes}
+use Rattle.mongo_wire.specs.Header.{code_number, signed_at}
+use Rattle.mongo_wire.specs.declared.op_code.OpCode.TheVariants.{Message, Query}
 use Rattle.mongo_serve.specs.Cut.{HasCause}
 use Rattle.mongo_serve.specs.PutBack.{put_back_state}
 use Rattle.mongo_serve.specs.Served.{Lasts}
 use Rattle.mongo_serve.proofs.Causes.{header_part}
+use Rattle.mongo_serve.proofs.NoRequest.{message_coded, other_code, unknown, unlike}
 use Rattle.mongo_serve.proofs.Turns.{none_taken}
 use Rattle.mongo_serve.proofs.Parts.{back_at}
 use Rattle.mongo_serve.specs.declared.fault.ServeFault.TheVariants.{NoFrame}
@@ -12,7 +15,8 @@ use Rattle.mongo_serve.proofs.serve.take_after.Goals as goal
 pub returns-in-Ok-put_back : goal.returns-in-Ok-put_back
 returns-in-Ok-put_back g c = λ requests before h f.
     let sixteen : length c.args.head.now ≡ 16 = search rules in
-    c.take_message.ensures requests before h (back_at before (put_back_state g.L.Outside.state c.args.link.now) (put_back_state g.L.Outside.state c.put_back.new.self) c.args.head.now sixteen f c.in-Ok-put_back.ensures.put)
+    let code : signed_at 12 c.args.head.now ≡ code_number Message = message_coded (signed_at 12 c.args.head.now) (c.in-Ok.ensures.header.0 ∙ ap Some c.in-Message.is) in
+    c.take_message.ensures requests before h (back_at before (put_back_state g.L.Outside.state c.args.link.now) (put_back_state g.L.Outside.state c.put_back.new.self) c.args.head.now sixteen code f c.in-Ok-put_back.ensures.put)
 
 pub returns-in-Err-put_back : goal.returns-in-Err-put_back
 returns-in-Err-put_back g c = λ requests before h f.
@@ -31,7 +35,7 @@ returns-in_default g c = λ requests before h f.
     let session = c.args.serving.now.session in
     let sixteen : length head ≡ 16 = search rules in
     none_taken c.args.settings.now requests before (put_back_state g.L.Outside.state c.args.link.now) session c.args.serving.now.ids session.user NoFrame head refl (header_part head (omega (arith, sixteen))) f.taken f.unwritten h.user
-    (refl, omega (arith, sixteen)) f.lasts
+    (refl, omega (arith, sixteen), other_code head (omega (arith, sixteen)) (unlike (signed_at 12 head) Message c.in-Ok.header.op_code c.in-Ok.ensures.header.0 refl c.in_default.not-Message) (unlike (signed_at 12 head) Query c.in-Ok.header.op_code c.in-Ok.ensures.header.0 refl c.in_default.not-Query)) f.lasts
 
 pub returns-in-Err : goal.returns-in-Err
 returns-in-Err g c = λ requests before h f.
@@ -39,4 +43,4 @@ returns-in-Err g c = λ requests before h f.
     let session = c.args.serving.now.session in
     let sixteen : length head ≡ 16 = search rules in
     none_taken c.args.settings.now requests before (put_back_state g.L.Outside.state c.args.link.now) session c.args.serving.now.ids session.user NoFrame head refl (header_part head (omega (arith, sixteen))) f.taken f.unwritten h.user
-    (refl, omega (arith, sixteen)) f.lasts
+    (refl, omega (arith, sixteen), other_code head (omega (arith, sixteen)) (unknown (signed_at 12 head) Message c.in-Err.ensures.unknown.1 refl) (unknown (signed_at 12 head) Query c.in-Err.ensures.unknown.1 refl)) f.lasts

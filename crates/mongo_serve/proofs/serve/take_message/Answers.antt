@@ -18,7 +18,7 @@ returns-in-Err g c = λ requests before h back.
     let session = c.args.serving.now.session in
     let id = c.args.serving.now.ids in
     let on = c.in-Err.ensures.on in
-    let some = refused c.in-Err.fault before s t back.lasts back.left back.some c.in-Err.ensures.refused in
+    let some = refused c.in-Err.fault before s t back.lasts back.left back.some back.message c.in-Err.ensures.refused in
     subst (IsCut c.args.settings.now requests before t session id session.user) (sym c.into.ensures)
     (none_taken c.args.settings.now requests before t session id session.user _ some.taken refl some.part (subst (λ left. Consumes left t.left some.taken) back.left some.consumed) (on.unwritten.written ∙ back.unwritten) h.user some.cause
     (lasts_on before s t back.lasts (lasts_read s t on)))

@@ -1,4 +1,4 @@
-use Rattle.std.proofs.Common.{rules, ◌≡◌, pos, ◌+◌, ◌++◌, length, FitsSigned, ap, inr, refl, sym, subst, ◌∙◌, arith, length-append}
+use Rattle.std.proofs.Common.{rules, ◌≡◌, List, ℕ, pos, ◌<ℤ◌, ◌⊎◌, ◌+◌, ◌++◌, length, FitsSigned, ap, inr, refl, sym, subst, ◌∙◌, arith, length-append}
 use Rattle.std.specs.Int.{w32}
 use Rattle.std.proofs.KnownBytes.{Consumes-trans}
 use Rattle.std.proofs.lemmas.Int.{to_z-of_z}
@@ -7,6 +7,8 @@ use Rattle.mongo_serve.specs.Cut.{IsCut}
 use Rattle.mongo_serve.specs.PutBack.{put_back_state}
 use Rattle.mongo_serve.specs.Taken.{IsQueryBody}
 use Rattle.mongo_serve.specs.declared.fault.ServeFault.TheVariants.{NoFrame}
+use Rattle.mongo_serve.specs.Replies.{frame_maximum}
+use Rattle.mongo_serve.proofs.NoRequest.{bad_length, no_body}
 use Rattle.mongo_serve.proofs.Causes.{header_part, query_front, some_before, stopped, unasked}
 use Rattle.mongo_serve.proofs.Lasts.{lasts_on, lasts_read}
 use Rattle.mongo_serve.proofs.Turns.{none_taken}
@@ -18,8 +20,10 @@ returns-in_default g c = λ requests before h f.
     let head = c.args.head.now in
     let session = c.args.serving.now.session in
     let sixteen : length head ≡ 16 = search rules in
+    let length_fits : FitsSigned w32 c.args.header.length = search rules in
+    let length_is : c.args.header.length ≡ signed_at 0 head = ap (λ x. x.length) c.requires.header in
     none_taken c.args.settings.now requests before (put_back_state g.L.Outside.state c.args.link.now) session c.args.serving.now.ids session.user NoFrame head refl (header_part head (omega (arith, sixteen))) f.taken f.unwritten h.user
-    (refl, omega (arith, sixteen)) f.lasts
+    (refl, omega (arith, sixteen), bad_length head sixteen c.requires.code (subst (λ z. (z <ℤ pos 16) ⊎ (frame_maximum <ℤ z)) (to_z-of_z w32 c.args.header.length length_fits ∙ length_is) (c.in_default.ensures.outside refl))) f.lasts
 
 pub returns-in-Err : goal.returns-in-Err
 returns-in-Err g c = λ requests before h f.
@@ -48,8 +52,9 @@ returns-in_default-command_of_query g c = λ requests before h f.
     let sixteen : length head ≡ 16 = search rules in
     let length_fits : FitsSigned w32 c.args.header.length = search rules in
     let counted : pos (16 + c.in-Some.rest) ≡ signed_at 0 head = c.in-Some.ensures.counted ∙ to_z-of_z w32 c.args.header.length length_fits ∙ ap (λ x. x.length) c.requires.header in
+    let none = subst (λ b. (command : List ℕ) → IsQueryBody b command → ⊥) c.as_slice.ensures.value c.in_default-command_of_query.ensures in
     none_after c.args.settings.now requests before s t session c.args.serving.now.ids session.user NoFrame head body refl (query_front head body c.in-Some.rest sixteen c.requires.code counted c.in-Some.ensures.within (omega (arith, c.in-Ok.ensures.whole))) f
-    c.in-Ok.ensures.taken on.unwritten.written h.user (refl, omega (arith, sixteen, length-append head body)) (lasts_on before s t f.lasts (lasts_read s t on))
+    c.in-Ok.ensures.taken on.unwritten.written h.user (refl, omega (arith, sixteen, length-append head body), no_body head body c.in-Some.rest sixteen c.requires.code counted c.in-Ok.ensures.whole none) (lasts_on before s t f.lasts (lasts_read s t on))
 
 pub returns-in-Ok-greet_query : goal.returns-in-Ok-greet_query
 returns-in-Ok-greet_query g c = λ requests before h f.
