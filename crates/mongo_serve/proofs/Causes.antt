@@ -17,7 +17,7 @@ use Rattle.mongo_wire.specs.declared.fault.FrameFault.TheVariants as frame
 use Rattle.mongo_wire.specs.declared.op_code.OpCode.TheVariants.{Message, Query}
 use Rattle.mongo_serve.specs.declared.fault.ServeFault.{ServeFault}
 use Rattle.mongo_serve.specs.declared.fault.ServeFault.TheVariants.{ReadFault, WriteFault, CutFrame, NoFrame, NoHello, ReplyTooLong, TooManyRequests, OutOfMemory}
-use Rattle.mongo_serve.specs.Cut.{HasCause, IsPart, TookSome}
+use Rattle.mongo_serve.specs.Cut.{HasCause, IsNoRequest, IsPart, TookSome}
 use Rattle.mongo_serve.specs.Faults.{fault_of_frame, IsOfDocument}
 use Rattle.mongo_serve.specs.Replies.{frame_maximum}
 use Rattle.mongo_serve.specs.Sent.{WriteCause}
@@ -25,7 +25,7 @@ use Rattle.mongo_serve.specs.Requests.{IsGreeting}
 use Rattle.mongo_serve.specs.Served.{HasCauseAfter, Lasts}
 use Rattle.mongo_serve.specs.Taken.{IsQuery}
 use Rattle.mongo_serve.specs.Turns.{ServerTurn}
-use Rattle.mongo_serve.proofs.NoRequest.{no_message, untold, untold_begins_none}
+use Rattle.mongo_serve.proofs.NoRequest.{ended_within, IsShort, no_message, unfinished, untold, untold_begins_none}
 
 -- ---- reading was refused
 
@@ -48,6 +48,7 @@ pub record TakesAll (old mid new : State) (front : List ℕ) (wanted : ℕ) : Ty
   pub within : length taken ≤ wanted
   pub consumed : Consumes mid.left new.left taken
   pub some : TookSome old (front ++ taken)
+  pub few : IsShort wanted taken
 
 told_some : (before now : Option (List ℕ)) (front more : List ℕ) → Consumes before now front → IfSome now (λ _. 0 < length more) → IfSome before (λ _. 0 < length more)
 told_some None now front more p some = tt
@@ -61,21 +62,21 @@ some_after (Some ys) front xs is some = let same : ys ≡ xs = cc in subst (λ z
 all_taken : (old mid new : State) (front : List ℕ) (wanted : ℕ) (left : Option (List ℕ)) → mid.left ≡ left → Consumes old.left mid.left front → IfSome mid.left (λ bytes. 0 < length (front ++ bytes)) → RanOut left new.left wanted
     → TakesAll old mid new front wanted
 all_taken old mid new front wanted None is before some r =
-    record { taken = []; within = omega arith; consumed = subst (λ l. Consumes l new.left []) (sym is) tt; some = told_some old.left mid.left front (front ++ []) before (subst (λ l. IfSome l (λ _. 0 < length (front ++ []))) (sym is) tt) }
+    record { taken = []; within = omega arith; consumed = subst (λ l. Consumes l new.left []) (sym is) tt; some = told_some old.left mid.left front (front ++ []) before (subst (λ l. IfSome l (λ _. 0 < length (front ++ []))) (sym is) tt); few = inr refl }
 all_taken old mid new front wanted (Some xs) is before some r =
     let all : Consumes (Some xs) new.left xs = rw r.1 (sym (append-nil xs)) in
-    record { taken = xs; within = omega (arith, r.0); consumed = subst (λ l. Consumes l new.left xs) (sym is) all; some = told_some old.left mid.left front (front ++ xs) before (some_after mid.left front xs is some) }
+    record { taken = xs; within = omega (arith, r.0); consumed = subst (λ l. Consumes l new.left xs) (sym is) all; some = told_some old.left mid.left front (front ++ xs) before (some_after mid.left front xs is some); few = inl r.0 }
 
 pub stopped : (fault : FrameFault) (old mid new : State) (front : List ℕ) (wanted : ℕ) → Lasts old mid → Consumes old.left mid.left front → (kind_of_frame_fault fault ≡ EndOfInput → IfSome mid.left (λ bytes. 0 < length (front ++ bytes)))
-    → is_some new.left ≡ is_some mid.left → ReadStops (kind_of_frame_fault fault) mid new wanted → Stopped (fault_of_frame fault) old mid new front wanted
-stopped frame.ReadFault old mid new front wanted lasts before some tells s =
-    record { taken = s.1.0; within = omega (arith, s.1.1); consumed = s.1.2; cause = (rose_after old.read_faults mid.read_faults new.read_faults lasts.reads s.0, refl) }
-stopped frame.EndOfInput old mid new front wanted lasts before some tells s =
+    → ((taken : List ℕ) → IsShort wanted taken → IsNoRequest (front ++ taken)) → is_some new.left ≡ is_some mid.left → ReadStops (kind_of_frame_fault fault) mid new wanted → Stopped (fault_of_frame fault) old mid new front wanted
+stopped frame.ReadFault old mid new front wanted lasts before some short tells s =
+    record { taken = s.1.0; within = omega (arith, s.1.1); consumed = s.1.2; cause = (rose_after old.read_faults mid.read_faults new.read_faults lasts.reads s.0, refl, short s.1.0 (inl s.1.1)) }
+stopped frame.EndOfInput old mid new front wanted lasts before some short tells s =
     let all = all_taken old mid new front wanted mid.left refl before (some refl) s.1 in
-    record { taken = all.taken; within = all.within; consumed = all.consumed; cause = (rose_after old.ends mid.ends new.ends lasts.ends s.0, ran_empty mid.left new.left wanted tells s.1, refl, all.some) }
-stopped frame.OutOfMemory old mid new front wanted lasts before some tells s = record { taken = s.0; within = s.1; consumed = s.2; cause = tt }
-stopped (frame.InvalidArgument _) old mid new front wanted lasts before some tells s = absurd s
-stopped (frame.InvalidResponse _) old mid new front wanted lasts before some tells s = absurd s
+    record { taken = all.taken; within = all.within; consumed = all.consumed; cause = (rose_after old.ends mid.ends new.ends lasts.ends s.0, ran_empty mid.left new.left wanted tells s.1, refl, all.some, short all.taken all.few) }
+stopped frame.OutOfMemory old mid new front wanted lasts before some short tells s = record { taken = s.0; within = s.1; consumed = s.2; cause = tt }
+stopped (frame.InvalidArgument _) old mid new front wanted lasts before some short tells s = absurd s
+stopped (frame.InvalidResponse _) old mid new front wanted lasts before some short tells s = absurd s
 
 -- after some bytes
 pub some_before : (left : Option (List ℕ)) (front : List ℕ) → 0 < length front → IfSome left (λ bytes. 0 < length (front ++ bytes))
@@ -135,9 +136,9 @@ row_refused kind old mid new (Some xs) is other message row =
 pub refused : (fault : FrameFault) (old mid new : State) → Lasts old mid → mid.left ≡ old.left → IfSome old.left (λ bytes. 0 < length bytes) → IfSome old.left IsOfMessage → ReadRefused (kind_of_frame_fault fault) frame_maximum mid new
     → Refused (fault_of_frame fault) old mid new
 refused frame.ReadFault old mid new lasts same some message h =
-    record { taken = h.1.0; part = inl (started frame_maximum h.1.0 h.1.2); consumed = h.1.1; cause = (rose_after old.read_faults mid.read_faults new.read_faults lasts.reads h.0, refl) }
+    record { taken = h.1.0; part = inl (started frame_maximum h.1.0 h.1.2); consumed = h.1.1; cause = (rose_after old.read_faults mid.read_faults new.read_faults lasts.reads h.0, refl, unfinished frame_maximum h.1.0 h.1.2) }
 refused frame.EndOfInput old mid new lasts same some message h =
-    record { taken = h.1.0; part = inl (row_started frame_maximum h.1.0 EndOfInput h.1.2); consumed = h.1.1; cause = (rose_after old.ends mid.ends new.ends lasts.ends h.0, h.2, refl, emptied_some old.left mid.left new.left h.1.0 same some h.1.1 h.2) }
+    record { taken = h.1.0; part = inl (row_started frame_maximum h.1.0 EndOfInput h.1.2); consumed = h.1.1; cause = (rose_after old.ends mid.ends new.ends lasts.ends h.0, h.2, refl, emptied_some old.left mid.left new.left h.1.0 same some h.1.1 h.2, ended_within frame_maximum h.1.0 h.1.2) }
 refused frame.OutOfMemory old mid new lasts same some message h = record { taken = h.0; part = inl h.2; consumed = h.1; cause = tt }
 refused (frame.InvalidArgument f) old mid new lasts same some message h = row_refused (InvalidArgument f) old mid new mid.left refl (λ e. cc) (subst (λ left. IfSome left IsOfMessage) (sym same) message) h
 refused (frame.InvalidResponse f) old mid new lasts same some message h = row_refused (InvalidResponse f) old mid new mid.left refl (λ e. cc) (subst (λ left. IfSome left IsOfMessage) (sym same) message) h
@@ -184,9 +185,9 @@ write_cause TooManyRequests old mid new cut one lasts w = absurd w
 -- ---- after the turns before
 
 pub cause_after : (fault : ServeFault) (count : ℕ) (old mid new : State) (taken : List ℕ) (cut : List ServerTurn) (more : List ℕ) → Lasts old mid → Consumes old.left mid.left taken → HasCause fault mid new cut more → HasCauseAfter fault count old new cut more
-cause_after ReadFault count old mid new taken cut more lasts before c = (rose_after old.read_faults mid.read_faults new.read_faults lasts.reads c.0, c.1)
+cause_after ReadFault count old mid new taken cut more lasts before c = (rose_after old.read_faults mid.read_faults new.read_faults lasts.reads c.0, c.1, c.2)
 cause_after WriteFault count old mid new taken cut more lasts before c = (rose_after old.write_faults mid.write_faults new.write_faults lasts.writes c.0, c.1)
-cause_after CutFrame count old mid new taken cut more lasts before c = (rose_after old.ends mid.ends new.ends lasts.ends c.0, c.1, c.2, told_some old.left mid.left taken more before c.3)
+cause_after CutFrame count old mid new taken cut more lasts before c = (rose_after old.ends mid.ends new.ends lasts.ends c.0, c.1, c.2, told_some old.left mid.left taken more before c.3, c.4)
 cause_after NoFrame count old mid new taken cut more lasts before c = c
 cause_after NoHello count old mid new taken cut more lasts before c = c
 cause_after ReplyTooLong count old mid new taken cut more lasts before c = c

@@ -1,17 +1,18 @@
 -- Bytes that begin no request, and a request's op code and length.
-use Rattle.std.proofs.Common.{◌≡◌, ℕ, ℤ, pos, ◌+◌, ◌≤◌, ◌<ℤ◌, ◌⊎◌, Bool, true, false, None, Some, List, [], ◌∷◌, ◌++◌, length, inl, inr, refl, sym, ap, ◌∙◌, subst, arith, append-nil, append_assoc, length-append}
+use Rattle.std.proofs.Common.{◌≡◌, ℕ, ℤ, pos, ◌+◌, ◌<◌, ◌≤◌, ◌<ℤ◌, ◌⊎◌, Bool, true, false, None, Some, List, [], ◌∷◌, ◌++◌, length, codes, inl, inr, refl, sym, ap, ◌∙◌, subst, arith, append-nil, append_assoc, length-append}
 use Rattle.std.proofs.lemmas.Bool.Decides.{Decides-int_eq}
 use Rattle.std.proofs.lemmas.Int.{ints}
 use Rattle.std.specs.Ordering.{int_eq}
 use Rattle.std.specs.Prelude.{if◌then◌else◌}
 use Rattle.mongo_wire.specs.Header.{code_number, op_code_of, signed_at}
-use Rattle.mongo_wire.specs.Rows.{IsRow}
+use Rattle.mongo_wire.specs.Rows.{IsRow, IsUnfinished}
 use Rattle.mongo_wire.specs.declared.error.ErrorKind.{ErrorKind}
-use Rattle.mongo_wire.specs.declared.error.ErrorKind.TheVariants.{EndOfInput}
+use Rattle.mongo_wire.specs.declared.error.ErrorKind.TheVariants.{EndOfInput, InvalidResponse}
+use Rattle.mongo_wire.specs.declared.fault.ResponseFault.TheVariants.{Sections}
 use Rattle.mongo_wire.specs.declared.op_code.OpCode.{OpCode}
 use Rattle.mongo_wire.specs.declared.op_code.OpCode.TheVariants.{Compressed, Message, Query, Reply}
-use Rattle.mongo_wire.proofs.OneFrame.{frame_code, row_no_frame, same_front, signed_in}
-use Rattle.mongo_serve.specs.Cut.{BeginsNoRequest}
+use Rattle.mongo_wire.proofs.OneFrame.{frame_code, frame_size, least_frame, row_no_frame, same_front, signed_in}
+use Rattle.mongo_serve.specs.Cut.{BeginsNoRequest, IsNoRequest}
 use Rattle.mongo_serve.specs.Replies.{frame_maximum}
 use Rattle.mongo_serve.specs.Taken.{IsQuery, IsQueryBody}
 
@@ -96,3 +97,49 @@ untold = 0 ∷ 0 ∷ 0 ∷ 0 ∷ 0 ∷ 0 ∷ 0 ∷ 0 ∷ 0 ∷ 0 ∷ 0 ∷ 0 ∷
 
 pub untold_begins_none : BeginsNoRequest untold
 untold_begins_none = other_code untold (omega arith) (λ e. omega (arith, ints, e)) (λ e. omega (arith, ints, e))
+
+-- ---- bytes that are no whole request
+
+least_query : (frame command : List ℕ) → IsQuery frame command → 20 ≤ length frame
+least_query frame command q =
+    let body = q.is_body.is_query in
+    let after = codes "admin.$cmd" ++ (0 ∷ (body.numbers ++ (q.is_body.document ++ body.more))) in
+    omega (arith, ap length q.spelled, length-append q.header q.body, q.sixteen, ap length body.spelled, length-append body.flags after, body.flags_four)
+
+-- no more than a header
+pub few_bytes : (bytes : List ℕ) → length bytes ≤ 16 → IsNoRequest bytes
+few_bytes bytes few document (inl (parts, is_frame, body_is)) = omega (arith, few, least_frame bytes parts is_frame)
+few_bytes bytes few document (inr q) = omega (arith, few, least_query bytes document q)
+
+-- fewer than the header counts
+pub cut_short : (bytes : List ℕ) → pos (length bytes) <ℤ signed_at 0 bytes → IsNoRequest bytes
+cut_short bytes short document (inl (parts, is_frame, body_is)) = omega (arith, ints, short, frame_size bytes parts is_frame)
+cut_short bytes short document (inr q) = omega (arith, ints, short, query_size bytes document q)
+
+-- fewer bytes than were wanted, or none
+abbrev pub IsShort : ℕ → List ℕ → Type 0
+IsShort wanted taken = (length taken < wanted) ⊎ (taken ≡ [])
+
+-- within a header
+pub within_header : (taken : List ℕ) → IsShort 16 taken → IsNoRequest taken
+within_header taken (inl fewer) = few_bytes taken (omega (arith, fewer))
+within_header taken (inr none) = few_bytes taken (omega (arith, ap length none))
+
+-- after a header
+pub cut_after : (head taken : List ℕ) (wanted : ℕ) → length head ≡ 16 → pos (16 + wanted) ≡ signed_at 0 head → IsShort wanted taken → IsNoRequest (head ++ taken)
+cut_after head taken wanted sixteen counted (inl fewer) =
+    cut_short (head ++ taken) (omega (arith, ints, length-append head taken, sixteen, fewer, counted, signed_in 0 head taken (omega (arith, sixteen))))
+cut_after head taken wanted sixteen counted (inr none) = few_bytes (head ++ taken) (omega (arith, length-append head taken, sixteen, ap length none))
+
+pub unfinished : (maximum : ℤ) (taken : List ℕ) → IsUnfinished maximum taken → IsNoRequest taken
+unfinished maximum taken (inl short) = few_bytes taken (omega (arith, short))
+unfinished maximum taken (inr (passes, short)) = cut_short taken short
+
+pub ended_within : (maximum : ℤ) (taken : List ℕ) → IsRow maximum taken EndOfInput → IsNoRequest taken
+ended_within maximum taken (inl short) = few_bytes taken (omega (arith, short.short))
+ended_within maximum taken (inr (inl row)) = few_bytes taken (omega (arith, row.header))
+ended_within maximum taken (inr (inr (inl short))) = cut_short taken short.short
+ended_within maximum taken (inr (inr (inr none))) = absurd (other none.kind_is)
+  where
+    other : EndOfInput ≡ InvalidResponse Sections → ⊥
+    other e = cc

@@ -64,15 +64,19 @@ CutsOne cut more = (length cut ≡ 1) × (more ≡ [])
 abbrev pub TookSome : State → List ℕ → Type 0
 TookSome old more = IfSome old.left (λ _. 0 < length more)
 
+-- bytes that are no whole request
+abbrev pub IsNoRequest : List ℕ → Type 0
+IsNoRequest bytes = (document : List ℕ) → CarriesRequest bytes document → ⊥
+
 -- no frame up to the greatest that begins with these bytes carries a request
 abbrev pub BeginsNoRequest : List ℕ → Type 0
 BeginsNoRequest taken = (frame rest document : List ℕ) → frame ≡ taken ++ rest → pos (length frame) ≤ℤ frame_maximum → CarriesRequest frame document → ⊥
 
 -- What a fault says of the bytes that weren't answered, and of the link before and after.
 abbrev pub HasCause : ServeFault → State → State → List ServerTurn → List ℕ → Type 0
-HasCause ReadFault old new cut more = Rose old.read_faults new.read_faults × (cut ≡ [])
+HasCause ReadFault old new cut more = Rose old.read_faults new.read_faults × (cut ≡ []) × IsNoRequest more
 HasCause WriteFault old new cut more = Rose old.write_faults new.write_faults × CutsOne cut more
-HasCause CutFrame old new cut more = Rose old.ends new.ends × IsEmptied new.left × (cut ≡ []) × TookSome old more
+HasCause CutFrame old new cut more = Rose old.ends new.ends × IsEmptied new.left × (cut ≡ []) × TookSome old more × IsNoRequest more
 HasCause NoFrame old new cut more = (cut ≡ []) × (16 ≤ length more) × BeginsNoRequest more
 HasCause NoHello old new cut more = (cut ≡ []) × AsksOtherwise more
 HasCause ReplyTooLong old new cut more = CutsOne cut more

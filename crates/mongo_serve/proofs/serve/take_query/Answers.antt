@@ -8,7 +8,7 @@ use Rattle.mongo_serve.specs.PutBack.{put_back_state}
 use Rattle.mongo_serve.specs.Taken.{IsQueryBody}
 use Rattle.mongo_serve.specs.declared.fault.ServeFault.TheVariants.{NoFrame}
 use Rattle.mongo_serve.specs.Replies.{frame_maximum}
-use Rattle.mongo_serve.proofs.NoRequest.{bad_length, no_body}
+use Rattle.mongo_serve.proofs.NoRequest.{bad_length, cut_after, no_body}
 use Rattle.mongo_serve.proofs.Causes.{header_part, query_front, some_before, stopped, unasked}
 use Rattle.mongo_serve.proofs.Lasts.{lasts_on, lasts_read}
 use Rattle.mongo_serve.proofs.Turns.{none_taken}
@@ -36,7 +36,7 @@ returns-in-Err g c = λ requests before h f.
     let sixteen : length head ≡ 16 = search rules in
     let length_fits : FitsSigned w32 c.args.header.length = search rules in
     let counted : pos (16 + c.in-Some.rest) ≡ signed_at 0 head = c.in-Some.ensures.counted ∙ to_z-of_z w32 c.args.header.length length_fits ∙ ap (λ x. x.length) c.requires.header in
-    let some = stopped c.in-Err.fault before s t head c.in-Some.rest f.lasts f.taken (λ _. some_before s.left head (omega (arith, sixteen))) on.tells c.in-Err.ensures.refused in
+    let some = stopped c.in-Err.fault before s t head c.in-Some.rest f.lasts f.taken (λ _. some_before s.left head (omega (arith, sixteen))) (λ taken few. cut_after head taken c.in-Some.rest sixteen counted few) on.tells c.in-Err.ensures.refused in
     subst (IsCut c.args.settings.now requests before t session id session.user) (sym c.into.ensures)
     (none_after c.args.settings.now requests before s t session id session.user _ head some.taken refl (query_front head some.taken c.in-Some.rest sixteen c.requires.code counted c.in-Some.ensures.within some.within) f some.consumed
     on.unwritten.written h.user some.cause (lasts_on before s t f.lasts (lasts_read s t on)))

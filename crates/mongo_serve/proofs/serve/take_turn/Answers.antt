@@ -3,6 +3,7 @@ use Rattle.std.proofs.KnownBytes.{Consumes-nil}
 use Rattle.mongo_serve.specs.Cut.{IsCut}
 use Rattle.mongo_serve.specs.PutBack.{put_back_state}
 use Rattle.mongo_serve.proofs.Causes.{header_part, stopped}
+use Rattle.mongo_serve.proofs.NoRequest.{within_header}
 use Rattle.mongo_serve.proofs.Lasts.{lasts_all, lasts_read}
 use Rattle.mongo_serve.proofs.Turns.{none_taken}
 use Rattle.mongo_serve.proofs.serve.take_turn.Goals as goal
@@ -14,6 +15,6 @@ returns-in-Err g c = λ requests h.
     let session = c.args.serving.now.session in
     let id = c.args.serving.now.ids in
     let on = c.in-Err.ensures.on in
-    let some = stopped c.in-Err.fault s s t [] 16 (lasts_all s) (Consumes-nil s.left) c.in-Err.ensures.more on.tells c.in-Err.ensures.refused in
+    let some = stopped c.in-Err.fault s s t [] 16 (lasts_all s) (Consumes-nil s.left) c.in-Err.ensures.more within_header on.tells c.in-Err.ensures.refused in
     subst (IsCut c.args.settings.now requests s t session id session.user) (sym c.into.ensures)
     (none_taken c.args.settings.now requests s t session id session.user _ some.taken refl (header_part some.taken some.within) some.consumed on.unwritten.written h.user some.cause (lasts_read s t on))
