@@ -48,6 +48,15 @@ line_error_of kind.EndOfInput = line.BadSettings
 line_error_of kind.OutOfMemory = line.OutOfMemory
 line_error_of other = line.Fault
 
+-- Reading stopped within the line: no line feed was taken before the last byte, and no more bytes than the longest line has with its own.
+pub record StopsWithin (old new : State) : Type 0 where
+  pub front : List ℕ
+  pub last : List ℕ
+  pub taken : Consumes old.left new.left (front ++ last)
+  pub unended : HasNoLineFeed front
+  pub short : length front ≤ limit
+  pub one : length last ≤ 1
+
 -- ---- what the line says
 
 -- a line and its line feed were taken, nothing was written, and the line says these settings

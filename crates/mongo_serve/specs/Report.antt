@@ -9,6 +9,10 @@ abbrev pub user_line : Option (List ℕ) → List ℕ
 user_line None = codes "nobody was logged in\n"
 user_line (Some name) = (codes "logged in: \"" ++ name) ++ codes "\"\n"
 
+-- there was no memory
+abbrev pub no_memory : List ℕ
+no_memory = codes "out of memory\n"
+
 -- how the stream ended
 abbrev pub end_line : Option ServeFault → List ℕ
 end_line None = codes "the client ended its stream\n"
@@ -19,7 +23,7 @@ end_line (Some NoFrame) = codes "what came is no frame of this protocol\n"
 end_line (Some NoHello) = codes "an OP_QUERY asked for another command than hello\n"
 end_line (Some ReplyTooLong) = codes "a reply is too long\n"
 end_line (Some TooManyRequests) = codes "too many requests came\n"
-end_line (Some OutOfMemory) = codes "out of memory\n"
+end_line (Some OutOfMemory) = no_memory
 
 abbrev pub report_text : Served → List ℕ
 report_text served = user_line served.user ++ end_line served.fault
@@ -27,3 +31,7 @@ report_text served = user_line served.user ++ end_line served.fault
 -- the first line was no settings
 abbrev pub no_settings : List ℕ
 no_settings = codes "the first line is no settings\n"
+
+-- the link failed within the first line
+abbrev pub line_failed : List ℕ
+line_failed = codes "the link failed within the first line\n"

@@ -7,8 +7,8 @@ use Rattle.mongo_serve.specs.declared.serve.Served.{Served}
 use Rattle.mongo_serve.specs.declared.settings.Settings.{Settings}
 use Rattle.mongo_serve.specs.declared.status.Status.{Status}
 use Rattle.mongo_serve.specs.declared.status.Status.TheVariants.{Ended, Broken, BadSettings, Usage, NoMemory}
-use Rattle.mongo_serve.specs.Line.{IsAfterLine, HasNoSettings}
-use Rattle.mongo_serve.specs.Report.{report_text, no_settings}
+use Rattle.mongo_serve.specs.Line.{IsAfterLine, HasNoSettings, StopsWithin}
+use Rattle.mongo_serve.specs.Report.{report_text, line_failed, no_memory, no_settings}
 use Rattle.mongo_serve.specs.Served.{IsServed}
 
 -- the number that the process ends with
@@ -50,10 +50,10 @@ pub record Ran (run : ServeRun) (status : Status) : Type 0 where
 abbrev pub SendsNothing : ServeRun → Type 0
 SendsNothing run = run.new.written ≡ run.old.written
 
--- How a run ends. A run that is out of memory may have been so before it had settings.
+-- How a run ends. The link may fail, and memory run out, before there are settings: then no more than the first line was taken.
 abbrev pub RunEnds : ServeRun → Status → Type 0
 RunEnds run Ended = Ran run Ended
-RunEnds run Broken = Ran run Broken ⊎ (Rose run.old.read_faults run.new.read_faults × SendsNothing run)
+RunEnds run Broken = Ran run Broken ⊎ (Rose run.old.read_faults run.new.read_faults × StopsWithin run.old run.new × SendsNothing run × WritesReport run line_failed)
 RunEnds run BadSettings = HasNoSettings run.old run.new × SendsNothing run × WritesReport run no_settings
-RunEnds run NoMemory = Ran run NoMemory ⊎ SendsNothing run
+RunEnds run NoMemory = Ran run NoMemory ⊎ (StopsWithin run.old run.new × SendsNothing run × WritesReport run no_memory)
 RunEnds run Usage = ⊥

@@ -2,8 +2,8 @@
 
 ghost use Rattle.std.specs.Prelude.{◌≡◌, [], ◌∷◌, IfOk, IsErrOf};
 ghost use Rattle.std.specs.Io.KnownBytes.{Consumes};
-ghost use Rattle.mongo_wire.specs.Outside.{ReadsOn, Rose, RanOut};
-ghost use Rattle.mongo_serve.specs.Line.{IsAfterLine, HasNoLine, HasNoSettings, TakesLine, line_error_of};
+ghost use Rattle.mongo_wire.specs.Outside.{ConsumesAtMost, ReadsOn, Rose, RanOut};
+ghost use Rattle.mongo_serve.specs.Line.{IsAfterLine, HasNoLine, HasNoSettings, StopsWithin, TakesLine, line_error_of};
 
 use crate::settings::{Settings, SettingsError, settings_of};
 use mongo_wire::{Error, ErrorKind, Source, SyncLittleEndianRead};
@@ -39,6 +39,8 @@ pub fn read_settings<S: Source>(alloc: Global, source: &mut S) -> Result<Setting
     ensures line { IfOk result (IsAfterLine (S.state source.old) (S.state source.new)) }
     ensures none { IsErrOf result LineError.BadSettings → HasNoSettings (S.state source.old) (S.state source.new) }
     ensures failed { IsErrOf result LineError.Fault → Rose (S.state source.old).read_faults (S.state source.new).read_faults }
+    ensures within { IsErrOf result LineError.Fault → StopsWithin (S.state source.old) (S.state source.new) }
+    ensures memory { IsErrOf result LineError.OutOfMemory → StopsWithin (S.state source.old) (S.state source.new) }
     ensures on { ReadsOn (S.state source.old) (S.state source.new) }
 {
     let line = read_line(alloc, source)?;
@@ -54,6 +56,8 @@ fn read_line<S: Source>(alloc: Global, source: &mut S) -> Result<Vec<u8>, LineEr
     ensures line { IfOk result (λ line. TakesLine (S.state source.old) (S.state source.new) line.items) }
     ensures none { IsErrOf result LineError.BadSettings → HasNoLine (S.state source.old) (S.state source.new) }
     ensures failed { IsErrOf result LineError.Fault → Rose (S.state source.old).read_faults (S.state source.new).read_faults }
+    ensures within { IsErrOf result LineError.Fault → StopsWithin (S.state source.old) (S.state source.new) }
+    ensures memory { IsErrOf result LineError.OutOfMemory → StopsWithin (S.state source.old) (S.state source.new) }
     ensures on { ReadsOn (S.state source.old) (S.state source.new) }
 {
     let mut line = Vec::new(alloc);
@@ -76,6 +80,8 @@ fn next_byte<S: Source>(source: &mut S) -> Result<u8, LineError>
     ensures ended { IsErrOf result LineError.BadSettings →
         Rose (S.state source.old).ends (S.state source.new).ends × RanOut (S.state source.old).left (S.state source.new).left 1 }
     ensures failed { IsErrOf result LineError.Fault → Rose (S.state source.old).read_faults (S.state source.new).read_faults }
+    ensures within { IsErrOf result LineError.Fault → ConsumesAtMost (S.state source.old).left (S.state source.new).left 1 }
+    ensures memory { IsErrOf result LineError.OutOfMemory → ConsumesAtMost (S.state source.old).left (S.state source.new).left 1 }
     ensures on { ReadsOn (S.state source.old) (S.state source.new) }
 {
     match source.read_u8_sync() {
