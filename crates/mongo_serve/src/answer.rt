@@ -1,6 +1,6 @@
 //! One step of a session: a request, and the reply to it.
 
-ghost use Rattle.std.specs.Prelude.{◌≡◌, ◌↔◌, ℕ, List, [], ◌∷◌, ◌++◌, IsTrue, IfOk, IfErr, OnOk, OnErr};
+ghost use Rattle.std.specs.Prelude.{◌≡◌, ◌≤◌, ◌↔◌, ℕ, List, [], ◌∷◌, ◌++◌, IsTrue, IfOk, IfErr, OnOk, OnErr};
 ghost use Rattle.mongo_serve.specs.Accounts.{AreMechanismsOf, ListsAccounts, HasAccount, IsOf};
 ghost use Rattle.mongo_serve.specs.Answers.{guarded_by, AnswersCarried, AnswersHello, IsAnswer, login_reply};
 ghost use Rattle.mongo_serve.specs.Login.{Remembers};
@@ -32,6 +32,7 @@ pub fn answer<G: Ledger>(
     ensures answered { IfOk result (IsAnswer settings.now session.old request.entry session.new) }
     ensures kept { OnErr result (session.new.user ≡ session.old.user) }
     ensures refused { IfErr result (λ fault. fault ≡ OutOfMemory) }
+    ensures rises { steps.old ≤ steps.new }
 {
     match request {
         Request::Hello(hello) => Ok(Reply::Hello(greet(alloc, settings, session, hello, steps)?)),
@@ -59,6 +60,7 @@ pub fn greet<G: Ledger>(
     ensures answered { IfOk result (AnswersHello settings.now session.old hello.entry session.new) }
     ensures user { session.new.user ≡ session.old.user }
     ensures refused { IfErr result (λ fault. fault ≡ OutOfMemory) }
+    ensures rises { steps.old ≤ steps.new }
 {
     let speculation = begin(alloc, settings, session, hello.speculation, steps)?;
     Ok(HelloReply {
@@ -81,6 +83,7 @@ fn begin<G: Ledger>(
     ensures answered { IfOk result (AnswersCarried settings.now session.old speculation.entry session.new) }
     ensures user { session.new.user ≡ session.old.user }
     ensures refused { IfErr result (λ fault. fault ≡ OutOfMemory) }
+    ensures rises { steps.old ≤ steps.new }
 {
     match speculation {
         Some(start) => session.start(alloc, settings, start, steps),

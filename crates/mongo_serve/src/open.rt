@@ -1,6 +1,6 @@
 //! How a login begins: which account the client's first message is of, and the server's answer to it.
 
-ghost use Rattle.std.specs.Prelude.{◌≡◌, ◌↔◌, IsTrue, IfOk, IfErr};
+ghost use Rattle.std.specs.Prelude.{◌≡◌, ◌+◌, ◌≤◌, ◌↔◌, IsTrue, IfOk, IfErr};
 ghost use Rattle.mongo_server.specs.ClientMessages.{IsNonce};
 ghost use Rattle.mongo_serve.specs.Opened.{NamesUser, Suits, FindsAccount, OpensFor, OpensBy};
 ghost use Rattle.mongo_serve.specs.declared.fault.ServeFault.TheVariants.{OutOfMemory};
@@ -35,6 +35,7 @@ pub fn open_login<G: Ledger>(
 ) -> Result<Option<Opened>, ServeFault>
     ensures opened { IfOk result (OpensBy settings.now start.entry) }
     ensures refused { IfErr result (λ fault. fault ≡ OutOfMemory) }
+    ensures rises { steps.old ≤ steps.new }
 {
     let (Some(version), Some(payload)) = (start.version, start.payload) else {
         return Ok(None);
@@ -106,6 +107,8 @@ fn open<G: Ledger>(
     requires { IsNonce suffix.now }
     ensures opened { IfOk result (OpensFor account.now suffix.now payload.now skips_empty_exchange) }
     ensures refused { IfErr result (λ fault. fault ≡ OutOfMemory) }
+    ensures one_key { steps.new ≤ steps.old + account.now.count }
+    ensures rises { steps.old ≤ steps.new }
 {
     let salt = account.salt.try_clone(alloc)?;
     let user = match ServerUser::new(

@@ -1,6 +1,6 @@
 //! The top call.
 
-ghost use Rattle.std.specs.Prelude.{◌≡◌, ◌<◌};
+ghost use Rattle.std.specs.Prelude.{◌≡◌, ◌<◌, ◌≤◌};
 ghost use Rattle.mongo_serve.specs.PutBack.{put_back_state};
 ghost use Rattle.mongo_serve.specs.Report.{report_text};
 ghost use Rattle.mongo_serve.specs.Run.{status_of_fault, RunEnds};
@@ -28,7 +28,8 @@ pub fn run<L: Link, K: Sink, G: Ledger>(
     report: &mut K,
     steps: &mut Steps<G>,
 ) -> Status
-    ensures { RunEnds (record { old = put_back_state L.state link.old; new = put_back_state L.state link.new; report_old = K.state report.old; report_new = K.state report.new }) result }
+    ensures ends { RunEnds (record { old = put_back_state L.state link.old; new = put_back_state L.state link.new; report_old = K.state report.old; report_new = K.state report.new }) result }
+    ensures rises { steps.old ≤ steps.new }
 {
     let settings = match read_settings(alloc, link) {
         Ok(settings) => settings,

@@ -1,6 +1,6 @@
 //! The server: requests are read one after another, and each is answered before the next is read.
 
-ghost use Rattle.std.specs.Prelude.{◌≡◌, ℕ, pos, ◌+◌, ◌<ℤ◌, ◌≤ℤ◌, ◌⊎◌, List, [], ◌∷◌, ◌++◌, IsNone, IfSome, IfOk, IfErr, OnOk, OnErr};
+ghost use Rattle.std.specs.Prelude.{◌≡◌, ℕ, pos, ◌+◌, ◌≤◌, ◌<ℤ◌, ◌≤ℤ◌, ◌⊎◌, List, [], ◌∷◌, ◌++◌, IsNone, IfSome, IfOk, IfErr, OnOk, OnErr};
 ghost use Rattle.mongo_wire.specs.Header.{code_number, header_with, signed_at};
 ghost use Rattle.mongo_wire.specs.Outside.{State};
 ghost use Rattle.mongo_serve.specs.Login.{Remembers};
@@ -53,7 +53,8 @@ pub fn serve<L: Link, G: Ledger>(
     link: &mut PutBack<L>,
     steps: &mut Steps<G>,
 ) -> Served
-    ensures { IsServed settings.now (put_back_state L.state link.old) (put_back_state L.state link.new) result }
+    ensures served { IsServed settings.now (put_back_state L.state link.old) (put_back_state L.state link.new) result }
+    ensures rises { steps.old ≤ steps.new }
 {
     let mut serving = Serving {
         session: Session::new(),
@@ -91,8 +92,9 @@ fn take_turn<L: Link, G: Ledger>(
     serving: &mut Serving,
     steps: &mut Steps<G>,
 ) -> Result<bool, ServeFault>
-    ensures { (requests : List (List ℕ)) → Remembers settings.now requests serving.old.session →
+    ensures turn { (requests : List (List ℕ)) → Remembers settings.now requests serving.old.session →
         TurnEnds settings.now requests (put_back_state L.state link.old) (put_back_state L.state link.new) serving.old.session serving.old.ids serving.new.session serving.new.ids result }
+    ensures rises { steps.old ≤ steps.new }
 {
     let mut head = [0u8; 16];
     match fill_or_end(link, &mut head) {
@@ -114,8 +116,9 @@ fn take_after<L: Link, G: Ledger>(
     head: &[u8; 16],
     steps: &mut Steps<G>,
 ) -> Result<(), ServeFault>
-    ensures { (requests : List (List ℕ)) (before : State) → Remembers settings.now requests serving.old.session → FollowsHead before (put_back_state L.state link.old) head.now →
+    ensures turn { (requests : List (List ℕ)) (before : State) → Remembers settings.now requests serving.old.session → FollowsHead before (put_back_state L.state link.old) head.now →
         PartEnds settings.now requests before (put_back_state L.state link.new) serving.old.session serving.old.ids serving.new.session serving.new.ids result }
+    ensures rises { steps.old ≤ steps.new }
 {
     match Header::decode(head) {
         Ok(header) => match header.op_code {
@@ -138,8 +141,9 @@ fn take_message<L: Link, G: Ledger>(
     serving: &mut Serving,
     steps: &mut Steps<G>,
 ) -> Result<(), ServeFault>
-    ensures { (requests : List (List ℕ)) (before : State) → Remembers settings.now requests serving.old.session → IsBackAt before (put_back_state L.state link.old) →
+    ensures turn { (requests : List (List ℕ)) (before : State) → Remembers settings.now requests serving.old.session → IsBackAt before (put_back_state L.state link.old) →
         PartEnds settings.now requests before (put_back_state L.state link.new) serving.old.session serving.old.ids serving.new.session serving.new.ids result }
+    ensures rises { steps.old ≤ steps.new }
 {
     match serving.buffer.take_frame(link, Some(FRAME_MAXIMUM)) {
         Ok(()) => {}
@@ -170,6 +174,7 @@ fn answer_document<G: Ledger>(
     ensures answered { IfOk result (IsDocumentAnswered settings.now session.old document.entry.bytes.now session.new) }
     ensures kept { OnErr result (session.new.user ≡ session.old.user) }
     ensures refused { IfErr result (λ fault. fault ≡ OutOfMemory) }
+    ensures rises { steps.old ≤ steps.new }
 {
     answer(alloc, settings, session, request_of(document), steps)
 }
@@ -186,8 +191,9 @@ fn take_query<L: Link, G: Ledger>(
 ) -> Result<(), ServeFault>
     requires header { header ≡ header_with head.now Query }
     requires code { signed_at 12 head.now ≡ code_number Query }
-    ensures { (requests : List (List ℕ)) (before : State) → Remembers settings.now requests serving.old.session → FollowsHead before (put_back_state L.state link.old) head.now →
+    ensures turn { (requests : List (List ℕ)) (before : State) → Remembers settings.now requests serving.old.session → FollowsHead before (put_back_state L.state link.old) head.now →
         PartEnds settings.now requests before (put_back_state L.state link.new) serving.old.session serving.old.ids serving.new.session serving.new.ids result }
+    ensures rises { steps.old ≤ steps.new }
 {
     let Some(rest) = length_after(header.length) else {
         return Err(ServeFault::NoFrame);
@@ -231,6 +237,7 @@ fn greet_query<G: Ledger>(
     ensures greeting { OnOk result (IsGreeting document.entry.bytes.now) }
     ensures kept { OnErr result (session.new.user ≡ session.old.user) }
     ensures refused { IfErr result (λ fault. (fault ≡ OutOfMemory) ⊎ ((fault ≡ NoHello) × (IsGreeting document.entry.bytes.now → ⊥))) }
+    ensures rises { steps.old ≤ steps.new }
 {
     match request_of(document) {
         Request::Hello(hello) => match greet(alloc, settings, session, hello, steps) {

@@ -34,7 +34,7 @@ pub struct Session {
 }
 
 impl Session {
-    ghost use Rattle.std.specs.Prelude.{◌≡◌, ℕ, true, List, [], ◌∷◌, ◌++◌, None, IfSome, IfOk, IfErr, OnErr};
+    ghost use Rattle.std.specs.Prelude.{◌≡◌, ◌≤◌, ℕ, true, List, [], ◌∷◌, ◌++◌, None, IfSome, IfOk, IfErr, OnErr};
     ghost use Rattle.mongo_serve.specs.Last.{AnswersLast, AnswersEmpty};
     ghost use Rattle.mongo_serve.specs.Login.{HasLoggedIn, IsOpenLogin, Remembers};
     ghost use Rattle.mongo_serve.specs.Requests.{OpensLogin, SaysSaslContinue};
@@ -68,6 +68,7 @@ impl Session {
         ensures answered { IfOk result (AnswersStart settings.now start.entry self.new) }
         ensures user { self.new.user ≡ self.old.user }
         ensures refused { IfErr result (λ fault. fault ≡ OutOfMemory) }
+        ensures rises { steps.old ≤ steps.new }
     {
         self.login = None;
         match open_login(alloc, settings, start, steps)? {

@@ -16,4 +16,6 @@ returns g c = record {
       unheard c.args.account.now c.args.suffix.now c.args.payload.now c.new-core.result c.in-Ok.user c.as_str.result.now c.as_str-2.result.now c.in_ok-salt.salt c.in-Err-first.fault c.as_str.ensures c.as_str-2.ensures
       c.in_ok-salt.ensures.copied c.in-Ok.ensures.user c.new-core.ensures.user (c.new-core.ensures.suffix ∙ c.in_ok-from_slice.ensures.copied) c.in-Err-first.ensures.accepts c.in_default-fault.not-OutOfMemory;
   refused = tt;
+  one_key = c.new.ensures.at_most;
+  rises = c.new.ensures.rises;
 }

@@ -4,8 +4,8 @@ use Rattle.mongo_serve.specs.Run.{ServeRun, status_of_fault, Ran, RunEnds}
 use Rattle.mongo_serve.proofs.Ran.{ran_ends}
 use Rattle.mongo_serve.proofs.run.run.Goals as goal
 
-pub returns : goal.returns
-returns g c =
+pub returns-clause-ends : goal.returns-clause-ends
+returns-clause-ends g c =
     let run : ServeRun = record {
       old = put_back_state g.L.Outside.state c.args.link.now;
       new = put_back_state g.L.Outside.state c.serve-served.new.link;
@@ -18,7 +18,7 @@ returns g c =
       between = put_back_state g.L.Outside.state c.read_settings.new.source;
       after_line = c.in-Ok.ensures.line;
       served = c.serve-served.result;
-      is_served = c.serve-served.ensures;
+      is_served = c.serve-served.ensures.served;
       status_is = refl;
       said = c.tell.ensures;
     } in

@@ -1,4 +1,4 @@
-use Rattle.std.proofs.Common.{inr, refl}
+use Rattle.std.proofs.Common.{inr, refl, arith}
 use Rattle.mongo_serve.proofs.Greeted.{no_greeting}
 use Rattle.mongo_serve.proofs.serve.greet_query.Goals as goal
 
@@ -12,4 +12,5 @@ returns-in_default g c = record {
   greeting = tt;
   kept = refl;
   refused = inr (refl, no_greeting c.args.document.bytes.now c.request_of.result c.request_of.ensures c.in_default.not-Hello);
+  rises = omega arith;
 }

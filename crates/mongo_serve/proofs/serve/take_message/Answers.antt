@@ -11,8 +11,8 @@ use Rattle.mongo_serve.proofs.Turns.{none_taken}
 use Rattle.mongo_serve.proofs.Parts.{message_part}
 use Rattle.mongo_serve.proofs.serve.take_message.Goals as goal
 
-pub returns-in-Err : goal.returns-in-Err
-returns-in-Err g c = λ requests before h back.
+pub returns-in-Err-clause-turn : goal.returns-in-Err-clause-turn
+returns-in-Err-clause-turn g c = λ requests before h back.
     let s = put_back_state g.L.Outside.state c.args.link.now in
     let t = put_back_state g.L.Outside.state c.take_frame.new.source in
     let session = c.args.serving.now.session in
@@ -26,8 +26,8 @@ returns-in-Err g c = λ requests before h back.
 pub unreachable-requires : goal.unreachable-requires
 unreachable-requires g c = let taken = c.in-Ok.ensures.taken in false≢true (c.in_default.ensures.some taken.frame taken.parts taken.holds)
 
-pub returns-in-Ok-answer_document : goal.returns-in-Ok-answer_document
-returns-in-Ok-answer_document g c = λ requests before h back.
+pub returns-in-Ok-answer_document-clause-turn : goal.returns-in-Ok-answer_document-clause-turn
+returns-in-Ok-answer_document-clause-turn g c = λ requests before h back.
     let s = put_back_state g.L.Outside.state c.args.link.now in
     let t = put_back_state g.L.Outside.state c.take_frame.new.source in
     let new = put_back_state g.L.Outside.state c.respond.new.sink in
@@ -42,8 +42,8 @@ returns-in-Ok-answer_document g c = λ requests before h back.
     c.in-Ok-answer_document.ensures.answered (c.in-Ok-answer_document.ensures.remembers requests h) _ (to_z-of_z w32 id fits ∙ ap (λ r. r.request_id) shown.header_is) message.flags.0 shown.flags_are c.respond.result
     c.respond.ensures.sent c.respond.ensures.cut c.respond.ensures.refused
 
-pub returns-in-Err-answer_document : goal.returns-in-Err-answer_document
-returns-in-Err-answer_document g c = λ requests before h back.
+pub returns-in-Err-answer_document-clause-turn : goal.returns-in-Err-answer_document-clause-turn
+returns-in-Err-answer_document-clause-turn g c = λ requests before h back.
     let s = put_back_state g.L.Outside.state c.args.link.now in
     let t = put_back_state g.L.Outside.state c.take_frame.new.source in
     let taken = c.in-Ok.ensures.taken in

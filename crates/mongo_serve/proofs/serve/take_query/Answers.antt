@@ -15,8 +15,8 @@ use Rattle.mongo_serve.proofs.Turns.{none_taken}
 use Rattle.mongo_serve.proofs.Parts.{query_part, query_of, none_after}
 use Rattle.mongo_serve.proofs.serve.take_query.Goals as goal
 
-pub returns-in_default : goal.returns-in_default
-returns-in_default g c = λ requests before h f.
+pub returns-in_default-clause-turn : goal.returns-in_default-clause-turn
+returns-in_default-clause-turn g c = λ requests before h f.
     let head = c.args.head.now in
     let session = c.args.serving.now.session in
     let sixteen : length head ≡ 16 = search rules in
@@ -25,8 +25,8 @@ returns-in_default g c = λ requests before h f.
     none_taken c.args.settings.now requests before (put_back_state g.L.Outside.state c.args.link.now) session c.args.serving.now.ids session.user NoFrame head refl (header_part head (omega (arith, sixteen))) f.taken f.unwritten h.user
     (refl, omega (arith, sixteen), bad_length head sixteen c.requires.code (subst (λ z. (z <ℤ pos 16) ⊎ (frame_maximum <ℤ z)) (to_z-of_z w32 c.args.header.length length_fits ∙ length_is) (c.in_default.ensures.outside refl))) f.lasts
 
-pub returns-in-Err : goal.returns-in-Err
-returns-in-Err g c = λ requests before h f.
+pub returns-in-Err-clause-turn : goal.returns-in-Err-clause-turn
+returns-in-Err-clause-turn g c = λ requests before h f.
     let s = put_back_state g.L.Outside.state c.args.link.now in
     let t = put_back_state g.L.Outside.state c.take_bytes.new.source in
     let session = c.args.serving.now.session in
@@ -41,8 +41,8 @@ returns-in-Err g c = λ requests before h f.
     (none_after c.args.settings.now requests before s t session id session.user _ head some.taken refl (query_front head some.taken c.in-Some.rest sixteen c.requires.code counted c.in-Some.ensures.within some.within) f some.consumed
     on.unwritten.written h.user some.cause (lasts_on before s t f.lasts (lasts_read s t on)))
 
-pub returns-in_default-command_of_query : goal.returns-in_default-command_of_query
-returns-in_default-command_of_query g c = λ requests before h f.
+pub returns-in_default-command_of_query-clause-turn : goal.returns-in_default-command_of_query-clause-turn
+returns-in_default-command_of_query-clause-turn g c = λ requests before h f.
     let s = put_back_state g.L.Outside.state c.args.link.now in
     let t = put_back_state g.L.Outside.state c.take_bytes.new.source in
     let session = c.args.serving.now.session in
@@ -56,8 +56,8 @@ returns-in_default-command_of_query g c = λ requests before h f.
     none_after c.args.settings.now requests before s t session c.args.serving.now.ids session.user NoFrame head body refl (query_front head body c.in-Some.rest sixteen c.requires.code counted c.in-Some.ensures.within (omega (arith, c.in-Ok.ensures.whole))) f
     c.in-Ok.ensures.taken on.unwritten.written h.user (refl, omega (arith, sixteen, length-append head body), no_body head body c.in-Some.rest sixteen c.requires.code counted c.in-Ok.ensures.whole none) (lasts_on before s t f.lasts (lasts_read s t on))
 
-pub returns-in-Ok-greet_query : goal.returns-in-Ok-greet_query
-returns-in-Ok-greet_query g c = λ requests before h f.
+pub returns-in-Ok-greet_query-clause-turn : goal.returns-in-Ok-greet_query-clause-turn
+returns-in-Ok-greet_query-clause-turn g c = λ requests before h f.
     let s = put_back_state g.L.Outside.state c.args.link.now in
     let t = put_back_state g.L.Outside.state c.take_bytes.new.source in
     let new = put_back_state g.L.Outside.state c.respond_to_query.new.sink in
@@ -76,8 +76,8 @@ returns-in-Ok-greet_query g c = λ requests before h f.
     c.in-Ok-greet_query.ensures.answered c.in-Ok-greet_query.ensures.greeting (c.in-Ok-greet_query.ensures.remembers requests h) _ (to_z-of_z w32 c.args.header.request_id id_fits ∙ ap (λ x. x.request_id) c.requires.header)
     c.respond_to_query.result c.respond_to_query.ensures.sent c.respond_to_query.ensures.front c.respond_to_query.ensures.refused
 
-pub returns : goal.returns
-returns g c = λ requests before h f.
+pub returns-clause-turn : goal.returns-clause-turn
+returns-clause-turn g c = λ requests before h f.
     let s = put_back_state g.L.Outside.state c.args.link.now in
     let t = put_back_state g.L.Outside.state c.take_bytes.new.source in
     let head = c.args.head.now in

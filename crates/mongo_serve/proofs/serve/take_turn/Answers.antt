@@ -8,8 +8,8 @@ use Rattle.mongo_serve.proofs.Lasts.{lasts_all, lasts_read}
 use Rattle.mongo_serve.proofs.Turns.{none_taken}
 use Rattle.mongo_serve.proofs.serve.take_turn.Goals as goal
 
-pub returns-in-Err : goal.returns-in-Err
-returns-in-Err g c = λ requests h.
+pub returns-in-Err-clause-turn : goal.returns-in-Err-clause-turn
+returns-in-Err-clause-turn g c = λ requests h.
     let s = put_back_state g.L.Outside.state c.args.link.now in
     let t = put_back_state g.L.Outside.state c.fill_or_end.new.source in
     let session = c.args.serving.now.session in
