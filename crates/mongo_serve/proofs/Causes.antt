@@ -1,5 +1,5 @@
 -- Why a stream was left, by what its parts say.
-use Rattle.std.proofs.Common.{◌≡◌, ◌⊎◌, ℕ, ℤ, pos, ◌+◌, ◌<◌, ◌≤◌, ◌≤ℤ◌, Option, None, Some, IfSome, List, [], ◌++◌, length, is_some, inl, inr, refl, sym, ap, ◌∙◌, subst, arith, length-append, append-nil}
+use Rattle.std.proofs.Common.{◌≡◌, ◌⊎◌, ℕ, ℤ, pos, ◌+◌, ◌-◌, ◌^◌, ◌<◌, ◌≤◌, ◌≤ℤ◌, Option, None, Some, IfSome, List, [], ◌++◌, length, is_some, inl, inr, refl, sym, ap, ◌∙◌, subst, arith, length-append, append-nil}
 use Rattle.std.proofs.lemmas.Bool.{false≢true}
 use Rattle.std.proofs.lemmas.Int.{ints}
 use Rattle.std.specs.Io.KnownBytes.{Consumes}
@@ -162,25 +162,29 @@ query_front head rest wanted sixteen code counted within short =
 
 -- ---- a write was refused
 
-pub document_cause : (fault : ServeFault) (old new : State) → IsOfDocument fault → WriteCause fault old new
-document_cause ReplyTooLong old new is = tt
-document_cause OutOfMemory old new is = tt
-document_cause ReadFault old new is = absurd is
-document_cause WriteFault old new is = absurd is
-document_cause CutFrame old new is = absurd is
-document_cause NoFrame old new is = absurd is
-document_cause NoHello old new is = absurd is
-document_cause TooManyRequests old new is = absurd is
+pub document_cause : (too_long : Type 0) (document : List ℕ) (fault : ServeFault) (old new : State) → (2 ^ 31 - 1 < length document → too_long) → IsOfDocument document fault → WriteCause too_long fault old new
+document_cause too_long document ReplyTooLong old new long is = long is
+document_cause too_long document OutOfMemory old new long is = tt
+document_cause too_long document ReadFault old new long is = absurd is
+document_cause too_long document WriteFault old new long is = absurd is
+document_cause too_long document CutFrame old new long is = absurd is
+document_cause too_long document NoFrame old new long is = absurd is
+document_cause too_long document NoHello old new long is = absurd is
+document_cause too_long document TooManyRequests old new long is = absurd is
 
-pub write_cause : (fault : ServeFault) (old mid new : State) (cut : List ServerTurn) → length cut ≡ 1 → Lasts old mid → WriteCause fault mid new → HasCause fault old new cut []
-write_cause WriteFault old mid new cut one lasts w = (rose_after old.write_faults mid.write_faults new.write_faults lasts.writes w, (one, refl))
-write_cause ReplyTooLong old mid new cut one lasts w = (one, refl)
-write_cause OutOfMemory old mid new cut one lasts w = tt
-write_cause ReadFault old mid new cut one lasts w = absurd w
-write_cause CutFrame old mid new cut one lasts w = absurd w
-write_cause NoFrame old mid new cut one lasts w = absurd w
-write_cause NoHello old mid new cut one lasts w = absurd w
-write_cause TooManyRequests old mid new cut one lasts w = absurd w
+-- the cause of a reply that is too long
+pub long_cause : (too_long : Type 0) (fault : ServeFault) (old new : State) → WriteCause too_long fault old new → Some fault ≡ Some ReplyTooLong → too_long
+long_cause too_long fault old new cause is = let same : fault ≡ ReplyTooLong = cc in subst (λ f. WriteCause too_long f old new) same cause
+
+pub write_cause : (too_long : Type 0) (fault : ServeFault) (old mid new : State) (cut : List ServerTurn) → length cut ≡ 1 → Lasts old mid → WriteCause too_long fault mid new → HasCause fault old new cut []
+write_cause too_long WriteFault old mid new cut one lasts w = (rose_after old.write_faults mid.write_faults new.write_faults lasts.writes w, (one, refl))
+write_cause too_long ReplyTooLong old mid new cut one lasts w = (one, refl)
+write_cause too_long OutOfMemory old mid new cut one lasts w = tt
+write_cause too_long ReadFault old mid new cut one lasts w = absurd w
+write_cause too_long CutFrame old mid new cut one lasts w = absurd w
+write_cause too_long NoFrame old mid new cut one lasts w = absurd w
+write_cause too_long NoHello old mid new cut one lasts w = absurd w
+write_cause too_long TooManyRequests old mid new cut one lasts w = absurd w
 
 -- ---- after the turns before
 

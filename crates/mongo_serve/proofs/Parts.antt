@@ -16,19 +16,20 @@ use Rattle.mongo_serve.specs.Login.{HasLoggedIn, Remembers}
 use Rattle.mongo_serve.specs.Replies.{document_of_served}
 use Rattle.mongo_serve.specs.Requests.{IsGreeting}
 use Rattle.mongo_serve.specs.Cut.{HasCause, IsCut, IsPart}
-use Rattle.mongo_serve.specs.Sent.{IsAnswerTo, IsReplySent, IsSentInPart, IsSentToQuery, message_reply, query_reply, WantsNone, WriteCause}
+use Rattle.mongo_serve.specs.Sent.{IsAnswerTo, IsLongMessage, IsLongReply, IsReplySent, IsSentInPart, IsSentToQuery, message_reply, query_reply, WantsNone, WriteCause}
 use Rattle.mongo_serve.specs.Served.{FollowsHead, IsBackAt, Lasts, PartEnds}
 use Rattle.mongo_serve.specs.Turns.{IsDocumentAnswered}
 use Rattle.mongo_serve.proofs.Lasts.{sent_flushed}
 use Rattle.mongo_serve.specs.Taken.{IsQuery, IsQueryBody}
 use Rattle.mongo_wire.proofs.OneFrame.{signed_in}
+use Rattle.mongo_serve.proofs.Causes.{long_cause}
 use Rattle.mongo_serve.proofs.Prepended.{put_back_left}
 use Rattle.mongo_serve.proofs.Turns.{turn_taken, turn_cut, none_taken}
 
 -- an OP_MSG was taken and answered, and the answer sent or cut
 pub message_part : (settings : Settings) (requests : List (List ℕ)) (old mid new : State) (before : Session) (id : ℤ) (after : Session) (later : ℤ) (frame : List ℕ) (parts : Frame) (document : List ℕ) → IsFrame frame parts → parts.body ≡ document
     → Consumes old.left mid.left frame → mid.written ≡ old.written → Lasts old mid → WritesOn mid new → (reply : Reply) → IsDocumentAnswered settings before document after reply → Remembers settings (requests ++ document ∷ []) after
-    → (to : ℤ) → to ≡ parts.request_id → (flags : ℕ) → flags ≡ parts.flags → (r : Result ⊤ ServeFault) → OnOk r (IsReplySent mid new to flags reply id later) → OnErr r (IsSentInPart mid new to flags reply id) → IfErr r (λ fault. WriteCause fault mid new)
+    → (to : ℤ) → to ≡ parts.request_id → (flags : ℕ) → flags ≡ parts.flags → (r : Result ⊤ ServeFault) → OnOk r (IsReplySent mid new to flags reply id later) → OnErr r (IsSentInPart mid new to flags reply id) → IfErr r (λ fault. WriteCause (IsLongMessage (document_of_served reply)) fault mid new)
     → PartEnds settings requests old new before id after later r
 message_part settings requests old mid new before id after later frame parts document is_frame body_is consumed unwritten lasts on reply answered remembers to to_is flags flags_are (Ok done) h cut cause =
     let answer : IsAnswerTo parts.request_id parts.flags reply id later h.sent = subst (λ f. IsAnswerTo parts.request_id f reply id later h.sent) flags_are (subst (λ t. IsAnswerTo t flags reply id later h.sent) to_is h.is_answer) in
@@ -39,7 +40,7 @@ message_part settings requests old mid new before id after later frame parts doc
     let n = cut.front.0 in
     let reply_bytes = document_of_served reply in
     let sent = take n (message_reply id to reply_bytes) in
-    turn_cut settings requests old mid new before id after.user fault (record { frame = frame; document = document; sent = sent })
+    turn_cut (IsLongMessage reply_bytes) settings requests old mid new before id after.user fault (record { frame = frame; document = document; sent = sent })
     (record {
       is_taken = inl (parts, is_frame, body_is);
       after = after;
@@ -54,6 +55,7 @@ message_part settings requests old mid new before id after later frame parts doc
             wanted = subst (λ f. WantsNone f → ⊥) flags_are cut.wanted;
             front = (n, ap (λ t. take n (message_reply id t reply_bytes)) to_is);
           });
+      too_long = λ is. inl ((parts, is_frame, body_is), long_cause (IsLongMessage reply_bytes) fault mid new cause is);
     })
     consumed unwritten lasts on cut.front.1 cause remembers.user
 
@@ -61,7 +63,7 @@ message_part settings requests old mid new before id after later frame parts doc
 pub query_part : (settings : Settings) (requests : List (List ℕ)) (old mid new : State) (before : Session) (id : ℤ) (after : Session) (later : ℤ) (head body command : List ℕ) → IsQuery (head ++ body) command → length head ≡ 16
     → Consumes old.left mid.left (head ++ body) → mid.written ≡ old.written → Lasts old mid → WritesOn mid new → (reply : Reply) → IsDocumentAnswered settings before command after reply → IsGreeting command
     → Remembers settings (requests ++ command ∷ []) after → (to : ℤ) → to ≡ signed_at 4 head → (r : Result ⊤ ServeFault) → OnOk r (IsSentToQuery mid new to reply id later)
-    → OnErr r (AppendsFront mid.written new.written (query_reply id to (document_of_served reply))) → IfErr r (λ fault. WriteCause fault mid new) → PartEnds settings requests old new before id after later r
+    → OnErr r (AppendsFront mid.written new.written (query_reply id to (document_of_served reply))) → IfErr r (λ fault. WriteCause (IsLongReply (document_of_served reply)) fault mid new) → PartEnds settings requests old new before id after later r
 query_part settings requests old mid new before id after later head body command is_query sixteen consumed unwritten lasts on reply answered greeting remembers to to_is (Ok done) h front cause =
     let sent = query_reply id to (document_of_served reply) in
     let to_front : to ≡ signed_at 4 (take 16 (head ++ body)) = to_is ∙ ap (signed_at 4) (sym (take_at head body 16 sixteen)) in
@@ -71,7 +73,7 @@ query_part settings requests old mid new before id after later head body command
 query_part settings requests old mid new before id after later head body command is_query sixteen consumed unwritten lasts on reply answered greeting remembers to to_is (Err fault) h front cause =
     let n = front.0 in
     let to_front : to ≡ signed_at 4 (take 16 (head ++ body)) = to_is ∙ ap (signed_at 4) (sym (take_at head body 16 sixteen)) in
-    turn_cut settings requests old mid new before id after.user fault (record { frame = head ++ body; document = command; sent = take n (query_reply id to (document_of_served reply)) })
+    turn_cut (IsLongReply (document_of_served reply)) settings requests old mid new before id after.user fault (record { frame = head ++ body; document = command; sent = take n (query_reply id to (document_of_served reply)) })
     (record {
       is_taken = inr is_query;
       after = after;
@@ -79,6 +81,7 @@ query_part settings requests old mid new before id after later head body command
       answered = answered;
       user_is = refl;
       sent = inr (is_query, greeting, (n, ap (λ t. take n (query_reply id t (document_of_served reply))) to_front));
+      too_long = λ is. inr (is_query, long_cause (IsLongReply (document_of_served reply)) fault mid new cause is);
     })
     consumed unwritten lasts on front.1 cause remembers.user
 

@@ -1,11 +1,11 @@
 -- Replies that are sent, or cut.
-use Rattle.std.proofs.Common.{◌≡◌, ℕ, ℤ, ◌+◌, Option, None, Result, Ok, Err, OnOk, OnErr, List, [], ◌∷◌, ◌++◌, length, bit_and, sym, ap, ◌∙◌, subst, inr, append-nil, arith}
+use Rattle.std.proofs.Common.{◌≡◌, ℕ, ℤ, ◌+◌, Option, None, Result, Ok, Err, OnOk, OnErr, List, [], ◌∷◌, ◌++◌, length, bit_and, sym, ap, ◌∙◌, subst, inr, append-nil, arith, length-append}
 use Rattle.std.proofs.Math.Seq.{take-length}
 use Rattle.std.proofs.KnownBytes.{Appends-kept, Appends-nil}
 use Rattle.std.specs.Prelude.{⊤}
 use Rattle.std.specs.Io.KnownBytes.{Appends, Keeps}
 use Rattle.mongo_wire.specs.Frame.{IsFrameWith, int32, known_flags, message_code, uint32}
-use Rattle.mongo_wire.specs.Message.{IsFrameOf, WriteRefused, id_of, written_frame}
+use Rattle.mongo_wire.specs.Message.{ArgumentRow, IsFrameOf, WriteRefused, id_of, written_frame}
 use Rattle.mongo_wire.specs.Outside.{State, AppendsFront}
 use Rattle.mongo_wire.specs.declared.document_sequence.DocumentSequence.{DocumentSequence}
 use Rattle.mongo_wire.specs.declared.error.ErrorKind.{ErrorKind}
@@ -14,9 +14,13 @@ use Rattle.mongo_wire.specs.declared.message.Message.{Message}
 use Rattle.mongo_wire.specs.declared.message_flags.MessageFlags.{MessageFlags}
 use Rattle.mongo_serve.specs.declared.fault.ServeFault.{ServeFault}
 use Rattle.mongo_serve.specs.declared.reply.Reply.{Reply}
+use Rattle.mongo_wire.specs.Bytes.{first_maximum}
+use Rattle.mongo_wire.specs.declared.fault.ArgumentFault.{ArgumentFault}
+use Rattle.mongo_wire.specs.declared.fault.ArgumentFault.TheVariants.{IdentifierHasZero, SequenceTooLong, MaximumNegative, TooLong}
+use Rattle.std.proofs.lemmas.Int.{ints}
 use Rattle.mongo_serve.specs.Faults.{fault_of_kind}
 use Rattle.mongo_serve.specs.Replies.{document_of_served}
-use Rattle.mongo_serve.specs.Sent.{message_reply, IsReplyFrame, IsReplySent, IsSentInPart, SendsReply, WantsNone, WriteCause}
+use Rattle.mongo_serve.specs.Sent.{IsLongMessage, message_reply, IsReplyFrame, IsReplySent, IsSentInPart, SendsReply, WantsNone, WriteCause}
 use Rattle.mongo_serve.proofs.Lasts.{sent_flushed}
 
 pub message_framed : (document : List ℕ) (sequences : List DocumentSequence) (id to : ℤ) (flags : MessageFlags) (frame : List ℕ) → sequences ≡ [] → flags.0 ≡ 0
@@ -72,20 +76,34 @@ refused_front (InsertMany _) maximum m old new before after h = absurd h
 refused_front (Callback _) maximum m old new before after h = absurd h
 refused_front PasswordNotAscii maximum m old new before after h = absurd h
 
-pub refused_cause : (kind : ErrorKind) (maximum : ℤ) (m : Message) (old new : State) (before after : ℤ) → WriteRefused kind maximum m old new before after → WriteCause (fault_of_kind kind) old new
-refused_cause (InvalidArgument fault) maximum m old new before after h = tt
-refused_cause WriteFault maximum m old new before after h = h.0
-refused_cause OutOfMemory maximum m old new before after h = tt
-refused_cause ReadFault maximum m old new before after h = absurd h
-refused_cause EndOfInput maximum m old new before after h = absurd h
-refused_cause (InvalidResponse _) maximum m old new before after h = absurd h
-refused_cause (Command _) maximum m old new before after h = absurd h
-refused_cause (Authentication _) maximum m old new before after h = absurd h
-refused_cause IncompatibleServer maximum m old new before after h = absurd h
-refused_cause (Write _) maximum m old new before after h = absurd h
-refused_cause (InsertMany _) maximum m old new before after h = absurd h
-refused_cause (Callback _) maximum m old new before after h = absurd h
-refused_cause PasswordNotAscii maximum m old new before after h = absurd h
+-- a message that has its document alone is refused only where it is too long
+long_alone : (document : List ℕ) (to : ℤ) (flags : MessageFlags) (fault : ArgumentFault)
+    → ArgumentRow fault first_maximum (record { document_payload = document; document_sequences = []; response_to = to; flags = flags; checksum = None; request_id = None }) → IsLongMessage document
+long_alone document to flags IdentifierHasZero row = absurd (row tt)
+long_alone document to flags SequenceTooLong row = absurd (row.1 tt)
+long_alone document to flags MaximumNegative row = omega (arith, ints, row.2)
+long_alone document to flags TooLong row = omega (arith, ints, row.3, length-append ((0 ∷ document) ++ []) [], length-append (0 ∷ document) [])
+long_alone document to flags fault row = absurd row
+
+pub long_message : (document : List ℕ) (sequences : List DocumentSequence) (to : ℤ) (flags : MessageFlags) → sequences ≡ [] → (fault : ArgumentFault)
+    → ArgumentRow fault first_maximum (record { document_payload = document; document_sequences = sequences; response_to = to; flags = flags; checksum = None; request_id = None }) → IsLongMessage document
+long_message document sequences to flags none fault row =
+    long_alone document to flags fault (subst (λ s. ArgumentRow fault first_maximum (record { document_payload = document; document_sequences = s; response_to = to; flags = flags; checksum = None; request_id = None })) none row)
+
+pub refused_cause : (too_long : Type 0) (kind : ErrorKind) (maximum : ℤ) (m : Message) (old new : State) (before after : ℤ) → ((fault : ArgumentFault) → ArgumentRow fault maximum m → too_long) → WriteRefused kind maximum m old new before after → WriteCause too_long (fault_of_kind kind) old new
+refused_cause too_long (InvalidArgument fault) maximum m old new before after long h = long fault h.0
+refused_cause too_long WriteFault maximum m old new before after long h = h.0
+refused_cause too_long OutOfMemory maximum m old new before after long h = tt
+refused_cause too_long ReadFault maximum m old new before after long h = absurd h
+refused_cause too_long EndOfInput maximum m old new before after long h = absurd h
+refused_cause too_long (InvalidResponse _) maximum m old new before after long h = absurd h
+refused_cause too_long (Command _) maximum m old new before after long h = absurd h
+refused_cause too_long (Authentication _) maximum m old new before after long h = absurd h
+refused_cause too_long IncompatibleServer maximum m old new before after long h = absurd h
+refused_cause too_long (Write _) maximum m old new before after long h = absurd h
+refused_cause too_long (InsertMany _) maximum m old new before after long h = absurd h
+refused_cause too_long (Callback _) maximum m old new before after long h = absurd h
+refused_cause too_long PasswordNotAscii maximum m old new before after long h = absurd h
 
 -- ---- an OP_MSG was answered
 

@@ -1,5 +1,5 @@
 -- Turns, one after another.
-use Rattle.std.proofs.Common.{◌≡◌, ℕ, ℤ, Option, IfSome, List, [], ◌∷◌, ◌++◌, refl, sym, ◌∙◌, subst, append-nil, flat_map, inl, arith}
+use Rattle.std.proofs.Common.{◌≡◌, ℕ, ℤ, Option, Some, IfSome, List, [], ◌∷◌, ◌++◌, refl, sym, ◌∙◌, subst, append-nil, flat_map, inl, arith}
 use Rattle.std.proofs.lemmas.List.{map-append}
 use Rattle.std.proofs.lemmas.List.Concat.{flat_map-append}
 use Rattle.std.proofs.KnownBytes.{Appends-nil}
@@ -52,10 +52,10 @@ turn_taken settings requests old mid new before id after later turn is_taken con
 }
 
 -- a request was taken, and its answer cut
-pub turn_cut : (settings : Settings) (requests : List (List ℕ)) (old mid new : State) (before : Session) (id : ℤ) (user : Option (List ℕ)) (fault : ServeFault) (turn : ServerTurn) → IsCutTurn settings before id user turn
-    → Consumes old.left mid.left turn.frame → mid.written ≡ old.written → Lasts old mid → WritesOn mid new → Appends mid.written new.written turn.sent → WriteCause fault mid new
+pub turn_cut : (too_long : Type 0) (settings : Settings) (requests : List (List ℕ)) (old mid new : State) (before : Session) (id : ℤ) (user : Option (List ℕ)) (fault : ServeFault) (turn : ServerTurn) → IsCutTurn settings before id user (Some fault) turn
+    → Consumes old.left mid.left turn.frame → mid.written ≡ old.written → Lasts old mid → WritesOn mid new → Appends mid.written new.written turn.sent → WriteCause too_long fault mid new
     → IfSome user (λ name. HasLoggedIn settings name (requests ++ turn.document ∷ [])) → IsCut settings requests old new before id user fault
-turn_cut settings requests old mid new before id user fault turn is_cut consumed unwritten lasts on appended cause logged_in = record {
+turn_cut too_long settings requests old mid new before id user fault turn is_cut consumed unwritten lasts on appended cause logged_in = record {
   turns = turn ∷ [];
   one = omega arith;
   each = (is_cut, tt);
@@ -67,7 +67,7 @@ turn_cut settings requests old mid new before id user fault turn is_cut consumed
   appended = subst (Appends old.written new.written) (sym (one_joined (λ t. t.sent) turn)) (subst (λ written. Appends written new.written turn.sent) unwritten appended);
   logged_in = logged_in;
   stays = (lasts_on old mid new lasts (lasts_write mid new on)).flushed;
-  cause = write_cause fault old mid new (turn ∷ []) (omega arith) lasts cause;
+  cause = write_cause too_long fault old mid new (turn ∷ []) (omega arith) lasts cause;
 }
   where
     filled : turn ∷ [] ≡ [] → ⊥

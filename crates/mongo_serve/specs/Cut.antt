@@ -1,5 +1,5 @@
 -- A turn that was cut, and why.
-use Rattle.std.specs.Prelude.{◌≡◌, ℕ, ℤ, pos, ◌<◌, ◌≤◌, ◌≤ℤ◌, ◌⊎◌, Option, List, [], ◌++◌, length, IfSome, ⊤}
+use Rattle.std.specs.Prelude.{◌≡◌, ℕ, ℤ, pos, ◌<◌, ◌≤◌, ◌≤ℤ◌, ◌⊎◌, Option, Some, List, [], ◌++◌, length, IfSome, ⊤}
 use Rattle.std.specs.List.{AllByRecursion}
 use Rattle.std.specs.Io.KnownBytes.{Consumes, Appends}
 use Rattle.mongo_wire.specs.Header.{code_number, signed_at}
@@ -12,10 +12,10 @@ use Rattle.mongo_serve.specs.declared.reply.Reply.{Reply}
 use Rattle.mongo_serve.specs.declared.session.Session.{Session}
 use Rattle.mongo_serve.specs.declared.settings.Settings.{Settings}
 use Rattle.mongo_serve.specs.Login.{HasLoggedIn}
-use Rattle.mongo_serve.specs.Replies.{frame_maximum}
+use Rattle.mongo_serve.specs.Replies.{document_of_served, frame_maximum}
 use Rattle.mongo_serve.specs.Requests.{IsGreeting}
-use Rattle.mongo_serve.specs.Sent.{CutsMessage, CutsQuery}
-use Rattle.mongo_serve.specs.Taken.{CarriesRequest, IsQuery}
+use Rattle.mongo_serve.specs.Sent.{CutsMessage, CutsQuery, IsLongMessage, IsLongReply}
+use Rattle.mongo_serve.specs.Taken.{CarriesRequest, IsMessage, IsQuery}
 use Rattle.mongo_serve.specs.Turns.{ServerTurn, IsTurnTaken, IsDocumentAnswered, joined, documents, sent_for}
 
 -- ---- a frame whose answer was cut
@@ -25,14 +25,20 @@ abbrev pub CutsIn : ServerTurn → Reply → ℤ → Type 0
 CutsIn turn reply id =
     CutsMessage turn.frame turn.document reply id turn.sent ⊎ (IsQuery turn.frame turn.document × IsGreeting turn.document × CutsQuery turn.frame reply id turn.sent)
 
--- the request was answered by the session, which has this user then, and the reply sent in part
-pub record IsCutTurn (settings : Settings) (before : Session) (id : ℤ) (user : Option (List ℕ)) (turn : ServerTurn) : Type 0 where
+-- the reply is longer than what answers the frame may be
+abbrev pub IsLong : ServerTurn → Reply → Type 0
+IsLong turn reply =
+    (IsMessage turn.frame turn.document × IsLongMessage (document_of_served reply)) ⊎ (IsQuery turn.frame turn.document × IsLongReply (document_of_served reply))
+
+-- the request was answered by the session, which has this user then, and the reply sent in part, for this fault
+pub record IsCutTurn (settings : Settings) (before : Session) (id : ℤ) (user : Option (List ℕ)) (fault : Option ServeFault) (turn : ServerTurn) : Type 0 where
   pub is_taken : IsTurnTaken turn
   pub after : Session
   pub reply : Reply
   pub answered : IsDocumentAnswered settings before turn.document after reply
   pub user_is : user ≡ after.user
   pub sent : CutsIn turn reply id
+  pub too_long : fault ≡ Some ReplyTooLong → IsLong turn reply
 
 -- ---- bytes that were taken and not answered
 
@@ -88,7 +94,7 @@ HasCause OutOfMemory old new cut more = ⊤
 pub record IsCut (settings : Settings) (requests : List (List ℕ)) (old new : State) (before : Session) (id : ℤ) (user : Option (List ℕ)) (fault : ServeFault) : Type 0 where
   pub turns : List ServerTurn
   pub one : length turns ≤ 1
-  pub each : AllByRecursion (IsCutTurn settings before id user) turns
+  pub each : AllByRecursion (IsCutTurn settings before id user (Some fault)) turns
   pub none : turns ≡ [] → user ≡ before.user
   pub more : List ℕ
   pub part : IsPart more

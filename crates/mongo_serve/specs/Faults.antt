@@ -1,5 +1,5 @@
 -- What the faults below are to the server.
-use Rattle.std.specs.Prelude.{⊤}
+use Rattle.std.specs.Prelude.{ℕ, ◌-◌, ◌^◌, ◌<◌, List, length, ⊤}
 use Rattle.mongo_bson.specs.declared.fault.BsonFault.{BsonFault}
 use Rattle.mongo_bson.specs.declared.fault.BsonFault.TheVariants.{OutOfMemory as NoMemory}
 use Rattle.mongo_wire.specs.declared.fault.FrameFault.{FrameFault}
@@ -32,8 +32,8 @@ abbrev pub fault_of_sink : SinkError → ServeFault
 fault_of_sink sink.Failed = WriteFault
 fault_of_sink sink.OutOfMemory = OutOfMemory
 
--- a document is too long, or memory ran out
-abbrev pub IsOfDocument : ServeFault → Type 0
-IsOfDocument ReplyTooLong = ⊤
-IsOfDocument OutOfMemory = ⊤
-IsOfDocument fault = ⊥
+-- a document is longer than an int32 counts, or memory ran out
+abbrev pub IsOfDocument : List ℕ → ServeFault → Type 0
+IsOfDocument document ReplyTooLong = 2 ^ 31 - 1 < length document
+IsOfDocument document OutOfMemory = ⊤
+IsOfDocument document fault = ⊥

@@ -1,8 +1,8 @@
 -- The frames that replies go out in.
-use Rattle.std.specs.Prelude.{◌≡◌, ℕ, ℤ, pos, ◌+◌, ◌≤◌, ◌⊎◌, None, List, [], ◌∷◌, ◌++◌, length, take, bit_and, IfSome, ⊤}
+use Rattle.std.specs.Prelude.{◌≡◌, ℕ, ℤ, pos, ◌+◌, ◌≤◌, ◌<ℤ◌, ◌⊎◌, None, List, [], ◌∷◌, ◌++◌, length, take, bit_and, IfSome, ⊤}
 use Rattle.std.specs.Int.{to_le_bytes, w64}
 use Rattle.std.specs.Io.KnownBytes.{Appends}
-use Rattle.mongo_wire.specs.Bytes.{next_id}
+use Rattle.mongo_wire.specs.Bytes.{first_maximum, next_id}
 use Rattle.mongo_wire.specs.Frame.{Frame, IsFrame, IsFrameWith, int32, message_code, uint32}
 use Rattle.mongo_wire.specs.Header.{header_bytes, signed_at}
 use Rattle.mongo_wire.specs.Outside.{State, AppendsFront, IsFlushed, Rose}
@@ -11,7 +11,7 @@ use Rattle.mongo_wire.specs.declared.op_code.OpCode.TheVariants.{Reply as OpRepl
 use Rattle.mongo_serve.specs.declared.fault.ServeFault.{ServeFault}
 use Rattle.mongo_serve.specs.declared.fault.ServeFault.TheVariants.{WriteFault, ReplyTooLong, OutOfMemory}
 use Rattle.mongo_serve.specs.declared.reply.Reply.{Reply}
-use Rattle.mongo_serve.specs.Replies.{document_of_served}
+use Rattle.mongo_serve.specs.Replies.{document_of_served, frame_maximum}
 
 -- MORE_TO_COME, bit 1, is set
 abbrev pub WantsNone : ℕ → Type 0
@@ -107,9 +107,17 @@ pub record IsSentToQuery (old new : State) (to : ℤ) (reply : Reply) (id later 
 
 -- ---- why a write was refused
 
--- the sink failed exactly where its count rose
-abbrev pub WriteCause : ServeFault → State → State → Type 0
-WriteCause WriteFault old new = Rose old.write_faults new.write_faults
-WriteCause ReplyTooLong old new = ⊤
-WriteCause OutOfMemory old new = ⊤
-WriteCause fault old new = ⊥
+-- an OP_MSG of the document is longer than the greatest that is sent
+abbrev pub IsLongMessage : List ℕ → Type 0
+IsLongMessage document = first_maximum <ℤ pos (21 + length document)
+
+-- a document is longer than an OP_REPLY takes
+abbrev pub IsLongReply : List ℕ → Type 0
+IsLongReply document = frame_maximum <ℤ pos (length document)
+
+-- The sink failed exactly where its count rose; a reply is refused as too long only where it is.
+abbrev pub WriteCause : Type 0 → ServeFault → State → State → Type 0
+WriteCause too_long WriteFault old new = Rose old.write_faults new.write_faults
+WriteCause too_long ReplyTooLong old new = too_long
+WriteCause too_long OutOfMemory old new = ⊤
+WriteCause too_long fault old new = ⊥

@@ -100,7 +100,7 @@ pub record IsServed (settings : Settings) (old new : State) (served : Served) : 
   pub flushed : HasFlushed old new (sent_for turns)
   pub cut : List ServerTurn
   pub one : length cut ≤ 1
-  pub each_cut : AllByRecursion (IsCutTurn settings session id served.user) cut
+  pub each_cut : AllByRecursion (IsCutTurn settings session id served.user served.fault) cut
   pub user_is : cut ≡ [] → served.user ≡ session.user
   pub more : List ℕ
   pub part : IsPart more

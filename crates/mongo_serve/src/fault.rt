@@ -19,7 +19,7 @@ pub enum ServeFault {
     NoFrame,
     /// An OP_QUERY asked for another command than hello.
     NoHello,
-    /// A reply would pass 50331648 bytes.
+    /// A reply to an OP_MSG would pass 50331648 bytes, or the document of one to an OP_QUERY 48000000.
     ReplyTooLong,
     /// 18446744073709551615 requests came.
     TooManyRequests,

@@ -1,6 +1,6 @@
 //! The document that says what a server is.
 
-ghost use Rattle.std.specs.Prelude.{◌≡◌, List, [], ◌∷◌, ◌++◌, IfOk, IfErr, OnOk};
+ghost use Rattle.std.specs.Prelude.{◌≡◌, List, [], ◌∷◌, ◌++◌, IfOk, IfErr, OnOk, Contains};
 ghost use Rattle.mongo_bson.specs.Document.{Element};
 ghost use Rattle.mongo_bson.specs.Value.{element_of};
 ghost use Rattle.mongo_command.specs.Literal.{document_of};
@@ -24,7 +24,7 @@ use std::alloc::Global;
 /// `ReplyTooLong` where it would pass 2147483647 bytes.
 pub fn hello_document(alloc: Global, hello: &HelloReply) -> Result<RawDocumentBuf, ServeFault>
     ensures document { IfOk result (λ document. document ≡ document_of (hello_reply_elements hello.now)) }
-    ensures refused { IfErr result IsOfDocument }
+    ensures refused { IfErr result (IsOfDocument (document_of (hello_reply_elements hello.now))) }
 {
     let mut document = description(alloc)?;
     put(
@@ -41,7 +41,7 @@ pub fn hello_document(alloc: Global, hello: &HelloReply) -> Result<RawDocumentBu
 // What a hello says of the server, whoever asks.
 fn description(alloc: Global) -> Result<RawDocumentBuf, ServeFault>
     ensures document { IfOk result (λ document. document ≡ document_of description) }
-    ensures refused { IfErr result IsOfDocument }
+    ensures refused { IfErr result (IsOfDocument (document_of description)) }
 {
     Ok(document_of(
         alloc,
@@ -74,7 +74,7 @@ fn writable_key(is_legacy: bool) -> &'static str
 // Puts an element at the end of a document.
 fn put(document: &mut RawDocumentBuf, key: &str, value: RawValue<'_>) -> Result<(), ServeFault>
     ensures added { (elements : List Element) → document.old ≡ document_of elements → OnOk result (document.new ≡ document_of (elements ++ element_of key.now value.entry ∷ [])) }
-    ensures refused { IfErr result IsOfDocument }
+    ensures refused { (elements : List Element) → document.old ≡ document_of elements → (Contains key.now 0 → ⊥) → IfErr result (IsOfDocument (document_of (elements ++ element_of key.now value.entry ∷ []))) }
 {
     document.append(key, value)?;
     Ok(())
@@ -86,7 +86,7 @@ fn put_mechanisms(
     mechanisms: Option<Mechanisms>,
 ) -> Result<(), ServeFault>
     ensures added { (elements : List Element) → document.old ≡ document_of elements → OnOk result (document.new ≡ document_of (elements ++ mechanism_elements mechanisms)) }
-    ensures refused { IfErr result IsOfDocument }
+    ensures refused { (elements : List Element) → document.old ≡ document_of elements → IfErr result (IsOfDocument (document_of (elements ++ mechanism_elements mechanisms))) }
 {
     match mechanisms {
         Some(mechanisms) => {
@@ -123,7 +123,7 @@ fn put_speculation(
     speculation: &Option<SaslReply>,
 ) -> Result<(), ServeFault>
     ensures added { (elements : List Element) → document.old ≡ document_of elements → OnOk result (document.new ≡ document_of (elements ++ speculation_elements speculation.now)) }
-    ensures refused { IfErr result IsOfDocument }
+    ensures refused { (elements : List Element) → document.old ≡ document_of elements → IfErr result (IsOfDocument (document_of (elements ++ speculation_elements speculation.now))) }
 {
     match speculation {
         Some(message) => {

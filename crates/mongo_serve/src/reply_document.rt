@@ -36,7 +36,7 @@ pub const FRAME_MAXIMUM: i32 = 48_000_000;
 /// `ReplyTooLong` where it would pass 2147483647 bytes.
 pub fn document_of_reply(alloc: Global, reply: &Reply) -> Result<RawDocumentBuf, ServeFault>
     ensures document { IfOk result (λ document. document ≡ document_of_served reply.now) }
-    ensures refused { IfErr result IsOfDocument }
+    ensures refused { IfErr result (IsOfDocument (document_of_served reply.now)) }
 {
     match reply {
         Reply::Hello(hello) => hello_document(alloc, hello),
@@ -49,14 +49,14 @@ pub fn document_of_reply(alloc: Global, reply: &Reply) -> Result<RawDocumentBuf,
 
 fn done_document(alloc: Global) -> Result<RawDocumentBuf, ServeFault>
     ensures document { IfOk result (λ document. document ≡ done_document) }
-    ensures refused { IfErr result IsOfDocument }
+    ensures refused { IfErr result (IsOfDocument done_document) }
 {
     Ok(document_of(alloc, &[(OK, RawValue::Double(ONE))])?)
 }
 
 fn refusal_document(alloc: Global, refusal: &Refusal) -> Result<RawDocumentBuf, ServeFault>
     ensures document { IfOk result (λ document. document ≡ refusal_document refusal.now) }
-    ensures refused { IfErr result IsOfDocument }
+    ensures refused { IfErr result (IsOfDocument (refusal_document refusal.now)) }
 {
     match refusal {
         Refusal::AuthenticationFailed => {
@@ -82,7 +82,7 @@ fn error_document<'x>(
     name: &'x str,
 ) -> Result<RawDocumentBuf, ServeFault>
     ensures document { IfOk result (λ document. document ≡ error_document message.now code name.now) }
-    ensures refused { IfErr result IsOfDocument }
+    ensures refused { IfErr result (IsOfDocument (error_document message.now code name.now)) }
 {
     let ok = (OK, RawValue::Double(ZERO));
     let message = (ERRMSG, RawValue::Str(message));
@@ -94,7 +94,7 @@ fn error_document<'x>(
 /// The reply to a command of a login.
 pub fn sasl_document(alloc: Global, message: &SaslReply) -> Result<RawDocumentBuf, ServeFault>
     ensures document { IfOk result (λ document. document ≡ sasl_document message.now) }
-    ensures refused { IfErr result IsOfDocument }
+    ensures refused { IfErr result (IsOfDocument (sasl_document message.now)) }
 {
     let id = (CONVERSATION_ID, RawValue::Int32(CONVERSATION));
     let done = (DONE, RawValue::Bool(message.is_done));
@@ -105,7 +105,7 @@ pub fn sasl_document(alloc: Global, message: &SaslReply) -> Result<RawDocumentBu
 
 fn build_info_document(alloc: Global) -> Result<RawDocumentBuf, ServeFault>
     ensures document { IfOk result (λ document. document ≡ build_info_document) }
-    ensures refused { IfErr result IsOfDocument }
+    ensures refused { IfErr result (IsOfDocument build_info_document) }
 {
     let version = ("version", RawValue::Str("7.0.0"));
     let git = ("gitVersion", RawValue::Str(""));

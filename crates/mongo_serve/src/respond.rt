@@ -4,7 +4,7 @@ ghost use Rattle.std.specs.Prelude.{◌≡◌, ◌+◌, ◌^◌, ◌<◌, length
 ghost use Rattle.std.specs.Io.KnownBytes.{Appends};
 ghost use Rattle.mongo_wire.specs.Outside.{AppendsFront, IsFlushed, WritesOn};
 ghost use Rattle.mongo_serve.specs.Replies.{document_of_served};
-ghost use Rattle.mongo_serve.specs.Sent.{message_reply, query_header, query_reply, IsReplySent, IsSentInPart, IsSentToQuery, SendsReply, WriteCause};
+ghost use Rattle.mongo_serve.specs.Sent.{message_reply, query_header, query_reply, IsLongMessage, IsLongReply, IsReplySent, IsSentInPart, IsSentToQuery, SendsReply, WriteCause};
 ghost use Rattle.mongo_serve.specs.declared.fault.ServeFault.TheVariants.{OutOfMemory};
 
 use crate::fault::ServeFault;
@@ -28,7 +28,7 @@ pub fn respond<K: Sink>(
     ensures sent { OnOk result (IsReplySent (K.state sink.old) (K.state sink.new) request_id flags.0 reply.now ids.old ids.new) }
     ensures cut { OnErr result (IsSentInPart (K.state sink.old) (K.state sink.new) request_id flags.0 reply.now ids.old) }
     ensures on { WritesOn (K.state sink.old) (K.state sink.new) }
-    ensures refused { IfErr result (λ fault. WriteCause fault (K.state sink.old) (K.state sink.new)) }
+    ensures refused { IfErr result (λ fault. WriteCause (IsLongMessage (document_of_served reply.now)) fault (K.state sink.old) (K.state sink.new)) }
 {
     if flags.contains(MessageFlags::MORE_TO_COME) {
         return Ok(());
@@ -50,7 +50,7 @@ fn send_message<K: Sink>(
     ensures sent { OnOk result (SendsReply (K.state sink.old) (K.state sink.new) ids.old ids.new request_id document) }
     ensures front { OnErr result (AppendsFront (K.state sink.old).written (K.state sink.new).written (message_reply ids.old request_id document)) }
     ensures on { WritesOn (K.state sink.old) (K.state sink.new) }
-    ensures refused { IfErr result (λ fault. WriteCause fault (K.state sink.old) (K.state sink.new)) }
+    ensures refused { IfErr result (λ fault. WriteCause (IsLongMessage document) fault (K.state sink.old) (K.state sink.new)) }
 {
     let message = Message {
         document_payload: document,
@@ -81,7 +81,7 @@ pub fn respond_to_query<K: Sink>(
     ensures sent { OnOk result (IsSentToQuery (K.state sink.old) (K.state sink.new) request_id reply.now ids.old ids.new) }
     ensures front { OnErr result (AppendsFront (K.state sink.old).written (K.state sink.new).written (query_reply ids.old request_id (document_of_served reply.now))) }
     ensures on { WritesOn (K.state sink.old) (K.state sink.new) }
-    ensures refused { IfErr result (λ fault. WriteCause fault (K.state sink.old) (K.state sink.new)) }
+    ensures refused { IfErr result (λ fault. WriteCause (IsLongReply (document_of_served reply.now)) fault (K.state sink.old) (K.state sink.new)) }
 {
     let document = match document_of_reply(alloc, reply) {
         Ok(document) => document,
@@ -129,7 +129,7 @@ fn send<K: Sink>(sink: &mut K, bytes: &[u8]) -> Result<(), ServeFault>
     ensures flushed { OnOk result (IsFlushed (K.state sink.new)) }
     ensures front { OnErr result (AppendsFront (K.state sink.old).written (K.state sink.new).written bytes.now) }
     ensures on { WritesOn (K.state sink.old) (K.state sink.new) }
-    ensures refused { IfErr result (λ fault. WriteCause fault (K.state sink.old) (K.state sink.new)) }
+    ensures refused { IfErr result (λ fault. WriteCause ⊥ fault (K.state sink.old) (K.state sink.new)) }
 {
     match write_all(sink, bytes) {
         Ok(()) => match sink.flush() {

@@ -5,8 +5,8 @@ use mir.Val.{to_z, of_z}
 use Rattle.mongo_wire.specs.Message.{written_frame}
 use Rattle.mongo_wire.specs.Outside.{AppendsFront}
 use Rattle.mongo_wire.specs.declared.message.Message.{Message}
-use Rattle.mongo_serve.specs.Sent.{IsReplyFrame, message_reply, WriteCause}
-use Rattle.mongo_serve.proofs.Responses.{message_framed, message_spelled, refused_cause, refused_front}
+use Rattle.mongo_serve.specs.Sent.{IsLongMessage, IsReplyFrame, message_reply, WriteCause}
+use Rattle.mongo_serve.proofs.Responses.{long_message, message_framed, message_spelled, refused_cause, refused_front}
 use Rattle.mongo_serve.proofs.respond.send_message.Goals as goal
 
 pub returns-in-Ok-clause-sent : goal.returns-in-Ok-clause-sent
@@ -42,4 +42,4 @@ pub returns-clause-refused : goal.returns-clause-refused
 returns-clause-refused g c =
     let old = g.K.Outside.state c.args.sink.now in
     let new = g.K.Outside.state c.write_op_msg_to.new.sink in
-    subst (λ f. WriteCause f old new) (sym c.into.ensures) (refused_cause c.in-Err.error.kind (pos 50331648) _ old new c.args.ids.now c.write_op_msg_to.new.ids c.in-Err.ensures.refused)
+    subst (λ f. WriteCause (IsLongMessage c.args.document) f old new) (sym c.into.ensures) (refused_cause (IsLongMessage c.args.document) c.in-Err.error.kind (pos 50331648) _ old new c.args.ids.now c.write_op_msg_to.new.ids (long_message c.args.document c.new.result (to_z w32 (of_z w32 c.args.request_id)) c.empty.result c.new.ensures) c.in-Err.ensures.refused)
