@@ -5,7 +5,7 @@ use Rattle.std.specs.Fmt.{decimal}
 use Rattle.std.specs.List.{Contains, flat_map}
 use Rattle.std.proofs.Math.Logic.{∥∥₁_map}
 use Rattle.std.proofs.lemmas.Fmt.{decimal_by_steps}
-use Rattle.std.proofs.lemmas.List.{append-nil, length-append, map-append, map_more, take-append-drop}
+use Rattle.std.proofs.lemmas.List.{append-nil, length-append, map-append, map_more, take-append-drop, take_all}
 use Rattle.std.proofs.lemmas.List.Concat.{flat_map-append}
 use Rattle.std.proofs.lemmas.List.Elements.{All-from_recursion}
 use Rattle.mongo_num.specs.declared.fault.NumFault.{NumFault}
@@ -52,6 +52,12 @@ body_of_array : (document : List ℕ) (count : ℕ) (values : List Entry) → Is
 body_of_array document count values framed is =
     ap body_of is.spelled ∙ body_of-enclosed (flat_map spell (numbered 0 values)) (omega (arith, ap length is.spelled, length-enclosed (flat_map spell (numbered 0 values)), framed.most))
 
+-- a document of one element more is longer
+pub one_more_within : (old new key value : List ℕ) (kind count : ℕ) → IsFramed old → count ≤ length old → new ≡ enclosed (body_of old ++ spell (made_of kind key value)) → count + 1 ≤ length new
+one_more_within old new key value kind count framed within grown =
+    let element = spell (made_of kind key value) in
+    omega (arith, ap length grown, length-enclosed (body_of old ++ element), length-append (body_of old) element, length-body_of old framed, within)
+
 -- one value more
 pub array_pushed : (document new value : List ℕ) (kind count : ℕ) (values : List Entry) → IsFramed document → IsArrayOf document count values → new ≡ enclosed (body_of document ++ spell (made_of kind (decimal count) value)) → IsArrayOf new (count + 1) (values ++ record { kind = kind; value = value } ∷ [])
 array_pushed document new value kind count values framed is grown =
@@ -87,6 +93,10 @@ document_pushed document new value item count new_count i documents within frame
     let more = entries_more documents i item within ∙ ap (λ v. document_entries (take i documents) ++ record { kind = 0x03; value = v } ∷ []) (sym (read ∙ at)) in
     let next = array_pushed document new value 0x03 count (document_entries (take i documents)) framed is grown in
     subst (λ n. IsArrayOf new n (document_entries (take (i + 1) documents))) (sym counted) (subst (IsArrayOf new (count + 1)) (sym more) next)
+
+-- the array of all of the documents
+pub document_all : (document : List ℕ) (count i : ℕ) (items documents : List (List ℕ)) → length items ≤ i → items ≡ documents → IsArrayOf document count (document_entries (take i items)) → IsArrayOf document count (document_entries documents)
+document_all document count i items documents passed are is = subst (λ ds. IsArrayOf document count (document_entries ds)) (take_all i items passed ∙ are) is
 
 -- where the next document has no room, the whole array has none
 pub whole_too_long : (document value item : List ℕ) (count i : ℕ) (documents : List (List ℕ)) → i < length documents → IsFramed document → IsArrayOf document count (document_entries (take i documents)) → value ≡ item → item ≡ get_or documents i item → 2 ^ 31 - 1 < length document + length (spell (made_of 0x03 (decimal count) value)) → 2 ^ 31 - 1 < length (array_of (document_entries documents))

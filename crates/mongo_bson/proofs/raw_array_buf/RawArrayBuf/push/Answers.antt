@@ -5,7 +5,7 @@ use Rattle.mongo_bson.specs.Framed.{IsFramed, body_of, enclosed}
 use Rattle.mongo_bson.specs.Array.{IsArray}
 use Rattle.mongo_bson.specs.Document.{AddsElement, spell}
 use Rattle.mongo_bson.specs.Value.{kind_of, bytes_of, element_of}
-use Rattle.mongo_bson.proofs.Numbered.{number_text, decimal_no_zero, push_refuses, too_long_at_number, array_goes_on}
+use Rattle.mongo_bson.proofs.Numbered.{number_text, one_more_within, decimal_no_zero, push_refuses, too_long_at_number, array_goes_on}
 use Rattle.mongo_bson.proofs.raw_array_buf.RawArrayBuf.push.Goals as goal
 
 pub returns-in-Err-clause-too_long : goal.returns-in-Err-clause-too_long
@@ -47,3 +47,16 @@ pub returns-in-Ok-clause-too_long : goal.returns-in-Ok-clause-too_long
 returns-in-Ok-clause-too_long c =
     let array = c.args.self.now in
     too_long_at_number array.document (bytes_of c.args.value) c.format.result.now (decimal array.count) _ (number_text _ _ array.count (omega arith) c.format.ensures.text) (decimal_no_zero array.count (omega arith)) c.in-Ok.ensures.too_long
+
+pub invariant_of-self-clause-framed : goal.invariant_of-self-clause-framed
+invariant_of-self-clause-framed c = c.in-Ok.ensures.framed
+
+pub invariant_of-self-clause-within : goal.invariant_of-self-clause-within
+invariant_of-self-clause-within c =
+    let array = c.args.self.now in
+    one_more_within array.document c.append.new.self c.format.result.now (bytes_of c.args.value) (kind_of c.args.value) array.count array.framed array.within c.in-Ok.ensures.added
+
+pub overflow_add-self : goal.overflow_add-self
+overflow_add-self c =
+    let array = c.args.self.now in
+    omega (arith, array.within, array.framed.most)
