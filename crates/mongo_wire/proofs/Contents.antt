@@ -9,6 +9,7 @@ use Rattle.mongo_bson.specs.declared.raw_document.RawDocument.{RawDocument}
 use Rattle.mongo_wire.specs.Frame.{Section, body, sequence, IsSection, IsChecksum, section_bytes, bodies, uint32}
 use Rattle.mongo_wire.specs.Header.{number_at}
 use Rattle.mongo_wire.specs.Sections.{BeginsWithSection, HasNoSection, Shows}
+use Rattle.mongo_wire.specs.declared.sections.SectionRef.{SectionRef}
 use Rattle.mongo_wire.specs.declared.sections.SectionRef.TheVariants.{Body, Sequence}
 use Rattle.mongo_wire.specs.declared.sections.SequenceRef.{SequenceRef}
 use Rattle.mongo_wire.specs.Content.{IsAt, Finds, LiesAt, HasNoSections, IsContentOf, HasNoContent}
@@ -75,6 +76,11 @@ shown_sequence (sequence s) read p = refl
 shown_body : (s : Section) (read : RawDocument) → Shows s (Body read) → s ≡ body read.bytes.now
 shown_body (body d) read p = ap body (sym p)
 shown_body (sequence s) read p = absurd p
+
+-- what follows a section is shorter
+pub section_shortens : (bytes rest : List ℕ) (read : SectionRef) → BeginsWithSection bytes read rest → length rest < length bytes
+section_shortens bytes rest read begins =
+    omega (arith, ap length begins.spelled, length-append (section_bytes begins.section) rest, least_section begins.section begins.is_section)
 
 -- a section of kind 1 has no body
 pub took_sequence : (bytes rest after : List ℕ) (place : Option Offsets) (read : SequenceRef) → Took bytes rest place → BeginsWithSection rest (Sequence read) after → Took bytes after place

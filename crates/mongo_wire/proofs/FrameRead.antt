@@ -197,6 +197,10 @@ frame_taken maximum before mid new head bytes rest held buffer p q sixteen size 
   taken = Consumes-trans before.left mid.left new.left head bytes p q;
 }
 
+-- memory for what was wanted stays within the maximum where the frame does
+pub within_rest : (maximum : ℤ) (old new rest : ℕ) → pos (16 + rest) ≤ℤ maximum → new ≤ max old rest → (new ≤ old) ⊎ (pos new ≤ℤ maximum)
+within_rest maximum old new rest within wanted = search arith
+
 -- no more memory than a buffer has that stays within the maximum
 pub stays_within : (maximum : ℤ) (start first : FrameBuffer) (memory : ℕ) → memory ≤ memory_of first → StaysWithin maximum start first → (memory ≤ memory_of start) ⊎ (pos memory ≤ℤ maximum)
 stays_within maximum start first memory less (inl p) = inl (omega (arith, less, p))

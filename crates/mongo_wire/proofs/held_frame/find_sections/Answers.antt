@@ -1,5 +1,6 @@
 use Rattle.std.proofs.Common.{refl, sym, ◌∙◌}
-use Rattle.mongo_wire.proofs.Contents.{took_none, took_sequence, took_body, second_body, no_more_section, no_body, lies_at}
+use Rattle.mongo_wire.specs.declared.sections.SectionRef.TheVariants.{Body, Sequence}
+use Rattle.mongo_wire.proofs.Contents.{took_none, section_shortens, took_sequence, took_body, second_body, no_more_section, no_body, lies_at}
 use Rattle.mongo_wire.proofs.held_frame.find_sections.Goals as goal
 
 pub sections-preserved-in-Some-Sequence-default : goal.sections-preserved-in-Some-Sequence-default
@@ -28,3 +29,11 @@ sections-init c = took_none c.args.bytes.now c.split_at.result.1.now c.requires 
 
 pub returns-in-Some : goal.returns-in-Some
 returns-in-Some c = lies_at c.args.bytes.now c.sections.rest.now c.in-Some.body _ (rw c.in-Some.is at c.sections.invariant) c.sections-test.false refl refl refl
+
+pub sections-smaller-in-Some-Sequence-default : goal.sections-smaller-in-Some-Sequence-default
+sections-smaller-in-Some-Sequence-default c =
+    section_shortens c.sections.rest.now c.in-Some-Sequence-default.after.now (Sequence c.in-Some-Sequence-default._sequence) (rw c.in-Some-Sequence-default.field-0-0-is at c.in-Some-Sequence-default.ensures)
+
+pub sections-smaller : goal.sections-smaller
+sections-smaller c =
+    section_shortens c.sections.rest.now c.in-Some-Body-default.after.now (Body c.in-Some-Body-default._document) (rw c.in-Some-Body-default.field-0-0-is at c.in-Some-Body-default.ensures)

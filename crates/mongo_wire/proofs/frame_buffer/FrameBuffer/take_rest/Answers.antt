@@ -1,13 +1,14 @@
-use Rattle.std.proofs.Common.{arith, ◌≡◌, ℕ, ◌-◌, ◌++◌, length, take, refl, inl, subst}
+use Rattle.std.proofs.Common.{arith, ◌≡◌, ◌≤◌, ◌≤ℤ◌, pos, ◌⊎◌, sym, ℕ, ◌-◌, ◌++◌, length, take, refl, inl, subst}
 use Rattle.std.proofs.lemmas.List.{length-take-le}
 use Rattle.std.specs.Io.KnownBytes.{Consumes}
 use Rattle.mongo_wire.specs.Error.{kind_of_frame_fault}
 use Rattle.mongo_wire.specs.Outside.{ReadStops}
 use Rattle.mongo_wire.specs.Header.{maximum_of}
+use Rattle.mongo_wire.specs.Buffer.{memory_of}
 use Rattle.mongo_wire.specs.Held.{NoFrame, IsHeld}
 use Rattle.mongo_wire.proofs.Found.{parts_lie}
 use Rattle.mongo_wire.proofs.ReadStopped.{reads_still}
-use Rattle.mongo_wire.proofs.FrameRead.{header_refused, rest_stopped, sections_refused, frame_taken}
+use Rattle.mongo_wire.proofs.FrameRead.{header_refused, within_rest, rest_stopped, sections_refused, frame_taken}
 use Rattle.mongo_wire.proofs.frame_buffer.FrameBuffer.take_rest.Goals as goal
 
 -- nothing comes before what is wanted
@@ -83,3 +84,24 @@ returns-in-Err-clause-within g c = inl (omega arith)
 
 pub returns-in-Err-clause-emptied : goal.returns-in-Err-clause-emptied
 returns-in-Err-clause-emptied g c = record { nothing = c.requires.nothing; frames = refl }
+
+pub of-requires-clause-whole_header : goal.of-requires-clause-whole_header
+of-requires-clause-whole_header g c = c.told-head
+
+pub of-requires-clause-header : goal.of-requires-clause-header
+of-requires-clause-header g c = c.in-Ok.ensures.header
+
+pub of-requires-clause-code : goal.of-requires-clause-code
+of-requires-clause-code g c = c.in-Ok.ensures.code
+
+pub returns-in-Err-take_into-clause-within : goal.returns-in-Err-take_into-clause-within
+returns-in-Err-take_into-clause-within g c = within_rest (maximum_of c.args.maximum) _ _ c.in-Ok.start.rest c.in-Ok.ensures.within c.in-Err-take_into.ensures.wanted
+
+pub returns-in-None-clause-within : goal.returns-in-None-clause-within
+returns-in-None-clause-within g c = within_rest (maximum_of c.args.maximum) _ _ c.in-Ok.start.rest c.in-Ok.ensures.within c.in-Ok-take_into.ensures.wanted
+
+pub returns-in-Some-clause-within : goal.returns-in-Some-clause-within
+returns-in-Some-clause-within g c =
+    let maximum = maximum_of c.args.maximum in
+    let had = memory_of c.args.self.now in
+    subst (λ memory. (memory ≤ had) ⊎ (pos memory ≤ℤ maximum)) (sym c.keep.ensures.memory) (within_rest maximum had _ c.in-Ok.start.rest c.in-Ok.ensures.within c.in-Ok-take_into.ensures.wanted)
