@@ -7,6 +7,7 @@ pub mod Leads
 pub mod Ends
 pub mod Phases
 pub mod CommandDocument
+pub mod CarriedConcern
 pub mod Elements
 pub mod FieldAnswers
 pub mod FirstOfKey
