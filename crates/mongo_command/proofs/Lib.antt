@@ -23,3 +23,4 @@ pub mod FrameSizes
 pub mod Tables
 pub mod OneWrite
 pub mod Kept
+pub mod Rest
