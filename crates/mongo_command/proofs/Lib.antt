@@ -7,6 +7,7 @@ pub mod Leads
 pub mod Ends
 pub mod Phases
 pub mod CommandDocument
+pub mod CarriedConcern
 pub mod Elements
 pub mod FieldAnswers
 pub mod FirstOfKey
@@ -22,3 +23,4 @@ pub mod FrameSizes
 pub mod Tables
 pub mod OneWrite
 pub mod Kept
+pub mod Rest

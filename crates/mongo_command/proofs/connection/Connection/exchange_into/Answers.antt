@@ -1,25 +1,12 @@
-use Rattle.std.proofs.Common.{◌≡◌, ◌∙◌, Option, None, Some, inl, inr, refl, subst, sym}
+use Rattle.std.proofs.Common.{◌∙◌, inl, inr, refl, subst, sym}
 use Rattle.std.proofs.lemmas.Result.{err_from_is_err_and}
 use Rattle.std.specs.Io.KnownBytes.{Consumes}
 use Rattle.mongo_wire.specs.Buffer.{IsFrameTaken}
-use Rattle.mongo_command.specs.Connection.{KeepsRest}
 use Rattle.mongo_command.specs.Exchange.{frame_maximum}
-use Rattle.mongo_command.specs.declared.connection.Connection.{Connection}
 use Rattle.mongo_command.proofs.Kept.{received_kept}
+use Rattle.mongo_command.proofs.Rest.{keeps_on, none_some}
 use Rattle.mongo_command.proofs.Talked.{counts_on}
 use Rattle.mongo_command.proofs.connection.Connection.exchange_into.Goals as goal
-
-none_some : {T : Type 0} {x : T} → None ≡ Some x → ⊥
-none_some p = cc
-
-keeps_on : (old middle new : Connection) → KeepsRest old middle → KeepsRest middle new → KeepsRest old new
-keeps_on old middle new p q = record {
-  address = q.address ∙ p.address;
-  id = q.id ∙ p.id;
-  description = q.description ∙ p.description;
-  server_id = q.server_id ∙ p.server_id;
-  token = q.token ∙ p.token;
-}
 
 pub returns-in-Ok-clause-exchanged : goal.returns-in-Ok-clause-exchanged
 returns-in-Ok-clause-exchanged g c = record {
@@ -93,3 +80,15 @@ returns-in-Ok-clause-counts g c = counts_on _ _ _ c.send.ensures.counts c.receiv
 
 pub returns-in-Err-clause-counts : goal.returns-in-Err-clause-counts
 returns-in-Err-clause-counts g c = counts_on _ _ _ c.send.ensures.counts c.receive_into.ensures.counts
+
+pub returns-in_err-send-clause-connection : goal.returns-in_err-send-clause-connection
+returns-in_err-send-clause-connection g c = c.send.ensures.connection
+
+pub returns-in_err-send-clause-counts : goal.returns-in_err-send-clause-counts
+returns-in_err-send-clause-counts g c = c.send.ensures.counts
+
+pub returns-in-Ok-clause-connection : goal.returns-in-Ok-clause-connection
+returns-in-Ok-clause-connection g c = c.send.ensures.connection
+
+pub returns-in-Ok-clause-faultless : goal.returns-in-Ok-clause-faultless
+returns-in-Ok-clause-faultless g c = c.in_ok-send.ensures.faultless
