@@ -1,6 +1,7 @@
 pub mod OneReply
 pub mod NotBuilt
 pub mod Unsent
+pub mod Handed
 pub mod KeptAfter
 pub mod LastReply
 pub mod LoginEvents
@@ -15,6 +16,7 @@ pub mod Joining
 pub mod PlainJoins
 pub mod X509Joins
 pub mod CredentialAnswers
+mod X509Rows
 mod Foreign
 mod SaslRead
 mod SuccessRead

@@ -126,6 +126,11 @@ frames_both (Ok x) None old middle new p q = q ∙ ap risen p
 frames_both (Ok x) (Some round) old middle new p q = q ∙ ap risen p
 frames_both (Err e) round old middle new p q = tt
 
+-- the entries, where the last step leaves them
+pub unchanged_on : {T E : Type 0} {A : Type 0} (r : Result T E) (old middle new : A) → middle ≡ old → OnErr r (new ≡ middle) → OnErr r (new ≡ old)
+unchanged_on (Ok x) old middle new p q = tt
+unchanged_on (Err e) old middle new p q = q ∙ p
+
 pub not_accepted : {T : Type 0} (r : Result T Error) (e : Error) → IsErrAnd r (λ x. x ≡ e) → OnOk r ⊥
 not_accepted (Ok x) e is = is
 not_accepted (Err x) e is = tt

@@ -1,13 +1,14 @@
-use Rattle.std.proofs.Common.{◌≡◌, ◌⊎◌, Ok, Err, option_copied, inl, inr}
+use Rattle.std.proofs.Common.{◌≡◌, ◌⊎◌, option_copied, refl, inl, inr}
 use Rattle.mongo_wire.specs.declared.error.ErrorKind.TheVariants.{OutOfMemory}
 use Rattle.mongo_command.specs.Exchange.{frame_maximum}
 use Rattle.mongo_sasl.specs.Plain.{FinishedRow, plain_handed, plain_body, plain_heard, plain_plan, IsPlainLogin, plain_user_of}
 use Rattle.mongo_sasl.specs.Keys.{sasl_start_key}
+use Rattle.mongo_sasl.proofs.Handed.{no_answer_on, on_answer, rest_same, counts_same}
 use Rattle.mongo_sasl.proofs.KeptAfter.{kept_after, own_keeps, no_user_own, unbuilt_own, finished_own, handed_keeps, row_keeps}
 use Rattle.mongo_sasl.proofs.OneExchange.{exchanged_as, unanswered_as, led, led_handed, completed}
 use Rattle.mongo_sasl.proofs.PlainPlan.{one_plain, plain_ends}
 use Rattle.mongo_sasl.proofs.PlainSteps.{credential_stopped, user_stopped, plain_unbuilt, plain_reached, plain_replied, plain_refused}
-use Rattle.mongo_sasl.proofs.Unsent.{handed_stopped, answered_fault, handed_kept}
+use Rattle.mongo_sasl.proofs.Unsent.{handed_stopped, answered_fault, not_replied, handed_kept}
 use Rattle.mongo_sasl.proofs.plain.authenticate_stream.Goals as goal
 
 pub returns-in_err-login-clause-refused : goal.returns-in_err-login-clause-refused
@@ -128,9 +129,116 @@ returns-clause-keeps g c faultless =
     let reply = c.held_reply.result.bytes.now in
     row_keeps c.finish.result (λ kind. FinishedRow reply kind ⊎ (kind ≡ OutOfMemory)) _ (finished_own reply) c.finish.ensures.refused c.in_ok-exchange_into.ensures.faultless
 
-answered : {T E : Type 0} (x : T) (e : E) → Ok x ≡ Err e → ⊥
-answered x e p = cc
-
 -- a connection that keeps a fault exchanges nothing
 pub returns-clause-kept : goal.returns-clause-kept
-returns-clause-kept g c = λ kind is. absurd (answered _ _ (c.in_ok-exchange_into.ensures.kept kind is).0)
+returns-clause-kept g c kind kept = not_replied _ kind _ (c.in_ok-exchange_into.ensures.kept kind kept).0
+
+pub returns-clause-answers : goal.returns-clause-answers
+returns-clause-answers g c kind kept = not_replied _ kind _ (c.in_ok-exchange_into.ensures.kept kind kept).0
+
+-- ---- where the credential has no login
+
+pub returns-in_err-login-clause-accepted : goal.returns-in_err-login-clause-accepted
+returns-in_err-login-clause-accepted g c = no_answer_on c.from_residual.result c.in_err-login.field-0.0 _ c.from_residual.ensures.1
+
+pub returns-in_err-login-clause-frames : goal.returns-in_err-login-clause-frames
+returns-in_err-login-clause-frames g c = no_answer_on c.from_residual.result c.in_err-login.field-0.0 _ c.from_residual.ensures.1
+
+pub returns-in_err-login-clause-holds : goal.returns-in_err-login-clause-holds
+returns-in_err-login-clause-holds g c = no_answer_on c.from_residual.result c.in_err-login.field-0.0 _ c.from_residual.ensures.1
+
+pub returns-in_err-login-clause-taken : goal.returns-in_err-login-clause-taken
+returns-in_err-login-clause-taken g c = no_answer_on c.from_residual.result c.in_err-login.field-0.0 _ c.from_residual.ensures.1
+
+pub returns-in_err-login-clause-reply : goal.returns-in_err-login-clause-reply
+returns-in_err-login-clause-reply g c = no_answer_on c.from_residual.result c.in_err-login.field-0.0 _ c.from_residual.ensures.1
+
+pub returns-in_err-login-clause-connection : goal.returns-in_err-login-clause-connection
+returns-in_err-login-clause-connection g c = rest_same c.args.connection.now
+
+pub returns-in_err-login-clause-kept : goal.returns-in_err-login-clause-kept
+returns-in_err-login-clause-kept g c kind kept = (no_answer_on c.from_residual.result c.in_err-login.field-0.0 _ c.from_residual.ensures.1, refl, refl, kept)
+
+pub returns-in_err-login-clause-counts : goal.returns-in_err-login-clause-counts
+returns-in_err-login-clause-counts g c = counts_same _
+
+pub returns-in_err-login-clause-faultless : goal.returns-in_err-login-clause-faultless
+returns-in_err-login-clause-faultless g c = no_answer_on c.from_residual.result c.in_err-login.field-0.0 _ c.from_residual.ensures.1
+
+-- ---- where the command is not built
+
+pub returns-in_err-command-clause-accepted : goal.returns-in_err-command-clause-accepted
+returns-in_err-command-clause-accepted g c = no_answer_on c.from_residual-in_err-command.result c.in_err-command.field-0.0 _ c.from_residual-in_err-command.ensures.1
+
+pub returns-in_err-command-clause-frames : goal.returns-in_err-command-clause-frames
+returns-in_err-command-clause-frames g c = no_answer_on c.from_residual-in_err-command.result c.in_err-command.field-0.0 _ c.from_residual-in_err-command.ensures.1
+
+pub returns-in_err-command-clause-holds : goal.returns-in_err-command-clause-holds
+returns-in_err-command-clause-holds g c = no_answer_on c.from_residual-in_err-command.result c.in_err-command.field-0.0 _ c.from_residual-in_err-command.ensures.1
+
+pub returns-in_err-command-clause-taken : goal.returns-in_err-command-clause-taken
+returns-in_err-command-clause-taken g c = no_answer_on c.from_residual-in_err-command.result c.in_err-command.field-0.0 _ c.from_residual-in_err-command.ensures.1
+
+pub returns-in_err-command-clause-reply : goal.returns-in_err-command-clause-reply
+returns-in_err-command-clause-reply g c = no_answer_on c.from_residual-in_err-command.result c.in_err-command.field-0.0 _ c.from_residual-in_err-command.ensures.1
+
+pub returns-in_err-command-clause-connection : goal.returns-in_err-command-clause-connection
+returns-in_err-command-clause-connection g c = rest_same c.args.connection.now
+
+pub returns-in_err-command-clause-kept : goal.returns-in_err-command-clause-kept
+returns-in_err-command-clause-kept g c kind kept = (no_answer_on c.from_residual-in_err-command.result c.in_err-command.field-0.0 _ c.from_residual-in_err-command.ensures.1, refl, refl, kept)
+
+pub returns-in_err-command-clause-counts : goal.returns-in_err-command-clause-counts
+returns-in_err-command-clause-counts g c = counts_same _
+
+pub returns-in_err-command-clause-faultless : goal.returns-in_err-command-clause-faultless
+returns-in_err-command-clause-faultless g c = no_answer_on c.from_residual-in_err-command.result c.in_err-command.field-0.0 _ c.from_residual-in_err-command.ensures.1
+
+-- ---- where the exchange is refused
+
+pub returns-in_err-exchange_into-clause-accepted : goal.returns-in_err-exchange_into-clause-accepted
+returns-in_err-exchange_into-clause-accepted g c = no_answer_on c.from_residual-in_err-exchange_into.result c.in_err-exchange_into.field-0.0 _ c.from_residual-in_err-exchange_into.ensures.1
+
+pub returns-in_err-exchange_into-clause-frames : goal.returns-in_err-exchange_into-clause-frames
+returns-in_err-exchange_into-clause-frames g c = no_answer_on c.from_residual-in_err-exchange_into.result c.in_err-exchange_into.field-0.0 _ c.from_residual-in_err-exchange_into.ensures.1
+
+pub returns-in_err-exchange_into-clause-holds : goal.returns-in_err-exchange_into-clause-holds
+returns-in_err-exchange_into-clause-holds g c = no_answer_on c.from_residual-in_err-exchange_into.result c.in_err-exchange_into.field-0.0 _ c.from_residual-in_err-exchange_into.ensures.1
+
+pub returns-in_err-exchange_into-clause-taken : goal.returns-in_err-exchange_into-clause-taken
+returns-in_err-exchange_into-clause-taken g c = no_answer_on c.from_residual-in_err-exchange_into.result c.in_err-exchange_into.field-0.0 _ c.from_residual-in_err-exchange_into.ensures.1
+
+pub returns-in_err-exchange_into-clause-reply : goal.returns-in_err-exchange_into-clause-reply
+returns-in_err-exchange_into-clause-reply g c = no_answer_on c.from_residual-in_err-exchange_into.result c.in_err-exchange_into.field-0.0 _ c.from_residual-in_err-exchange_into.ensures.1
+
+pub returns-in_err-exchange_into-clause-connection : goal.returns-in_err-exchange_into-clause-connection
+returns-in_err-exchange_into-clause-connection g c = c.in_err-exchange_into.ensures.connection
+
+pub returns-in_err-exchange_into-clause-kept : goal.returns-in_err-exchange_into-clause-kept
+returns-in_err-exchange_into-clause-kept g c kind kept = let same = c.in_err-exchange_into.ensures.kept kind kept in (no_answer_on c.from_residual-in_err-exchange_into.result c.in_err-exchange_into.field-0.0 _ c.from_residual-in_err-exchange_into.ensures.1, same.1, same.2, same.3)
+
+pub returns-in_err-exchange_into-clause-counts : goal.returns-in_err-exchange_into-clause-counts
+returns-in_err-exchange_into-clause-counts g c = c.in_err-exchange_into.ensures.counts
+
+pub returns-in_err-exchange_into-clause-faultless : goal.returns-in_err-exchange_into-clause-faultless
+returns-in_err-exchange_into-clause-faultless g c = no_answer_on c.from_residual-in_err-exchange_into.result c.in_err-exchange_into.field-0.0 _ c.from_residual-in_err-exchange_into.ensures.1
+
+-- ---- after the reply
+
+pub returns-clause-frames : goal.returns-clause-frames
+returns-clause-frames g c = on_answer c.finish.result _ c.in_ok-exchange_into.ensures.counted
+
+pub returns-clause-holds : goal.returns-clause-holds
+returns-clause-holds g c = on_answer c.finish.result _ c.in_ok-exchange_into.ensures.holds
+
+pub returns-clause-taken : goal.returns-clause-taken
+returns-clause-taken g c = on_answer c.finish.result _ c.in_ok-exchange_into.ensures.taken
+
+pub returns-clause-faultless : goal.returns-clause-faultless
+returns-clause-faultless g c = on_answer c.finish.result _ c.in_ok-exchange_into.ensures.faultless
+
+pub returns-clause-connection : goal.returns-clause-connection
+returns-clause-connection g c = c.in_ok-exchange_into.ensures.connection
+
+pub returns-clause-counts : goal.returns-clause-counts
+returns-clause-counts g c = c.in_ok-exchange_into.ensures.counts

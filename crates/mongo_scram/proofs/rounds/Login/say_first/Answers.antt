@@ -6,6 +6,7 @@ use Rattle.mongo_scram.specs.Commands.{first_body}
 use Rattle.mongo_scram.specs.Rounds.{handed_by}
 use Rattle.mongo_scram.proofs.FirstRounds.{IsStart, start_unbuilt, start_unanswered, start_exchanged, start_refused, start_opens}
 use Rattle.mongo_sasl.proofs.Unsent.{handed_stopped, answered_fault, not_replied, handed_kept}
+use Rattle.mongo_sasl.proofs.Handed.{no_answer_on, no_answer_by, rest_same, counts_same}
 use Rattle.mongo_sasl.proofs.KeptAfter.{kept_after, own_keeps, unbuilt_own, handed_keeps}
 use Rattle.mongo_scram.proofs.OwnRows.{first_reply_own}
 use Rattle.mongo_scram.proofs.rounds.Login.say_first.Goals as goal
@@ -94,3 +95,109 @@ returns-in_err-server_first-clause-keeps g c faultless =
     let e = c.in_err-server_first.field-0.0 in
     handed_keeps c.from_residual-in_err-server_first.result e _ c.from_residual-in_err-server_first.ensures.1
     (own_keeps e.kind _ (first_reply_own c.held_reply.result.bytes.now e.kind c.in_err-server_first.ensures.refused) c.in_ok-exchange_into.ensures.faultless)
+
+-- ---- where the message is not made
+
+pub returns-in_err-client_first-clause-opened : goal.returns-in_err-client_first-clause-opened
+returns-in_err-client_first-clause-opened g c = no_answer_by c.from_residual.result c.in_err-client_first.field-0.0 _ c.from_residual.ensures.1
+
+pub returns-in_err-client_first-clause-frames : goal.returns-in_err-client_first-clause-frames
+returns-in_err-client_first-clause-frames g c = no_answer_on c.from_residual.result c.in_err-client_first.field-0.0 _ c.from_residual.ensures.1
+
+pub returns-in_err-client_first-clause-connection : goal.returns-in_err-client_first-clause-connection
+returns-in_err-client_first-clause-connection g c = rest_same c.args.connection.now
+
+pub returns-in_err-client_first-clause-kept : goal.returns-in_err-client_first-clause-kept
+returns-in_err-client_first-clause-kept g c kind kept = (no_answer_on c.from_residual.result c.in_err-client_first.field-0.0 _ c.from_residual.ensures.1, refl, refl, kept)
+
+pub returns-in_err-client_first-clause-counts : goal.returns-in_err-client_first-clause-counts
+returns-in_err-client_first-clause-counts g c = counts_same _
+
+pub returns-in_err-client_first-clause-faultless : goal.returns-in_err-client_first-clause-faultless
+returns-in_err-client_first-clause-faultless g c = no_answer_on c.from_residual.result c.in_err-client_first.field-0.0 _ c.from_residual.ensures.1
+
+-- ---- where the command is not built
+
+pub returns-in_err-command-clause-opened : goal.returns-in_err-command-clause-opened
+returns-in_err-command-clause-opened g c = no_answer_by c.from_residual-in_err-command.result c.in_err-command.field-0.0 _ c.from_residual-in_err-command.ensures.1
+
+pub returns-in_err-command-clause-frames : goal.returns-in_err-command-clause-frames
+returns-in_err-command-clause-frames g c = no_answer_on c.from_residual-in_err-command.result c.in_err-command.field-0.0 _ c.from_residual-in_err-command.ensures.1
+
+pub returns-in_err-command-clause-connection : goal.returns-in_err-command-clause-connection
+returns-in_err-command-clause-connection g c = rest_same c.args.connection.now
+
+pub returns-in_err-command-clause-kept : goal.returns-in_err-command-clause-kept
+returns-in_err-command-clause-kept g c kind kept = (no_answer_on c.from_residual-in_err-command.result c.in_err-command.field-0.0 _ c.from_residual-in_err-command.ensures.1, refl, refl, kept)
+
+pub returns-in_err-command-clause-counts : goal.returns-in_err-command-clause-counts
+returns-in_err-command-clause-counts g c = counts_same _
+
+pub returns-in_err-command-clause-faultless : goal.returns-in_err-command-clause-faultless
+returns-in_err-command-clause-faultless g c = no_answer_on c.from_residual-in_err-command.result c.in_err-command.field-0.0 _ c.from_residual-in_err-command.ensures.1
+
+-- ---- where the exchange is refused
+
+pub returns-in_err-exchange_into-clause-opened : goal.returns-in_err-exchange_into-clause-opened
+returns-in_err-exchange_into-clause-opened g c = no_answer_by c.from_residual-in_err-exchange_into.result c.in_err-exchange_into.field-0.0 _ c.from_residual-in_err-exchange_into.ensures.1
+
+pub returns-in_err-exchange_into-clause-frames : goal.returns-in_err-exchange_into-clause-frames
+returns-in_err-exchange_into-clause-frames g c = no_answer_on c.from_residual-in_err-exchange_into.result c.in_err-exchange_into.field-0.0 _ c.from_residual-in_err-exchange_into.ensures.1
+
+pub returns-in_err-exchange_into-clause-connection : goal.returns-in_err-exchange_into-clause-connection
+returns-in_err-exchange_into-clause-connection g c = c.in_err-exchange_into.ensures.connection
+
+pub returns-in_err-exchange_into-clause-kept : goal.returns-in_err-exchange_into-clause-kept
+returns-in_err-exchange_into-clause-kept g c kind kept = let same = c.in_err-exchange_into.ensures.kept kind kept in (no_answer_on c.from_residual-in_err-exchange_into.result c.in_err-exchange_into.field-0.0 _ c.from_residual-in_err-exchange_into.ensures.1, same.1, same.2, same.3)
+
+pub returns-in_err-exchange_into-clause-counts : goal.returns-in_err-exchange_into-clause-counts
+returns-in_err-exchange_into-clause-counts g c = c.in_err-exchange_into.ensures.counts
+
+pub returns-in_err-exchange_into-clause-faultless : goal.returns-in_err-exchange_into-clause-faultless
+returns-in_err-exchange_into-clause-faultless g c = no_answer_on c.from_residual-in_err-exchange_into.result c.in_err-exchange_into.field-0.0 _ c.from_residual-in_err-exchange_into.ensures.1
+
+-- ---- where the reply is refused
+
+pub returns-in_err-server_first-clause-opened : goal.returns-in_err-server_first-clause-opened
+returns-in_err-server_first-clause-opened g c = no_answer_by c.from_residual-in_err-server_first.result c.in_err-server_first.field-0.0 _ c.from_residual-in_err-server_first.ensures.1
+
+pub returns-in_err-server_first-clause-frames : goal.returns-in_err-server_first-clause-frames
+returns-in_err-server_first-clause-frames g c = no_answer_on c.from_residual-in_err-server_first.result c.in_err-server_first.field-0.0 _ c.from_residual-in_err-server_first.ensures.1
+
+pub returns-in_err-server_first-clause-connection : goal.returns-in_err-server_first-clause-connection
+returns-in_err-server_first-clause-connection g c = c.in_ok-exchange_into.ensures.connection
+
+pub returns-in_err-server_first-clause-kept : goal.returns-in_err-server_first-clause-kept
+returns-in_err-server_first-clause-kept g c kind kept = not_replied _ kind _ (c.in_ok-exchange_into.ensures.kept kind kept).0
+
+pub returns-in_err-server_first-clause-counts : goal.returns-in_err-server_first-clause-counts
+returns-in_err-server_first-clause-counts g c = c.in_ok-exchange_into.ensures.counts
+
+pub returns-in_err-server_first-clause-faultless : goal.returns-in_err-server_first-clause-faultless
+returns-in_err-server_first-clause-faultless g c = no_answer_on c.from_residual-in_err-server_first.result c.in_err-server_first.field-0.0 _ c.from_residual-in_err-server_first.ensures.1
+
+-- ---- after the reply
+
+pub returns-clause-refused : goal.returns-clause-refused
+returns-clause-refused g c faultless = tt
+
+pub returns-clause-frames : goal.returns-clause-frames
+returns-clause-frames g c = c.in_ok-exchange_into.ensures.counted
+
+pub returns-clause-connection : goal.returns-clause-connection
+returns-clause-connection g c = c.in_ok-exchange_into.ensures.connection
+
+pub returns-clause-faultless : goal.returns-clause-faultless
+returns-clause-faultless g c = c.in_ok-exchange_into.ensures.faultless
+
+pub returns-clause-keeps : goal.returns-clause-keeps
+returns-clause-keeps g c faultless = tt
+
+pub returns-clause-kept : goal.returns-clause-kept
+returns-clause-kept g c kind kept = not_replied _ kind _ (c.in_ok-exchange_into.ensures.kept kind kept).0
+
+pub returns-clause-answers : goal.returns-clause-answers
+returns-clause-answers g c kind kept = tt
+
+pub returns-clause-counts : goal.returns-clause-counts
+returns-clause-counts g c = c.in_ok-exchange_into.ensures.counts

@@ -3,17 +3,19 @@ use Rattle.mongo_wire.specs.declared.error.ErrorKind.TheVariants.{OutOfMemory}
 use Rattle.mongo_command.specs.Conversation.{ends}
 use Rattle.mongo_command.specs.Exchange.{frame_maximum}
 use Rattle.mongo_command.proofs.Steps.{stopped_memory}
+use Rattle.mongo_command.proofs.Talked.{counts_on}
 use Rattle.mongo_scram.specs.Base64.{base64_of}
 use Rattle.mongo_scram.specs.Client.{handed_to, user_of}
 use Rattle.mongo_scram.specs.Costs.{ledgers}
 use Rattle.mongo_scram.specs.Plan.{closing}
+use Rattle.mongo_sasl.proofs.Handed.{no_answer_on, on_answer, on_refusal, rest_on, rest_same, counts_same}
 use Rattle.mongo_sasl.proofs.KeptAfter.{own_keeps, handed_keeps, row_keeps}
 use Rattle.mongo_scram.proofs.OwnRows.{credential_own, answer_own}
 use Rattle.mongo_scram.proofs.ScramPlan.{challenge_of}
 use Rattle.mongo_scram.proofs.Derived.{costs_nothing}
 use Rattle.mongo_scram.proofs.OpeningSteps.{credential_stopped, user_stopped, answer_stopped}
 use Rattle.mongo_scram.proofs.ClosingSteps.{final_by, closing_ends, closing_stopped, ends_login}
-use Rattle.mongo_scram.proofs.LoginSteps.{stopped_early, between_by, between_tag, stopped_late, stopped_last, accepted_by, frames_both, not_accepted, kept_stopped, fault_costs, fault_answered}
+use Rattle.mongo_scram.proofs.LoginSteps.{stopped_early, between_by, between_tag, stopped_late, stopped_last, accepted_by, frames_both, unchanged_on, not_accepted, kept_stopped, fault_costs, fault_answered}
 use Rattle.mongo_scram.proofs.ScramLed.{answer_led, refusal_led, end_led}
 use Rattle.mongo_scram.proofs.scram_version.ScramVersion.authenticate_stream.Goals as goal
 
@@ -249,3 +251,147 @@ returns-in_err-close-clause-keeps g c faultless =
 pub returns-clause-keeps : goal.returns-clause-keeps
 returns-clause-keeps g c faultless =
     row_keeps c.keep.result (λ kind. kind ≡ OutOfMemory) _ (λ kind memory. inr memory) c.keep.ensures.refused c.in_ok-close.ensures.faultless
+
+-- ---- where the credential has no login
+
+pub returns-in_err-user-clause-accepted : goal.returns-in_err-user-clause-accepted
+returns-in_err-user-clause-accepted g c = no_answer_on c.from_residual.result c.in_err-user.field-0.0 _ c.from_residual.ensures.1
+
+pub returns-in_err-user-clause-frames : goal.returns-in_err-user-clause-frames
+returns-in_err-user-clause-frames g c = no_answer_on c.from_residual.result c.in_err-user.field-0.0 _ c.from_residual.ensures.1
+
+pub returns-in_err-user-clause-holds : goal.returns-in_err-user-clause-holds
+returns-in_err-user-clause-holds g c = no_answer_on c.from_residual.result c.in_err-user.field-0.0 _ c.from_residual.ensures.1
+
+pub returns-in_err-user-clause-faultless : goal.returns-in_err-user-clause-faultless
+returns-in_err-user-clause-faultless g c = no_answer_on c.from_residual.result c.in_err-user.field-0.0 _ c.from_residual.ensures.1
+
+pub returns-in_err-user-clause-entries : goal.returns-in_err-user-clause-entries
+returns-in_err-user-clause-entries g c = on_refusal c.from_residual.result _ refl
+
+pub returns-in_err-user-clause-connection : goal.returns-in_err-user-clause-connection
+returns-in_err-user-clause-connection g c = rest_same c.args.connection.now
+
+pub returns-in_err-user-clause-kept : goal.returns-in_err-user-clause-kept
+returns-in_err-user-clause-kept g c kind kept = (no_answer_on c.from_residual.result c.in_err-user.field-0.0 _ c.from_residual.ensures.1, refl, refl, kept)
+
+pub returns-in_err-user-clause-counts : goal.returns-in_err-user-clause-counts
+returns-in_err-user-clause-counts g c = counts_same _
+
+-- ---- where the first round is refused
+
+pub returns-in_err-opened-clause-accepted : goal.returns-in_err-opened-clause-accepted
+returns-in_err-opened-clause-accepted g c = no_answer_on c.from_residual-in_err-opened.result c.in_err-opened.field-0.0 _ c.from_residual-in_err-opened.ensures.1
+
+pub returns-in_err-opened-clause-frames : goal.returns-in_err-opened-clause-frames
+returns-in_err-opened-clause-frames g c = no_answer_on c.from_residual-in_err-opened.result c.in_err-opened.field-0.0 _ c.from_residual-in_err-opened.ensures.1
+
+pub returns-in_err-opened-clause-holds : goal.returns-in_err-opened-clause-holds
+returns-in_err-opened-clause-holds g c = no_answer_on c.from_residual-in_err-opened.result c.in_err-opened.field-0.0 _ c.from_residual-in_err-opened.ensures.1
+
+pub returns-in_err-opened-clause-faultless : goal.returns-in_err-opened-clause-faultless
+returns-in_err-opened-clause-faultless g c = no_answer_on c.from_residual-in_err-opened.result c.in_err-opened.field-0.0 _ c.from_residual-in_err-opened.ensures.1
+
+pub returns-in_err-opened-clause-entries : goal.returns-in_err-opened-clause-entries
+returns-in_err-opened-clause-entries g c = on_refusal c.from_residual-in_err-opened.result _ refl
+
+pub returns-in_err-opened-clause-connection : goal.returns-in_err-opened-clause-connection
+returns-in_err-opened-clause-connection g c = c.in_err-opened.ensures.connection
+
+pub returns-in_err-opened-clause-kept : goal.returns-in_err-opened-clause-kept
+returns-in_err-opened-clause-kept g c kind kept = let same = c.in_err-opened.ensures.kept kind kept in (no_answer_on c.from_residual-in_err-opened.result c.in_err-opened.field-0.0 _ c.from_residual-in_err-opened.ensures.1, same.0, same.1, same.2)
+
+pub returns-in_err-opened-clause-counts : goal.returns-in_err-opened-clause-counts
+returns-in_err-opened-clause-counts g c = c.in_err-opened.ensures.counts
+
+-- ---- where no password is derived
+
+pub returns-in_err-derived-clause-accepted : goal.returns-in_err-derived-clause-accepted
+returns-in_err-derived-clause-accepted g c = no_answer_on c.from_residual-in_err-derived.result c.in_err-derived.field-0.0 _ c.from_residual-in_err-derived.ensures.1
+
+pub returns-in_err-derived-clause-frames : goal.returns-in_err-derived-clause-frames
+returns-in_err-derived-clause-frames g c = no_answer_on c.from_residual-in_err-derived.result c.in_err-derived.field-0.0 _ c.from_residual-in_err-derived.ensures.1
+
+pub returns-in_err-derived-clause-holds : goal.returns-in_err-derived-clause-holds
+returns-in_err-derived-clause-holds g c = no_answer_on c.from_residual-in_err-derived.result c.in_err-derived.field-0.0 _ c.from_residual-in_err-derived.ensures.1
+
+pub returns-in_err-derived-clause-faultless : goal.returns-in_err-derived-clause-faultless
+returns-in_err-derived-clause-faultless g c = no_answer_on c.from_residual-in_err-derived.result c.in_err-derived.field-0.0 _ c.from_residual-in_err-derived.ensures.1
+
+pub returns-in_err-derived-clause-entries : goal.returns-in_err-derived-clause-entries
+returns-in_err-derived-clause-entries g c = on_refusal c.from_residual-in_err-derived.result _ c.in_err-derived.ensures.no_cost.entries
+
+pub returns-in_err-derived-clause-connection : goal.returns-in_err-derived-clause-connection
+returns-in_err-derived-clause-connection g c = c.in_ok-opened.ensures.connection
+
+pub returns-in_err-derived-clause-kept : goal.returns-in_err-derived-clause-kept
+returns-in_err-derived-clause-kept g c kind kept = let same = c.in_ok-opened.ensures.kept kind kept in (no_answer_on c.from_residual-in_err-derived.result c.in_err-derived.field-0.0 _ c.from_residual-in_err-derived.ensures.1, same.0, same.1, same.2)
+
+pub returns-in_err-derived-clause-counts : goal.returns-in_err-derived-clause-counts
+returns-in_err-derived-clause-counts g c = c.in_ok-opened.ensures.counts
+
+-- ---- where the last message is not made
+
+pub returns-in_err-client_final-clause-accepted : goal.returns-in_err-client_final-clause-accepted
+returns-in_err-client_final-clause-accepted g c = no_answer_on c.from_residual-in_err-client_final.result c.in_err-client_final.field-0.0 _ c.from_residual-in_err-client_final.ensures.1
+
+pub returns-in_err-client_final-clause-frames : goal.returns-in_err-client_final-clause-frames
+returns-in_err-client_final-clause-frames g c = no_answer_on c.from_residual-in_err-client_final.result c.in_err-client_final.field-0.0 _ c.from_residual-in_err-client_final.ensures.1
+
+pub returns-in_err-client_final-clause-holds : goal.returns-in_err-client_final-clause-holds
+returns-in_err-client_final-clause-holds g c = no_answer_on c.from_residual-in_err-client_final.result c.in_err-client_final.field-0.0 _ c.from_residual-in_err-client_final.ensures.1
+
+pub returns-in_err-client_final-clause-faultless : goal.returns-in_err-client_final-clause-faultless
+returns-in_err-client_final-clause-faultless g c = no_answer_on c.from_residual-in_err-client_final.result c.in_err-client_final.field-0.0 _ c.from_residual-in_err-client_final.ensures.1
+
+pub returns-in_err-client_final-clause-entries : goal.returns-in_err-client_final-clause-entries
+returns-in_err-client_final-clause-entries g c = on_refusal c.from_residual-in_err-client_final.result _ c.in_ok-derived.ensures.answered.entries
+
+pub returns-in_err-client_final-clause-connection : goal.returns-in_err-client_final-clause-connection
+returns-in_err-client_final-clause-connection g c = c.in_ok-opened.ensures.connection
+
+pub returns-in_err-client_final-clause-kept : goal.returns-in_err-client_final-clause-kept
+returns-in_err-client_final-clause-kept g c kind kept = let same = c.in_ok-opened.ensures.kept kind kept in (no_answer_on c.from_residual-in_err-client_final.result c.in_err-client_final.field-0.0 _ c.from_residual-in_err-client_final.ensures.1, same.0, same.1, same.2)
+
+pub returns-in_err-client_final-clause-counts : goal.returns-in_err-client_final-clause-counts
+returns-in_err-client_final-clause-counts g c = c.in_ok-opened.ensures.counts
+
+-- ---- where the last round is refused
+
+pub returns-in_err-close-clause-accepted : goal.returns-in_err-close-clause-accepted
+returns-in_err-close-clause-accepted g c = no_answer_on c.from_residual-in_err-close.result c.in_err-close.field-0.0 _ c.from_residual-in_err-close.ensures.1
+
+pub returns-in_err-close-clause-frames : goal.returns-in_err-close-clause-frames
+returns-in_err-close-clause-frames g c = no_answer_on c.from_residual-in_err-close.result c.in_err-close.field-0.0 _ c.from_residual-in_err-close.ensures.1
+
+pub returns-in_err-close-clause-holds : goal.returns-in_err-close-clause-holds
+returns-in_err-close-clause-holds g c = no_answer_on c.from_residual-in_err-close.result c.in_err-close.field-0.0 _ c.from_residual-in_err-close.ensures.1
+
+pub returns-in_err-close-clause-faultless : goal.returns-in_err-close-clause-faultless
+returns-in_err-close-clause-faultless g c = no_answer_on c.from_residual-in_err-close.result c.in_err-close.field-0.0 _ c.from_residual-in_err-close.ensures.1
+
+pub returns-in_err-close-clause-entries : goal.returns-in_err-close-clause-entries
+returns-in_err-close-clause-entries g c = on_refusal c.from_residual-in_err-close.result _ c.in_ok-derived.ensures.answered.entries
+
+pub returns-in_err-close-clause-connection : goal.returns-in_err-close-clause-connection
+returns-in_err-close-clause-connection g c = rest_on _ _ _ c.in_ok-opened.ensures.connection c.in_err-close.ensures.connection
+
+pub returns-in_err-close-clause-counts : goal.returns-in_err-close-clause-counts
+returns-in_err-close-clause-counts g c = counts_on _ _ _ c.in_ok-opened.ensures.counts c.in_err-close.ensures.counts
+
+-- ---- after the last round
+
+pub returns-clause-holds : goal.returns-clause-holds
+returns-clause-holds g c = on_answer c.keep.result _ c.in_ok-close.ensures.holds
+
+pub returns-clause-entries : goal.returns-clause-entries
+returns-clause-entries g c = unchanged_on c.keep.result _ _ _ c.in_ok-derived.ensures.answered.entries c.keep.ensures.unchanged
+
+pub returns-clause-connection : goal.returns-clause-connection
+returns-clause-connection g c = rest_on _ _ _ c.in_ok-opened.ensures.connection c.in_ok-close.ensures.connection
+
+pub returns-clause-faultless : goal.returns-clause-faultless
+returns-clause-faultless g c = on_answer c.keep.result _ c.in_ok-close.ensures.faultless
+
+pub returns-clause-counts : goal.returns-clause-counts
+returns-clause-counts g c = counts_on _ _ _ c.in_ok-opened.ensures.counts c.in_ok-close.ensures.counts

@@ -1,0 +1,47 @@
+-- What a call that hands a refusal on, and one that ends after an exchange or before one, says by its plain clauses.
+use Rattle.std.proofs.Common.{◌≡◌, ℕ, ◌≤◌, refl, sym, ◌∙◌, subst, arith, Result, Ok, Err, IfOk, IfErr, OnOk, OnErr}
+use Rattle.std.specs.Result.{IsErrAnd}
+use Rattle.mongo_wire.specs.declared.error.Error.{Error}
+use Rattle.mongo_wire.specs.declared.error.ErrorKind.{ErrorKind}
+use Rattle.mongo_wire.specs.Outside.{State}
+use Rattle.mongo_command.specs.declared.connection.Connection.{Connection}
+use Rattle.mongo_command.specs.Connection.{KeepsRest}
+use Rattle.mongo_command.specs.Exchange.{CountsStay}
+
+-- a refusal that is handed on answers nothing
+pub no_answer_on : {T E : Type 0} (r : Result T E) (e : E) (Anything : Type 0) → IsErrAnd r (λ x. x ≡ e) → OnOk r Anything
+no_answer_on (Ok x) e Anything handed = absurd handed
+no_answer_on (Err x) e Anything handed = tt
+
+pub no_answer_by : {T E : Type 0} (r : Result T E) (e : E) (Anything : T → Type 0) → IsErrAnd r (λ x. x ≡ e) → IfOk r Anything
+no_answer_by (Ok x) e Anything handed = absurd handed
+no_answer_by (Err x) e Anything handed = tt
+
+-- it comes for the same reason
+pub handed_row : {T : Type 0} (r : Result T Error) (e : Error) (Row : ErrorKind → Type 0) → IsErrAnd r (λ x. x ≡ e) → Row e.kind → IfErr r (λ x. Row x.kind)
+handed_row (Ok x) e Row handed row = tt
+handed_row (Err x) e Row handed row = subst (λ (y : Error). Row y.kind) (sym handed) row
+
+-- what holds, holds of an answer
+pub on_answer : {T E : Type 0} (r : Result T E) (Holds : Type 0) → Holds → OnOk r Holds
+on_answer (Ok x) Holds is = is
+on_answer (Err x) Holds is = tt
+
+-- or of a refusal
+pub on_refusal : {T E : Type 0} (r : Result T E) (Holds : Type 0) → Holds → OnErr r Holds
+on_refusal (Ok x) Holds is = tt
+on_refusal (Err x) Holds is = is
+
+-- one change after the other
+pub rest_on : (old middle new : Connection) → KeepsRest old middle → KeepsRest middle new → KeepsRest old new
+rest_on old middle new p q = record { address = q.address ∙ p.address; id = q.id ∙ p.id; description = q.description ∙ p.description; server_id = q.server_id ∙ p.server_id; token = q.token ∙ p.token }
+
+-- what isn't touched
+pub rest_same : (connection : Connection) → KeepsRest connection connection
+rest_same connection = record { address = refl; id = refl; description = refl; server_id = refl; token = refl }
+
+same_count : (n : ℕ) → n ≤ n
+same_count n = omega arith
+
+pub counts_same : (state : State) → CountsStay state state
+counts_same state = record { reads = same_count state.read_faults; ends = same_count state.ends; writes = same_count state.write_faults; told = refl; told_written = refl; flushed = same_count state.flushed }
