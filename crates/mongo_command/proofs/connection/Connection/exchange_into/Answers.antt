@@ -80,15 +80,3 @@ returns-in-Ok-clause-counts g c = counts_on _ _ _ c.send.ensures.counts c.receiv
 
 pub returns-in-Err-clause-counts : goal.returns-in-Err-clause-counts
 returns-in-Err-clause-counts g c = counts_on _ _ _ c.send.ensures.counts c.receive_into.ensures.counts
-
-pub returns-in_err-send-clause-connection : goal.returns-in_err-send-clause-connection
-returns-in_err-send-clause-connection g c = c.send.ensures.connection
-
-pub returns-in_err-send-clause-counts : goal.returns-in_err-send-clause-counts
-returns-in_err-send-clause-counts g c = c.send.ensures.counts
-
-pub returns-in-Ok-clause-connection : goal.returns-in-Ok-clause-connection
-returns-in-Ok-clause-connection g c = c.send.ensures.connection
-
-pub returns-in-Ok-clause-faultless : goal.returns-in-Ok-clause-faultless
-returns-in-Ok-clause-faultless g c = c.in_ok-send.ensures.faultless
