@@ -7,7 +7,6 @@ pub mod Leads
 pub mod Ends
 pub mod Phases
 pub mod CommandDocument
-pub mod CarriedConcern
 pub mod Elements
 pub mod FieldAnswers
 pub mod FirstOfKey
@@ -23,4 +22,5 @@ pub mod FrameSizes
 pub mod Tables
 pub mod OneWrite
 pub mod Kept
+pub mod CarriedArguments
 pub mod Rest

@@ -1,4 +1,4 @@
-ghost use Rattle.std.specs.Prelude.{◌≡◌, ◌++◌, flat_map, option_map, option_and_then, IsSome, IfSome, IfOk, IfErr, OnOk};
+ghost use Rattle.std.specs.Prelude.{◌≡◌, ◌++◌, flat_map, option_map, option_and_then, IfOk, IfErr, OnOk};
 ghost use Rattle.std.specs.List.{AllByRecursion};
 ghost use Rattle.mongo_bson.specs.Framed.{IsFramed, body_of, enclosed};
 ghost use Rattle.mongo_bson.specs.Document.{spell};
@@ -128,8 +128,7 @@ impl GenericArguments {
     // The document of the read concern, where there is one.
     fn read_concern_document(&self, alloc: Global) -> Result<Option<RawDocumentBuf>, BsonFault>
         ensures document { IfOk result (λ document. document ≡ option_map read_concern_document self.now.read_concern) }
-        ensures refused { IfErr result (λ fault. IfSome self.now.read_concern (λ concern. TooLongFor fault (read_concern_document concern))) }
-        ensures none { IfErr result (λ fault. IsSome self.now.read_concern) }
+        ensures refused { IfErr result (λ fault. TooLongFor fault (flat_map spell (carried_elements self.now))) }
     {
         match &self.read_concern {
             Some(concern) => Ok(Some(concern.to_document(alloc)?)),

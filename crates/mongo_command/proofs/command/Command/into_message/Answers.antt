@@ -1,9 +1,8 @@
-use Rattle.std.proofs.Common.{◌≡◌, ℕ, List, ap, subst, sym, rules}
+use Rattle.std.proofs.Common.{ℕ, List, rules}
 use Rattle.std.proofs.lemmas.Result.{err_from_is_err_and}
 use Rattle.mongo_bson.specs.declared.fault.BsonFault.{BsonFault}
 use Rattle.mongo_bson.specs.declared.fault.BsonFault.TheVariants.{TooLong, OutOfMemory}
 use Rattle.mongo_wire.specs.Error.{kind_of_fault}
-use Rattle.mongo_wire.specs.declared.error.ErrorKind.{ErrorKind}
 use Rattle.mongo_command.specs.Arguments.{TooLongFor}
 use Rattle.mongo_command.specs.Exchange.{DocumentRefused}
 use Rattle.mongo_command.proofs.command.Command.into_message.Goals as goal

@@ -6,7 +6,7 @@ use Rattle.mongo_bson.specs.Framed.{body_of, enclosed}
 use Rattle.mongo_command.specs.Literal.{text_element}
 use Rattle.mongo_command.specs.Arguments.{TooLongFor}
 use Rattle.mongo_command.specs.Keys.{db_key}
-use Rattle.mongo_command.proofs.CarriedConcern.{concern_refused}
+use Rattle.mongo_command.proofs.CarriedArguments.{arguments_refused}
 use Rattle.mongo_command.proofs.generic_arguments.GenericArguments.document_with.Goals as goal
 
 pub returns-clause-document : goal.returns-clause-document
@@ -35,4 +35,4 @@ fields-fields-requires c = c.in_ok-read_concern.ensures.document
 
 pub returns-in_err-read_concern-clause-refused : goal.returns-in_err-read_concern-clause-refused
 returns-in_err-read_concern-clause-refused c =
-    concern_refused c.from_residual.result c.in_err-read_concern.field-0.0 c.args.body.now c.args.target_db.now c.args.self.now c.from_residual.ensures.1 c.in_err-read_concern.ensures.refused c.in_err-read_concern.ensures.none
+    arguments_refused c.from_residual.result c.in_err-read_concern.field-0.0 c.args.body.now c.args.target_db.now c.args.self.now c.from_residual.ensures.1 c.in_err-read_concern.ensures.refused
