@@ -1,6 +1,7 @@
 -- The first line of an input. It ends before a line feed or at the input's end, and is cut one byte past the limit of settings.
-use Rattle.std.specs.Prelude.{ℕ, ◌==◌, ◌+◌, Bool, nat_le, if◌then◌else◌, List, length, take, drop}
-use Rattle.std.specs.List.{before_first, after_first}
+use Rattle.std.specs.Prelude.{◌≡◌, ℕ, ◌==◌, ◌+◌, ◌≤◌, Bool, nat_le, if◌then◌else◌, Option, List, length, take, drop}
+use Rattle.std.specs.Io.KnownBytes.{Consumes}
+use Rattle.std.specs.List.{before_first, after_first, position_or_len}
 use Rattle.mongo_settings.specs.Settings.{limit}
 
 abbrev pub is_line_feed : ℕ → Bool
@@ -13,3 +14,25 @@ line_of input = take (limit + 1) (before_first is_line_feed input)
 -- what follows it: of a line within the limit what stands after the line feed, of a longer one what stands after the cut
 unfoldable pub after_line : List ℕ → List ℕ
 after_line input = if nat_le (length (before_first is_line_feed input)) limit then after_first is_line_feed input else drop (limit + 1) input
+
+-- no line feed stands in the bytes
+abbrev pub HasNoLineFeed : List ℕ → Type 0
+HasNoLineFeed bytes = position_or_len is_line_feed bytes ≡ length bytes
+
+-- none but at their end
+abbrev pub IsOneLine : List ℕ → Type 0
+IsOneLine bytes = length bytes ≤ position_or_len is_line_feed bytes + 1
+
+-- Nothing past the first line feed was taken, and no more bytes than the longest line has with its own.
+pub record TakesOfLine (old new : Option (List ℕ)) : Type 0 where
+  pub taken : List ℕ
+  pub one_line : IsOneLine taken
+  pub short : length taken ≤ limit + 1
+  pub consumed : Consumes old new taken
+
+-- Reading stopped before the line's end: no line feed was taken either.
+pub record StopsWithin (old new : Option (List ℕ)) : Type 0 where
+  pub taken : List ℕ
+  pub unended : HasNoLineFeed taken
+  pub short : length taken ≤ limit + 1
+  pub consumed : Consumes old new taken

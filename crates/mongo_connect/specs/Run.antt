@@ -1,8 +1,8 @@
 -- How a run ends, and what the link and the report's sink hold then.
-use Rattle.std.specs.Prelude.{◌≡◌, ℕ, ◌+◌, ◌<◌, ◌⊎◌, Some, Ok, Err, List, []}
+use Rattle.std.specs.Prelude.{◌≡◌, ℕ, ◌<◌, ◌⊎◌, Some, Ok, Err, List, []}
 use Rattle.std.specs.Io.KnownBytes.{Appends, Consumes}
 use Rattle.std.specs.List.{concat}
-use Rattle.mongo_wire.specs.Outside.{State, Rose, ReadsOn, Unwritten, AppendsFront, ConsumesAtMost, IsFlushed}
+use Rattle.mongo_wire.specs.Outside.{State, Rose, ReadsOn, Unwritten, AppendsFront, IsFlushed}
 use Rattle.mongo_settings.specs.declared.settings.Settings.{Settings}
 use Rattle.mongo_settings.specs.declared.settings.SettingsError.{SettingsError}
 use Rattle.mongo_settings.specs.declared.settings.SettingsError.TheVariants.{BadSettings as Bad, NotBuilt as Unbuilt}
@@ -12,13 +12,12 @@ use Rattle.mongo_settings.specs.declared.rehearsal.RehearsalStatus.TheVariants a
 use Rattle.mongo_settings.specs.declared.status.Status.{Status}
 use Rattle.mongo_settings.specs.declared.status.Status.TheVariants.{Done, Refused, BadSettings, Usage, SourceFault, SinkFault, NoMemory, NotBuilt}
 use Rattle.mongo_settings.specs.Run.{Run, GaveInput}
-use Rattle.mongo_settings.specs.Settings.{limit}
 use Rattle.mongo_settings.specs.Status.{JudgementDecides}
 use Rattle.mongo_settings.specs.Outcome.{taken_by, status_of}
 use Rattle.mongo_settings.specs.Rehearsal.{IsReport}
 use Rattle.mongo_settings.specs.Task.{LoginComesOut}
 use Rattle.mongo_connect.specs.Connecting.{IsConnectionTold, IsUntold, TellsBytes, Faultless}
-use Rattle.mongo_connect.specs.Input.{line_of, after_line}
+use Rattle.mongo_connect.specs.Input.{line_of, after_line, TakesOfLine, StopsWithin}
 use Rattle.mongo_connect.specs.Settings.{line_judged, with_replies}
 
 -- ---- what was done over a link
@@ -72,15 +71,16 @@ module _ {L K : Type 0} (link : L → State) (sink : K → State) where
     pub unwritten : Unwritten (link run.source) (link run.source_after)
     pub unreported : run.sink_after ≡ run.sink
 
-  -- at most as many bytes were read as the longest line has, and nothing was written
+  -- nothing past the line was read, and nothing was written
   pub record IsSilent (run : Run L K) : Type 0 where
-    pub read : ConsumesAtMost (link run.source).left (link run.source_after).left (limit + 1)
+    pub read : TakesOfLine (link run.source).left (link run.source_after).left
     pub unwritten : Unwritten (link run.source) (link run.source_after)
     pub unreported : run.sink_after ≡ run.sink
 
-  -- the link failed before the line was read
+  -- the link failed before the line was read: no line feed was
   pub record LinkFailed (run : Run L K) : Type 0 where
     pub rose : Rose (link run.source).read_faults (link run.source_after).read_faults
+    pub stopped : StopsWithin (link run.source).left (link run.source_after).left
     pub silent : IsSilent run
 
   -- a front of the report was written after what was there

@@ -1,23 +1,24 @@
 //! Reading the line of settings from a source.
-ghost use Rattle.std.specs.Prelude.{◌≡◌, ◌+◌, ℕ, List, None, Some, IfOk, OnErr, IsErrOf, option_to_list};
+ghost use Rattle.std.specs.Prelude.{◌≡◌, ℕ, List, None, Some, IfOk, OnErr, IsErrOf, option_to_list};
 ghost use Rattle.std.specs.Io.KnownBytes.{Consumes, IsAtEnd, Keeps};
-ghost use Rattle.mongo_wire.specs.Outside.{ReadsOn, Rose, ConsumesAtMost};
-ghost use Rattle.mongo_settings.specs.Settings.{limit};
-ghost use Rattle.mongo_connect.specs.Input.{line_of, after_line};
+ghost use Rattle.mongo_wire.specs.Outside.{ReadsOn, Rose};
+ghost use Rattle.mongo_connect.specs.Input.{line_of, after_line, TakesOfLine, StopsWithin};
 
 use mongo_settings::{InputError, LIMIT};
 use mongo_wire::{Failed, Source};
 use std::alloc::Global;
 
-/// Reads the first line of a source, without its line feed, a byte at a time: nothing after the line feed is read.
+/// Reads the first line of a source, without its line feed, a byte at a time.
 ///
 /// An end before a line feed ends the line too. Of a line that is longer than settings may be, 4194304 bytes, one byte more than
-/// that is read and handed on. `Fault` where the source failed.
+/// that is read and handed on. `Fault` where the source failed. Whatever comes of it, nothing past the first line feed is read,
+/// and a refusal comes before that.
 pub fn read_line<S: Source>(alloc: Global, source: &mut S) -> Result<Vec<u8>, InputError>
     ensures line { (input : List ℕ) → (S.state source.old).left ≡ Some input → IfOk result (λ line. line.items ≡ line_of input) }
     ensures left { (input : List ℕ) → (S.state source.old).left ≡ Some input → IfOk result (λ line. (S.state source.new).left ≡ Some (after_line input)) }
     ensures failed { IsErrOf result InputError.Fault → Rose (S.state source.old).read_faults (S.state source.new).read_faults }
-    ensures at_most { ConsumesAtMost (S.state source.old).left (S.state source.new).left (limit + 1) }
+    ensures within { TakesOfLine (S.state source.old).left (S.state source.new).left }
+    ensures stopped { OnErr result (StopsWithin (S.state source.old).left (S.state source.new).left) }
     ensures on { ReadsOn (S.state source.old) (S.state source.new) }
 {
     let mut held = Vec::new(alloc);

@@ -11,8 +11,9 @@ use Rattle.mongo_scram.specs.declared.scram_version.ScramVersion.TheVariants.{Sh
 use Rattle.mongo_scram.specs.Base64.{base64_of}
 use Rattle.mongo_scram.specs.Key.{IsControl, PasswordRow}
 use Rattle.mongo_scram.specs.Messages.{open_message}
+use Rattle.mongo_establish.specs.declared.login_state.Nonces.{Nonces}
 use Rattle.mongo_generate.specs.declared.user_login.Login.{Login}
-use Rattle.mongo_generate.specs.Generated.{version_at, exchange_at}
+use Rattle.mongo_generate.specs.Generated.{version_at, exchange_at, nonces_at}
 use Rattle.mongo_generate.specs.Login.{credential_by, IsUserLogin, IsPossible, IsExchangeClient}
 use Rattle.mongo_generate.proofs.Texts.{length_base64, alike_nonce}
 
@@ -64,12 +65,23 @@ possible_at k = record {
       );
 }
 
-pub login_at : {E : Type 0} (k : ℕ) (r : Result Login E) (version : ScramVersion) (username password nonce : List ℕ) → version ≡ version_at k → username ≡ codes "u" ++ decimal (k % 7) → password ≡ codes "p" ++ decimal (k % 3) → nonce ≡ replicate 32 (k % 256)
-    → IfOk r (IsUserLogin version username password nonce) → IfOk r (IsExchangeClient (exchange_at k))
-login_at k (Ok login) version username password nonce v u p n is = record {
+-- its nonces are bytes of its number and of the next one
+pub nonces_as_at : (k : ℕ) (nonces : Nonces) → nonces.first ≡ replicate 32 (k % 256) → nonces.second ≡ replicate 32 ((k % 256 + 1) % 256) → nonces ≡ nonces_at k
+nonces_as_at k nonces first second =
+    let next : (k % 256 + 1) % 256 ≡ (k + 1) % 256 = omega arith in
+    let second_is : nonces.second ≡ replicate 32 ((k + 1) % 256) = second ∙ ap (replicate 32) next in
+    λ i. record { first = first i; second = second_is i }
+
+pub login_at : {E : Type 0} (k : ℕ) (r : Result Login E) (version : ScramVersion) (username password : List ℕ) (nonces : Nonces) → version ≡ version_at k → username ≡ codes "u" ++ decimal (k % 7) → password ≡ codes "p" ++ decimal (k % 3) → nonces ≡ nonces_at k
+    → IfOk r (IsUserLogin version username password nonces) → IfOk r (IsExchangeClient (exchange_at k))
+login_at k (Ok login) version username password nonces v u p n is = record {
   possible = possible_at k;
   credential_is = is.credential_is ∙ (λ i. credential_by (v i) (u i) (p i));
-  nonce_is = ap base64_of (is.nonce_is ∙ n);
-  first_is = is.first_is ∙ (λ i. open_message (u i) (base64_of (n i)));
+  nonce_is = ap (λ (m : Nonces). base64_of m.first) (is.nonces_are ∙ n);
+  first_is = is.first_is ∙ (λ i. open_message (u i) (base64_of (n i).first));
 }
-login_at k (Err e) version username password nonce v u p n is = tt
+login_at k (Err e) version username password nonces v u p n is = tt
+
+pub nonces_of_login : {E : Type 0} (k : ℕ) (r : Result Login E) (version : ScramVersion) (username password : List ℕ) (nonces : Nonces) → nonces ≡ nonces_at k → IfOk r (IsUserLogin version username password nonces) → IfOk r (λ login. login.inputs.nonces ≡ nonces_at k)
+nonces_of_login k (Ok login) version username password nonces n is = is.nonces_are ∙ n
+nonces_of_login k (Err e) version username password nonces n is = tt

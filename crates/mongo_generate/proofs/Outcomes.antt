@@ -1,25 +1,32 @@
 -- What an establishment over the replies of an exchange comes to: the script, and nothing else.
-use Rattle.std.proofs.Common.{◌≡◌, ℕ, ℤ, pos, ◌∙◌, sym, subst, true, false, Some, Result, Ok, Err, IfOk, IfErr, List, [], arith}
+use Rattle.std.proofs.Common.{◌≡◌, ◌⊎◌, ℕ, ℤ, pos, ◌∙◌, sym, subst, inl, inr, true, false, Option, None, Some, Result, Ok, Err, IfOk, IfErr, List, [], arith}
 use Rattle.std.specs.Io.KnownBytes.{Appends}
 use Rattle.mongo_wire.specs.Outside.{State, Rose}
-use Rattle.mongo_wire.specs.declared.error.ErrorKind.TheVariants.{OutOfMemory}
-use Rattle.mongo_scram.specs.Costs.{Ledgers}
+use Rattle.mongo_wire.specs.declared.error.ErrorKind.{ErrorKind}
+use Rattle.mongo_wire.specs.declared.error.ErrorKind.TheVariants.{IncompatibleServer, OutOfMemory}
+use Rattle.mongo_scram.proofs.Derived.{costs_nothing}
+use Rattle.mongo_scram.specs.declared.cache.SaltedCache.{SaltedCache}
+use Rattle.mongo_scram.specs.declared.cache.SaltedKey.{SaltedKey}
+use Rattle.mongo_scram.specs.Cache.{entries_of, Adds}
+use Rattle.mongo_scram.specs.Costs.{Ledgers, ledgers, SameEntries}
+use Rattle.mongo_scram.specs.Entry.{salted_of}
 use Rattle.mongo_establish.specs.declared.establisher.EstablishError.{EstablishError}
 use Rattle.mongo_establish.specs.declared.establisher.PendingConnection.{PendingConnection}
 use Rattle.mongo_establish.specs.declared.establisher.PooledConnection.{PooledConnection}
 use Rattle.mongo_establish.specs.declared.generation.PoolGeneration.TheVariants.{Normal}
 use Rattle.mongo_establish.specs.declared.options.HandshakerOptions.{HandshakerOptions}
 use Rattle.mongo_establish.specs.Asked.{Asked, asked_for}
+use Rattle.mongo_establish.specs.Costs.{EstablishmentCosts}
 use Rattle.mongo_establish.specs.Derivation.{LeadsToKey}
 use Rattle.mongo_establish.specs.Established.{Established}
 use Rattle.mongo_establish.specs.KeyCosts.{TakesKey, AcceptedTakes, CostsOver}
 use Rattle.mongo_establish.specs.Script.{HasScript}
-use Rattle.mongo_establish.proofs.Counting.{taken_as_led}
+use Rattle.mongo_establish.proofs.Counting.{costs_some, taken_as_led}
 use Rattle.mongo_establish.proofs.Establishment.{one_script}
 use Rattle.mongo_server.specs.Exchange.{Exchange, close_of}
 use Rattle.mongo_generate.specs.declared.user_login.Login.{Login}
 use Rattle.mongo_generate.specs.Acceptance.{IsAcceptedAs, AreExchangeReplies}
-use Rattle.mongo_generate.specs.Login.{IsExchangeClient, key_of}
+use Rattle.mongo_generate.specs.Login.{IsExchangeClient, KeepsEntries, key_of}
 use Rattle.mongo_generate.specs.Options.{handshaker_options}
 use Rattle.mongo_generate.specs.Written.{CarriesPayloadLast}
 use Rattle.mongo_generate.proofs.Sizes.{asked_by}
@@ -76,3 +83,37 @@ module _ (pending : PendingConnection) (options : HandshakerOptions) (first_id :
   pub accepted_takes : (ended : Result PooledConnection EstablishError) (before after : Ledgers) → IsAcceptedAs ended true → CostsOver ended asked bytes before after → TakesKey (key_of x) before after
   accepted_takes (Ok pooled) before after is costs = takes_key before after pooled costs
   accepted_takes (Err e) before after is costs = absurd is
+
+-- ---- whatever comes of it
+
+abbrev AddsOne : Ledgers → Ledgers → Type 0
+AddsOne first last = (key : SaltedKey) × Adds (entries_of first.cache) (entries_of last.cache) (key, salted_of key)
+
+accepted_keeps : (key : Option SaltedKey) (first last : Ledgers) → AcceptedTakes key first last → SameEntries first last ⊎ AddsOne first last
+accepted_keeps None first last takes = inl takes.entries
+accepted_keeps (Some key) first last takes = elim takes.others [ inl same ↦ inl same | inr adds ↦ inr (key, adds) ]
+
+not_both : (kind : ErrorKind) → kind ≡ OutOfMemory → kind ≡ IncompatibleServer → ⊥
+not_both kind memory incompatible = cc
+
+-- a refusal leaves the entries; one that comes after the login had been accepted has its key put in
+refused_keeps : (e : EstablishError) (request : Asked) (bytes : List ℕ) (first last : Ledgers) → CostsOver {T = PooledConnection} (Err e) request bytes first last → e.cause.kind ≡ IncompatibleServer → SameEntries first last ⊎ AddsOne first last
+refused_keeps e request bytes first last costs incompatible =
+    elim costs [
+      | inl memory ↦ absurd (not_both e.cause.kind memory incompatible)
+      | inr other ↦ elim other [ inl unnamed ↦ accepted_keeps unnamed.led.key first last unnamed.led.taken | inr refused ↦ absurd (refused.other incompatible) ]
+    ]
+
+entries_keep : (ended : Result PooledConnection EstablishError) (request : Asked) (bytes : List ℕ) (first last : Ledgers) → CostsOver ended request bytes first last → IfErr ended (λ e. (e.cause.kind ≡ IncompatibleServer) ⊎ SameEntries first last) → SameEntries first last ⊎ AddsOne first last
+entries_keep (Ok pooled) request bytes first last costs entries = accepted_keeps costs.key first last costs.taken
+entries_keep (Err e) request bytes first last costs entries = elim entries [ inl incompatible ↦ refused_keeps e request bytes first last costs incompatible | inr same ↦ inl same ]
+
+pub keeps_entries : (ended : Result PooledConnection EstablishError) (request : Asked) (bytes : List ℕ) (old new : State) (after : ℤ) (first last : Ledgers) → EstablishmentCosts ended request old new after first last → CostsOver ended request bytes first last
+    → IfErr ended (λ e. (e.cause.kind ≡ IncompatibleServer) ⊎ SameEntries first last) → KeepsEntries first last
+keeps_entries ended request bytes old new after first last costs over entries =
+    let some = costs_some ended request old new after first last costs in
+    record { rounds = some.rounds; counts = some.counts; entries = entries_keep ended request bytes first last over entries }
+
+-- where nobody says hello
+pub keeps_still : (steps : ℕ) (cache : SaltedCache) → KeepsEntries (ledgers steps cache) (ledgers steps cache)
+keeps_still steps cache = let nothing = costs_nothing steps cache in record { rounds = 0; counts = nothing.counts; entries = inl nothing.entries }

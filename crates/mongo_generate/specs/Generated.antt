@@ -4,6 +4,7 @@ use Rattle.sha2.specs.Sha256.{sha256}
 use Rattle.mongo_scram.specs.declared.scram_version.ScramVersion.{ScramVersion}
 use Rattle.mongo_scram.specs.declared.scram_version.ScramVersion.TheVariants.{Sha1, Sha256}
 use Rattle.mongo_scram.specs.Base64.{base64_of}
+use Rattle.mongo_establish.specs.declared.login_state.Nonces.{Nonces}
 use Rattle.mongo_server.specs.Exchange.{Exchange, close_of, server_final_of}
 use Rattle.mongo_generate.specs.declared.logins.Generated.{Generated}
 
@@ -22,6 +23,10 @@ exchange_at k = record {
   nonce = base64_of (replicate 32 (k % 256));
   suffix = codes "srv";
 }
+
+-- its nonces: the second is the first of the next number
+abbrev pub nonces_at : ℕ → Nonces
+nonces_at k = record { first = replicate 32 (k % 256); second = replicate 32 ((k + 1) % 256) }
 
 -- ---- logins one after another
 

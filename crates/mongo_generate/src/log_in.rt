@@ -28,7 +28,7 @@ impl Client {
     ghost use Rattle.mongo_server.specs.Exchange.{Exchange, close_of};
     ghost use Rattle.mongo_server.specs.Server.{Serves};
     ghost use Rattle.mongo_generate.specs.Acceptance.{acceptance_of, IsTakenBy, AreExchangeReplies};
-    ghost use Rattle.mongo_generate.specs.Login.{IsExchangeClient, key_of};
+    ghost use Rattle.mongo_generate.specs.Login.{IsExchangeClient, KeepsEntries, key_of};
     ghost use Rattle.mongo_generate.specs.Written.{CarriesPayloadLast};
 
     /// Establishes a connection over a link in memory whose replies carry the server's messages: hello with the login that
@@ -36,7 +36,8 @@ impl Client {
     /// where either side refuses, or where a message of the server doesn't fit into a reply of 48000000 bytes. The ids of the
     /// commands begin at 0.
     ///
-    /// A server of the login's exchange, and its client, accept: the answer is their last messages.
+    /// A server of the login's exchange, and its client, accept: the answer is their last messages. A login that is refused leaves
+    /// the cache its entries, and adds one at most.
     pub fn log_in<G: Ledger>(
         &self,
         alloc: Global,
@@ -49,6 +50,8 @@ impl Client {
         ensures accepted { (x : Exchange) → IsExchangeClient x login.now → Serves server.old x → IfOk result (λ met. met ≡ Some (acceptance_of x)) }
         // Its key is derived where it has no entry, and has one then.
         ensures takes { (x : Exchange) → IsExchangeClient x login.now → Serves server.old x → OnOk result (TakesKey (key_of x) (ledgers steps.old state.old.salted) (ledgers steps.new state.new.salted)) }
+        // However it ends, and whichever user the server has, no entry is lost, and one key's is added at most.
+        ensures keeps { KeepsEntries (ledgers steps.old state.old.salted) (ledgers steps.new state.new.salted) }
         // Whatever the server, what is answered it has taken, and owes.
         ensures taken { IfOk result (λ met. IfSome met (IsTakenBy server.new)) }
         ensures serves { (x : Exchange) → Serves server.old x → Serves server.new x }
@@ -84,6 +87,7 @@ impl Client {
     ) -> Result<Option<Bytes>, AllocError>
         ensures written { (x : Exchange) → IsExchangeClient x login.now → AreExchangeReplies x replies → IfOk result (λ written. MatchOption written ⊥ (CarriesPayloadLast (close_of x))) }
         ensures takes { (x : Exchange) → IsExchangeClient x login.now → AreExchangeReplies x replies → OnOk result (TakesKey (key_of x) (ledgers steps.old state.old.salted) (ledgers steps.new state.new.salted)) }
+        ensures keeps { KeepsEntries (ledgers steps.old state.old.salted) (ledgers steps.new state.new.salted) }
         ensures steps { steps.old ≤ steps.new }
     {
         let pending = pending(alloc)?;

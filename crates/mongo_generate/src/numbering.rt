@@ -2,7 +2,7 @@
 ghost use Rattle.std.specs.Prelude.{◌≡◌, ◌+◌, ◌≤◌, ◌%◌, ◌++◌, decimal, IfOk, IfErr, OnOk};
 ghost use Rattle.mongo_wire.specs.declared.error.ErrorKind.TheVariants.{OutOfMemory};
 ghost use Rattle.mongo_server.specs.Server.{Serves};
-ghost use Rattle.mongo_generate.specs.Generated.{version_at, exchange_at};
+ghost use Rattle.mongo_generate.specs.Generated.{version_at, exchange_at, nonces_at};
 ghost use Rattle.mongo_generate.specs.Login.{IsExchangeClient};
 
 use crate::Login;
@@ -19,8 +19,8 @@ use std::sync::ledger::Ledger;
 const COUNT: u32 = 4096;
 
 impl Login {
-    ghost use Rattle.std.specs.Prelude.{IfOk};
-    ghost use Rattle.mongo_generate.specs.Generated.{exchange_at};
+    ghost use Rattle.std.specs.Prelude.{◌≡◌, IfOk};
+    ghost use Rattle.mongo_generate.specs.Generated.{exchange_at, nonces_at};
     ghost use Rattle.mongo_generate.specs.Login.{IsExchangeClient};
 
     /// The login of this number: by SCRAM-SHA-1 where it is even, else by SCRAM-SHA-256; user `u` and the number modulo 7,
@@ -28,6 +28,7 @@ impl Login {
     /// next number.
     pub fn generated(alloc: Global, number: u32) -> Result<Login, AllocError>
         ensures login { IfOk result (IsExchangeClient (exchange_at number)) }
+        ensures nonces { IfOk result (λ login. login.inputs.nonces ≡ nonces_at number) }
     {
         match login_of(alloc, number) {
             Ok(login) => Ok(login),
@@ -38,6 +39,7 @@ impl Login {
 
 fn login_of(alloc: Global, number: u32) -> Result<Login, Error>
     ensures login { IfOk result (IsExchangeClient (exchange_at number)) }
+    ensures nonces { IfOk result (λ login. login.inputs.nonces ≡ nonces_at number) }
     ensures refused { IfErr result (λ e. e.kind ≡ OutOfMemory) }
 {
     let username = lettered(alloc, "u", number % 7)?;

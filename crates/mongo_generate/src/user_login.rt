@@ -43,7 +43,7 @@ impl Login {
         password: &str,
         nonces: Nonces,
     ) -> Result<Login, AllocError>
-        ensures login { IfOk result (IsUserLogin version username.now password.now nonces.first) }
+        ensures login { IfOk result (IsUserLogin version username.now password.now nonces) }
     {
         match Login::of_user(alloc, version, username, password, nonces) {
             Ok(login) => Ok(login),
@@ -59,7 +59,7 @@ impl Login {
         password: &str,
         nonces: Nonces,
     ) -> Result<Login, Error>
-        ensures login { IfOk result (IsUserLogin version username.now password.now nonces.first) }
+        ensures login { IfOk result (IsUserLogin version username.now password.now nonces) }
         ensures refused { IfErr result (λ e. e.kind ≡ OutOfMemory) }
     {
         let first = ClientFirst::new(alloc, "admin", username, true, None, &nonces.first)?;
@@ -78,7 +78,7 @@ impl Login {
         nonces: Nonces,
     ) -> Login
         ensures credential { result.credential ≡ credential_by version username password }
-        ensures nonce { result.inputs.nonces.first ≡ nonces.first }
+        ensures nonces { result.inputs.nonces ≡ nonces }
         ensures first { result.client_first ≡ client_first }
     {
         let credential = Credential::new()

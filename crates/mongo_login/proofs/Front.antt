@@ -1,8 +1,10 @@
 -- What was held of an input and what is left of it.
-use Rattle.std.proofs.Common.{◌≡◌, ℕ, ◌+◌, ◌<◌, ◌≤◌, Option, None, Some, Err, List, ◌++◌, length, take, drop, refl, sym, ap, ◌∙◌, subst, inl, inr, append-nil, arith, length-append}
+use Rattle.std.proofs.Common.{◌≡◌, ℕ, ◌+◌, ◌<◌, ◌≤◌, Option, None, Some, Result, Ok, Err, IfOk, OnErr, List, ◌++◌, length, take, drop, refl, sym, ap, ◌∙◌, subst, inl, inr, append-nil, arith, length-append}
 use Rattle.std.proofs.Math.Seq.{take-append_seam, drop-append_seam}
 use Rattle.std.proofs.lemmas.Bool.{lt-leb}
+use Rattle.std.specs.Result.{IsErr}
 use Rattle.std.specs.Io.KnownBytes.{Consumes, IsAtEnd}
+use Rattle.std.proofs.KnownBytes.{Consumes-trans}
 use Rattle.mongo_settings.specs.declared.task.Task.{Task}
 use Rattle.mongo_settings.specs.declared.task.Task.TheVariants.{Rehearse, Batch}
 use Rattle.mongo_settings.specs.Settings.{limit, value_judged, judged}
@@ -38,6 +40,25 @@ reads_front old left held input told consumed past =
     let longer : limit < length input = omega (arith, ap length joined, length-append held rest) in
     let parts = cut (limit + 1) held rest input joined past in
     inr (longer, parts.0, is ∙ ap Some parts.1)
+
+-- ---- at a read
+
+-- one that gives nothing leaves what is held the bytes that were given
+pub nothing_more : (old mid new : Option (List ℕ)) (held buf : List ℕ) (count : ℕ) → Consumes old mid held → Consumes mid new (take count buf) → count ≡ 0 → Consumes old new held
+nothing_more old mid new held buf count front given none =
+    let e : held ++ take count buf ≡ held = ap (λ n. held ++ take n buf) none ∙ append-nil held in
+    subst (Consumes old new) e (Consumes-trans old mid new held (take count buf) front given)
+
+-- a refusal says nothing of a value, and all that it says of an error
+pub no_value : {T E : Type 0} (P : T → Type 0) (r : Result T E) → IsErr r → IfOk r P
+no_value P (Ok x) refused = absurd cc
+no_value P (Err e) refused = tt
+
+pub of_error : {T E : Type 0} (P : Type 0) (r : Result T E) → P → OnErr r P
+of_error P (Ok x) p = tt
+of_error P (Err e) p = p
+
+-- ---- judgements
 
 -- a text past the limit asks for nothing
 value_judged-past_limit : (text : List ℕ) → limit < length text → value_judged text ≡ Err BadSettings

@@ -1,8 +1,17 @@
--- What is read of a source whose bytes are settings: all of it, or a front that is past the limit.
+-- What is read of a source whose bytes are settings: all of it, or a front that is past the limit; and what no read did.
 use Rattle.std.specs.Prelude.{◌≡◌, ℕ, ◌+◌, ◌<◌, ◌≤◌, ◌⊎◌, Option, Some, List, [], length, take, drop}
+use Rattle.mongo_wire.specs.Outside.{State}
 use Rattle.mongo_settings.specs.Settings.{limit}
 
 -- Of this input these bytes were held and these are left: the whole input and nothing, or one byte more than the limit
 -- and what follows it.
 abbrev pub ReadsInput : List ℕ → List ℕ → Option (List ℕ) → Type 0
 ReadsInput input held left = ((length input ≤ limit) × (held ≡ input) × (left ≡ Some [])) ⊎ ((limit < length input) × (held ≡ take (limit + 1) input) × (left ≡ Some (drop (limit + 1) input)))
+
+-- no read failed
+abbrev pub NoReadFailed : State → State → Type 0
+NoReadFailed old new = new.read_faults ≡ old.read_faults
+
+-- no read met the source's end
+abbrev pub NoReadEnded : State → State → Type 0
+NoReadEnded old new = new.ends ≡ old.ends

@@ -1,11 +1,11 @@
 //! Reading the text of settings from a source.
-ghost use Rattle.std.specs.Prelude.{◌≡◌, ℕ, List, Some, ◌+◌, ◌≤◌, length, IfOk, IsErrOf};
+ghost use Rattle.std.specs.Prelude.{◌≡◌, ℕ, List, Some, ◌+◌, ◌≤◌, length, IfOk, OnOk, OnErr, IsErrOf};
 ghost use Rattle.mongo_settings.specs.declared.task.Task.{Task};
 ghost use Rattle.std.specs.Io.KnownBytes.{Consumes};
 ghost use Rattle.mongo_wire.specs.Outside.{ReadsOn, Rose, ConsumesAtMost};
 ghost use Rattle.mongo_settings.specs.Settings.{limit};
 ghost use Rattle.mongo_settings.specs.Task.{judged_as};
-ghost use Rattle.mongo_login.specs.Input.{ReadsInput};
+ghost use Rattle.mongo_login.specs.Input.{ReadsInput, NoReadFailed, NoReadEnded};
 
 #[cfg(test)]
 mod tests;
@@ -19,7 +19,8 @@ const PIECE: usize = 4096;
 
 /// Reads a source to its end, or until it has given one byte more than settings may have, 4194305 of them.
 ///
-/// `Fault` where the source failed. No more than that is consumed.
+/// `Fault` where the source failed; where it answers anything else, no read failed, so none that failed was tried again. No more
+/// than that is consumed.
 pub fn read_input<S: Source>(alloc: Global, source: &mut S) -> Result<Vec<u8>, InputError>
     ensures read { (input : List ℕ) → (S.state source.old).left ≡ Some input → IfOk result (λ held. ReadsInput input held.items (S.state source.new).left) }
     ensures judged_alike { (task : Task) (input : List ℕ) → (S.state source.old).left ≡ Some input → IfOk result (λ held. judged_as task held.items ≡ judged_as task input) }
@@ -27,6 +28,9 @@ pub fn read_input<S: Source>(alloc: Global, source: &mut S) -> Result<Vec<u8>, I
     ensures ended { IfOk result (λ held. length held.items ≤ limit → Rose (S.state source.old).ends (S.state source.new).ends) }
     ensures failed { IsErrOf result InputError.Fault → Rose (S.state source.old).read_faults (S.state source.new).read_faults }
     ensures at_most { ConsumesAtMost (S.state source.old).left (S.state source.new).left (limit + 1) }
+    ensures unfailed { OnOk result (NoReadFailed (S.state source.old) (S.state source.new)) }
+    ensures unended { OnErr result (NoReadEnded (S.state source.old) (S.state source.new)) }
+    ensures memory { IsErrOf result InputError.OutOfMemory → NoReadFailed (S.state source.old) (S.state source.new) }
     ensures on { ReadsOn (S.state source.old) (S.state source.new) }
 {
     let mut held = Vec::new(alloc);

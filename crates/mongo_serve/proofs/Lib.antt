@@ -18,3 +18,4 @@ pub mod Ran
 pub mod Said
 pub mod Continued
 pub mod Greeted
+pub mod LineRead

@@ -1,6 +1,7 @@
 use Rattle.std.proofs.Common.{arith, ◌≡◌, ◌+◌, length}
 use Rattle.mongo_settings.specs.Settings.{limit}
-use Rattle.mongo_connect.proofs.FirstLine.{gave_line_feed, taken_line_feed, gave_end, gave_cut}
+use Rattle.mongo_connect.proofs.FirstLine.{gave_line_feed, gave_end, gave_cut, stops_held, stops_kept, takes_stopped, takes_next, one_more, one_pushed}
+use Rattle.mongo_wire.proofs.ReadStopped.{reads_on, rose_after}
 use Rattle.mongo_connect.proofs.input.read_line.Goals as goal
 
 pub returns-in-Ok-Some-eq10-clause-line : goal.returns-in-Ok-Some-eq10-clause-line
@@ -12,9 +13,6 @@ pub returns-in-Ok-Some-eq10-clause-left : goal.returns-in-Ok-Some-eq10-clause-le
 returns-in-Ok-Some-eq10-clause-left g c =
     let e = c.in-Ok-Some-eq10 in
     (gave_line_feed _ _ _ c.reading.held.items _ _ c.reading.invariant.front e.ensures.byte e.field-0-is e.field-0-0-test c.reading.invariant.unbroken (omega arith)).left
-
-pub returns-in-Ok-Some-eq10-clause-at_most : goal.returns-in-Ok-Some-eq10-clause-at_most
-returns-in-Ok-Some-eq10-clause-at_most g c = taken_line_feed _ _ _ c.reading.held.items _ c.reading.invariant.front c.in-Ok-Some-eq10.ensures.byte (omega arith)
 
 pub returns-in-Ok-None-clause-line : goal.returns-in-Ok-None-clause-line
 returns-in-Ok-None-clause-line g c =
@@ -37,3 +35,62 @@ returns-clause-left g c =
     let held = c.reading.held.items in
     let past : length held ≡ limit + 1 = omega arith in
     (gave_cut _ _ held c.reading.invariant.front c.reading.invariant.unbroken past).left
+
+-- ---- what was taken
+
+pub returns-in-Ok-Some-eq10-clause-within : goal.returns-in-Ok-Some-eq10-clause-within
+returns-in-Ok-Some-eq10-clause-within g c =
+    let state = g.S.Outside.state in
+    takes_next (state c.args.source.now) (state c.reading.source) (state c.read_byte.new.source) c.reading.held.items c.reading.invariant c.in-Ok-Some-eq10.field-0 (omega (arith, c.reading-test.true, c.len.ensures)) c.in-Ok-Some-eq10.ensures.byte
+
+pub returns-in-Ok-Some-eq10-clause-on : goal.returns-in-Ok-Some-eq10-clause-on
+returns-in-Ok-Some-eq10-clause-on g c = reads_on _ _ _ c.reading.invariant.on c.in-Ok-Some-eq10.ensures.on
+
+pub returns-then-is_err-clause-within : goal.returns-then-is_err-clause-within
+returns-then-is_err-clause-within g c =
+    let state = g.S.Outside.state in
+    takes_next (state c.args.source.now) (state c.reading.source) (state c.read_byte.new.source) c.reading.held.items c.reading.invariant c.in-Ok-Some.field-0 (omega (arith, c.reading-test.true, c.len.ensures)) c.in-Ok-Some.ensures.byte
+
+pub returns-then-is_err-clause-stopped : goal.returns-then-is_err-clause-stopped
+returns-then-is_err-clause-stopped g c =
+    let state = g.S.Outside.state in
+    stops_held (state c.args.source.now) (state c.read_byte.new.source) _
+    (one_more (state c.args.source.now) (state c.reading.source) (state c.read_byte.new.source) c.reading.held.items c.reading.invariant c.in-Ok-Some.field-0 c.in-Ok-Some.byte c.in-Ok-Some.field-0-is c.in-Ok-Some.byte-test.1 (omega (arith, c.reading-test.true, c.len.ensures)) c.in-Ok-Some.ensures.byte c.in-Ok-Some.ensures.on)
+
+pub returns-then-is_err-clause-on : goal.returns-then-is_err-clause-on
+returns-then-is_err-clause-on g c = reads_on _ _ _ c.reading.invariant.on c.in-Ok-Some.ensures.on
+
+pub reading-preserved : goal.reading-preserved
+reading-preserved g c =
+    let state = g.S.Outside.state in
+    one_pushed (state c.args.source.now) (state c.reading.source) (state c.read_byte.new.source) c.reading.held.items c.reading.invariant c.in-Ok-Some.field-0 c.in-Ok-Some.byte _ c.push.new.self.items c.in-Ok-Some.field-0-is c.in-Ok-Some.byte-test.1 c.push.ensures.items c.if-is_err.ensures.negation
+    (omega (arith, c.reading-test.true, c.len.ensures)) c.in-Ok-Some.ensures.byte c.in-Ok-Some.ensures.on
+
+pub returns-in-Ok-None-clause-within : goal.returns-in-Ok-None-clause-within
+returns-in-Ok-None-clause-within g c =
+    let state = g.S.Outside.state in
+    takes_next (state c.args.source.now) (state c.reading.source) (state c.read_byte.new.source) c.reading.held.items c.reading.invariant c.in-Ok-None.field-0 (omega (arith, c.reading-test.true, c.len.ensures)) c.in-Ok-None.ensures.byte
+
+pub returns-in-Ok-None-clause-on : goal.returns-in-Ok-None-clause-on
+returns-in-Ok-None-clause-on g c = reads_on _ _ _ c.reading.invariant.on c.in-Ok-None.ensures.on
+
+pub returns-in-Err-clause-failed : goal.returns-in-Err-clause-failed
+returns-in-Err-clause-failed g c = λ _.
+    let state = g.S.Outside.state in
+    rose_after (state c.args.source.now).read_faults (state c.reading.source).read_faults (state c.read_byte.new.source).read_faults c.reading.invariant.on.faults_stay c.in-Err.ensures.failed
+
+pub returns-in-Err-clause-stopped : goal.returns-in-Err-clause-stopped
+returns-in-Err-clause-stopped g c =
+    let state = g.S.Outside.state in
+    stops_kept (state c.args.source.now) (state c.reading.source) (state c.read_byte.new.source) c.reading.held.items c.reading.invariant c.in-Err.ensures.kept
+
+pub returns-in-Err-clause-within : goal.returns-in-Err-clause-within
+returns-in-Err-clause-within g c =
+    let state = g.S.Outside.state in
+    takes_stopped _ _ (stops_kept (state c.args.source.now) (state c.reading.source) (state c.read_byte.new.source) c.reading.held.items c.reading.invariant c.in-Err.ensures.kept)
+
+pub returns-in-Err-clause-on : goal.returns-in-Err-clause-on
+returns-in-Err-clause-on g c = reads_on _ _ _ c.reading.invariant.on c.in-Err.ensures.on
+
+pub returns-clause-within : goal.returns-clause-within
+returns-clause-within g c = takes_stopped _ _ (stops_held _ _ c.reading.held.items c.reading.invariant)

@@ -3,7 +3,7 @@ use Rattle.mongo_scram.specs.Costs.{ledgers}
 use Rattle.mongo_establish.specs.Establisher.{options_of_establisher}
 use Rattle.mongo_establish.proofs.Counting.{costs_some, some_rise}
 use Rattle.mongo_generate.specs.Acceptance.{IsAcceptedAs}
-use Rattle.mongo_generate.proofs.Outcomes.{no_fault, never_refused, has_its_script, accepted_writes, accepted_takes}
+use Rattle.mongo_generate.proofs.Outcomes.{no_fault, never_refused, has_its_script, accepted_writes, accepted_takes, keeps_entries, keeps_still}
 use Rattle.mongo_generate.proofs.options.Client.establish.Goals as goal
 
 pub returns-in_err-is_accepted-clause-steps : goal.returns-in_err-is_accepted-clause-steps
@@ -52,3 +52,27 @@ pub returns-clause-steps : goal.returns-clause-steps
 returns-clause-steps g c =
     let made = c.establish_connection-ended in
     some_rise (ledgers c.args.steps.now c.args.state.now.salted) (ledgers made.new.steps made.new.state.salted) (costs_some made.result _ _ _ _ _ _ made.ensures.costs)
+
+pub returns-in_err-is_accepted-clause-keeps : goal.returns-in_err-is_accepted-clause-keeps
+returns-in_err-is_accepted-clause-keeps g c =
+    let made = c.establish_connection-ended in
+    let link = c.new-link in
+    let told = ap Some (ap (λ n. drop n link.result.input.items) link.ensures.at ∙ link.ensures.input) in
+    keeps_entries made.result _ c.args.replies _ _ _ (ledgers c.args.steps.now c.args.state.now.salted) (ledgers made.new.steps made.new.state.salted) made.ensures.costs (made.ensures.led.over c.args.replies told no_fault no_fault) made.ensures.entries
+
+pub returns-then-not-branch-clause-keeps : goal.returns-then-not-branch-clause-keeps
+returns-then-not-branch-clause-keeps g c =
+    let made = c.establish_connection-ended in
+    let link = c.new-link in
+    let told = ap Some (ap (λ n. drop n link.result.input.items) link.ensures.at ∙ link.ensures.input) in
+    keeps_entries made.result _ c.args.replies _ _ _ (ledgers c.args.steps.now c.args.state.now.salted) (ledgers made.new.steps made.new.state.salted) made.ensures.costs (made.ensures.led.over c.args.replies told no_fault no_fault) made.ensures.entries
+
+pub returns-clause-keeps : goal.returns-clause-keeps
+returns-clause-keeps g c =
+    let made = c.establish_connection-ended in
+    let link = c.new-link in
+    let told = ap Some (ap (λ n. drop n link.result.input.items) link.ensures.at ∙ link.ensures.input) in
+    keeps_entries made.result _ c.args.replies _ _ _ (ledgers c.args.steps.now c.args.state.now.salted) (ledgers made.new.steps made.new.state.salted) made.ensures.costs (made.ensures.led.over c.args.replies told no_fault no_fault) made.ensures.entries
+
+pub returns-in_err-pending-clause-keeps : goal.returns-in_err-pending-clause-keeps
+returns-in_err-pending-clause-keeps g c = keeps_still c.args.steps.now c.args.state.now.salted
