@@ -1,12 +1,13 @@
 -- What an establishment over a link does, and what is told of it.
-use Rattle.std.specs.Prelude.{◌≡◌, ℕ, ◌^◌, ◌<◌, ◌⊎◌, Some, Result, List, length, IfOk, IfErr}
+use Rattle.std.specs.Prelude.{◌≡◌, ℕ, ℤ, ◌^◌, ◌<◌, ◌⊎◌, Some, Result, List, length}
 use Rattle.std.specs.Io.KnownBytes.{append_known}
 use Rattle.mongo_wire.specs.Outside.{State, Rose}
+use Rattle.mongo_scram.specs.Costs.{Ledgers}
 use Rattle.mongo_establish.specs.declared.establisher.PooledConnection.{PooledConnection}
 use Rattle.mongo_establish.specs.declared.establisher.EstablishError.{EstablishError}
 use Rattle.mongo_settings.specs.declared.settings.Settings.{Settings}
 use Rattle.mongo_settings.specs.declared.rehearsal.Rehearsal.{Rehearsal}
-use Rattle.mongo_settings.specs.Login.{IsMade, IsStopped}
+use Rattle.mongo_settings.specs.Login.{Ended}
 use Rattle.mongo_settings.specs.Outcome.{asked_of}
 use Rattle.mongo_settings.specs.Rehearsal.{IsRehearsal, LeftAs}
 use Rattle.mongo_settings.specs.Telling.{Tells}
@@ -15,9 +16,11 @@ use Rattle.mongo_connect.specs.Settings.{with_replies}
 
 -- The connection that settings ask for was made, or was stopped as the establishment says: by its replies' refusal, a fault of
 -- the link, an end, or want of memory.
-pub record Attempted (settings : Settings) (ended : Result PooledConnection EstablishError) (old new : State) : Type 0 where
-  pub made : IfOk ended (IsMade (asked_of settings) old new)
-  pub stopped : IfErr ended (IsStopped (asked_of settings) old new)
+pub record Attempted (settings : Settings) (result : Result PooledConnection EstablishError) (old new : State) : Type 0 where
+  pub after : ℤ
+  pub first : Ledgers
+  pub last : Ledgers
+  pub ended : Ended (asked_of settings) old new after first last result
 
 -- the report tells how it ended, by all that was written and how many bytes were taken
 pub record IsConnectionTold (settings : Settings) (old new : State) (rehearsal : Rehearsal) : Type 0 where

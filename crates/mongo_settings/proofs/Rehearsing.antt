@@ -10,15 +10,16 @@ use Rattle.mongo_establish.specs.declared.establisher.EstablishError.{EstablishE
 use Rattle.mongo_establish.specs.declared.establisher.HandshakePhase.{HandshakePhase}
 use Rattle.mongo_establish.specs.declared.establisher.PooledConnection.{PooledConnection}
 use Rattle.mongo_establish.specs.Asked.{Asked}
+use Rattle.mongo_establish.specs.Established.{Established}
 use Rattle.mongo_establish.specs.Generation.{generation_of}
 use Rattle.mongo_establish.specs.Script.{IsWritten}
+use Rattle.mongo_establish.specs.Stopped.{StoppedIn}
 use Rattle.mongo_establish.proofs.Establishment.{RefusedBy, stopped_refusal}
 use Rattle.mongo_settings.proofs.Sent.{Framed-from_sent, Framed-from_said}
 use Rattle.mongo_settings.specs.declared.settings.Settings.{Settings}
 use Rattle.mongo_settings.specs.declared.rehearsal.Rehearsal.{Rehearsal}
 use Rattle.mongo_settings.specs.Report.{sent_lines, read_line, accepted_lines, refused_lines}
 use Rattle.mongo_settings.specs.Outcome.{asked_of, accepted, refused}
-use Rattle.mongo_settings.specs.Login.{IsMade, IsStopped}
 use Rattle.mongo_settings.specs.Telling.{TellsMade, IsReported, TellsRefused, Tells}
 use Rattle.mongo_settings.specs.Rehearsal.{LeftAs}
 use Rattle.mongo_settings.specs.Rounds.{is_after_login}
@@ -75,14 +76,13 @@ pub record Replays (settings : Settings) (ended : Result PooledConnection Establ
 
 -- ---- a connection that was made
 
-pub described : (asked : Asked) (old new : State) (ended : Result PooledConnection EstablishError) → IfOk ended (IsMade asked old new) → IfOk ended (λ pooled. IsSome pooled.connection.stream_description)
-described asked old new (Ok pooled) made = rw made.established.connection.description_is refl
-described asked old new (Err refusal) made = tt
+pub described : (asked : Asked) (old new : State) (after : ℤ) (ended : Result PooledConnection EstablishError) → IfOk ended (Established asked old new after) → IfOk ended (λ pooled. IsSome pooled.connection.stream_description)
+described asked old new after (Ok pooled) made = rw made.connection.description_is refl
+described asked old new after (Err refusal) made = tt
 
-made : (settings : Settings) (old new : State) (pooled : PooledConnection) (output left : List ℕ) (taken : ℕ) (x : Rehearsal)
-    → IsMade (asked_of settings) old new pooled → Replayed settings.replies output left old new → taken ≡ length settings.replies - length left → TellsMade output taken pooled x → Replays settings (Ok pooled) old new x
-made settings old new pooled output left taken x m p taken_is tells =
-    let e = m.established in
+made : (settings : Settings) (old new : State) (after : ℤ) (pooled : PooledConnection) (output left : List ℕ) (taken : ℕ) (x : Rehearsal)
+    → Established (asked_of settings) old new after pooled → Replayed settings.replies output left old new → taken ≡ length settings.replies - length left → TellsMade output taken pooled x → Replays settings (Ok pooled) old new x
+made settings old new after pooled output left taken x e p taken_is tells =
     let sent : output ≡ e.sent = appended p.front output e.sent old.written new.written p.before p.written_is e.written in
     let f = Framed-from_sent _ _ e.script.commands (asked_of settings).first_id e.sent e.is_written in
     let t = e.taken settings.replies p.given in
@@ -151,20 +151,20 @@ told_refusal settings kind phase old new after output left taken refusal x kind_
       };
     }
 
-unmade : (settings : Settings) (old new : State) (refusal : EstablishError) (output left : List ℕ) (taken : ℕ) (x : Rehearsal)
-    → IsStopped (asked_of settings) old new refusal → Replayed settings.replies output left old new → taken ≡ length settings.replies - length left → TellsRefused output taken refusal x → Replays settings (Err refusal) old new x
-unmade settings old new refusal output left taken x s p taken_is tells =
-    elim (stopped_refusal refusal.handshake_phase (asked_of settings) refusal.cause.kind old new s.after settings.replies s.stopped p.given p.unfailed p.unwritten) [
+unmade : (settings : Settings) (old new : State) (after : ℤ) (refusal : EstablishError) (output left : List ℕ) (taken : ℕ) (x : Rehearsal)
+    → StoppedIn refusal.handshake_phase (asked_of settings) refusal.cause.kind old new after → Replayed settings.replies output left old new → taken ≡ length settings.replies - length left → TellsRefused output taken refusal x → Replays settings (Err refusal) old new x
+unmade settings old new after refusal output left taken x s p taken_is tells =
+    elim (stopped_refusal refusal.handshake_phase (asked_of settings) refusal.cause.kind old new after settings.replies s p.given p.unfailed p.unwritten) [
       | inl memory ↦ absurd (subst IsReported memory tells.reported)
-      | inr r ↦ told_refusal settings refusal.cause.kind refusal.handshake_phase old new s.after output left taken refusal x refl refl r p taken_is tells
+      | inr r ↦ told_refusal settings refusal.cause.kind refusal.handshake_phase old new after output left taken refusal x refl refl r p taken_is tells
     ]
 
 -- ---- either
 
 -- however an establishment ended, what is told of it is the report
-pub rehearsed : {E : Type 0} (settings : Settings) (asked : Asked) (old new : State) (output left : List ℕ) (taken : ℕ) (ended : Result PooledConnection EstablishError) (r : Result Rehearsal E)
-    → asked ≡ asked_of settings → IfOk ended (IsMade asked old new) → IfErr ended (IsStopped asked old new)
+pub rehearsed : {E : Type 0} (settings : Settings) (asked : Asked) (old new : State) (after : ℤ) (output left : List ℕ) (taken : ℕ) (ended : Result PooledConnection EstablishError) (r : Result Rehearsal E)
+    → asked ≡ asked_of settings → IfOk ended (Established asked old new after) → IfErr ended (λ e. StoppedIn e.handshake_phase asked e.cause.kind old new after)
     → Replayed settings.replies output left old new → taken ≡ length settings.replies - length left → IfOk r (Tells output taken ended) → IfOk r (Replays settings ended old new)
-rehearsed settings asked old new output left taken (Ok pooled) (Ok x) same m s p taken_is tells = made settings old new pooled output left taken x (subst (λ a. IsMade a old new pooled) same m) p taken_is tells
-rehearsed settings asked old new output left taken (Err refusal) (Ok x) same m s p taken_is tells = unmade settings old new refusal output left taken x (subst (λ a. IsStopped a old new refusal) same s) p taken_is tells
-rehearsed settings asked old new output left taken ended (Err error) same m s p taken_is tells = tt
+rehearsed settings asked old new after output left taken (Ok pooled) (Ok x) same m s p taken_is tells = made settings old new after pooled output left taken x (subst (λ a. Established a old new after pooled) same m) p taken_is tells
+rehearsed settings asked old new after output left taken (Err refusal) (Ok x) same m s p taken_is tells = unmade settings old new after refusal output left taken x (subst (λ a. StoppedIn refusal.handshake_phase a refusal.cause.kind old new after) same s) p taken_is tells
+rehearsed settings asked old new after output left taken ended (Err error) same m s p taken_is tells = tt

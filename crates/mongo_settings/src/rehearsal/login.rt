@@ -1,13 +1,12 @@
 //! A login that is ready, and the establishment of its connection.
-ghost use Rattle.std.specs.Prelude.{◌≡◌, ◌≤◌, [], IfOk, IfErr};
+ghost use Rattle.std.specs.Prelude.{◌≡◌, ◌≤◌, [], IfOk};
 ghost use Rattle.mongo_meta.specs.Options.{metadata_of};
 ghost use Rattle.mongo_scram.specs.Cache.{entries_of, rounds_of};
 ghost use Rattle.mongo_scram.specs.Costs.{ledgers};
 ghost use Rattle.mongo_establish.specs.Establisher.{options_of_establisher};
-ghost use Rattle.mongo_establish.specs.KeyCosts.{CostsAsLed};
 ghost use Rattle.mongo_establish.specs.Options.{options_of};
 ghost use Rattle.mongo_establish.specs.Speculation.{SpeaksFor};
-ghost use Rattle.mongo_settings.specs.Login.{asked_by, AsksForSettings, IsMade, IsStopped};
+ghost use Rattle.mongo_settings.specs.Login.{asked_by, AsksForSettings, Ended};
 
 use crate::settings::Settings;
 use mongo_bson::Bytes;
@@ -127,9 +126,8 @@ pub fn connect<L: Link, G: Ledger>(
     steps: &mut Steps<G>,
 ) -> Result<PooledConnection, EstablishError>
     requires spoken { SpeaksFor login.credential }
-    ensures made { IfOk result (IsMade (asked_by login) (L.state link.old) (L.state link.new)) }
-    ensures stopped { IfErr result (IsStopped (asked_by login) (L.state link.old) (L.state link.new)) }
-    ensures led { CostsAsLed result (asked_by login) (L.state link.old) (L.state link.new) (ledgers steps.old state.old.salted) (ledgers steps.new state.new.salted) }
+    // What `establish_connection` promises: of the connection or the refusal, of the ids, of the counter and of the cache.
+    ensures ended { Ended (asked_by login) (L.state link.old) (L.state link.new) state.new.ids (ledgers steps.old state.old.salted) (ledgers steps.new state.new.salted) result }
     ensures steps { steps.old ≤ steps.new }
 {
     let Login {

@@ -3,18 +3,18 @@ use Rattle.mongo_connect.proofs.Recalled.{told_over, untold_over}
 use Rattle.mongo_connect.proofs.connecting.tell_over.Goals as goal
 
 pub report_outcome-requires : goal.report_outcome-requires
-report_outcome-requires g c = record { described = described _ _ _ c.connect-ended.result c.connect-ended.ensures.made }
+report_outcome-requires g c = record { described = described _ _ _ _ c.connect-ended.result c.connect-ended.ensures.ended.made }
 
 pub returns-clause-told : goal.returns-clause-told
 returns-clause-told g c =
     let ended = c.connect-ended in
     let before = g.L.Outside.state c.args.recording.now.link in
-    told_over c.args.settings g.O.Origin.origin before _ ended.result c.written.result.now c.taken.result c.report_outcome.result c.requires.fresh
-    c.in_ok-login.ensures.login.asked ended.ensures.made ended.ensures.stopped c.written.ensures.kept c.taken.ensures.counted c.report_outcome.ensures.told
+    told_over c.args.settings g.O.Origin.origin before _ _ _ _ ended.result c.written.result.now c.taken.result c.report_outcome.result c.requires.fresh
+    c.in_ok-login.ensures.login.asked ended.ensures.ended c.written.ensures.kept c.taken.ensures.counted c.report_outcome.ensures.told
 
 pub returns-clause-untold : goal.returns-clause-untold
 returns-clause-untold g c =
     let ended = c.connect-ended in
     let before = g.L.Outside.state c.args.recording.now.link in
-    untold_over c.args.settings g.O.Origin.origin before _ ended.result c.report_outcome.result c.requires.fresh
-    c.in_ok-login.ensures.login.asked ended.ensures.made ended.ensures.stopped
+    untold_over c.args.settings g.O.Origin.origin before _ _ _ _ ended.result c.report_outcome.result c.requires.fresh
+    c.in_ok-login.ensures.login.asked ended.ensures.ended

@@ -5,7 +5,7 @@ use Rattle.mongo_settings.proofs.Taking.{taking}
 use Rattle.mongo_settings.proofs.rehearsal.rehearse_with.Goals as goal
 
 pub report_outcome-requires : goal.report_outcome-requires
-report_outcome-requires g c = record { described = described _ _ _ c.connect-ended.result c.connect-ended.ensures.made }
+report_outcome-requires g c = record { described = described _ _ _ _ c.connect-ended.result c.connect-ended.ensures.ended.made }
 
 pub returns-clause-taking : goal.returns-clause-taking
 returns-clause-taking g c =
@@ -14,6 +14,7 @@ returns-clause-taking g c =
     let new = c.new-link in
     let link = c.connect-ended.new.link in
     let ended = c.connect-ended.result in
+    let how = c.connect-ended.ensures.ended in
     let written = c.written.result.now in
     let taken = c.saturating_sub-taken.result in
     let given : bytes_left new.result ≡ settings.replies = ap (λ n. drop n new.result.input.items) new.ensures.at ∙ new.ensures.input ∙ ready.replies in
@@ -29,5 +30,5 @@ returns-clause-taking g c =
     let count : taken ≡ length settings.replies - length (bytes_left link) = c.saturating_sub-taken.ensures
     ∙ ap (λ l. length l - length c.left.result.now) (c.left-total.ensures ∙ given)
     ∙ ap (λ l. length settings.replies - length l) c.left.ensures in
-    taking settings _ _ _ _ _ written (bytes_left link) taken ended c.report_outcome.result ready.login.asked c.connect-ended.ensures.led replayed c.report_outcome.ensures.told
-    (rehearsed settings _ _ _ written (bytes_left link) taken ended c.report_outcome.result ready.login.asked c.connect-ended.ensures.made c.connect-ended.ensures.stopped replayed count c.report_outcome.ensures.told)
+    taking settings _ _ _ _ _ written (bytes_left link) taken ended c.report_outcome.result ready.login.asked how.led replayed c.report_outcome.ensures.told
+    (rehearsed settings _ _ _ _ written (bytes_left link) taken ended c.report_outcome.result ready.login.asked how.made how.stopped replayed count c.report_outcome.ensures.told)
