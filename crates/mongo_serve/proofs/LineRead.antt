@@ -1,5 +1,5 @@
 -- What was taken of a source while its first line is read, byte by byte.
-use Rattle.std.proofs.Common.{◌≡◌, ◌≢◌, ℕ, ◌+◌, ◌≤◌, Option, None, Some, Result, Ok, Err, List, [], ◌∷◌, ◌++◌, length, IfSome, IfOk, IsErrOf, sym, subst, ◌∙◌, inr, arith, append-nil, length-append}
+use Rattle.std.proofs.Common.{◌≡◌, ◌≢◌, ℕ, ◌+◌, ◌≤◌, Option, None, Some, Result, Err, List, [], ◌∷◌, ◌++◌, length, IfSome, IfOk, IsErrOf, sym, subst, ◌∙◌, inr, arith, append-nil, length-append}
 use Rattle.std.proofs.KnownBytes.{Consumes-trans}
 use Rattle.std.proofs.lemmas.List.Elements.{All-push}
 use Rattle.std.specs.Result.{IsErrAnd}

@@ -1,7 +1,6 @@
 use Rattle.std.proofs.Common.{arith, ◌≡◌, ◌∙◌, ◌+◌, ◌<◌, ◌≤◌, length, ◌++◌, take}
 use Rattle.std.proofs.lemmas.Grind.{common_steps}
 use Rattle.std.proofs.KnownBytes.{Consumes-trans, Consumes-kept}
-use Rattle.std.specs.Io.KnownBytes.{Consumes}
 use Rattle.mongo_wire.proofs.ReadStopped.{reads_on, rose_after}
 use Rattle.mongo_settings.specs.Settings.{limit}
 use Rattle.mongo_login.proofs.Front.{reads_whole, reads_front, nothing_more, no_value, of_error, judged-front}
