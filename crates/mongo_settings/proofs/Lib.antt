@@ -18,4 +18,4 @@ pub mod OneReport
 mod Sharing
 mod LoginsRead
 pub mod Outcomes
-mod Taking
+pub mod Taking

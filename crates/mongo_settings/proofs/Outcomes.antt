@@ -1,18 +1,17 @@
 -- How the logins of a task come out is decided by their reply bytes.
-use Rattle.std.proofs.Common.{◌≡◌, ◌≤◌, ℕ, ◌∙◌, ap, subst, sym, Result, Ok, Err, List, [], ◌∷◌, map, IfOk}
+use Rattle.std.proofs.Common.{◌≡◌, ℕ, ◌∙◌, ap, subst, sym, List, [], ◌∷◌, map}
 use Rattle.std.specs.List.{concat}
 use Rattle.mongo_scram.specs.declared.cache.SaltedKey.{SaltedKey}
 use Rattle.mongo_settings.specs.declared.settings.Settings.{Settings}
 use Rattle.mongo_settings.specs.declared.rehearsal.RehearsalStatus.{RehearsalStatus}
 use Rattle.mongo_settings.specs.declared.rehearsal.RehearsalStatus.TheVariants.{Accepted, Refused}
 use Rattle.mongo_settings.specs.Outcome.{status_of}
-use Rattle.mongo_settings.specs.declared.rehearsal.Rehearsal.{Rehearsal}
-use Rattle.mongo_settings.specs.Rehearsal.{IsReport, IsRehearsal}
+use Rattle.mongo_settings.specs.Rehearsal.{IsReport}
 use Rattle.mongo_settings.specs.Batch.{Login, keys_with, AreLogins, both, status_of_all}
 use Rattle.mongo_settings.specs.Task.{Asks, one, many, Steps, Reports, LoginComesOut, AllComeOut, ComesOut}
 use Rattle.mongo_settings.proofs.OneReport.{accepted_status, refused_status}
 
-one_status : (settings : Settings) (text : List ℕ) (report : IsReport settings text) (status : RehearsalStatus) → LoginComesOut settings status → status_of report.outcome ≡ status
+pub one_status : (settings : Settings) (text : List ℕ) (report : IsReport settings text) (status : RehearsalStatus) → LoginComesOut settings status → status_of report.outcome ≡ status
 one_status settings text report Accepted script = accepted_status settings report.outcome script report.is_outcome
 one_status settings text report Refused refusal = refused_status settings report.outcome (concat report.frames) refusal report.is_outcome report.sent
 
@@ -29,8 +28,3 @@ all_status keys (login ∷ others) status are out =
 pub reports_status : (asks : Asks) (steps : Steps) (status other : RehearsalStatus) (text : List ℕ) → Reports asks steps status text → ComesOut asks other → status ≡ other
 reports_status (one settings) steps status other text r out = r.status_is ∙ one_status settings text r.report other out
 reports_status (many settings) steps status other text r out = r.status_is ∙ all_status [] r.batch.logins other r.batch.are_logins (subst (λ l. AllComeOut l other) (sym r.batch.settings_are) out)
-
--- one login's report is that of its rehearsal
-pub reports_one : {E : Type 0} (settings : Settings) (steps : Steps) (r : Result Rehearsal E) → IfOk r (IsRehearsal settings) → steps.before ≤ steps.after → IfOk r (λ x. Reports (one settings) steps x.status x.report.items)
-reports_one settings steps (Ok x) is rise = record { report = is.report; status_is = is.status_is; steps_rise = rise }
-reports_one settings steps (Err e) is rise = tt

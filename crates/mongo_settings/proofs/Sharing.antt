@@ -53,7 +53,7 @@ status-more (first ∷ others) login = ap (both first.status) (status-more other
 abbrev pub Holds : SaltedCache → List SaltedKey → Type 0
 Holds cache keys = (key : SaltedKey) → HasEntry cache key ↔ Contains keys key
 
-nothing_in : {X : Type 0} (x : X) → Contains [] x → ⊥
+pub nothing_in : {X : Type 0} (x : X) → Contains [] x → ⊥
 nothing_in x h = let lt = h.1 in absurd (omega arith)
 
 pub holds_none : (cache : SaltedCache) → entries_of cache ≡ [] → Holds cache []

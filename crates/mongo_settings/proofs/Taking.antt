@@ -1,9 +1,11 @@
 -- What a rehearsal takes, from what its establishment cost over the reply bytes.
-use Rattle.std.proofs.Common.{◌≡◌, ℕ, ap, subst, sym, refl, inl, inr, Bool, true, false, Result, Ok, Err, List, IfOk}
+use Rattle.std.proofs.Common.{◌≡◌, ℕ, ◌+◌, ap, subst, sym, refl, inl, inr, Bool, true, false, Option, None, Some, Result, Ok, Err, List, [], IfOk, Contains}
 use Rattle.mongo_wire.specs.declared.error.ErrorKind.{ErrorKind}
 use Rattle.mongo_wire.specs.declared.error.ErrorKind.TheVariants.{IncompatibleServer, OutOfMemory}
 use Rattle.mongo_wire.specs.Outside.{State}
-use Rattle.mongo_scram.specs.Costs.{Ledgers}
+use Rattle.mongo_scram.specs.declared.cache.SaltedKey.{SaltedKey}
+use Rattle.mongo_scram.specs.Cache.{entries_of}
+use Rattle.mongo_scram.specs.Costs.{Ledgers, Derives}
 use Rattle.mongo_establish.specs.declared.establisher.EstablishError.{EstablishError}
 use Rattle.mongo_establish.specs.declared.establisher.PooledConnection.{PooledConnection}
 use Rattle.mongo_establish.specs.Asked.{Asked}
@@ -12,10 +14,12 @@ use Rattle.mongo_settings.specs.declared.settings.Settings.{Settings}
 use Rattle.mongo_settings.specs.declared.rehearsal.Rehearsal.{Rehearsal}
 use Rattle.mongo_settings.specs.Outcome.{asked_of}
 use Rattle.mongo_settings.specs.Rehearsal.{IsRehearsal}
-use Rattle.mongo_settings.specs.Rounds.{is_after_login}
+use Rattle.mongo_settings.specs.Rounds.{is_after_login, logs_in, rounds_alone}
 use Rattle.mongo_settings.specs.Takes.{TakesBy, has_logged_in, TakesLedgers, IsTaking}
+use Rattle.mongo_settings.specs.Task.{CountsKey, ReportsOne, steps_of}
 use Rattle.mongo_settings.specs.Telling.{IsReported, Tells}
 use Rattle.mongo_settings.proofs.Rehearsing.{Replayed, Replays}
+use Rattle.mongo_settings.proofs.Sharing.{nothing_in}
 
 before_login : (kind : ErrorKind) → (kind ≡ IncompatibleServer → ⊥) → is_after_login kind ≡ false
 before_login IncompatibleServer other = absurd (other refl)
@@ -24,7 +28,7 @@ before_login kind other = refl
 took : (settings : Settings) (accepted : Bool) (first last : Ledgers) → TakesAsLed (asked_of settings) settings.replies (λ key. TakesBy accepted key first last) → TakesLedgers settings accepted first last
 took settings accepted first last t = record { key = t.key; key_is = t.leads; taken = t.taken }
 
-pub takes_over : (settings : Settings) (first last : Ledgers) (ended : Result PooledConnection EstablishError) → CostsOver ended (asked_of settings) settings.replies first last → ((e : EstablishError) → ended ≡ Err e → IsReported e.cause.kind) → TakesLedgers settings (has_logged_in ended) first last
+takes_over : (settings : Settings) (first last : Ledgers) (ended : Result PooledConnection EstablishError) → CostsOver ended (asked_of settings) settings.replies first last → ((e : EstablishError) → ended ≡ Err e → IsReported e.cause.kind) → TakesLedgers settings (has_logged_in ended) first last
 takes_over settings first last (Ok pooled) costs reported = took settings true first last costs
 takes_over settings first last (Err e) (inl memory) reported = absurd (subst IsReported memory (reported e refl))
 takes_over settings first last (Err e) (inr (inl unnamed)) reported = subst (λ b. TakesLedgers settings b first last) (sym (ap is_after_login unnamed.kind_is)) (took settings true first last unnamed.led)
@@ -53,3 +57,33 @@ taking settings asked old new first last output left count ended (Err error) sam
 pub alone : {E : Type 0} (settings : Settings) (first last : Ledgers) (r : Result Rehearsal E) → IfOk r (IsTaking settings first last) → IfOk r (IsRehearsal settings)
 alone settings first last (Ok x) t = t.rehearsal_is
 alone settings first last (Err e) t = tt
+
+-- ---- a login alone, before which no key was accepted
+
+derived_alone : (key : SaltedKey) (first last : Ledgers) → entries_of first.cache ≡ [] → Derives key first last → last.steps ≡ first.steps + key.count
+derived_alone key first last none (inl had) = absurd (nothing_in (key, had.0.0) (subst (λ entries. Contains entries (key, had.0.0)) none had.0.1))
+derived_alone key first last none (inr made) = made.1.steps
+
+steps_alone : (accepted : Bool) (key : Option SaltedKey) (first last : Ledgers) → entries_of first.cache ≡ [] → TakesBy accepted key first last → last.steps ≡ first.steps + rounds_alone key
+steps_alone true None first last none t = t.counts.steps
+steps_alone false None first last none t = t.counts.steps
+steps_alone true (Some key) first last none t = derived_alone key first last none t.derived
+steps_alone false (Some key) first last none t = derived_alone key first last none t.derived
+
+counted : (settings : Settings) (accepted : Bool) (first last : Ledgers) → entries_of first.cache ≡ [] → TakesLedgers settings accepted first last → CountsKey settings (steps_of first.steps last.steps)
+counted settings accepted first last none t = record { key = t.key; key_is = t.key_is; steps_are = steps_alone accepted t.key first last none t.taken }
+
+-- over the reply bytes an establishment that is told derived the key that they lead to
+pub counted_over : (settings : Settings) (first last : Ledgers) (ended : Result PooledConnection EstablishError) (written : List ℕ) (count : ℕ) (x : Rehearsal)
+    → entries_of first.cache ≡ [] → CostsOver ended (asked_of settings) settings.replies first last → Tells written count ended x → CountsKey settings (steps_of first.steps last.steps)
+counted_over settings first last ended written count x none over tells =
+    counted settings (has_logged_in ended) first last none (takes_over settings first last ended over (told_cause written count ended x tells))
+
+pub reports_alone : {E : Type 0} (settings : Settings) (first last : Ledgers) (r : Result Rehearsal E) → entries_of first.cache ≡ [] → IfOk r (IsTaking settings first last)
+    → IfOk r (λ x. ReportsOne settings (steps_of first.steps last.steps) x.status x.report.items)
+reports_alone settings first last (Ok x) none t = record {
+  report = t.rehearsal_is.report;
+  status_is = t.rehearsal_is.status_is;
+  counted = counted settings (logs_in t.rehearsal_is.report.outcome) first last none t.takes;
+}
+reports_alone settings first last (Err e) none t = tt

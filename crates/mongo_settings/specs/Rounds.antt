@@ -17,6 +17,11 @@ abbrev pub Derived : List SaltedKey → Option SaltedKey → ℕ → Type 0
 Derived keys None rounds = rounds ≡ 0
 Derived keys (Some key) rounds = (Contains keys key × (rounds ≡ 0)) ⊎ ((Contains keys key → ⊥) × (rounds ≡ key.count))
 
+-- the rounds that it derives where none was accepted before
+abbrev pub rounds_alone : Option SaltedKey → ℕ
+rounds_alone None = 0
+rounds_alone (Some key) = key.count
+
 -- the login was accepted: the one refusal that follows it is that of a server without a service
 abbrev pub is_after_login : ErrorKind → Bool
 is_after_login IncompatibleServer = true

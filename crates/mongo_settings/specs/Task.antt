@@ -1,5 +1,6 @@
 -- What is rehearsed: the login of settings, or the logins of a batch.
-use Rattle.std.specs.Prelude.{◌≡◌, ℕ, ◌+◌, ◌≤◌, Result, Ok, List, [], ◌∷◌, All}
+use Rattle.std.specs.Prelude.{◌≡◌, ℕ, ◌+◌, Option, Result, Ok, List, [], ◌∷◌, All}
+use Rattle.mongo_scram.specs.declared.cache.SaltedKey.{SaltedKey}
 use Rattle.mongo_settings.specs.declared.settings.Settings.{Settings}
 use Rattle.mongo_settings.specs.declared.settings.SettingsError.{SettingsError}
 use Rattle.mongo_settings.specs.declared.task.Logins.{Logins}
@@ -12,6 +13,7 @@ use Rattle.mongo_settings.specs.Settings.{◌>>=◌, judged}
 use Rattle.mongo_settings.specs.Logins.{logins_judged}
 use Rattle.mongo_settings.specs.Outcome.{status_of, LeadsToAcceptance, IsRefused}
 use Rattle.mongo_settings.specs.Rehearsal.{IsReport}
+use Rattle.mongo_settings.specs.Rounds.{DerivesFrom, rounds_alone}
 use Rattle.mongo_settings.specs.Batch.{IsLoginSpoken, IsBatch, both, status_of_all, rounds_of_all}
 
 -- what is asked for: one login, or many
@@ -43,11 +45,17 @@ pub record Steps : Type 0 where
 abbrev pub steps_of : ℕ → ℕ → Steps
 steps_of before after = record { before = before; after = after }
 
--- the text is the report of one login, which came out so
+-- of a login alone: its key was derived, if it comes to one, and the steps rose by just those rounds
+pub record CountsKey (settings : Settings) (steps : Steps) : Type 0 where
+  pub key : Option SaltedKey
+  pub key_is : DerivesFrom settings key
+  pub steps_are : steps.after ≡ steps.before + rounds_alone key
+
+-- the text is the report of one login, which came out so, and the steps rose by its rounds
 pub record ReportsOne (settings : Settings) (steps : Steps) (status : RehearsalStatus) (text : List ℕ) : Type 0 where
   pub report : IsReport settings text
   pub status_is : status ≡ status_of report.outcome
-  pub steps_rise : steps.before ≤ steps.after
+  pub counted : CountsKey settings steps
 
 -- the text is the report of a batch, which came out so, and the steps rose by its rounds
 pub record ReportsMany (settings : List Settings) (steps : Steps) (status : RehearsalStatus) (text : List ℕ) : Type 0 where

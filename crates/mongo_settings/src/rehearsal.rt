@@ -2,8 +2,9 @@
 ghost use Rattle.std.specs.Prelude.{◌≡◌, ◌≤◌, ℕ, List, IfOk};
 ghost use Rattle.mongo_scram.specs.Costs.{ledgers};
 ghost use Rattle.mongo_establish.specs.Speculation.{SpeaksFor};
-ghost use Rattle.mongo_settings.specs.Rehearsal.{IsRehearsal, IsReport};
+ghost use Rattle.mongo_settings.specs.Rehearsal.{IsReport};
 ghost use Rattle.mongo_settings.specs.Takes.{IsTaking};
+ghost use Rattle.mongo_settings.specs.Task.{ReportsOne, steps_of};
 
 mod login;
 mod telling;
@@ -56,7 +57,8 @@ pub fn rehearse<G: Ledger>(
     steps: &mut Steps<G>,
 ) -> Result<Rehearsal, AllocError>
     requires spoken { SpeaksFor settings.credential }
-    ensures rehearsed { IfOk result (IsRehearsal settings) }
+    // The steps rise by the rounds of the key that the reply bytes lead to.
+    ensures reported { IfOk result (λ rehearsal. ReportsOne settings (steps_of steps.old steps.new) rehearsal.status rehearsal.report.items) }
     // Settings have no other report.
     ensures only { IfOk result (λ rehearsal. (text : List ℕ) → IsReport settings text → text ≡ rehearsal.report.items) }
     ensures steps { steps.old ≤ steps.new }

@@ -1,9 +1,13 @@
+use Rattle.mongo_scram.specs.Costs.{ledgers}
 use Rattle.mongo_settings.proofs.OneReport.{only_report}
-use Rattle.mongo_settings.proofs.Taking.{alone}
+use Rattle.mongo_settings.proofs.Taking.{alone, reports_alone}
 use Rattle.mongo_settings.proofs.rehearsal.rehearse.Goals as goal
 
-pub returns-clause-rehearsed : goal.returns-clause-rehearsed
-returns-clause-rehearsed g c = alone c.args.settings _ _ c.rehearse_with.result c.rehearse_with.ensures.taking
+pub returns-clause-reported : goal.returns-clause-reported
+returns-clause-reported g c =
+    let first = ledgers c.args.steps.now c.new_state-state.result.salted in
+    let last = ledgers c.rehearse_with.new.steps c.rehearse_with.new.state.salted in
+    reports_alone c.args.settings first last c.rehearse_with.result c.new_state-state.ensures.entries c.rehearse_with.ensures.taking
 
 pub returns-clause-only : goal.returns-clause-only
-returns-clause-only g c = only_report c.args.settings c.rehearse_with.result (returns-clause-rehearsed g c)
+returns-clause-only g c = only_report c.args.settings c.rehearse_with.result (alone c.args.settings _ _ c.rehearse_with.result c.rehearse_with.ensures.taking)
