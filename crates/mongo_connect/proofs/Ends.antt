@@ -15,8 +15,8 @@ use Rattle.mongo_settings.specs.Run.{Run}
 use Rattle.mongo_settings.specs.Settings.{limit}
 use Rattle.mongo_settings.specs.Status.{status_after, JudgementDecides}
 use Rattle.mongo_settings.specs.Outcome.{taken_by}
-use Rattle.mongo_settings.specs.Task.{one, steps_of, LoginComesOut}
-use Rattle.mongo_settings.proofs.Outcomes.{reports_status}
+use Rattle.mongo_settings.specs.Task.{Steps, LoginComesOut}
+use Rattle.mongo_settings.proofs.Outcomes.{one_status}
 use Rattle.mongo_settings.specs.declared.status.Status.{Status}
 use Rattle.mongo_settings.specs.declared.status.Status.TheVariants.{Done, Refused, BadSettings, Usage, SourceFault, SinkFault, NoMemory, NotBuilt}
 use Rattle.mongo_connect.specs.Connecting.{IsConnectionTold, TellsBytes, Faultless, ReportsConnection}
@@ -52,9 +52,9 @@ faultless_after old middle new on f = record {
   stays a b e = omega arith
 
 -- what the settings of the line asked for, over told bytes
-connected : (input line : List ℕ) (settings : Settings) (old middle new : State) (x : Rehearsal) → LineRead line old middle → line_judged line ≡ Ok settings
-    → ((bytes : List ℕ) → TellsBytes middle bytes → Faultless middle new → ReportsConnection settings bytes middle new x) → TellsBytes old input → Faultless old new → Connected input x old new
-connected input line settings old middle new x read judged rehearses told f =
+connected : (input line : List ℕ) (settings : Settings) (steps : Steps) (old middle new : State) (x : Rehearsal) → LineRead line old middle → line_judged line ≡ Ok settings
+    → ((bytes : List ℕ) → TellsBytes middle bytes → Faultless middle new → ReportsConnection settings bytes steps middle new x) → TellsBytes old input → Faultless old new → Connected input steps x old new
+connected input line settings steps old middle new x read judged rehearses told f =
     let r = rehearses (after_line input) (told_after input line old middle read told) (faultless_after old middle new read.on f) in
     record {
       settings = settings;
@@ -64,16 +64,17 @@ connected input line settings old middle new x read judged rehearses told f =
       written = subst (λ w. Appends w new.written (concat r.rehearsal_is.report.frames)) read.on.unwritten.written r.left_as.written;
       flushed = r.left_as.flushed;
       taken = subst (λ l. Consumes l new.left (taken_by r.rehearsal_is.report.outcome)) (read.left input told.left) r.left_as.taken;
+      counted = r.counted;
     }
 
-pub attempt : (line : List ℕ) (settings : Settings) (old middle new : State) (x : Rehearsal)
+pub attempt : (line : List ℕ) (settings : Settings) (steps : Steps) (old middle new : State) (x : Rehearsal)
     → ReadsOn old middle → ((input : List ℕ) → old.left ≡ Some input → line ≡ line_of input) → ((input : List ℕ) → old.left ≡ Some input → middle.left ≡ Some (after_line input))
-    → line_judged line ≡ Ok settings → IsConnectionTold settings middle new x → ((bytes : List ℕ) → TellsBytes middle bytes → Faultless middle new → ReportsConnection settings bytes middle new x) → Attempt x old new
-attempt line settings old middle new x on line_is left judged told rehearses =
+    → line_judged line ≡ Ok settings → IsConnectionTold settings steps middle new x → ((bytes : List ℕ) → TellsBytes middle bytes → Faultless middle new → ReportsConnection settings bytes steps middle new x) → Attempt steps x old new
+attempt line settings steps old middle new x on line_is left judged told rehearses =
     let read : LineRead line old middle = record { on = on; line_is = line_is; left = left } in
     record {
       told = record { line = line; middle = middle; line_read = read; settings = settings; settings_are = judged; done = told };
-      connected = λ input is f. connected input line settings old middle new x read judged rehearses is f;
+      connected = λ input is f. connected input line settings steps old middle new x read judged rehearses is f;
     }
 
 -- ---- judgements
@@ -87,7 +88,7 @@ ok_error judgement settings error p q = cc
 bad_unbuilt : (judgement : Result Settings SettingsError) → judgement ≡ Err Bad → judgement ≡ Err Unbuilt → ⊥
 bad_unbuilt judgement p q = cc
 
-module _ {L K : Type 0} (link : L → State) (sink : K → State) (run : Run L K) where
+module _ {L K : Type 0} (link : L → State) (sink : K → State) (steps : Steps) (run : Run L K) where
   -- ---- each end
 
   pub ends_refused : (line : List ℕ) (error : SettingsError) → LineRead line (link run.source) (link run.source_after) → line_judged line ≡ Err error → run.sink_after ≡ run.sink → IsRefusedLine link sink error run
@@ -98,16 +99,16 @@ module _ {L K : Type 0} (link : L → State) (sink : K → State) (run : Run L K
     unreported = unreported;
   }
 
-  reported_end : (status : RehearsalStatus) → ConnectReported link sink status run → Ends link sink run (status_after status)
+  reported_end : (status : RehearsalStatus) → ConnectReported link sink steps status run → Ends link sink steps run (status_after status)
   reported_end rehearsal.Accepted r = r
   reported_end rehearsal.Refused r = r
 
-  pub ends_reported : (x : Rehearsal) → Attempt x (link run.source) (link run.source_after) → Appends (sink run.sink).written (sink run.sink_after).written x.report.items → IsFlushed (sink run.sink_after)
-      → Ends link sink run (status_after x.status)
+  pub ends_reported : (x : Rehearsal) → Attempt steps x (link run.source) (link run.source_after) → Appends (sink run.sink).written (sink run.sink_after).written x.report.items → IsFlushed (sink run.sink_after)
+      → Ends link sink steps run (status_after x.status)
   ends_reported x a written flushed = reported_end x.status (record { rehearsal = x; status_is = refl; attempt = a; written = written; flushed = flushed })
 
   -- an end on the line is an end of a run without words
-  pub run_ends : (words : ℕ) (status : Status) → words ≡ 0 → Ends link sink run status → RunEnds link sink words run status
+  pub run_ends : (words : ℕ) (status : Status) → words ≡ 0 → Ends link sink steps run status → RunEnds link sink words steps run status
   run_ends words Done is e = record { none = is; ends = e }
   run_ends words Refused is e = record { none = is; ends = e }
   run_ends words BadSettings is e = record { none = is; ends = e }
@@ -119,17 +120,16 @@ module _ {L K : Type 0} (link : L → State) (sink : K → State) (run : Run L K
 
   -- ---- what decides
 
-  reported_decides : (status : RehearsalStatus) (settings : Settings) (input : List ℕ) (r : ConnectReported link sink status run) → Connected input r.rehearsal (link run.source) (link run.source_after) → line_judged (line_of input) ≡ Ok settings
+  reported_decides : (status : RehearsalStatus) (settings : Settings) (input : List ℕ) (r : ConnectReported link sink steps status run) → Connected input steps r.rehearsal (link run.source) (link run.source_after) → line_judged (line_of input) ≡ Ok settings
       → JudgementDecides (LineComesOut (after_line input)) (Ok settings) (status_after status)
   reported_decides status settings input r c known other out =
       let same : c.settings ≡ settings = one_settings (line_judged (line_of input)) settings c.settings known c.settings_are in
       let replied = with_replies c.settings (after_line input) in
       let out_so : LoginComesOut replied other = subst (λ s. LoginComesOut (with_replies s (after_line input)) other) (sym same) out in
-      let rises : 0 ≤ 0 = omega arith in
-      let ends : status ≡ other = reports_status (one replied) (steps_of 0 0) status other r.rehearsal.report.items (record { report = c.report; status_is = sym r.status_is ∙ c.status_is; steps_rise = rises }) out_so in
+      let ends : status ≡ other = sym r.status_is ∙ c.status_is ∙ one_status replied r.rehearsal.report.items c.report other out_so in
       inl (ap status_after ends)
 
-  settle : (result : Status) (input : List ℕ) (judgement : Result Settings SettingsError) → Ends link sink run result → ConnectUnfailed link sink run → TellsBytes (link run.source) input → line_judged (line_of input) ≡ judgement → JudgementDecides (LineComesOut (after_line input)) judgement result
+  settle : (result : Status) (input : List ℕ) (judgement : Result Settings SettingsError) → Ends link sink steps run result → ConnectUnfailed link sink run → TellsBytes (link run.source) input → line_judged (line_of input) ≡ judgement → JudgementDecides (LineComesOut (after_line input)) judgement result
   settle Done input (Ok settings) e u told known = reported_decides rehearsal.Accepted settings input e (e.attempt.connected input told u.link_faultless) known
   settle Done input (Err error) e u told known = absurd (ok_error _ _ error (e.attempt.connected input told u.link_faultless).settings_are known)
   settle Refused input (Ok settings) e u told known = reported_decides rehearsal.Refused settings input e (e.attempt.connected input told u.link_faultless) known
@@ -148,5 +148,5 @@ module _ {L K : Type 0} (link : L → State) (sink : K → State) (run : Run L K
   settle SourceFault input judgement e u told known = absurd (u.link_faultless.reads e.rose)
   settle SinkFault input judgement e u told known = absurd (u.writes e.rose)
 
-  pub decided : (words : ℕ) (result : Status) → Ends link sink run result → ConnectDecided link sink words run result
+  pub decided : (words : ℕ) (result : Status) → Ends link sink steps run result → ConnectDecided link sink words run result
   decided words result e none u input told = settle result input (line_judged (line_of input)) e u told refl

@@ -1,53 +1,62 @@
 -- What is told of an establishment over a link, from what was recorded of it; and that it is a rehearsal on the bytes that the link
 -- told.
-use Rattle.std.proofs.Common.{◌≡◌, ℕ, ℤ, ◌-◌, ◌∙◌, ap, subst, arith, refl, inl, inr, Some, Result, Ok, Err, List, length, IfOk, OnErr}
+use Rattle.std.proofs.Common.{◌≡◌, ℕ, ℤ, ◌-◌, ◌∙◌, ap, subst, arith, refl, inl, inr, Some, Result, Ok, Err, List, [], length, IfOk, OnErr}
 use Rattle.std.specs.Io.KnownBytes.{append_known}
 use Rattle.mongo_wire.specs.Outside.{State}
-use Rattle.mongo_scram.specs.Costs.{Ledgers}
+use Rattle.mongo_scram.specs.declared.cache.SaltedCache.{SaltedCache}
+use Rattle.mongo_scram.specs.Cache.{entries_of}
+use Rattle.mongo_scram.specs.Costs.{ledgers}
 use Rattle.mongo_establish.specs.declared.establisher.PooledConnection.{PooledConnection}
 use Rattle.mongo_establish.specs.declared.establisher.EstablishError.{EstablishError}
 use Rattle.mongo_establish.specs.Asked.{Asked}
+use Rattle.mongo_establish.specs.KeyCosts.{CostsOver}
 use Rattle.mongo_establish.proofs.Establishment.{stopped_refusal}
 use Rattle.mongo_settings.specs.declared.settings.Settings.{Settings}
 use Rattle.mongo_settings.specs.declared.rehearsal.Rehearsal.{Rehearsal}
 use Rattle.mongo_settings.specs.Login.{Ended}
 use Rattle.mongo_settings.specs.Outcome.{asked_of}
+use Rattle.mongo_settings.specs.Task.{Steps}
 use Rattle.mongo_settings.specs.Telling.{IsReported, Tells}
 use Rattle.mongo_settings.proofs.Rehearsing.{Replayed, rehearsed}
+use Rattle.mongo_settings.proofs.Taking.{counted_over}
 use Rattle.mongo_connect.specs.Connecting.{Attempted, IsConnectionTold, IsUntold, TellsBytes, Faultless, ReportsConnection}
 use Rattle.mongo_connect.specs.Recording.{IsTakenCount}
 use Rattle.mongo_connect.specs.Settings.{with_replies}
 
 -- ---- what was recorded
 
-attempted : (settings : Settings) (asked : Asked) (origin start new : State) (after : ℤ) (first last : Ledgers) (result : Result PooledConnection EstablishError)
-    → start ≡ origin → asked ≡ asked_of settings → Ended asked start new after first last result → Attempted settings result origin new
-attempted settings asked origin start new after first last result begun same ended = record {
-  after = after;
-  first = first;
-  last = last;
-  ended = subst (λ s. Ended (asked_of settings) s new after first last result) begun (subst (λ a. Ended a start new after first last result) same ended);
-}
+attempted : (settings : Settings) (steps : Steps) (asked : Asked) (origin start new : State) (after : ℤ) (held held_after : SaltedCache) (result : Result PooledConnection EstablishError)
+    → start ≡ origin → asked ≡ asked_of settings → entries_of held ≡ [] → Ended asked start new after (ledgers steps.before held) (ledgers steps.after held_after) result → Attempted settings steps result origin new
+attempted settings steps asked origin start new after held held_after result begun same none ended =
+    let first = ledgers steps.before held in
+    let last = ledgers steps.after held_after in
+    record {
+      after = after;
+      held = held;
+      none_held = none;
+      held_after = held_after;
+      ended = subst (λ s. Ended (asked_of settings) s new after first last result) begun (subst (λ a. Ended a start new after first last result) same ended);
+    }
 
 -- an establishment that began where its recording did is told by what that holds
-pub told_over : {E : Type 0} {asked : Asked} (settings : Settings) (origin start new : State) (after : ℤ) (first last : Ledgers) (result : Result PooledConnection EstablishError) (written : List ℕ) (taken : ℕ) (r : Result Rehearsal E)
-    → start ≡ origin → asked ≡ asked_of settings → Ended asked start new after first last result
-    → new.written ≡ append_known origin.written written → IsTakenCount origin.left new.left taken → IfOk r (Tells written taken result) → IfOk r (IsConnectionTold settings origin new)
-told_over {asked = asked} settings origin start new after first last result written taken (Ok x) begun same ended appended counted tells = record {
+pub told_over : {E : Type 0} {asked : Asked} (settings : Settings) (steps : Steps) (origin start new : State) (after : ℤ) (held held_after : SaltedCache) (result : Result PooledConnection EstablishError) (written : List ℕ) (taken : ℕ) (r : Result Rehearsal E)
+    → start ≡ origin → asked ≡ asked_of settings → entries_of held ≡ [] → Ended asked start new after (ledgers steps.before held) (ledgers steps.after held_after) result
+    → new.written ≡ append_known origin.written written → IsTakenCount origin.left new.left taken → IfOk r (Tells written taken result) → IfOk r (IsConnectionTold settings steps origin new)
+told_over {asked = asked} settings steps origin start new after held held_after result written taken (Ok x) begun same none ended appended counted tells = record {
   ended = result;
-  attempted = attempted settings asked origin start new after first last result begun same ended;
+  attempted = attempted settings steps asked origin start new after held held_after result begun same none ended;
   written = written;
   appended = appended;
   taken = taken;
   counted = counted;
   tells = tells;
 }
-told_over settings origin start new after first last result written taken (Err e) begun same ended appended counted tells = tt
+told_over settings steps origin start new after held held_after result written taken (Err e) begun same none ended appended counted tells = tt
 
-pub untold_over : {A E : Type 0} {asked : Asked} (settings : Settings) (origin start new : State) (after : ℤ) (first last : Ledgers) (result : Result PooledConnection EstablishError) (r : Result A E)
-    → start ≡ origin → asked ≡ asked_of settings → Ended asked start new after first last result → OnErr r (IsUntold settings origin new)
-untold_over settings origin start new after first last result (Ok x) begun same ended = tt
-untold_over {asked = asked} settings origin start new after first last result (Err e) begun same ended = inr (result, attempted settings asked origin start new after first last result begun same ended)
+pub untold_over : {A E : Type 0} {asked : Asked} (settings : Settings) (steps : Steps) (origin start new : State) (after : ℤ) (held held_after : SaltedCache) (result : Result PooledConnection EstablishError) (r : Result A E)
+    → start ≡ origin → asked ≡ asked_of settings → entries_of held ≡ [] → Ended asked start new after (ledgers steps.before held) (ledgers steps.after held_after) result → OnErr r (IsUntold settings steps origin new)
+untold_over settings steps origin start new after held held_after result (Ok x) begun same none ended = tt
+untold_over {asked = asked} settings steps origin start new after held held_after result (Err e) begun same none ended = inr (result, attempted settings steps asked origin start new after held held_after result begun same none ended)
 
 -- ---- over told bytes
 
@@ -56,20 +65,20 @@ unfolding asked_of
 same_asked settings bytes = refl
 
 -- bytes are left
-left_over : (settings : Settings) (bytes : List ℕ) (old new : State) (ended : Result PooledConnection EstablishError) (written : List ℕ) (taken : ℕ) (x : Rehearsal)
-    → Attempted settings ended old new → TellsBytes old bytes → Faultless old new → Tells written taken ended x → (left : List ℕ) × (new.left ≡ Some left)
-left_over settings bytes old new (Ok pooled) written taken x a t f tells =
+left_over : (settings : Settings) (bytes : List ℕ) (steps : Steps) (old new : State) (ended : Result PooledConnection EstablishError) (written : List ℕ) (taken : ℕ) (x : Rehearsal)
+    → Attempted settings steps ended old new → TellsBytes old bytes → Faultless old new → Tells written taken ended x → (left : List ℕ) × (new.left ≡ Some left)
+left_over settings bytes steps old new (Ok pooled) written taken x a t f tells =
     let rest = a.ended.made.taken bytes t.left in
     (rest.rest, rest.left_is)
-left_over settings bytes old new (Err refusal) written taken x a t f tells =
+left_over settings bytes steps old new (Err refusal) written taken x a t f tells =
     elim (stopped_refusal refusal.handshake_phase (asked_of settings) refusal.cause.kind old new a.after bytes a.ended.stopped t.left f.reads f.writes) [
       | inl memory ↦ absurd (subst IsReported memory tells.reported)
       | inr r ↦ (r.refusal.unread, r.left_by.left)
     ]
 
-rehearses : (settings : Settings) (bytes : List ℕ) (old new : State) (x : Rehearsal) → IsConnectionTold settings old new x → TellsBytes old bytes → Faultless old new → ReportsConnection settings bytes old new x
-rehearses settings bytes old new x told t f =
-    let (left, left_is) = left_over settings bytes old new told.ended told.written told.taken x told.attempted t f told.tells in
+rehearses : (settings : Settings) (bytes : List ℕ) (steps : Steps) (old new : State) (x : Rehearsal) → IsConnectionTold settings steps old new x → TellsBytes old bytes → Faultless old new → ReportsConnection settings bytes steps old new x
+rehearses settings bytes steps old new x told t f =
+    let (left, left_is) = left_over settings bytes steps old new told.ended told.written told.taken x told.attempted t f told.tells in
     let fits = t.fits in
     let counted = told.counted bytes left t.left left_is in
     let count : told.taken ≡ length bytes - length left = omega arith in
@@ -83,9 +92,17 @@ rehearses settings bytes old new x told t f =
       unwritten = f.writes;
     } in
     let replays = rehearsed {E = ℕ} (with_replies settings bytes) (asked_of settings) old new told.attempted.after told.written left told.taken told.ended (Ok x) (same_asked settings bytes) told.attempted.ended.made told.attempted.ended.stopped replayed count told.tells in
-    record { rehearsal_is = replays.rehearses.rehearsal_is; left_as = replays.left_as }
+    let first = ledgers steps.before told.attempted.held in
+    let last = ledgers steps.after told.attempted.held_after in
+    let over = subst (λ asked. CostsOver told.ended asked bytes first last) (same_asked settings bytes) (told.attempted.ended.led.over bytes t.left f.reads f.writes) in
+    let counts = counted_over (with_replies settings bytes) first last told.ended told.written told.taken x told.attempted.none_held over told.tells in
+    record {
+      rehearsal_is = replays.rehearses.rehearsal_is;
+      left_as = replays.left_as;
+      counted = record { key = counts.key; key_is = counts.key_is; steps_are = counts.steps_are };
+    }
 
-pub rehearsed_over : {E : Type 0} (settings : Settings) (old new : State) (r : Result Rehearsal E) → IfOk r (IsConnectionTold settings old new)
-    → (bytes : List ℕ) → TellsBytes old bytes → Faultless old new → IfOk r (ReportsConnection settings bytes old new)
-rehearsed_over settings old new (Ok x) told bytes t f = rehearses settings bytes old new x told t f
-rehearsed_over settings old new (Err e) told bytes t f = tt
+pub rehearsed_over : {E : Type 0} (settings : Settings) (steps : Steps) (old new : State) (r : Result Rehearsal E) → IfOk r (IsConnectionTold settings steps old new)
+    → (bytes : List ℕ) → TellsBytes old bytes → Faultless old new → IfOk r (ReportsConnection settings bytes steps old new)
+rehearsed_over settings steps old new (Ok x) told bytes t f = rehearses settings bytes steps old new x told t f
+rehearsed_over settings steps old new (Err e) told bytes t f = tt

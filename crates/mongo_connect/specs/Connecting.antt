@@ -1,8 +1,10 @@
 -- What an establishment over a link does, and what is told of it.
-use Rattle.std.specs.Prelude.{◌≡◌, ℕ, ℤ, ◌^◌, ◌<◌, ◌⊎◌, Some, Result, List, length}
+use Rattle.std.specs.Prelude.{◌≡◌, ℕ, ℤ, ◌^◌, ◌<◌, ◌⊎◌, Some, Result, List, [], length}
 use Rattle.std.specs.Io.KnownBytes.{append_known}
 use Rattle.mongo_wire.specs.Outside.{State, Rose}
-use Rattle.mongo_scram.specs.Costs.{Ledgers}
+use Rattle.mongo_scram.specs.declared.cache.SaltedCache.{SaltedCache}
+use Rattle.mongo_scram.specs.Cache.{entries_of}
+use Rattle.mongo_scram.specs.Costs.{ledgers}
 use Rattle.mongo_establish.specs.declared.establisher.PooledConnection.{PooledConnection}
 use Rattle.mongo_establish.specs.declared.establisher.EstablishError.{EstablishError}
 use Rattle.mongo_settings.specs.declared.settings.Settings.{Settings}
@@ -10,22 +12,24 @@ use Rattle.mongo_settings.specs.declared.rehearsal.Rehearsal.{Rehearsal}
 use Rattle.mongo_settings.specs.Login.{Ended}
 use Rattle.mongo_settings.specs.Outcome.{asked_of}
 use Rattle.mongo_settings.specs.Rehearsal.{IsRehearsal, LeftAs}
+use Rattle.mongo_settings.specs.Task.{Steps, CountsKey}
 use Rattle.mongo_settings.specs.Telling.{Tells}
 use Rattle.mongo_connect.specs.Recording.{IsTakenCount}
 use Rattle.mongo_connect.specs.Settings.{with_replies}
 
 -- The connection that settings ask for was made, or was stopped as the establishment says: by its replies' refusal, a fault of
--- the link, an end, or want of memory.
-pub record Attempted (settings : Settings) (result : Result PooledConnection EstablishError) (old new : State) : Type 0 where
+-- the link, an end, or want of memory. No key was held before it, and the steps rose by what it derived.
+pub record Attempted (settings : Settings) (steps : Steps) (result : Result PooledConnection EstablishError) (old new : State) : Type 0 where
   pub after : ℤ
-  pub first : Ledgers
-  pub last : Ledgers
-  pub ended : Ended (asked_of settings) old new after first last result
+  pub held : SaltedCache
+  pub none_held : entries_of held ≡ []
+  pub held_after : SaltedCache
+  pub ended : Ended (asked_of settings) old new after (ledgers steps.before held) (ledgers steps.after held_after) result
 
 -- the report tells how it ended, by all that was written and how many bytes were taken
-pub record IsConnectionTold (settings : Settings) (old new : State) (rehearsal : Rehearsal) : Type 0 where
+pub record IsConnectionTold (settings : Settings) (steps : Steps) (old new : State) (rehearsal : Rehearsal) : Type 0 where
   pub ended : Result PooledConnection EstablishError
-  pub attempted : Attempted settings ended old new
+  pub attempted : Attempted settings steps ended old new
   pub written : List ℕ
   pub appended : new.written ≡ append_known old.written written
   pub taken : ℕ
@@ -33,8 +37,8 @@ pub record IsConnectionTold (settings : Settings) (old new : State) (rehearsal :
   pub tells : Tells written taken ended rehearsal
 
 -- no report was made: nothing was done, or what was done isn't told
-abbrev pub IsUntold : Settings → State → State → Type 0
-IsUntold settings old new = (new ≡ old) ⊎ ((ended : Result PooledConnection EstablishError) × Attempted settings ended old new)
+abbrev pub IsUntold : Settings → Steps → State → State → Type 0
+IsUntold settings steps old new = ((new ≡ old) × (steps.after ≡ steps.before)) ⊎ ((ended : Result PooledConnection EstablishError) × Attempted settings steps ended old new)
 
 -- ---- a link that tells its bytes
 
@@ -50,7 +54,9 @@ pub record Faultless (old new : State) : Type 0 where
   pub reads : Rose old.read_faults new.read_faults → ⊥
   pub writes : Rose old.write_faults new.write_faults → ⊥
 
--- The report is the one that the settings have with these reply bytes, and the link is left as it says.
-pub record ReportsConnection (settings : Settings) (bytes : List ℕ) (old new : State) (rehearsal : Rehearsal) : Type 0 where
+-- The report is the one that the settings have with these reply bytes, the link is left as it says, and the steps rose by the
+-- rounds of the key that they lead to.
+pub record ReportsConnection (settings : Settings) (bytes : List ℕ) (steps : Steps) (old new : State) (rehearsal : Rehearsal) : Type 0 where
   pub rehearsal_is : IsRehearsal (with_replies settings bytes) rehearsal
   pub left_as : LeftAs (with_replies settings bytes) rehearsal.report.items rehearsal_is.report old new
+  pub counted : CountsKey (with_replies settings bytes) steps

@@ -1,6 +1,7 @@
 //! One establishment over a link, and the report of it.
 ghost use Rattle.std.specs.Prelude.{◌≡◌, ◌≤◌, ℕ, List, IfOk, OnErr};
 ghost use Rattle.mongo_establish.specs.Speculation.{SpeaksFor};
+ghost use Rattle.mongo_settings.specs.Task.{steps_of};
 ghost use Rattle.mongo_connect.specs.Connecting.{IsConnectionTold, IsUntold, ReportsConnection, TellsBytes, Faultless};
 
 use crate::origin::Origin;
@@ -21,11 +22,12 @@ pub fn connect_over<L: Link, G: Ledger>(
     steps: &mut Steps<G>,
 ) -> (Result<Rehearsal, AllocError>, L)
     requires spoken { SpeaksFor settings.credential }
-    // Over any link the report says how the establishment ended, what was written and how much was taken.
-    ensures told { IfOk result.0 (IsConnectionTold settings (L.state link) (L.state result.1)) }
+    // Over any link the report says how the establishment ended, what was written and how much was taken, and the steps rise by
+    // what it derived.
+    ensures told { IfOk result.0 (IsConnectionTold settings (steps_of steps.old steps.new) (L.state link) (L.state result.1)) }
     // Over one that tells its bytes and doesn't fail it is that of a rehearsal on them, and the link is left as it says.
-    ensures rehearsed { (bytes : List ℕ) → TellsBytes (L.state link) bytes → Faultless (L.state link) (L.state result.1) → IfOk result.0 (ReportsConnection settings bytes (L.state link) (L.state result.1)) }
-    ensures untold { OnErr result.0 (IsUntold settings (L.state link) (L.state result.1)) }
+    ensures rehearsed { (bytes : List ℕ) → TellsBytes (L.state link) bytes → Faultless (L.state link) (L.state result.1) → IfOk result.0 (ReportsConnection settings bytes (steps_of steps.old steps.new) (L.state link) (L.state result.1)) }
+    ensures untold { OnErr result.0 (IsUntold settings (steps_of steps.old steps.new) (L.state link) (L.state result.1)) }
     ensures steps { steps.old ≤ steps.new }
 {
     record_over::<L, Brand, G>(alloc, settings, link, steps)
@@ -40,8 +42,8 @@ fn record_over<L: Link, O: Origin, G: Ledger>(
 ) -> (Result<Rehearsal, AllocError>, L)
     requires spoken { SpeaksFor settings.credential }
     requires origin { O.origin ≡ L.state link }
-    ensures told { IfOk result.0 (IsConnectionTold settings (L.state link) (L.state result.1)) }
-    ensures untold { OnErr result.0 (IsUntold settings (L.state link) (L.state result.1)) }
+    ensures told { IfOk result.0 (IsConnectionTold settings (steps_of steps.old steps.new) (L.state link) (L.state result.1)) }
+    ensures untold { OnErr result.0 (IsUntold settings (steps_of steps.old steps.new) (L.state link) (L.state result.1)) }
     ensures steps { steps.old ≤ steps.new }
 {
     let mut recording = Recording::<L, O>::new(alloc, link);
@@ -58,8 +60,8 @@ fn tell_over<L: Link, O: Origin, G: Ledger>(
 ) -> Result<Rehearsal, AllocError>
     requires spoken { SpeaksFor settings.credential }
     requires fresh { L.state recording.old.link ≡ O.origin }
-    ensures told { IfOk result (IsConnectionTold settings O.origin (L.state recording.new.link)) }
-    ensures untold { OnErr result (IsUntold settings O.origin (L.state recording.new.link)) }
+    ensures told { IfOk result (IsConnectionTold settings (steps_of steps.old steps.new) O.origin (L.state recording.new.link)) }
+    ensures untold { OnErr result (IsUntold settings (steps_of steps.old steps.new) O.origin (L.state recording.new.link)) }
     ensures steps { steps.old ≤ steps.new }
 {
     let (login, _replies) = prepare(alloc, settings)?;

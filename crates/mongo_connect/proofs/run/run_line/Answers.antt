@@ -2,6 +2,7 @@ use Rattle.std.proofs.Common.{◌∙◌, ap, sym, subst, refl, inr}
 use Rattle.std.specs.Io.KnownBytes.{Appends}
 use Rattle.mongo_wire.specs.Outside.{AppendsFront}
 use Rattle.mongo_settings.specs.Run.{run_of}
+use Rattle.mongo_settings.specs.Task.{steps_of}
 use Rattle.mongo_connect.specs.Settings.{line_judged}
 use Rattle.mongo_connect.specs.Run.{Ends}
 use Rattle.mongo_connect.proofs.Ends.{attempt, ends_reported}
@@ -12,11 +13,12 @@ returns-in-Ok-write_report-clause-ends g c =
     let x = c.in-Ok-connected.rehearsal in
     let over = c.connect_over-connected in
     let is = c.in-Ok-connected.is in
+    let steps = steps_of c.args.steps.now over.new.steps in
     let run = run_of c.args.link over.result.1 c.args.report.now c.write_report.new.sink in
     let judged = ap line_judged (sym c.as_slice.ensures.value) ∙ c.in-Ok-read_settings.ensures.settings in
-    subst (Ends g.L.Outside.state g.K.Outside.state run) (sym c.after.ensures)
-    (ends_reported g.L.Outside.state g.K.Outside.state run x
-    (attempt c.in-Ok.line.items c.in-Ok-read_settings.settings _ _ _ x c.in-Ok.ensures.on c.in-Ok.ensures.line c.in-Ok.ensures.left judged (rw is at over.ensures.told) (λ bytes t f. rw is at (over.ensures.rehearsed bytes t f)))
+    subst (Ends g.L.Outside.state g.K.Outside.state steps run) (sym c.after.ensures)
+    (ends_reported g.L.Outside.state g.K.Outside.state steps run x
+    (attempt c.in-Ok.line.items c.in-Ok-read_settings.settings steps _ _ _ x c.in-Ok.ensures.on c.in-Ok.ensures.line c.in-Ok.ensures.left judged (rw is at over.ensures.told) (λ bytes t f. rw is at (over.ensures.rehearsed bytes t f)))
     (subst (Appends _ _) c.as_slice-2.ensures.value c.in-Ok-write_report.ensures.written) c.in-Ok-write_report.ensures.flushed)
 
 pub returns-in-Err-Failed-clause-ends : goal.returns-in-Err-Failed-clause-ends
@@ -24,12 +26,13 @@ returns-in-Err-Failed-clause-ends g c =
     let x = c.in-Ok-connected.rehearsal in
     let over = c.connect_over-connected in
     let is = c.in-Ok-connected.is in
+    let steps = steps_of c.args.steps.now over.new.steps in
     let judged = ap line_judged (sym c.as_slice.ensures.value) ∙ c.in-Ok-read_settings.ensures.settings in
     record {
       rose = (rw c.in-Err-Failed.field-0-is at c.in-Err-Failed.ensures.failed) refl;
       front = record {
         rehearsal = x;
-        attempt = attempt c.in-Ok.line.items c.in-Ok-read_settings.settings _ _ _ x c.in-Ok.ensures.on c.in-Ok.ensures.line c.in-Ok.ensures.left judged (rw is at over.ensures.told) (λ bytes t f. rw is at (over.ensures.rehearsed bytes t f));
+        attempt = attempt c.in-Ok.line.items c.in-Ok-read_settings.settings steps _ _ _ x c.in-Ok.ensures.on c.in-Ok.ensures.line c.in-Ok.ensures.left judged (rw is at over.ensures.told) (λ bytes t f. rw is at (over.ensures.rehearsed bytes t f));
         front = subst (AppendsFront _ _) c.as_slice-2.ensures.value c.in-Err-Failed.ensures.refused;
       };
     }
@@ -39,9 +42,10 @@ returns-clause-ends g c =
     let x = c.in-Ok-connected.rehearsal in
     let over = c.connect_over-connected in
     let is = c.in-Ok-connected.is in
+    let steps = steps_of c.args.steps.now over.new.steps in
     let judged = ap line_judged (sym c.as_slice.ensures.value) ∙ c.in-Ok-read_settings.ensures.settings in
     inr (inr (record {
       rehearsal = x;
-      attempt = attempt c.in-Ok.line.items c.in-Ok-read_settings.settings _ _ _ x c.in-Ok.ensures.on c.in-Ok.ensures.line c.in-Ok.ensures.left judged (rw is at over.ensures.told) (λ bytes t f. rw is at (over.ensures.rehearsed bytes t f));
+      attempt = attempt c.in-Ok.line.items c.in-Ok-read_settings.settings steps _ _ _ x c.in-Ok.ensures.on c.in-Ok.ensures.line c.in-Ok.ensures.left judged (rw is at over.ensures.told) (λ bytes t f. rw is at (over.ensures.rehearsed bytes t f));
       front = subst (AppendsFront _ _) c.as_slice-2.ensures.value c.in-Err-OutOfMemory-write_report.ensures.refused;
     }))
