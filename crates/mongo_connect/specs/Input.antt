@@ -16,8 +16,8 @@ unfoldable pub after_line : List ℕ → List ℕ
 after_line input = if nat_le (length (before_first is_line_feed input)) limit then after_first is_line_feed input else drop (limit + 1) input
 
 -- no line feed stands in the bytes
-abbrev pub HasNoLineFeed : List ℕ → Type 0
-HasNoLineFeed bytes = position_or_len is_line_feed bytes ≡ length bytes
+abbrev pub IsUnbroken : List ℕ → Type 0
+IsUnbroken bytes = position_or_len is_line_feed bytes ≡ length bytes
 
 -- none but at their end
 abbrev pub IsOneLine : List ℕ → Type 0
@@ -31,8 +31,8 @@ pub record TakesOfLine (old new : Option (List ℕ)) : Type 0 where
   pub consumed : Consumes old new taken
 
 -- Reading stopped before the line's end: no line feed was taken either.
-pub record StopsWithin (old new : Option (List ℕ)) : Type 0 where
+pub record TakesNoLineFeed (old new : Option (List ℕ)) : Type 0 where
   pub taken : List ℕ
-  pub unended : HasNoLineFeed taken
+  pub unended : IsUnbroken taken
   pub short : length taken ≤ limit + 1
   pub consumed : Consumes old new taken

@@ -17,7 +17,7 @@ use Rattle.mongo_settings.specs.Outcome.{taken_by, status_of}
 use Rattle.mongo_settings.specs.Rehearsal.{IsReport}
 use Rattle.mongo_settings.specs.Task.{Steps, CountsKey, LoginComesOut}
 use Rattle.mongo_connect.specs.Connecting.{IsConnectionTold, IsUntold, TellsBytes, Faultless}
-use Rattle.mongo_connect.specs.Input.{line_of, after_line, TakesOfLine, StopsWithin}
+use Rattle.mongo_connect.specs.Input.{line_of, after_line, TakesOfLine, TakesNoLineFeed}
 use Rattle.mongo_connect.specs.Settings.{line_judged, with_replies}
 
 -- ---- what was done over a link
@@ -83,7 +83,7 @@ module _ {L K : Type 0} (link : L → State) (sink : K → State) where
   -- the link failed before the line was read: no line feed was
   pub record LinkFailed (steps : Steps) (run : Run L K) : Type 0 where
     pub rose : Rose (link run.source).read_faults (link run.source_after).read_faults
-    pub stopped : StopsWithin (link run.source).left (link run.source_after).left
+    pub stopped : TakesNoLineFeed (link run.source).left (link run.source_after).left
     pub silent : IsSilent steps run
 
   -- a front of the report was written after what was there

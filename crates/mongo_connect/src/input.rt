@@ -2,7 +2,7 @@
 ghost use Rattle.std.specs.Prelude.{◌≡◌, ℕ, List, None, Some, IfOk, OnErr, IsErrOf, option_to_list};
 ghost use Rattle.std.specs.Io.KnownBytes.{Consumes, IsAtEnd, Keeps};
 ghost use Rattle.mongo_wire.specs.Outside.{ReadsOn, Rose};
-ghost use Rattle.mongo_connect.specs.Input.{line_of, after_line, TakesOfLine, StopsWithin};
+ghost use Rattle.mongo_connect.specs.Input.{line_of, after_line, TakesOfLine, TakesNoLineFeed};
 
 use mongo_settings::{InputError, LIMIT};
 use mongo_wire::{Failed, Source};
@@ -18,7 +18,7 @@ pub fn read_line<S: Source>(alloc: Global, source: &mut S) -> Result<Vec<u8>, In
     ensures left { (input : List ℕ) → (S.state source.old).left ≡ Some input → IfOk result (λ line. (S.state source.new).left ≡ Some (after_line input)) }
     ensures failed { IsErrOf result InputError.Fault → Rose (S.state source.old).read_faults (S.state source.new).read_faults }
     ensures within { TakesOfLine (S.state source.old).left (S.state source.new).left }
-    ensures stopped { OnErr result (StopsWithin (S.state source.old).left (S.state source.new).left) }
+    ensures stopped { OnErr result (TakesNoLineFeed (S.state source.old).left (S.state source.new).left) }
     ensures on { ReadsOn (S.state source.old) (S.state source.new) }
 {
     let mut held = Vec::new(alloc);
