@@ -34,7 +34,7 @@ pub record IsReady (pending : PendingConnection) (pooled : PooledConnection) : T
   pub generation : (n : ℕ) → pending.generation ≡ PoolNormal n → pooled.generation ≡ Normal n
 
 -- nothing has changed but what its logins share
-pub record KeepsRest (old new : Pool) : Type 0 where
+pub record KeepsPool (old new : Pool) : Type 0 where
   pub establisher : new.establisher ≡ old.establisher
   pub address : new.address ≡ old.address
   pub credential : new.credential ≡ old.credential

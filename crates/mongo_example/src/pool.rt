@@ -42,7 +42,7 @@ impl Pool {
     ghost use Rattle.mongo_establish.specs.Plan.{establishment_plan};
     ghost use Rattle.mongo_establish.specs.Script.{HasScript};
     ghost use Rattle.mongo_establish.specs.Stopped.{StoppedIn};
-    ghost use Rattle.mongo_example.specs.Pool.{IsFresh, IsReady, KeepsRest, asked_by};
+    ghost use Rattle.mongo_example.specs.Pool.{IsFresh, IsReady, KeepsPool, asked_by};
 
     /// A pool for `user` at `db.example.net`, of generation 7, that has made no connection.
     pub fn new(alloc: Global) -> Result<Pool, Error>
@@ -125,7 +125,7 @@ impl Pool {
         ensures counts { CountsStay (L.state link.old) (L.state link.new) }
 
         // The rest of the pool is as it was, its next number among it.
-        ensures rest { KeepsRest self.old self.new }
+        ensures rest { KeepsPool self.old self.new }
     {
         self.establisher.establish_connection(
             alloc,

@@ -13,7 +13,7 @@ use Rattle.mongo_wire.specs.declared.op_code.OpCode.{OpCode}
 use Rattle.mongo_wire.specs.declared.op_code.OpCode.TheVariants.{Compressed, Message, Query, Reply}
 use Rattle.mongo_wire.proofs.OneFrame.{frame_code, frame_size, least_frame, row_no_frame, same_front, signed_in}
 use Rattle.mongo_serve.specs.Cut.{BeginsNoRequest, IsNoRequest}
-use Rattle.mongo_serve.specs.Replies.{frame_maximum}
+use Rattle.mongo_serve.specs.Replies.{message_maximum}
 use Rattle.mongo_serve.specs.Taken.{IsQuery, IsQueryBody}
 
 -- ---- the header of an OP_QUERY
@@ -63,7 +63,7 @@ other_code taken whole no_message no_query frame rest document e within (inl (pa
 other_code taken whole no_message no_query frame rest document e within (inr q) = no_query (sym (begun 12 taken rest frame (omega arith) e) ∙ query_code frame document q)
 
 -- an OP_QUERY's header whose length isn't 16 to the maximum
-pub bad_length : (head : List ℕ) → length head ≡ 16 → signed_at 12 head ≡ code_number Query → (signed_at 0 head <ℤ pos 16) ⊎ (frame_maximum <ℤ signed_at 0 head) → BeginsNoRequest head
+pub bad_length : (head : List ℕ) → length head ≡ 16 → signed_at 12 head ≡ code_number Query → (signed_at 0 head <ℤ pos 16) ⊎ (message_maximum <ℤ signed_at 0 head) → BeginsNoRequest head
 bad_length head sixteen code outside frame rest document e within (inl (parts, is_frame, body_is)) =
     two_codes (signed_at 12 head) (sym (begun 12 head rest frame (omega (arith, sixteen)) e) ∙ frame_code frame parts is_frame) code
 bad_length head sixteen code (inl short) frame rest document e within (inr q) =
@@ -86,9 +86,9 @@ no_body head body size sixteen code counted whole none frame rest document e wit
     none document (subst (λ b. IsQueryBody b document) same.0 q.is_body)
 
 -- an OP_MSG's bytes that call for a row
-pub no_message : (taken : List ℕ) (kind : ErrorKind) → 16 ≤ length taken → signed_at 12 taken ≡ code_number Message → (kind ≡ EndOfInput → ⊥) → IsRow frame_maximum taken kind → BeginsNoRequest taken
+pub no_message : (taken : List ℕ) (kind : ErrorKind) → 16 ≤ length taken → signed_at 12 taken ≡ code_number Message → (kind ≡ EndOfInput → ⊥) → IsRow message_maximum taken kind → BeginsNoRequest taken
 no_message taken kind whole code other row frame rest document e within (inl (parts, is_frame, body_is)) =
-    row_no_frame frame_maximum taken rest frame [] kind parts row (λ ends. absurd (other ends)) is_frame within (sym e ∙ sym (append-nil frame))
+    row_no_frame message_maximum taken rest frame [] kind parts row (λ ends. absurd (other ends)) is_frame within (sym e ∙ sym (append-nil frame))
 no_message taken kind whole code other row frame rest document e within (inr q) = two_codes (signed_at 12 taken) code (sym (begun 12 taken rest frame (omega arith) e) ∙ query_code frame document q)
 
 -- 16 zeros, which stand for bytes that nobody tells

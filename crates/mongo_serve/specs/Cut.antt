@@ -12,7 +12,7 @@ use Rattle.mongo_serve.specs.declared.reply.Reply.{Reply}
 use Rattle.mongo_serve.specs.declared.session.Session.{Session}
 use Rattle.mongo_serve.specs.declared.settings.Settings.{Settings}
 use Rattle.mongo_serve.specs.Login.{HasLoggedIn}
-use Rattle.mongo_serve.specs.Replies.{document_of_served, frame_maximum}
+use Rattle.mongo_serve.specs.Replies.{document_of_served, message_maximum}
 use Rattle.mongo_serve.specs.Requests.{IsGreeting}
 use Rattle.mongo_serve.specs.Sent.{CutsMessage, CutsQuery, IsLongMessage, IsLongReply}
 use Rattle.mongo_serve.specs.Taken.{CarriesRequest, IsMessage, IsQuery}
@@ -50,11 +50,11 @@ pub record IsQueryFront (bytes : List ℕ) : Type 0 where
   pub sixteen : length head ≡ 16
   pub code : signed_at 12 head ≡ code_number Query
   pub front : pos (length bytes) ≤ℤ signed_at 0 head
-  pub within : signed_at 0 head ≤ℤ frame_maximum
+  pub within : signed_at 0 head ≤ℤ message_maximum
 
 -- a front of a header or of a frame that is read, or one frame
 abbrev pub IsPart : List ℕ → Type 0
-IsPart bytes = IsStarted frame_maximum bytes ⊎ (IsQueryFront bytes ⊎ ((document : List ℕ) × CarriesRequest bytes document))
+IsPart bytes = IsStarted message_maximum bytes ⊎ (IsQueryFront bytes ⊎ ((document : List ℕ) × CarriesRequest bytes document))
 
 -- ---- why
 
@@ -76,7 +76,7 @@ IsNoRequest bytes = (document : List ℕ) → CarriesRequest bytes document → 
 
 -- no frame up to the greatest that begins with these bytes carries a request
 abbrev pub BeginsNoRequest : List ℕ → Type 0
-BeginsNoRequest taken = (frame rest document : List ℕ) → frame ≡ taken ++ rest → pos (length frame) ≤ℤ frame_maximum → CarriesRequest frame document → ⊥
+BeginsNoRequest taken = (frame rest document : List ℕ) → frame ≡ taken ++ rest → pos (length frame) ≤ℤ message_maximum → CarriesRequest frame document → ⊥
 
 -- What a fault says of the bytes that weren't answered, and of the link before and after.
 abbrev pub HasCause : ServeFault → State → State → List ServerTurn → List ℕ → Type 0

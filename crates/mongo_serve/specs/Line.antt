@@ -25,7 +25,7 @@ pub record TakesLine (old new : State) (line : List ℕ) : Type 0 where
   pub short : length line ≤ limit
 
 -- one byte more than `limit` was taken, and no line feed
-pub record IsTooLong (old new : State) : Type 0 where
+pub record HasLongLine (old new : State) : Type 0 where
   pub front : List ℕ
   pub taken : Consumes old.left new.left front
   pub unended : HasNoLineFeed front
@@ -40,7 +40,7 @@ pub record EndsWithin (old new : State) : Type 0 where
 
 -- why there is no line
 abbrev pub HasNoLine : State → State → Type 0
-HasNoLine old new = IsTooLong old new ⊎ EndsWithin old new
+HasNoLine old new = HasLongLine old new ⊎ EndsWithin old new
 
 -- what a fault of reading is to the line
 abbrev pub line_error_of : ErrorKind → LineError

@@ -21,8 +21,8 @@ use Rattle.mongo_serve.specs.declared.reply.Refusal.TheVariants.{AuthenticationF
 abbrev pub document_maximum : ℤ
 document_maximum = pos 16777216
 
-abbrev pub frame_maximum : ℤ
-frame_maximum = pos 48000000
+abbrev pub message_maximum : ℤ
+message_maximum = pos 48000000
 
 -- ---- elements
 
@@ -72,7 +72,7 @@ abbrev pub description : List Element
 description =
     boolean_element hello_ok_key true
     ∷ int32_element max_bson_object_size_key document_maximum
-    ∷ int32_element max_message_size_bytes_key frame_maximum
+    ∷ int32_element max_message_size_bytes_key message_maximum
     ∷ int32_element max_write_batch_size_key (pos 100000)
     ∷ date_element (codes "localTime") (pos 0)
     ∷ int32_element logical_session_timeout_minutes_key (pos 30)

@@ -11,7 +11,7 @@ use Rattle.mongo_wire.specs.declared.op_code.OpCode.TheVariants.{Reply as OpRepl
 use Rattle.mongo_serve.specs.declared.fault.ServeFault.{ServeFault}
 use Rattle.mongo_serve.specs.declared.fault.ServeFault.TheVariants.{WriteFault, ReplyTooLong, OutOfMemory}
 use Rattle.mongo_serve.specs.declared.reply.Reply.{Reply}
-use Rattle.mongo_serve.specs.Replies.{document_of_served, frame_maximum}
+use Rattle.mongo_serve.specs.Replies.{document_of_served, message_maximum}
 
 -- MORE_TO_COME, bit 1, is set
 abbrev pub WantsNone : ℕ → Type 0
@@ -113,7 +113,7 @@ IsLongMessage document = first_maximum <ℤ pos (21 + length document)
 
 -- a document is longer than an OP_REPLY takes
 abbrev pub IsLongReply : List ℕ → Type 0
-IsLongReply document = frame_maximum <ℤ pos (length document)
+IsLongReply document = message_maximum <ℤ pos (length document)
 
 -- The sink failed exactly where its count rose; a reply is refused as too long only where it is.
 abbrev pub WriteCause : Type 0 → ServeFault → State → State → Type 0

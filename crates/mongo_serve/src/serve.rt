@@ -5,7 +5,7 @@ ghost use Rattle.mongo_wire.specs.Header.{code_number, header_with, signed_at};
 ghost use Rattle.mongo_wire.specs.Outside.{State};
 ghost use Rattle.mongo_serve.specs.Login.{Remembers};
 ghost use Rattle.mongo_serve.specs.PutBack.{put_back_state};
-ghost use Rattle.mongo_serve.specs.Replies.{frame_maximum};
+ghost use Rattle.mongo_serve.specs.Replies.{message_maximum};
 ghost use Rattle.mongo_serve.specs.Requests.{IsGreeting};
 ghost use Rattle.mongo_serve.specs.Served.{FollowsHead, IsBackAt, TurnEnds, PartEnds, IsServed};
 ghost use Rattle.mongo_serve.specs.Turns.{IsDocumentAnswered};
@@ -214,8 +214,8 @@ fn take_query<L: Link, G: Ledger>(
 // How many bytes follow the header of a frame of this length, which is 16 to the maximum.
 fn length_after(length: i32) -> Option<usize>
     ensures counted { IfSome result (λ rest. pos (16 + rest) ≡ length) }
-    ensures within { IfSome result (λ rest. pos (16 + rest) ≤ℤ frame_maximum) }
-    ensures outside { IsNone result → (length <ℤ pos 16) ⊎ (frame_maximum <ℤ length) }
+    ensures within { IfSome result (λ rest. pos (16 + rest) ≤ℤ message_maximum) }
+    ensures outside { IsNone result → (length <ℤ pos 16) ⊎ (message_maximum <ℤ length) }
 {
     if length < 16 || length > FRAME_MAXIMUM {
         None
