@@ -1,5 +1,5 @@
 -- What a conversation owes so that a login may be it, and that each of the table does: a further one is a case of `part_joins`.
-use Rattle.std.proofs.Common.{◌≡◌, ℕ, ℤ, ◌∙◌, refl, ap, subst, sym, Option, None, Some, is_some, List, [], ◌++◌, append-nil}
+use Rattle.std.proofs.Common.{◌≡◌, ℕ, ℤ, ◌∙◌, refl, ap, subst, sym, is_some, List, [], ◌++◌, append-nil}
 use Rattle.mongo_wire.specs.declared.error.ErrorKind.TheVariants.{IncompatibleServer}
 use Rattle.mongo_command.specs.Conversation.{Event, Plan, HasOneTurn, ending, followed_by}
 use Rattle.mongo_command.proofs.Ends.{Ends, ends_ending, ends_followed, ends_both}
@@ -12,11 +12,8 @@ use Rattle.mongo_sasl.proofs.Joining.{JoinsLogin}
 use Rattle.mongo_sasl.proofs.LoginEvents.{replies_in, documents_in, AreWithin, LoginEnd, EndsBy}
 use Rattle.mongo_sasl.proofs.PlainJoins.{plain_joins}
 use Rattle.mongo_sasl.proofs.X509Joins.{x509_joins}
-use Rattle.mongo_scram.specs.Plan.{Speculated, Handed, Challenge, scram_plan}
-use Rattle.mongo_scram.specs.Script.{IsScramLogin}
-use Rattle.mongo_scram.proofs.ScramPlan.{one_scram}
-use Rattle.mongo_scram.proofs.ScramEnds.{login_events, scram_ended, scram_ends, IsLogin as IsScramEnd}
-use Rattle.mongo_scram.proofs.ScramScript.{login_scram, scram_login as scram_script}
+use Rattle.mongo_scram.proofs.ScramFits.{Fits, fits_followed}
+use Rattle.mongo_scram.proofs.ScramJoins.{scram_joins}
 use Rattle.mongo_establish.specs.declared.conversation.Conversation.{Conversation}
 use Rattle.mongo_establish.specs.declared.conversation.Conversation.TheVariants.{Scram, Plain as PlainText, X509}
 use Rattle.mongo_establish.specs.Asked.{Asked}
@@ -25,7 +22,6 @@ use Rattle.mongo_establish.specs.Greeting.{Greeting}
 use Rattle.mongo_establish.specs.Login.{LoginHanded, login_handed, scram_handed}
 use Rattle.mongo_establish.specs.Plan.{conversation_plan}
 use Rattle.mongo_establish.specs.Script.{HoldsConversation}
-use Rattle.mongo_establish.proofs.Fitting.{Fits, fits_followed, fits_scram}
 
 -- the server's maximum
 abbrev pub maximum_of : Greeting → ℤ
@@ -70,39 +66,6 @@ module _ {A : Type 0} {plan : Plan A} {login : List (List ℕ) → List (List �
     ended = then_ended;
     ends = λ commands replies is. let found = own.ends commands replies is in then_ends found.0 commands replies found.1;
   }
-
--- ---- SCRAM
-
-events_within : (speculated : Option Speculated) (handed : Handed) (c : Challenge) (first last : List ℕ) → AreWithin handed.maximum (login_events speculated handed c first last)
-events_within None handed c first last = (refl, (refl, tt))
-events_within (Some speculated) handed c first last = (refl, tt)
-
-scram_within : (handed : Handed) (events : List Event) (c : Challenge) → IsScramEnd handed events c → AreWithin handed.maximum events
-scram_within handed events c is = subst (AreWithin handed.maximum) (sym is.events_are) (events_within handed.speculated handed c is.first is.last)
-
-scram_found : (handed : Handed) (events : List Event) (c : Challenge) → IsScramEnd handed events c → IsScramLogin handed (documents_in events) (replies_in events) × AreWithin handed.maximum events
-scram_found handed events c is = (scram_script handed events c is, scram_within handed events c is)
-
-scram_end : (handed : Handed) (commands replies : List (List ℕ)) → IsScramLogin handed commands replies → (c : Challenge) × LoginEnd (scram_plan handed) c handed.maximum commands replies
-scram_end handed commands replies is =
-    let found = login_scram handed commands replies is in (
-      found.challenge,
-      record {
-        events = found.events;
-        commands_are = found.commands_are;
-        replies_are = found.replies_are;
-        within = scram_within handed found.events found.challenge found.is_login;
-        ends = λ sendable. scram_ends handed found.events found.challenge found.is_login sendable;
-      },
-    )
-
-scram_joins : (handed : Handed) → JoinsLogin (scram_plan handed) (IsScramLogin handed) handed.maximum
-scram_joins handed = record {
-  one = one_scram handed;
-  fits = fits_scram handed;
-  ended = λ events c e. scram_found handed events c (scram_ended handed events c e);
-  ends = scram_end handed;
-}
 
 -- ---- the table's
 

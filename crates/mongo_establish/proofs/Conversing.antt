@@ -94,18 +94,18 @@ abbrev pub IsPartBy : {A : Type 0} → Plan A → Conversation → Asked → Cre
 IsPartBy plan conversation asked credential held round =
     (greeting : Greeting) → held ≡ Some greeting.description → IsRoundBy (Some conversation) credential asked greeting round → (past : List Event) (turn : Turn Greeting) → followed plan greeting past turn → conversation_plan conversation asked credential greeting past turn
 
-module _ (own conversation : Conversation) (is : conversation ≡ own) (free : scram_in (Some own) ≡ None) (asked : Asked) (credential : Credential) (held : Option StreamDescription) (round : Option FirstRound) {A : Type 0} (plan : Plan A) (answer : A) (part : IsPartBy plan own asked credential held round) where
+module _ (own conversation : Conversation) (is : conversation ≡ own) (free : scram_in (Some own) ≡ None) (asked : Asked) (credential : Credential) (held : Option StreamDescription) (round : Option FirstRound) {A : Type 0} (plan : Plan A) (part : IsPartBy plan own asked credential held round) where
   free_accepted : (greeting : Greeting) (old new : State) (before after : ℤ) (ledgers : Ledgers) → CostsNothing ledgers ledgers → AcceptedCosts (scram_in (Some own)) asked credential greeting old new before after ledgers ledgers
   free_accepted greeting old new before after ledgers nothing = subst (λ version. AcceptedCosts version asked credential greeting old new before after ledgers ledgers) (sym free) nothing
 
   free_stopped : (greeting : Greeting) (kind : ErrorKind) (old new : State) (before after : ℤ) (ledgers : Ledgers) → CostsNothing ledgers ledgers → StoppedCosts (scram_in (Some own)) asked credential greeting kind old new before after ledgers ledgers
   free_stopped greeting kind old new before after ledgers nothing = subst (λ version. StoppedCosts version asked credential greeting kind old new before after ledgers ledgers) (sym free) nothing
 
-  free_answered : (r : Result (Unit {0}) Error) (kept : Option ErrorKind) (old new : State) (before after : ℤ) (ledgers : Ledgers) → CostsNothing ledgers ledgers → OnOk r (Reached plan answer old new before after) → IfErr r (λ e. Stopped plan e.kind old new before after) → IfErr r (λ e. KeepsAfter e.kind kept)
+  free_answered : (r : Result (Unit {0}) Error) (kept : Option ErrorKind) (old new : State) (before after : ℤ) (ledgers : Ledgers) → CostsNothing ledgers ledgers → OnOk r ((answer : A) × Reached plan answer old new before after) → IfErr r (λ e. Stopped plan e.kind old new before after) → IfErr r (λ e. KeepsAfter e.kind kept)
       → Converses r own asked credential held round kept old new before after ledgers ledgers
   free_answered (Ok done) kept old new before after ledgers nothing reached stopped keeps = record {
     accepted = λ greeting described went. record {
-      reached = reached_more (followed plan greeting) (conversation_plan own asked credential greeting) greeting old new before after (part greeting described went) (then_reached plan answer greeting old new before after reached);
+      reached = reached_more (followed plan greeting) (conversation_plan own asked credential greeting) greeting old new before after (part greeting described went) (then_reached plan reached.0 greeting old new before after reached.1);
       costs = free_accepted greeting old new before after ledgers nothing;
     };
     refused = λ greeting described went. tt;
@@ -120,7 +120,7 @@ module _ (own conversation : Conversation) (is : conversation ≡ own) (free : s
     keeps = keeps;
   }
 
-  pub free_converses : (r : Result (Unit {0}) Error) (kept : Option ErrorKind) (old new : State) (before after : ℤ) (ledgers : Ledgers) → CostsNothing ledgers ledgers → OnOk r (Reached plan answer old new before after) → IfErr r (λ e. Stopped plan e.kind old new before after) → IfErr r (λ e. KeepsAfter e.kind kept)
+  pub free_converses : (r : Result (Unit {0}) Error) (kept : Option ErrorKind) (old new : State) (before after : ℤ) (ledgers : Ledgers) → CostsNothing ledgers ledgers → OnOk r ((answer : A) × Reached plan answer old new before after) → IfErr r (λ e. Stopped plan e.kind old new before after) → IfErr r (λ e. KeepsAfter e.kind kept)
       → Converses r conversation asked credential held round kept old new before after ledgers ledgers
   free_converses r kept old new before after ledgers nothing reached stopped keeps =
       subst (λ c. Converses r c asked credential held round kept old new before after ledgers ledgers) (sym is) (free_answered r kept old new before after ledgers nothing reached stopped keeps)

@@ -1,6 +1,5 @@
 -- What a refused exchange leaves a connection to keep, and what a refusal beside the exchanges does.
 use Rattle.std.proofs.Common.{◌≡◌, ◌⊎◌, ℤ, true, false, refl, ap, sym, subst, inl, inr, Option, None, Some, Result, Ok, Err, List, ℕ, IfErr, if◌then◌else◌}
-use Rattle.std.specs.Result.{IsErrAnd}
 use Rattle.mongo_bson.specs.declared.fault.BsonFault.TheVariants.{TooLong}
 use Rattle.mongo_wire.specs.declared.auth_fault.AuthFault.{AuthFault}
 use Rattle.mongo_wire.specs.declared.error.Error.{Error}
@@ -83,11 +82,6 @@ x509_own reply kind (inl row) = absurd row
 x509_own reply kind (inr memory) = inr memory
 
 -- ---- what a call answers
-
--- a refusal that is handed on leaves what it left
-pub handed_keeps : {T : Type 0} (r : Result T Error) (e : Error) (kept : Option ErrorKind) → IsErrAnd r (λ x. x ≡ e) → KeepsAfter e.kind kept → IfErr r (λ x. KeepsAfter x.kind kept)
-handed_keeps (Ok t) e kept is keeps = tt
-handed_keeps (Err x) e kept is keeps = subst (λ (y : Error). KeepsAfter y.kind kept) (sym is) keeps
 
 -- each refusal by this row is beside the exchanges
 pub row_keeps : {T : Type 0} (r : Result T Error) (row : ErrorKind → Type 0) (kept : Option ErrorKind) → ((kind : ErrorKind) → row kind → IsOwn kind) → IfErr r (λ x. row x.kind) → kept ≡ None → IfErr r (λ x. KeepsAfter x.kind kept)

@@ -3,6 +3,7 @@ pub mod NotBuilt
 pub mod Unsent
 pub mod Handed
 pub mod KeptAfter
+pub mod StopsBy
 pub mod LastReply
 pub mod LoginEvents
 pub mod OneExchange
@@ -15,6 +16,7 @@ pub mod OtherRows
 pub mod Joining
 pub mod PlainJoins
 pub mod X509Joins
+pub mod EndsByScript
 pub mod CredentialAnswers
 mod X509Rows
 mod Foreign

@@ -6,9 +6,9 @@ use Rattle.mongo_wire.specs.declared.error.Error.{Error}
 use Rattle.mongo_wire.specs.declared.error.ErrorKind.{ErrorKind}
 use Rattle.mongo_wire.specs.declared.error.ErrorKind.TheVariants.{OutOfMemory}
 use Rattle.mongo_wire.specs.Outside.{State}
-use Rattle.mongo_command.specs.Conversation.{plain_message, saying, reading, ending, Reached, Stopped}
+use Rattle.mongo_command.specs.Conversation.{plain_message, saying, reading, ending, Stopped}
 use Rattle.mongo_command.specs.Exchange.{CountsStay, Exchanges}
-use Rattle.mongo_command.proofs.Steps.{reached_ending, reached_unless, reached_reading, reached_saying, stopped_memory, stopped_row, stopped_unless, stopped_reading, stopped_later}
+use Rattle.mongo_command.proofs.Steps.{stopped_memory, stopped_row, stopped_unless, stopped_reading, stopped_later}
 use Rattle.mongo_sasl.specs.declared.mechanism.AuthMechanism.TheVariants.{Plain}
 use Rattle.mongo_sasl.specs.Commands.{start_elements, IsNotBuilt}
 use Rattle.mongo_sasl.specs.Login.{EndsByReply}
@@ -33,17 +33,6 @@ module _ (handed : PlainHanded) (user : PlainUser) (is_user : IsPlainUser handed
       (omega (arith, length-enclosed (flat_map spell (start_elements Plain (payload_of user.username user.password))))) unbuilt)
 
   -- the reply ends the login
-  pub plain_reached : {T : Type 0} (r : Result T Error) (reply : List ℕ) (old new : State) (before after : ℤ) → Exchanges handed.maximum (plain_message (plain_said handed user).document) old new before after reply → CountsStay old new → OnOk r (IsFinished reply) → OnOk r (Reached (plain_plan handed) tt old new before after)
-  plain_reached (Ok x) reply old new before after e counts is =
-      reached_unless (PlainRow handed.credential) _ tt old new before after (no_plain_row handed.credential user is_user)
-      (reached_reading (IsPlainUser handed.credential) (λ u. saying (plain_said handed u) plain_heard) user tt old new before after is_user
-      (reached_saying (plain_said handed user) plain_heard reply tt old new new before after after e counts
-      (reached_unless (SaslRow reply) _ tt new new after after (sasl_reply_no_row reply is.sasl is.is_reply)
-      (reached_reading (IsSaslReply reply) _ is.sasl tt new new after after is.is_reply
-      (reached_unless (UnfinishedRow is.sasl) (ending tt) tt new new after after (finished_no_row is.sasl is.done) (reached_ending tt new after))))))
-  plain_reached (Err x) reply old new before after e counts is = tt
-
-  -- and it is the reply of the login's one exchange
   pub plain_replied : {T : Type 0} (r : Result T Error) (reply held : List ℕ) (old new : State) (before after : ℤ) → reply ≡ held → Exchanges handed.maximum (plain_message (plain_said handed user).document) old new before after reply → CountsStay old new → OnOk r (IsFinished reply) → OnOk r (EndsByReply (plain_plan handed) tt held old new before after)
   plain_replied (Ok x) reply held old new before after same e counts is =
       let none = no_plain_row handed.credential user is_user in

@@ -1,5 +1,5 @@
 -- A command that isn't sent stops the plan that says it.
-use Rattle.std.proofs.Common.{◌≡◌, ◌⊎◌, ℕ, ℤ, ◌≤◌, refl, ap, sym, subst, inl, inr, None, Result, Ok, Err, List, length, IfErr}
+use Rattle.std.proofs.Common.{◌≡◌, ℕ, ℤ, ◌≤◌, refl, ap, inl, inr, None, Result, Ok, Err, List, length}
 use Rattle.mongo_bson.specs.declared.fault.BsonFault.TheVariants.{TooLong}
 use Rattle.mongo_wire.specs.declared.error.Error.{Error}
 use Rattle.mongo_wire.specs.declared.error.ErrorKind.{ErrorKind}
@@ -13,7 +13,6 @@ use Rattle.mongo_command.specs.Conversation.{Said, SendRow, Plan, saying, plain_
 use Rattle.mongo_command.proofs.Talked.{nothing_said}
 use Rattle.mongo_command.proofs.Steps.{stopped_memory, stopped_saying}
 use Rattle.mongo_sasl.specs.Commands.{IsNotBuilt}
-use Rattle.std.specs.Result.{IsErrAnd}
 use Rattle.mongo_sasl.proofs.NotBuilt.{not_built}
 
 nothing_done : (old : State) (before : ℤ) → Unsent old old before before None
@@ -33,11 +32,6 @@ unbuilt_stopped said plan c kind old before is least unbuilt =
       | inr memory ↦ stopped_memory (saying said plan) kind old before memory
     ]
 
--- a refusal that is handed on stops the plan as it did
-pub handed_stopped : {T A : Type 0} (r : Result T Error) (e : Error) (plan : Plan A) (old new : State) (before after : ℤ) → IsErrAnd r (λ x. x ≡ e) → Stopped plan e.kind old new before after → IfErr r (λ x. Stopped plan x.kind old new before after)
-handed_stopped (Ok t) e plan old new before after is s = tt
-handed_stopped (Err x) e plan old new before after is s = subst (λ (y : Error). Stopped plan y.kind old new before after) (sym is) s
-
 -- ---- a fault that is kept
 
 -- an exchange over a connection that keeps a fault answers it
@@ -50,8 +44,3 @@ no_answer x kind is = cc
 -- and no reply
 pub not_replied : {T : Type 0} (x : T) (kind : ErrorKind) (Anything : Type 0) → ◌≡◌ {A = Result T Error} (Ok x) (Err (record { kind = kind })) → Anything
 not_replied x kind Anything is = absurd (no_answer x kind is)
-
--- the fault, or a stop before an exchange, is handed on
-pub handed_kept : {T A : Type 0} (r : Result T Error) (e : Error) (kind : ErrorKind) (plan : Plan A) (old : State) (before : ℤ) → IsErrAnd r (λ x. x ≡ e) → (e.kind ≡ kind) ⊎ Stopped plan e.kind old old before before → IfErr r (λ x. (x.kind ≡ kind) ⊎ Stopped plan x.kind old old before before)
-handed_kept (Ok t) e kind plan old before is s = tt
-handed_kept (Err x) e kind plan old before is s = subst (λ (y : Error). (y.kind ≡ kind) ⊎ Stopped plan y.kind old old before before) (sym is) s

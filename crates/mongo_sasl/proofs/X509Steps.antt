@@ -1,20 +1,20 @@
 -- What an X.509 login does is a step of its plan.
-use Rattle.std.proofs.Common.{◌≡◌, ◌⊎◌, ℕ, ℤ, Bool, true, false, refl, sym, ◌∙◌, subst, inl, inr, arith, Result, Ok, Err, List, ◌∷◌, codes, pos, IfErr, OnOk, flat_map}
+use Rattle.std.proofs.Common.{◌≡◌, ◌⊎◌, ℕ, ℤ, Bool, true, false, refl, sym, ◌∙◌, subst, inl, inr, arith, Result, Ok, Err, List, [], ◌∷◌, codes, pos, IfErr, OnOk, flat_map}
 use Rattle.std.proofs.lemmas.Bool.{false≢true}
 use Rattle.mongo_bson.specs.Document.{spell}
 use Rattle.mongo_bson.proofs.Enclosed.{length-enclosed}
 use Rattle.mongo_wire.specs.declared.error.Error.{Error}
 use Rattle.mongo_wire.specs.declared.error.ErrorKind.{ErrorKind}
 use Rattle.mongo_wire.specs.declared.error.ErrorKind.TheVariants.{OutOfMemory}
-use Rattle.mongo_wire.specs.Outside.{State, risen}
+use Rattle.mongo_wire.specs.Outside.{State}
 use Rattle.mongo_command.specs.Command.{given}
-use Rattle.mongo_command.specs.Conversation.{plain_message, saying, reading, ending, Reached, Stopped}
+use Rattle.mongo_command.specs.Conversation.{plain_message, ends, saying, reading, ending, Reached, Stopped}
 use Rattle.mongo_command.specs.Exchange.{CountsStay, Exchanges}
 use Rattle.mongo_command.specs.Literal.{text_element, int32_element}
-use Rattle.mongo_command.proofs.Steps.{reached_ending, reached_unless, reached_reading, reached_saying, stopped_memory, stopped_row, stopped_later}
+use Rattle.mongo_command.proofs.Steps.{reached_ending, stopped_memory, stopped_row, stopped_later}
 use Rattle.mongo_sasl.specs.Commands.{IsNotBuilt}
 use Rattle.mongo_sasl.specs.Login.{EndsByReply}
-use Rattle.mongo_sasl.specs.X509.{Takes, IsCertificateTaken, X509Row, x509_body, x509_command, X509Handed, x509_said, x509_heard, x509_plan_from, x509_plan, x509_frames_after}
+use Rattle.mongo_sasl.specs.X509.{Takes, IsCertificateTaken, X509Row, x509_body, x509_command, X509Handed, x509_said, x509_heard, x509_plan_from, x509_plan}
 use Rattle.mongo_sasl.specs.Keys.{authenticate_key, mechanism_key}
 use Rattle.mongo_sasl.proofs.LastReply.{ends_by_reply}
 use Rattle.mongo_sasl.proofs.Unsent.{unbuilt_stopped}
@@ -33,15 +33,6 @@ module _ (handed : X509Handed) (later : handed.speculated ≡ false) where
       (omega (arith, length-enclosed (flat_map spell (int32_element authenticate_key (pos 1) ∷ text_element mechanism_key (codes "MONGODB-X509") ∷ given (text_element (codes "username")) handed.credential.username)))) unbuilt)
 
   -- the server took the certificate
-  pub x509_reached : {T : Type 0} (r : Result T Error) (reply : List ℕ) (old new : State) (before after : ℤ) → Exchanges handed.maximum (plain_message (x509_said handed).document) old new before after reply → CountsStay old new → OnOk r (IsCertificateTaken reply) → OnOk r (Reached (x509_plan handed) tt old new before after)
-  x509_reached (Ok x) reply old new before after e counts is =
-      subst (λ s. Reached (x509_plan_from s handed) tt old new before after) (sym later)
-      (reached_saying (x509_said handed) x509_heard reply tt old new new before after after e counts
-      (reached_unless (X509Row reply) _ tt new new after after (taken_no_row reply is.0 is.1)
-      (reached_reading (Takes reply) (λ elements. ending tt) is.0 tt new new after after is.1 (reached_ending tt new after))))
-  x509_reached (Err x) reply old new before after e counts is = tt
-
-  -- and it is the reply of the login's one exchange
   pub x509_replied : {T : Type 0} (r : Result T Error) (reply held : List ℕ) (old new : State) (before after : ℤ) → reply ≡ held → Exchanges handed.maximum (plain_message (x509_said handed).document) old new before after reply → CountsStay old new → OnOk r (IsCertificateTaken reply) → OnOk r (EndsByReply (x509_plan handed) tt held old new before after)
   x509_replied (Ok x) reply held old new before after same e counts is =
       subst (λ s. EndsByReply (x509_plan_from s handed) tt held old new before after) (sym later)
@@ -64,14 +55,9 @@ module _ (handed : X509Handed) (later : handed.speculated ≡ false) where
 pub x509_at_once : (handed : X509Handed) (old : State) (before : ℤ) → handed.speculated ≡ true → Reached (x509_plan handed) tt old old before before
 x509_at_once handed old before is = subst (λ s. Reached (x509_plan_from s handed) tt old old before before) (sym is) (reached_ending tt old before)
 
+pub ends_at_once : (handed : X509Handed) → handed.speculated ≡ true → x509_plan handed [] (ends tt)
+ends_at_once handed is = subst (λ s. x509_plan_from s handed [] (ends tt)) (sym is) refl
+
 -- a login isn't both answered and not
 pub not_both_ways : (speculated : Bool) (Anything : Type 0) → speculated ≡ true → speculated ≡ false → Anything
 not_both_ways speculated Anything is later = absurd (false≢true (sym later ∙ is))
-
--- the buffer's frames, where the hello was answered, and else
-pub frames_at_once : (speculated : Bool) (frames : ℕ) → speculated ≡ true → frames ≡ x509_frames_after speculated frames
-frames_at_once speculated frames is = subst (λ s. frames ≡ x509_frames_after s frames) (sym is) refl
-
-pub frames_later : {T E : Type 0} (r : Result T E) (speculated : Bool) (frames after : ℕ) → speculated ≡ false → after ≡ risen frames → OnOk r (after ≡ x509_frames_after speculated frames)
-frames_later (Ok x) speculated frames after is counted = subst (λ s. after ≡ x509_frames_after s frames) (sym is) counted
-frames_later (Err x) speculated frames after is counted = tt

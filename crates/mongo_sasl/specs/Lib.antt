@@ -11,5 +11,6 @@ pub mod Commands
 pub mod Sent
 pub mod Login
 pub mod Kept
+pub mod EndsByScript
 pub mod Plain
 pub mod X509

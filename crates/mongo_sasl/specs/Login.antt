@@ -20,9 +20,9 @@ pub record HasLogin (IsLogin : List (List ℕ) → List (List ℕ) → Type 0) (
 
 -- An answer by what the bytes lead to: just that end or that refusal, and the link is left as it says. Want of memory may
 -- come in place of it.
-abbrev pub IsLed : Result (Unit {0}) Error → Turn (Unit {0}) → List Said → List ℕ → State → State → ℤ → ℤ → Type 0
-IsLed (Ok done) outcome commands unread old new before after = (outcome ≡ ends tt) × LeftBy commands unread old new before after
-IsLed (Err e) outcome commands unread old new before after = (e.kind ≡ OutOfMemory) ⊎ ((outcome ≡ refuses e.kind) × LeftBy commands unread old new before after)
+abbrev pub AnswersLed : {T A : Type 0} → Result T Error → Turn A → List Said → List ℕ → State → State → ℤ → ℤ → Type 0
+AnswersLed {T} {A} (Ok accepted) outcome commands unread old new before after = (answer : A) × (outcome ≡ ends answer) × LeftBy commands unread old new before after
+AnswersLed (Err e) outcome commands unread old new before after = (e.kind ≡ OutOfMemory) ⊎ ((outcome ≡ refuses e.kind) × LeftBy commands unread old new before after)
 
 -- The plan was followed to its end by one exchange, and this document was the reply.
 pub record EndsByReply {A : Type 0} (plan : Plan A) (answer : A) (document : List ℕ) (old new : State) (before after : ℤ) : Type 0 where

@@ -1,8 +1,10 @@
 -- PLAIN, RFC 4616: one command carries the user name and the password as they are, and its reply ends the login.
-use Rattle.std.specs.Prelude.{◌≡◌, ℕ, ℤ, ◌⊎◌, true, false, Option, Some, unwrap_or, List, [], ◌∷◌, ◌++◌, codes}
+use Rattle.std.specs.Prelude.{◌≡◌, ℕ, ℤ, ◌⊎◌, true, false, Result, Option, Some, unwrap_or, List, [], ◌∷◌, ◌++◌, codes}
+use Rattle.mongo_wire.specs.declared.error.Error.{Error}
 use Rattle.mongo_wire.specs.declared.error.ErrorKind.{ErrorKind}
 use Rattle.mongo_wire.specs.declared.error.ErrorKind.TheVariants.{Authentication}
 use Rattle.mongo_wire.specs.declared.auth_fault.AuthFault.TheVariants.{Malformed}
+use Rattle.mongo_wire.specs.Outside.{State}
 use Rattle.mongo_command.specs.declared.command.Command.{Command}
 use Rattle.mongo_command.specs.declared.server_api.ServerApi.{ServerApi}
 use Rattle.mongo_command.specs.Command.{command_of, command_document}
@@ -13,6 +15,7 @@ use Rattle.mongo_sasl.specs.declared.plain.Login.{Login}
 use Rattle.mongo_sasl.specs.declared.sasl_response.SaslResponse.{SaslResponse}
 use Rattle.mongo_sasl.specs.Commands.{start_body}
 use Rattle.mongo_sasl.specs.Credential.{NoUserRow}
+use Rattle.mongo_sasl.specs.EndsByScript.{Standing, EndsByScript}
 use Rattle.mongo_sasl.specs.Reply.{IsSaslReply, SaslRow}
 use Rattle.mongo_sasl.specs.Keys.{sasl_start_key}
 
@@ -96,3 +99,7 @@ plain_user_of login = record { username = login.username.now; password = login.p
 
 abbrev pub plain_handed : Credential → Option ServerApi → ℤ → PlainHanded
 plain_handed credential api maximum = record { credential = credential; server_api = api; maximum = maximum }
+
+-- a login ends by the script of PLAIN
+abbrev pub EndsByPlain : {L : Type 0} → (L → State) → PlainHanded → Result (Unit {0}) Error → Standing L → Standing L → Type 0
+EndsByPlain state handed result old new = EndsByScript state (plain_plan handed) (IsPlainLogin handed) handed.maximum result old new

@@ -1,11 +1,12 @@
 -- MONGODB-X509, by the authentication specification: the certificate of the link is the credential, and one command asks the
 -- server to take it.
-use Rattle.std.specs.Prelude.{◌≡◌, ℕ, ℤ, pos, Bool, true, false, Option, List, [], ◌∷◌, codes}
+use Rattle.std.specs.Prelude.{◌≡◌, ℕ, ℤ, pos, Bool, true, false, Result, Option, List, [], ◌∷◌, codes}
 use Rattle.mongo_bson.specs.Document.{Element, IsWellFormed}
+use Rattle.mongo_wire.specs.declared.error.Error.{Error}
 use Rattle.mongo_wire.specs.declared.error.ErrorKind.{ErrorKind}
 use Rattle.mongo_wire.specs.declared.error.ErrorKind.TheVariants.{Authentication}
 use Rattle.mongo_wire.specs.declared.auth_fault.AuthFault.TheVariants.{Malformed, X509Failed}
-use Rattle.mongo_wire.specs.Outside.{risen}
+use Rattle.mongo_wire.specs.Outside.{State}
 use Rattle.mongo_command.specs.declared.command.Command.{Command}
 use Rattle.mongo_command.specs.declared.server_api.ServerApi.{ServerApi}
 use Rattle.mongo_command.specs.Command.{given, command_of, command_document}
@@ -15,6 +16,7 @@ use Rattle.mongo_command.specs.Hello.{IsSuccess}
 use Rattle.mongo_command.specs.Literal.{text_element, int32_element, document_of}
 use Rattle.mongo_command.specs.Keys.{ok_key}
 use Rattle.mongo_sasl.specs.declared.credential.Credential.{Credential}
+use Rattle.mongo_sasl.specs.EndsByScript.{Standing, EndsByScript}
 use Rattle.mongo_sasl.specs.Keys.{authenticate_key, mechanism_key}
 
 -- ---- what is said
@@ -100,7 +102,6 @@ IsX509Login handed commands replies = IsX509LoginFrom handed.speculated handed c
 abbrev pub x509_handed : Credential → Option ServerApi → Bool → ℤ → X509Handed
 x509_handed credential api speculated maximum = record { credential = credential; server_api = api; speculated = speculated; maximum = maximum }
 
--- the count of a buffer's frames after a login
-abbrev pub x509_frames_after : Bool → ℕ → ℕ
-x509_frames_after true frames = frames
-x509_frames_after false frames = risen frames
+-- a login ends by the script of X.509
+abbrev pub EndsByX509 : {L : Type 0} → (L → State) → X509Handed → Result (Unit {0}) Error → Standing L → Standing L → Type 0
+EndsByX509 state handed result old new = EndsByScript state (x509_plan handed) (IsX509Login handed) handed.maximum result old new

@@ -1,17 +1,11 @@
 //! PLAIN, RFC 4616: user name and password as they are, in one command.
 
-ghost use Rattle.std.specs.Prelude.{◌≡◌, ◌⊎◌, ℕ, List, None, Some, option_copied, IfOk, IfErr, OnOk};
-ghost use Rattle.mongo_wire.specs.declared.error.ErrorKind.{ErrorKind};
+ghost use Rattle.std.specs.Prelude.{◌≡◌, ◌⊎◌, option_copied, IfOk, IfErr, OnOk};
 ghost use Rattle.mongo_wire.specs.declared.error.ErrorKind.TheVariants.{OutOfMemory};
-ghost use Rattle.mongo_wire.specs.Outside.{Rose, risen};
-ghost use Rattle.mongo_wire.specs.Buffer.{frames_taken, held_document, IsFrameTaken};
-ghost use Rattle.mongo_command.specs.Connection.{kept_fault, KeepsRest};
-ghost use Rattle.mongo_command.specs.Conversation.{Said, Turn, Reached, Stopped, Leads};
-ghost use Rattle.mongo_command.specs.Exchange.{frame_maximum, HoldsReply, CountsStay};
+ghost use Rattle.mongo_command.specs.Exchange.{frame_maximum};
 ghost use Rattle.mongo_sasl.specs.Commands.{IsNotBuilt};
-ghost use Rattle.mongo_sasl.specs.Kept.{KeepsAfter};
-ghost use Rattle.mongo_sasl.specs.Login.{HasLogin, IsLed, EndsByReply};
-ghost use Rattle.mongo_sasl.specs.Plain.{payload_of, IsPlainUser, PlainRow, plain_body, plain_command, plain_plan, IsPlainLogin, IsFinished, FinishedRow, plain_user_of, plain_handed};
+ghost use Rattle.mongo_sasl.specs.EndsByScript.{standing, HoldsItsReply};
+ghost use Rattle.mongo_sasl.specs.Plain.{payload_of, IsPlainUser, PlainRow, plain_body, plain_command, plain_plan, IsFinished, FinishedRow, plain_user_of, plain_handed, EndsByPlain};
 
 use crate::buffered_reply::held_reply;
 use crate::refusal::refused;
@@ -57,44 +51,13 @@ pub fn authenticate_stream<L: Link>(
     credential: &Credential,
     server_api: Option<&ServerApi>,
 ) -> Result<(), Error>
-    // Exactly a PLAIN login's command was written and its reply taken.
-    ensures accepted { OnOk result (Reached (plain_plan (plain_handed credential.now (option_copied server_api.entry) (frame_maximum connection.old.stream_description))) tt
-        (L.state link.old) (L.state link.new) ids.old ids.new) }
+    // It ends by its script: one command was written, and one reply taken that ends the conversation.
+    ensures login { EndsByPlain L.state (plain_handed credential.now (option_copied server_api.entry) (frame_maximum connection.old.stream_description)) result
+        (standing connection.old link.old ids.old) (standing connection.new link.new ids.new) }
 
-    // A refusal says why it comes and what it left.
-    ensures refused { kept_fault connection.old ≡ None → IfErr result (λ e. Stopped (plain_plan (plain_handed credential.now (option_copied server_api.entry) (frame_maximum connection.old.stream_description))) e.kind
-        (L.state link.old) (L.state link.new) ids.old ids.new) }
-
-    // A login's reply at the front of the bytes left is accepted, unless the link fails or memory runs out.
-    ensures complete { (bytes : List ℕ) → kept_fault connection.old ≡ None → (L.state link.old).left ≡ Some bytes →
-        HasLogin (IsPlainLogin (plain_handed credential.now (option_copied server_api.entry) (frame_maximum connection.old.stream_description))) (frame_maximum connection.old.stream_description) ids.old bytes →
-        (Rose (L.state link.old).read_faults (L.state link.new).read_faults → ⊥) → (Rose (L.state link.old).write_faults (L.state link.new).write_faults → ⊥) →
-        IfErr result (λ e. e.kind ≡ OutOfMemory) }
-
-    // What the bytes left call for is answered, and the link is left as that says.
-    ensures exact { (bytes taken unread : List ℕ) (outcome : Turn (Unit {0})) (commands : List Said) → kept_fault connection.old ≡ None → (L.state link.old).left ≡ Some bytes →
-        Leads (plain_plan (plain_handed credential.now (option_copied server_api.entry) (frame_maximum connection.old.stream_description))) bytes outcome commands taken unread →
-        (Rose (L.state link.old).read_faults (L.state link.new).read_faults → ⊥) → (Rose (L.state link.old).write_faults (L.state link.new).write_faults → ⊥) →
-        IsLed result outcome commands unread (L.state link.old) (L.state link.new) ids.old ids.new }
-
-    // The reply passed through the buffer, which holds just the reply of the login's one exchange.
-    ensures frames { OnOk result (frames_taken buffer.new ≡ risen (frames_taken buffer.old)) }
-    ensures holds { OnOk result (HoldsReply buffer.new) }
-    ensures taken { OnOk result (IsFrameTaken (frame_maximum connection.old.stream_description) (L.state link.old) (L.state link.new) buffer.new) }
-    ensures reply { OnOk result (EndsByReply (plain_plan (plain_handed credential.now (option_copied server_api.entry) (frame_maximum connection.old.stream_description))) tt (held_document buffer.new)
-        (L.state link.old) (L.state link.new) ids.old ids.new) }
-
-    // Nothing else of the connection changes; one that keeps a fault is refused, and nothing is done.
-    ensures connection { KeepsRest connection.old connection.new }
-    ensures faultless { OnOk result (kept_fault connection.new ≡ None) }
-    // After a refusal the connection keeps the fault where it is one that ends a connection, and else none. Want of memory
-    // may be kept, where a command's id was drawn.
-    ensures keeps { kept_fault connection.old ≡ None → IfErr result (λ e. KeepsAfter e.kind (kept_fault connection.new)) }
-    ensures kept { (kind : ErrorKind) → kept_fault connection.old ≡ Some kind → OnOk result ⊥ × (link.new ≡ link.old) × (ids.new ≡ ids.old) × (kept_fault connection.new ≡ Some kind) }
-    // It answers the fault, unless it is stopped before the exchange.
-    ensures answers { (kind : ErrorKind) → kept_fault connection.old ≡ Some kind → IfErr result (λ e. (e.kind ≡ kind) ⊎ Stopped (plain_plan (plain_handed credential.now (option_copied server_api.entry) (frame_maximum connection.old.stream_description))) e.kind
-        (L.state link.old) (L.state link.old) ids.old ids.old) }
-    ensures counts { CountsStay (L.state link.old) (L.state link.new) }
+    // The buffer holds just that reply.
+    ensures buffer { OnOk result (HoldsItsReply L.state (plain_plan (plain_handed credential.now (option_copied server_api.entry) (frame_maximum connection.old.stream_description))) tt (frame_maximum connection.old.stream_description)
+        (standing connection.old link.old ids.old) (standing connection.new link.new ids.new) buffer.old buffer.new) }
 {
     let login = login_of(credential)?;
     let command = start_command(alloc, login, server_api)?;

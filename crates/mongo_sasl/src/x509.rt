@@ -1,17 +1,11 @@
 //! MONGODB-X509: the certificate of the link is the credential, and one command asks the server to take it.
 
-ghost use Rattle.std.specs.Prelude.{◌≡◌, ◌⊎◌, ℕ, List, true, false, Ok, Option, None, Some, option_copied, IfOk, IfErr, OnOk};
-ghost use Rattle.mongo_wire.specs.declared.error.ErrorKind.{ErrorKind};
+ghost use Rattle.std.specs.Prelude.{◌≡◌, ◌⊎◌, true, false, Ok, Option, option_copied, IfOk, IfErr, OnOk};
 ghost use Rattle.mongo_wire.specs.declared.error.ErrorKind.TheVariants.{OutOfMemory};
-ghost use Rattle.mongo_wire.specs.Outside.{Rose};
-ghost use Rattle.mongo_wire.specs.Buffer.{frames_taken, held_document, IsFrameTaken};
-ghost use Rattle.mongo_command.specs.Connection.{kept_fault, KeepsRest};
-ghost use Rattle.mongo_command.specs.Conversation.{Said, Turn, Reached, Stopped, Leads};
-ghost use Rattle.mongo_command.specs.Exchange.{frame_maximum, HoldsReply, CountsStay};
+ghost use Rattle.mongo_command.specs.Exchange.{frame_maximum};
 ghost use Rattle.mongo_sasl.specs.Commands.{IsTooLong, IsNotBuilt};
-ghost use Rattle.mongo_sasl.specs.Kept.{KeepsAfter};
-ghost use Rattle.mongo_sasl.specs.Login.{HasLogin, IsLed, EndsByReply};
-ghost use Rattle.mongo_sasl.specs.X509.{x509_body, x509_command, IsCertificateTaken, X509Row, x509_plan, IsX509Login, x509_handed, x509_frames_after};
+ghost use Rattle.mongo_sasl.specs.EndsByScript.{standing, HoldsItsReply};
+ghost use Rattle.mongo_sasl.specs.X509.{x509_body, x509_command, IsCertificateTaken, X509Row, x509_plan, x509_handed, EndsByX509};
 
 use crate::buffered_reply::held_reply;
 use crate::commands::login_command;
@@ -57,48 +51,16 @@ pub fn authenticate_stream<L: Link>(
     server_api: Option<&ServerApi>,
     speculated: bool,
 ) -> Result<(), Error>
-    // Exactly an X.509 login's command was written and its reply taken.
-    ensures accepted { OnOk result (Reached (x509_plan (x509_handed credential.now (option_copied server_api.entry) speculated (frame_maximum connection.old.stream_description))) tt
-        (L.state link.old) (L.state link.new) ids.old ids.new) }
+    // It ends by its script: one command was written, and one reply taken by which the server took the certificate.
+    ensures login { EndsByX509 L.state (x509_handed credential.now (option_copied server_api.entry) speculated (frame_maximum connection.old.stream_description)) result
+        (standing connection.old link.old ids.old) (standing connection.new link.new ids.new) }
 
-    // A refusal says why it comes and what it left.
-    ensures refused { kept_fault connection.old ≡ None → IfErr result (λ e. Stopped (x509_plan (x509_handed credential.now (option_copied server_api.entry) speculated (frame_maximum connection.old.stream_description))) e.kind
-        (L.state link.old) (L.state link.new) ids.old ids.new) }
+    // The buffer holds just that reply.
+    ensures buffer { speculated ≡ false → OnOk result (HoldsItsReply L.state (x509_plan (x509_handed credential.now (option_copied server_api.entry) speculated (frame_maximum connection.old.stream_description))) tt (frame_maximum connection.old.stream_description)
+        (standing connection.old link.old ids.old) (standing connection.new link.new ids.new) buffer.old buffer.new) }
 
     // After an answer in the hello it succeeds at once, and nothing changes.
     ensures at_once { speculated ≡ true → (result ≡ Ok tt) × (connection.new ≡ connection.old) × (link.new ≡ link.old) × (ids.new ≡ ids.old) × (buffer.new ≡ buffer.old) }
-
-    // A login's reply at the front of the bytes left is accepted, unless the link fails or memory runs out.
-    ensures complete { (bytes : List ℕ) → kept_fault connection.old ≡ None → (L.state link.old).left ≡ Some bytes →
-        HasLogin (IsX509Login (x509_handed credential.now (option_copied server_api.entry) speculated (frame_maximum connection.old.stream_description))) (frame_maximum connection.old.stream_description) ids.old bytes →
-        (Rose (L.state link.old).read_faults (L.state link.new).read_faults → ⊥) → (Rose (L.state link.old).write_faults (L.state link.new).write_faults → ⊥) →
-        IfErr result (λ e. e.kind ≡ OutOfMemory) }
-
-    // What the bytes left call for is answered, and the link is left as that says.
-    ensures exact { (bytes taken unread : List ℕ) (outcome : Turn (Unit {0})) (commands : List Said) → kept_fault connection.old ≡ None → (L.state link.old).left ≡ Some bytes →
-        Leads (x509_plan (x509_handed credential.now (option_copied server_api.entry) speculated (frame_maximum connection.old.stream_description))) bytes outcome commands taken unread →
-        (Rose (L.state link.old).read_faults (L.state link.new).read_faults → ⊥) → (Rose (L.state link.old).write_faults (L.state link.new).write_faults → ⊥) →
-        IsLed result outcome commands unread (L.state link.old) (L.state link.new) ids.old ids.new }
-
-    // The reply passed through the buffer, where there is one; the buffer holds just the reply of the login's one exchange.
-    ensures frames { OnOk result (frames_taken buffer.new ≡ x509_frames_after speculated (frames_taken buffer.old)) }
-    ensures holds { speculated ≡ false → OnOk result (HoldsReply buffer.new) }
-    ensures taken { speculated ≡ false → OnOk result (IsFrameTaken (frame_maximum connection.old.stream_description) (L.state link.old) (L.state link.new) buffer.new) }
-    ensures reply { speculated ≡ false → OnOk result (EndsByReply (x509_plan (x509_handed credential.now (option_copied server_api.entry) speculated (frame_maximum connection.old.stream_description))) tt (held_document buffer.new)
-        (L.state link.old) (L.state link.new) ids.old ids.new) }
-
-    // Nothing else of the connection changes; over one that keeps a fault nothing is done.
-    ensures connection { KeepsRest connection.old connection.new }
-    ensures faultless { kept_fault connection.old ≡ None → OnOk result (kept_fault connection.new ≡ None) }
-    // After a refusal the connection keeps the fault where it is one that ends a connection, and else none. Want of memory
-    // may be kept, where a command's id was drawn.
-    ensures keeps { kept_fault connection.old ≡ None → IfErr result (λ e. KeepsAfter e.kind (kept_fault connection.new)) }
-    ensures kept { (kind : ErrorKind) → kept_fault connection.old ≡ Some kind → (link.new ≡ link.old) × (ids.new ≡ ids.old) × (kept_fault connection.new ≡ Some kind) }
-    ensures fails { (kind : ErrorKind) → kept_fault connection.old ≡ Some kind → speculated ≡ false → OnOk result ⊥ }
-    // It answers the fault, unless it is stopped before the exchange.
-    ensures answers { (kind : ErrorKind) → kept_fault connection.old ≡ Some kind → IfErr result (λ e. (e.kind ≡ kind) ⊎ Stopped (x509_plan (x509_handed credential.now (option_copied server_api.entry) speculated (frame_maximum connection.old.stream_description))) e.kind
-        (L.state link.old) (L.state link.old) ids.old ids.old) }
-    ensures counts { CountsStay (L.state link.old) (L.state link.new) }
 {
     if speculated {
         return Ok(());

@@ -1,16 +1,22 @@
 -- The first round of a login is a step of its plan.
-use Rattle.std.proofs.Common.{◌≡◌, ◌⊎◌, ℕ, ℤ, false, refl, ap, sym, ◌∙◌, subst, inl, inr, arith, Option, None, Some, Result, Ok, Err, List, [], ◌++◌, IfErr, flat_map}
+use Rattle.std.proofs.Common.{◌≡◌, ◌⊎◌, ℕ, ℤ, false, refl, ap, sym, ◌∙◌, subst, inl, inr, arith, Option, None, Some, Result, Ok, Err, List, [], ◌++◌, IfErr, OnOk, flat_map}
 use Rattle.mongo_bson.specs.Document.{spell}
 use Rattle.mongo_bson.proofs.Enclosed.{length-enclosed}
 use Rattle.mongo_wire.specs.declared.error.Error.{Error}
 use Rattle.mongo_wire.specs.declared.error.ErrorKind.{ErrorKind}
 use Rattle.mongo_wire.specs.declared.error.ErrorKind.TheVariants.{OutOfMemory}
+use Rattle.mongo_wire.specs.declared.frame_buffer.FrameBuffer.{FrameBuffer}
+use Rattle.mongo_wire.specs.Buffer.{frames_taken}
 use Rattle.mongo_wire.specs.Outside.{State}
+use Rattle.mongo_command.specs.declared.connection.Connection.{Connection}
+use Rattle.mongo_command.specs.Connection.{kept_fault}
 use Rattle.mongo_command.specs.declared.command.Command.{Command}
 use Rattle.mongo_command.specs.Exchange.{command_message, CountsStay, Exchanges, ExchangeRefused}
-use Rattle.mongo_command.specs.Conversation.{plain_message, saying, Stopped}
+use Rattle.mongo_command.specs.Conversation.{Plan, plain_message, saying, Stopped}
 use Rattle.mongo_command.proofs.Steps.{stopped_memory, stopped_row, stopped_saying, stopped_later}
 use Rattle.mongo_sasl.specs.Commands.{start_elements, IsNotBuilt}
+use Rattle.mongo_sasl.specs.EndsByScript.{Standing, StopsBy}
+use Rattle.mongo_sasl.proofs.StopsBy.{no_exchange}
 use Rattle.mongo_scram.specs.declared.messages.ClientFirst.{ClientFirst}
 use Rattle.mongo_scram.specs.declared.conversation.FirstRound.{FirstRound}
 use Rattle.mongo_scram.specs.declared.rounds.Login.{Login}
@@ -18,10 +24,11 @@ use Rattle.mongo_scram.specs.declared.rounds.Opened.{Opened}
 use Rattle.mongo_scram.specs.Client.{message_of, nonce_of, first_source, includes_db, server_api_of, speculated_of}
 use Rattle.mongo_scram.specs.Commands.{mechanism_of, first_body, first_command}
 use Rattle.mongo_scram.specs.User.{User}
-use Rattle.mongo_scram.specs.Plan.{Handed, message_by, nonce_by, start_said, challenged, opened}
+use Rattle.mongo_scram.specs.Plan.{Handed, Challenge, message_by, nonce_by, start_said, challenged, opened}
 use Rattle.mongo_scram.specs.Replies.{CarriesFirst, FirstReplyRow}
-use Rattle.mongo_scram.specs.Rounds.{handed_by, Replies, Opens}
+use Rattle.mongo_scram.specs.Rounds.{handed_by, ExchangesOnce, Replies, Opens, frames_opened}
 use Rattle.mongo_sasl.proofs.Unsent.{unbuilt_stopped}
+use Rattle.mongo_scram.proofs.OwnRows.{first_reply_own}
 
 -- the command of the first message, as the plan has it
 abbrev start_command : Handed → User → Command
@@ -92,28 +99,38 @@ start_opens handed user opened reply held old new before after none start nonce 
 
 -- ---- with a round that went with the hello, or without
 
-pub round_stopped : {T : Type 0} (r : Result T Error) (login : Login) (found : Option FirstRound) (round : FirstRound) (maximum : ℤ) (user : User) (new : State) (after : ℤ) → found ≡ Some round → IfErr r (λ e. FirstReplyRow round.server_first e.kind ⊎ (e.kind ≡ OutOfMemory))
-    → IfErr r (λ e. Stopped (opened (speculated_of found) (handed_by login found maximum) user) e.kind new new after after)
-round_stopped (Ok x) login found round maximum user new after is h = tt
-round_stopped (Err x) login found round maximum user new after is h =
-    subst (λ f. Stopped (opened (speculated_of f) (handed_by login f maximum) user) x.kind new new after after) (sym is) (reply_stopped (handed_by login (Some round) maximum) user round.server_first x.kind new after h)
+abbrev opened_by : Login → ℤ → User → Option FirstRound → Plan Challenge
+opened_by login maximum user found = opened (speculated_of found) (handed_by login found maximum) user
 
-pub start_stopped : {T : Type 0} (r : Result T Error) (login : Login) (found : Option FirstRound) (maximum : ℤ) (user : User) (old new : State) (before after : ℤ) → found ≡ None → IfErr r (λ e. Stopped (opened None (handed_by login None maximum) user) e.kind old new before after)
-    → IfErr r (λ e. Stopped (opened (speculated_of found) (handed_by login found maximum) user) e.kind old new before after)
-start_stopped (Ok x) login found maximum user old new before after is h = tt
-start_stopped (Err x) login found maximum user old new before after is h =
-    subst (λ f. Stopped (opened (speculated_of f) (handed_by login f maximum) user) x.kind old new before after) (sym is) h
+module _ {T : Type 0} (login : Login) (found : Option FirstRound) (maximum : ℤ) (user : User) where
+  round_stopped : (r : Result T Error) (round : FirstRound) (new : State) (after : ℤ) → found ≡ Some round → IfErr r (λ e. FirstReplyRow round.server_first e.kind ⊎ (e.kind ≡ OutOfMemory)) → IfErr r (λ e. Stopped (opened_by login maximum user found) e.kind new new after after)
+  round_stopped (Ok x) round new after is h = tt
+  round_stopped (Err x) round new after is h =
+      subst (λ f. Stopped (opened_by login maximum user f) x.kind new new after after) (sym is) (reply_stopped (handed_by login (Some round) maximum) user round.server_first x.kind new after h)
 
--- the same over a connection that keeps a fault
-pub round_answers : {T : Type 0} (r : Result T Error) (kind : ErrorKind) (login : Login) (found : Option FirstRound) (round : FirstRound) (maximum : ℤ) (user : User) (new : State) (after : ℤ) → found ≡ Some round → IfErr r (λ e. FirstReplyRow round.server_first e.kind ⊎ (e.kind ≡ OutOfMemory))
-    → IfErr r (λ e. ((speculated_of found ≡ None) × (e.kind ≡ kind)) ⊎ Stopped (opened (speculated_of found) (handed_by login found maximum) user) e.kind new new after after)
-round_answers (Ok x) kind login found round maximum user new after is h = tt
-round_answers (Err x) kind login found round maximum user new after is h =
-    inr (subst (λ f. Stopped (opened (speculated_of f) (handed_by login f maximum) user) x.kind new new after after) (sym is) (reply_stopped (handed_by login (Some round) maximum) user round.server_first x.kind new after h))
+  -- a round that went with the hello makes no exchange
+  pub round_stops : {L : Type 0} (state : L → State) (r : Result T Error) (round : FirstRound) (old : Standing L) → found ≡ Some round → IfErr r (λ e. FirstReplyRow round.server_first e.kind ⊎ (e.kind ≡ OutOfMemory)) → StopsBy state (opened_by login maximum user found) r old old
+  round_stops state r round old is h =
+      no_exchange state (opened_by login maximum user found) (λ kind. FirstReplyRow round.server_first kind ⊎ (kind ≡ OutOfMemory)) old r (first_reply_own round.server_first) h (round_stopped r round (state old.link) old.id is h)
 
-pub start_answers : {T : Type 0} (r : Result T Error) (kind : ErrorKind) (login : Login) (found : Option FirstRound) (maximum : ℤ) (user : User) (old : State) (before : ℤ) → found ≡ None → IfErr r (λ e. (e.kind ≡ kind) ⊎ Stopped (opened None (handed_by login None maximum) user) e.kind old old before before)
-    → IfErr r (λ e. ((speculated_of found ≡ None) × (e.kind ≡ kind)) ⊎ Stopped (opened (speculated_of found) (handed_by login found maximum) user) e.kind old old before before)
-start_answers (Ok x) kind login found maximum user old before is h = tt
-start_answers (Err x) kind login found maximum user old before is (inl same) = inl (ap speculated_of is, same)
-start_answers (Err x) kind login found maximum user old before is (inr stopped) =
-    inr (subst (λ f. Stopped (opened (speculated_of f) (handed_by login f maximum) user) x.kind old old before before) (sym is) stopped)
+  pub start_stops : {L : Type 0} (state : L → State) (r : Result T Error) (old new : Standing L) → found ≡ None → StopsBy state (opened_by login maximum user None) r old new → StopsBy state (opened_by login maximum user found) r old new
+  start_stops state r old new is stops = subst (λ f. StopsBy state (opened_by login maximum user f) r old new) (sym is) stops
+
+  -- and answers no fault that is kept
+  pub round_aside : (r : Result T Error) (round : FirstRound) (new : State) (after : ℤ) → found ≡ Some round → IfErr r (λ e. FirstReplyRow round.server_first e.kind ⊎ (e.kind ≡ OutOfMemory))
+      → IfErr r (λ e. (speculated_of found ≡ None) ⊎ Stopped (opened_by login maximum user found) e.kind new new after after)
+  round_aside (Ok x) round new after is h = tt
+  round_aside (Err x) round new after is h = inr (round_stopped (Err x) round new after is h)
+
+  pub start_aside : (r : Result T Error) (new : State) (after : ℤ) → found ≡ None → IfErr r (λ e. (speculated_of found ≡ None) ⊎ Stopped (opened_by login maximum user found) e.kind new new after after)
+  start_aside (Ok x) new after is = tt
+  start_aside (Err x) new after is = inl (ap speculated_of is)
+
+  -- what its one exchange leaves
+  pub once_faultless : (r : Result T Error) (old new : Connection) (before after : FrameBuffer) → OnOk r (ExchangesOnce old new before after) → OnOk r (kept_fault new ≡ None)
+  once_faultless (Ok x) old new before after once = once.is
+  once_faultless (Err e) old new before after once = tt
+
+  pub once_frames : (r : Result T Error) (old new : Connection) (before after : FrameBuffer) → found ≡ None → OnOk r (ExchangesOnce old new before after) → OnOk r (frames_taken after ≡ frames_opened found (frames_taken before))
+  once_frames (Ok x) old new before after is once = subst (λ f. frames_taken after ≡ frames_opened f (frames_taken before)) (sym is) once.frames
+  once_frames (Err e) old new before after is once = tt

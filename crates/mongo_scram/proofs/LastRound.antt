@@ -6,12 +6,15 @@ use Rattle.mongo_bson.proofs.Enclosed.{length-enclosed}
 use Rattle.mongo_wire.specs.declared.error.Error.{Error}
 use Rattle.mongo_wire.specs.declared.error.ErrorKind.{ErrorKind}
 use Rattle.mongo_wire.specs.declared.error.ErrorKind.TheVariants.{OutOfMemory}
+use Rattle.mongo_wire.specs.declared.frame_buffer.FrameBuffer.{FrameBuffer}
+use Rattle.mongo_wire.specs.Buffer.{held_document}
 use Rattle.mongo_wire.specs.Outside.{State}
 use Rattle.mongo_command.specs.declared.command.Command.{Command}
-use Rattle.mongo_command.specs.Exchange.{command_message, CountsStay, Exchanges, ExchangeRefused}
+use Rattle.mongo_command.specs.Exchange.{command_message, HoldsReply, CountsStay, Exchanges, ExchangeRefused}
 use Rattle.mongo_command.specs.Conversation.{Said, plain_message, Stopped, ending}
 use Rattle.mongo_command.proofs.Steps.{stopped_memory, stopped_row, stopped_unless, stopped_reading, stopped_saying, stopped_later}
 use Rattle.mongo_sasl.specs.Commands.{continue_elements, continue_body, IsNotBuilt}
+use Rattle.mongo_sasl.specs.EndsByScript.{Standing}
 use Rattle.mongo_sasl.specs.Login.{EndsByReply}
 use Rattle.mongo_sasl.proofs.LastReply.{ends_by_reply}
 use Rattle.mongo_scram.specs.declared.messages.ClientFinal.{ClientFinal}
@@ -19,7 +22,7 @@ use Rattle.mongo_scram.specs.Client.{final_of, final_conversation, final_source_
 use Rattle.mongo_scram.specs.Commands.{final_command}
 use Rattle.mongo_scram.specs.Plan.{Challenge}
 use Rattle.mongo_scram.specs.Replies.{FinalReplyRow}
-use Rattle.mongo_scram.specs.Rounds.{final_said, RoundRow, last_heard, last_round, TakesLastMessage, LastRefusal}
+use Rattle.mongo_scram.specs.Rounds.{final_said, RoundRow, last_heard, last_round, TakesLastMessage, LastRefusal, EndsLastRound}
 use Rattle.mongo_scram.proofs.OneMessage.{no_final_row}
 use Rattle.mongo_sasl.proofs.Unsent.{unbuilt_stopped}
 
@@ -44,7 +47,7 @@ final_exchanged final command maximum old new before after held reply is same e 
 -- ---- the reply
 
 -- the reply is taken, and it is that of the round's one exchange
-pub taken_ends : {T : Type 0} (r : Result T Error) (said : Said) (conversation : OwnedValue) (owed : List ℕ) (c : Challenge) (reply held : List ℕ) (old new : State) (before after : ℤ) → reply ≡ held → Exchanges said.maximum (plain_message said.document) old new before after reply → CountsStay old new → OnOk r (TakesLastMessage conversation owed reply)
+taken_ends : {T : Type 0} (r : Result T Error) (said : Said) (conversation : OwnedValue) (owed : List ℕ) (c : Challenge) (reply held : List ℕ) (old new : State) (before after : ℤ) → reply ≡ held → Exchanges said.maximum (plain_message said.document) old new before after reply → CountsStay old new → OnOk r (TakesLastMessage conversation owed reply)
     → OnOk r (EndsByReply (last_round said conversation owed c) c held old new before after)
 taken_ends (Ok x) said conversation owed c reply held old new before after same e counts is =
     subst (λ document. EndsByReply (last_round said conversation owed c) c document old new before after) same
@@ -64,3 +67,13 @@ pub refused_stopped : {T : Type 0} (r : Result T Error) (said : Said) (conversat
 refused_stopped (Ok x) said conversation owed c reply old new before after e counts h = tt
 refused_stopped (Err x) said conversation owed c reply old new before after e counts h =
     stopped_later said (last_heard conversation owed c) reply x.kind old new new before after after e counts (heard_stopped conversation owed c reply x.kind new after h)
+
+-- what the round promises where the reply is taken
+pub closes_by : {L T : Type 0} (state : L → State) (r : Result T Error) (said : Said) (conversation : OwnedValue) (owed reply : List ℕ) (buffer : FrameBuffer) (old new : Standing L) → reply ≡ held_document buffer
+    → Exchanges said.maximum (plain_message said.document) (state old.link) (state new.link) old.id new.id reply → CountsStay (state old.link) (state new.link) → HoldsReply buffer → OnOk r (TakesLastMessage conversation owed reply) → OnOk r (EndsLastRound state said conversation owed buffer old new)
+closes_by state (Ok x) said conversation owed reply buffer old new same e counts holds is = record {
+  ends = λ c. taken_ends (Ok x) said conversation owed c reply (held_document buffer) (state old.link) (state new.link) old.id new.id same e counts is;
+  taken = subst (TakesLastMessage conversation owed) same is;
+  holds = holds;
+}
+closes_by state (Err x) said conversation owed reply buffer old new same e counts holds is = tt

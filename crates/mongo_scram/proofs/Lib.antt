@@ -14,7 +14,9 @@ pub mod ClosingEnds
 pub mod ScramEnds
 pub mod ScramScript
 pub mod ScramCosts
-pub mod ScramLed
+pub mod ScramFits
+pub mod ScramJoins
+pub mod EndsByScram
 pub mod Derived
 pub mod LastRound
 pub mod FirstRounds

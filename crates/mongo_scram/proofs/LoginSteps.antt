@@ -1,6 +1,5 @@
 -- A login, by its opening, its derivation and its closing: where it was accepted, and where it was stopped.
-use Rattle.std.proofs.Common.{◌≡◌, ◌⊎◌, ℕ, ℤ, refl, ap, sym, ◌∙◌, subst, inl, inr, Option, None, Some, Result, Ok, Err, List, Contains, IfErr, OnOk, OnErr}
-use Rattle.std.specs.Result.{IsErrAnd}
+use Rattle.std.proofs.Common.{◌≡◌, ◌⊎◌, ℕ, ℤ, refl, ap, ◌∙◌, subst, inl, inr, Option, None, Some, Result, Ok, Err, List, Contains, IfErr, OnOk, OnErr}
 use Rattle.mongo_wire.specs.declared.error.Error.{Error}
 use Rattle.mongo_wire.specs.declared.error.ErrorKind.{ErrorKind}
 use Rattle.mongo_wire.specs.declared.error.ErrorKind.TheVariants.{OutOfMemory}
@@ -14,19 +13,13 @@ use Rattle.mongo_scram.specs.declared.conversation.FirstRound.{FirstRound}
 use Rattle.mongo_scram.specs.declared.rounds.Opened.{Opened}
 use Rattle.mongo_scram.specs.Cache.{entries_of, rounds_of, Adds}
 use Rattle.mongo_scram.specs.Client.{nonce_of, frames_after}
-use Rattle.mongo_scram.specs.Costs.{Ledgers, ledgers, key_by, HasEntry, Derives, SameEntries, CostsNothing, EndsLogin, Accepted, StoppedScram, FaultCosts}
+use Rattle.mongo_scram.specs.Costs.{Ledgers, ledgers, key_by, HasEntry, Derives, SameEntries, EndsLogin, Accepted, StoppedScram, FaultCosts}
 use Rattle.mongo_scram.specs.Entry.{salted_of, IsUsable}
 use Rattle.mongo_scram.specs.Plan.{Handed, salted_by, opening, closing}
 use Rattle.mongo_scram.specs.Rounds.{frames_opened, Opens, key_for, IsAnswered}
 use Rattle.mongo_scram.specs.User.{User, IsUser}
 use Rattle.mongo_scram.proofs.OpeningSteps.{opening_reached}
 use Rattle.mongo_scram.proofs.ScramPlan.{challenge_of}
-
--- ---- before anything was derived
-
-pub stopped_early : {T : Type 0} (handed : Handed) (e : Error) (r : Result T Error) (old new : State) (before after : ℤ) (first last : Ledgers) → IsErrAnd r (λ x. x ≡ e) → Stopped (opening handed) e.kind old new before after → CostsNothing first last → IfErr r (λ x. StoppedScram handed x.kind old new before after first last)
-stopped_early handed e (Ok x) old new before after first last is stopped nothing = tt
-stopped_early handed e (Err x) old new before after first last is stopped nothing = subst (λ (y : Error). StoppedScram handed y.kind old new before after first last) (sym is) (inl (stopped, nothing))
 
 -- ---- between the rounds
 
@@ -54,12 +47,10 @@ between_derived : (handed : Handed) (user : User) (o : Opened) (key : SaltedKey)
 between_derived handed user o key tag old middle before between first last is = subst (λ k. Derives k first last) is.key_is is.answered.derived
 
 -- a stop of the closing
-pub stopped_late : {T : Type 0} (handed : Handed) (user : User) (o : Opened) (key : SaltedKey) (tag : List ℕ) (e : Error) (r : Result T Error) (old middle new : State) (before between after : ℤ) (first last : Ledgers) → IsErrAnd r (λ x. x ≡ e) → IsBetween handed user o key tag old middle before between first last
-    → Stopped (closing handed (challenge_of user o.server_first)) e.kind middle new between after → IfErr r (λ x. StoppedScram handed x.kind old new before after first last)
-stopped_late handed user o key tag e (Ok x) old middle new before between after first last is_e is stopped = tt
-stopped_late handed user o key tag e (Err x) old middle new before between after first last is_e is stopped =
-    subst (λ (y : Error). StoppedScram handed y.kind old new before after first last) (sym is_e)
-    (inr (record {
+pub stopped_late : (handed : Handed) (user : User) (o : Opened) (key : SaltedKey) (tag : List ℕ) (kind : ErrorKind) (old middle new : State) (before between after : ℤ) (first last : Ledgers) → IsBetween handed user o key tag old middle before between first last
+    → Stopped (closing handed (challenge_of user o.server_first)) kind middle new between after → StoppedScram handed kind old new before after first last
+stopped_late handed user o key tag kind old middle new before between after first last is stopped =
+    inr (record {
       challenge = challenge_of user o.server_first;
       middle = middle;
       between = between;
@@ -67,7 +58,7 @@ stopped_late handed user o key tag e (Err x) old middle new before between after
       stopped = stopped;
       derived = inl (between_derived handed user o key tag old middle before between first last is);
       entries = is.answered.entries;
-    }))
+    })
 
 -- ---- after the last round
 
@@ -121,26 +112,22 @@ accepted_by (Err e) handed user o key tag document old middle new before between
 
 -- ---- the buffer, and a fault that is kept
 
-pub frames_both : {T : Type 0} (r : Result T Error) (round : Option FirstRound) (old middle new : ℕ) → middle ≡ frames_opened round old → new ≡ risen middle → OnOk r (new ≡ frames_after round old)
-frames_both (Ok x) None old middle new p q = q ∙ ap risen p
-frames_both (Ok x) (Some round) old middle new p q = q ∙ ap risen p
-frames_both (Err e) round old middle new p q = tt
+frames_both : (round : Option FirstRound) (old middle new : ℕ) → middle ≡ frames_opened round old → new ≡ risen middle → new ≡ frames_after round old
+frames_both None old middle new p q = q ∙ ap risen p
+frames_both (Some round) old middle new p q = q ∙ ap risen p
+
+pub frames_holds : {T : Type 0} (r : Result T Error) (round : Option FirstRound) (old middle new : ℕ) (Holds : Type 0) → middle ≡ frames_opened round old → new ≡ risen middle → Holds → OnOk r ((new ≡ frames_after round old) × Holds)
+frames_holds (Ok x) round old middle new Holds p q holds = (frames_both round old middle new p q, holds)
+frames_holds (Err e) round old middle new Holds p q holds = tt
 
 -- the entries, where the last step leaves them
 pub unchanged_on : {T E : Type 0} {A : Type 0} (r : Result T E) (old middle new : A) → middle ≡ old → OnErr r (new ≡ middle) → OnErr r (new ≡ old)
 unchanged_on (Ok x) old middle new p q = tt
 unchanged_on (Err e) old middle new p q = q ∙ p
 
-pub not_accepted : {T : Type 0} (r : Result T Error) (e : Error) → IsErrAnd r (λ x. x ≡ e) → OnOk r ⊥
-not_accepted (Ok x) e is = is
-not_accepted (Err x) e is = tt
-
 -- a stop before an exchange: the link and the ids are as they were
-pub kept_stopped : {T : Type 0} (r : Result T Error) (handed : Handed) (kind : ErrorKind) (old new : State) (before after : ℤ) (first last : Ledgers) → new ≡ old → after ≡ before → IfErr r (λ e. StoppedScram handed e.kind old new before after first last)
-    → IfErr r (λ e. ((e.kind ≡ kind) × FaultCosts handed old before first last) ⊎ StoppedScram handed e.kind old old before before first last)
-kept_stopped (Ok x) handed kind old new before after first last link ids s = tt
-kept_stopped (Err x) handed kind old new before after first last link ids s =
-    inr (subst (λ state. StoppedScram handed x.kind old state before before first last) link (subst (λ id. StoppedScram handed x.kind old new before id first last) ids s))
+pub stopped_still : (handed : Handed) (kind : ErrorKind) (old new : State) (before after : ℤ) (first last : Ledgers) → new ≡ old → after ≡ before → StoppedScram handed kind old new before after first last → StoppedScram handed kind old old before before first last
+stopped_still handed kind old new before after first last link ids s = subst (λ state. StoppedScram handed kind old state before before first last) link (subst (λ id. StoppedScram handed kind old new before id first last) ids s)
 
 -- what was derived by a first round that went with the hello, before the fault is answered
 pub fault_costs : (handed : Handed) (user : User) (o : Opened) (key : SaltedKey) (tag : List ℕ) (old middle : State) (before between : ℤ) (first last : Ledgers) → middle ≡ old → between ≡ before → IsBetween handed user o key tag old middle before between first last → FaultCosts handed old before first last
@@ -152,9 +139,3 @@ fault_costs handed user o key tag old middle before between first last link ids 
       derived = between_derived handed user o key tag old middle before between first last is;
       entries = is.answered.entries;
     })
-
--- the fault is answered
-pub fault_answered : {T : Type 0} (r : Result T Error) (e : Error) (handed : Handed) (kind : ErrorKind) (old : State) (before : ℤ) (first last : Ledgers) → IsErrAnd r (λ x. x ≡ e) → e.kind ≡ kind → FaultCosts handed old before first last
-    → IfErr r (λ x. ((x.kind ≡ kind) × FaultCosts handed old before first last) ⊎ StoppedScram handed x.kind old old before before first last)
-fault_answered (Ok x) e handed kind old before first last is same costs = tt
-fault_answered (Err x) e handed kind old before first last is same costs = inl (ap (λ (y : Error). y.kind) is ∙ same, costs)

@@ -3,11 +3,11 @@ pub mod Cache
 pub mod Client
 pub mod Commands
 pub mod Costs
+pub mod EndsByScram
 pub mod Entry
 pub mod Key
 pub mod KeyOrder
 pub mod Keys
-pub mod Led
 pub mod Messages
 pub mod Parsed
 pub mod Plan

@@ -2,10 +2,16 @@
 use Rattle.std.specs.Prelude.{◌≡◌, ℕ, ℤ, ◌⊎◌, Option, None, Some, option_copied, List}
 use Rattle.mongo_bson.specs.declared.owned_value.OwnedValue.{OwnedValue}
 use Rattle.mongo_wire.specs.declared.error.ErrorKind.{ErrorKind}
+use Rattle.mongo_wire.specs.declared.frame_buffer.FrameBuffer.{FrameBuffer}
+use Rattle.mongo_wire.specs.Buffer.{frames_taken, held_document}
 use Rattle.mongo_wire.specs.Outside.{State, risen}
+use Rattle.mongo_command.specs.declared.connection.Connection.{Connection}
 use Rattle.mongo_command.specs.Command.{command_document}
-use Rattle.mongo_command.specs.Exchange.{Exchanges, CountsStay}
+use Rattle.mongo_command.specs.Connection.{kept_fault}
+use Rattle.mongo_command.specs.Exchange.{Exchanges, HoldsReply, CountsStay}
 use Rattle.mongo_command.specs.Conversation.{Said, Plan, HasNone, or_else, ending, unless, reading, saying, plain_message}
+use Rattle.mongo_sasl.specs.EndsByScript.{Standing}
+use Rattle.mongo_sasl.specs.Login.{EndsByReply}
 use Rattle.mongo_scram.specs.declared.scram_version.ScramVersion.{ScramVersion}
 use Rattle.mongo_scram.specs.declared.cache.SaltedKey.{SaltedKey}
 use Rattle.mongo_scram.specs.declared.conversation.FirstRound.{FirstRound}
@@ -28,6 +34,14 @@ use Rattle.mongo_scram.specs.Validity.{IsValidFirst, ServerFirstRow, ServerFinal
 -- what a login is handed, with a first round or without, over a link of this maximum
 abbrev pub handed_by : Login → Option FirstRound → ℤ → Handed
 handed_by login round maximum = handed_to login.version login.credential.now (option_copied login.server_api) round (base64_of login.nonce.now) login.max_iterations maximum
+
+-- ---- a round
+
+-- One exchange was made: its connection keeps no fault, before it and after it, and its reply passed through the buffer.
+pub record ExchangesOnce (old new : Connection) (before after : FrameBuffer) : Type 0 where
+  pub was : kept_fault old ≡ None
+  pub is : kept_fault new ≡ None
+  pub frames : frames_taken after ≡ risen (frames_taken before)
 
 -- ---- the first round
 
@@ -92,6 +106,12 @@ pub record TakesLastMessage (conversation : OwnedValue) (owed document : List �
   pub last : ServerFinal
   pub carries : CarriesFinal document last
   pub taken : HasNone (RoundRow conversation owed last)
+
+-- the last round was made, whatever the challenge: its reply, which the buffer holds, carries such a message
+pub record EndsLastRound {L : Type 0} (state : L → State) (said : Said) (conversation : OwnedValue) (owed : List ℕ) (buffer : FrameBuffer) (old new : Standing L) : Type 0 where
+  pub ends : (c : Challenge) → EndsByReply (last_round said conversation owed c) c (held_document buffer) (state old.link) (state new.link) old.id new.id
+  pub taken : TakesLastMessage conversation owed (held_document buffer)
+  pub holds : HoldsReply buffer
 
 -- why it carries none that is: the row of the reply, else that of the message
 abbrev pub LastRefusal : OwnedValue → List ℕ → List ℕ → ErrorKind → Type 0

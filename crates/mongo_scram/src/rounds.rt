@@ -1,20 +1,14 @@
 // The two rounds of a login: each a command of the client and the server's reply to it.
 
-ghost use Rattle.std.specs.Prelude.{◌≡◌, ◌⊎◌, None, Some, IfOk, IfErr, OnOk};
-ghost use Rattle.mongo_wire.specs.declared.error.ErrorKind.{ErrorKind};
+ghost use Rattle.std.specs.Prelude.{◌≡◌, ◌⊎◌, IfOk, IfErr, OnOk};
 ghost use Rattle.mongo_wire.specs.declared.error.ErrorKind.TheVariants.{OutOfMemory};
-ghost use Rattle.mongo_wire.specs.Outside.{risen};
-ghost use Rattle.mongo_wire.specs.Buffer.{frames_taken, held_document};
-ghost use Rattle.mongo_command.specs.Connection.{kept_fault, KeepsRest};
-ghost use Rattle.mongo_command.specs.Conversation.{Stopped};
-ghost use Rattle.mongo_command.specs.Exchange.{frame_maximum, HoldsReply, CountsStay};
-ghost use Rattle.mongo_sasl.specs.Kept.{KeepsAfter};
-ghost use Rattle.mongo_sasl.specs.Login.{EndsByReply};
+ghost use Rattle.mongo_command.specs.Exchange.{frame_maximum};
+ghost use Rattle.mongo_sasl.specs.EndsByScript.{standing, StopsBy};
 ghost use Rattle.mongo_scram.specs.Client.{auth_message_of, final_conversation};
 ghost use Rattle.mongo_scram.specs.Messages.{verifier};
 ghost use Rattle.mongo_scram.specs.Plan.{Challenge};
 ghost use Rattle.mongo_scram.specs.Replies.{CarriesFirst, FirstReplyRow};
-ghost use Rattle.mongo_scram.specs.Rounds.{final_said, last_round, TakesLastMessage, LastRefusal};
+ghost use Rattle.mongo_scram.specs.Rounds.{final_said, last_round, TakesLastMessage, LastRefusal, ExchangesOnce, EndsLastRound};
 ghost use Rattle.mongo_scram.specs.Version.{digest_of};
 
 use crate::auth_info::ClientAuthInfo;
@@ -66,15 +60,14 @@ impl Drop for Opened {
 impl<'a> Login<'a> {
     ghost use Rattle.std.specs.Prelude.{◌≡◌, ◌⊎◌, None, Some, IfOk, IfErr, OnOk};
     ghost use Rattle.mongo_wire.specs.declared.error.ErrorKind.{ErrorKind};
-    ghost use Rattle.mongo_wire.specs.Outside.{risen};
     ghost use Rattle.mongo_wire.specs.Buffer.{frames_taken};
-    ghost use Rattle.mongo_command.specs.Connection.{kept_fault, KeepsRest};
+    ghost use Rattle.mongo_command.specs.Connection.{kept_fault};
     ghost use Rattle.mongo_command.specs.Conversation.{Stopped};
-    ghost use Rattle.mongo_command.specs.Exchange.{frame_maximum, CountsStay};
-    ghost use Rattle.mongo_sasl.specs.Kept.{KeepsAfter};
+    ghost use Rattle.mongo_command.specs.Exchange.{frame_maximum};
+    ghost use Rattle.mongo_sasl.specs.EndsByScript.{standing, StopsBy};
     ghost use Rattle.mongo_scram.specs.Client.{speculated_of, user_of};
     ghost use Rattle.mongo_scram.specs.Plan.{opened};
-    ghost use Rattle.mongo_scram.specs.Rounds.{handed_by, Opens, frames_opened};
+    ghost use Rattle.mongo_scram.specs.Rounds.{handed_by, Opens, frames_opened, ExchangesOnce};
 
     /// The first round: that which went with the hello, or one of its own, by the nonce.
     pub fn open<L: Link>(
@@ -89,18 +82,13 @@ impl<'a> Login<'a> {
     ) -> Result<Opened, Error>
         ensures opened { IfOk result (λ o. Opens (handed_by self.entry first_round (frame_maximum connection.old.stream_description)) (user_of user.now) o
             (L.state link.old) (L.state link.new) ids.old ids.new) }
-        ensures refused { kept_fault connection.old ≡ None → IfErr result (λ e. Stopped (opened (speculated_of first_round) (handed_by self.entry first_round (frame_maximum connection.old.stream_description)) (user_of user.now)) e.kind
-            (L.state link.old) (L.state link.new) ids.old ids.new) }
-        ensures frames { OnOk result (frames_taken buffer.new ≡ frames_opened first_round (frames_taken buffer.old)) }
-        ensures connection { KeepsRest connection.old connection.new }
-        ensures faultless { kept_fault connection.old ≡ None → OnOk result (kept_fault connection.new ≡ None) }
-        // After a refusal the connection keeps the fault where it is one that ends a connection.
-        ensures keeps { kept_fault connection.old ≡ None → IfErr result (λ e. KeepsAfter e.kind (kept_fault connection.new)) }
-        ensures kept { (kind : ErrorKind) → kept_fault connection.old ≡ Some kind → (link.new ≡ link.old) × (ids.new ≡ ids.old) × (kept_fault connection.new ≡ Some kind) }
-        // A round that went with the hello is no exchange, and never answers the fault.
-        ensures answers { (kind : ErrorKind) → kept_fault connection.old ≡ Some kind → IfErr result (λ e. ((speculated_of first_round ≡ None) × (e.kind ≡ kind)) ⊎ Stopped (opened (speculated_of first_round) (handed_by self.entry first_round (frame_maximum connection.old.stream_description)) (user_of user.now)) e.kind
+        ensures stops { StopsBy L.state (opened (speculated_of first_round) (handed_by self.entry first_round (frame_maximum connection.old.stream_description)) (user_of user.now)) result
+            (standing connection.old link.old ids.old) (standing connection.new link.new ids.new) }
+        // A round that went with the hello is no exchange, and never answers a fault that is kept.
+        ensures aside { (kind : ErrorKind) → kept_fault connection.old ≡ Some kind → IfErr result (λ e. (speculated_of first_round ≡ None) ⊎ Stopped (opened (speculated_of first_round) (handed_by self.entry first_round (frame_maximum connection.old.stream_description)) (user_of user.now)) e.kind
             (L.state link.old) (L.state link.old) ids.old ids.old) }
-        ensures counts { CountsStay (L.state link.old) (L.state link.new) }
+        ensures frames { OnOk result (frames_taken buffer.new ≡ frames_opened first_round (frames_taken buffer.old)) }
+        ensures faultless { kept_fault connection.old ≡ None → OnOk result (kept_fault connection.new ≡ None) }
     {
         match first_round {
             Some(round) => go_on(alloc, round),
@@ -120,16 +108,9 @@ impl<'a> Login<'a> {
     ) -> Result<Opened, Error>
         ensures opened { IfOk result (λ o. Opens (handed_by self.entry None (frame_maximum connection.old.stream_description)) (user_of user.now) o
             (L.state link.old) (L.state link.new) ids.old ids.new) }
-        ensures refused { kept_fault connection.old ≡ None → IfErr result (λ e. Stopped (opened None (handed_by self.entry None (frame_maximum connection.old.stream_description)) (user_of user.now)) e.kind
-            (L.state link.old) (L.state link.new) ids.old ids.new) }
-        ensures frames { OnOk result (frames_taken buffer.new ≡ risen (frames_taken buffer.old)) }
-        ensures connection { KeepsRest connection.old connection.new }
-        ensures faultless { OnOk result (kept_fault connection.new ≡ None) }
-        ensures keeps { kept_fault connection.old ≡ None → IfErr result (λ e. KeepsAfter e.kind (kept_fault connection.new)) }
-        ensures kept { (kind : ErrorKind) → kept_fault connection.old ≡ Some kind → OnOk result ⊥ × (link.new ≡ link.old) × (ids.new ≡ ids.old) × (kept_fault connection.new ≡ Some kind) }
-        ensures answers { (kind : ErrorKind) → kept_fault connection.old ≡ Some kind → IfErr result (λ e. (e.kind ≡ kind) ⊎ Stopped (opened None (handed_by self.entry None (frame_maximum connection.old.stream_description)) (user_of user.now)) e.kind
-            (L.state link.old) (L.state link.old) ids.old ids.old) }
-        ensures counts { CountsStay (L.state link.old) (L.state link.new) }
+        ensures stops { StopsBy L.state (opened None (handed_by self.entry None (frame_maximum connection.old.stream_description)) (user_of user.now)) result
+            (standing connection.old link.old ids.old) (standing connection.new link.new ids.new) }
+        ensures once { OnOk result (ExchangesOnce connection.old connection.new buffer.old buffer.new) }
     {
         let client_first = ClientFirst::new(
             alloc,
@@ -178,20 +159,11 @@ pub fn close<L: Link>(
     client_final: &ClientFinal,
 ) -> Result<(), Error>
     // By one exchange, whose reply the buffer holds.
-    ensures closed { (c : Challenge) → OnOk result (EndsByReply (last_round (final_said client_final.now (frame_maximum connection.old.stream_description)) (final_conversation client_final.now) (verifier (digest_of version) salted.now (auth_message_of client_final.now)) c) c (held_document buffer.new)
-        (L.state link.old) (L.state link.new) ids.old ids.new) }
-    ensures refused { (c : Challenge) → kept_fault connection.old ≡ None → IfErr result (λ e. Stopped (last_round (final_said client_final.now (frame_maximum connection.old.stream_description)) (final_conversation client_final.now) (verifier (digest_of version) salted.now (auth_message_of client_final.now)) c) e.kind
-        (L.state link.old) (L.state link.new) ids.old ids.new) }
-    ensures taken { OnOk result (TakesLastMessage (final_conversation client_final.now) (verifier (digest_of version) salted.now (auth_message_of client_final.now)) (held_document buffer.new)) }
-    ensures frames { OnOk result (frames_taken buffer.new ≡ risen (frames_taken buffer.old)) }
-    ensures holds { OnOk result (HoldsReply buffer.new) }
-    ensures connection { KeepsRest connection.old connection.new }
-    ensures faultless { OnOk result (kept_fault connection.new ≡ None) }
-    ensures keeps { kept_fault connection.old ≡ None → IfErr result (λ e. KeepsAfter e.kind (kept_fault connection.new)) }
-    ensures kept { (kind : ErrorKind) → kept_fault connection.old ≡ Some kind → OnOk result ⊥ × (link.new ≡ link.old) × (ids.new ≡ ids.old) × (kept_fault connection.new ≡ Some kind) }
-    ensures answers { (c : Challenge) (kind : ErrorKind) → kept_fault connection.old ≡ Some kind → IfErr result (λ e. (e.kind ≡ kind) ⊎ Stopped (last_round (final_said client_final.now (frame_maximum connection.old.stream_description)) (final_conversation client_final.now) (verifier (digest_of version) salted.now (auth_message_of client_final.now)) c) e.kind
-        (L.state link.old) (L.state link.old) ids.old ids.old) }
-    ensures counts { CountsStay (L.state link.old) (L.state link.new) }
+    ensures closed { OnOk result (EndsLastRound L.state (final_said client_final.now (frame_maximum connection.old.stream_description)) (final_conversation client_final.now) (verifier (digest_of version) salted.now (auth_message_of client_final.now)) buffer.new
+        (standing connection.old link.old ids.old) (standing connection.new link.new ids.new)) }
+    ensures stops { (c : Challenge) → StopsBy L.state (last_round (final_said client_final.now (frame_maximum connection.old.stream_description)) (final_conversation client_final.now) (verifier (digest_of version) salted.now (auth_message_of client_final.now)) c) result
+        (standing connection.old link.old ids.old) (standing connection.new link.new ids.new) }
+    ensures once { OnOk result (ExchangesOnce connection.old connection.new buffer.old buffer.new) }
 {
     let command = client_final.to_command(alloc)?;
     connection.exchange_into(alloc, link, ids, command, buffer)?;

@@ -1,5 +1,5 @@
--- SCRAM doesn't refuse by `IncompatibleServer`, which is the establishment's own refusal of a server that names no service, nor
--- does what two plans make that don't.
+-- SCRAM doesn't refuse by `IncompatibleServer`, which is the refusal of whoever establishes the connection, nor does what two
+-- plans make that don't.
 use Rattle.std.proofs.Common.{◌≡◌, ℕ, ap, refl, sym, subst, inl, inr, Option, None, Some, List, [], ◌∷◌}
 use Rattle.mongo_wire.specs.declared.error.ErrorKind.{ErrorKind}
 use Rattle.mongo_wire.specs.declared.error.ErrorKind.TheVariants.{PasswordNotAscii, IncompatibleServer}

@@ -1,0 +1,88 @@
+-- A call by a plan that is refused before its exchange, at it, or after it.
+use Rattle.std.proofs.Common.{◌≡◌, ◌⊎◌, ℤ, refl, inl, inr, Option, None, Some, Result, Ok, Err, IfErr}
+use Rattle.std.specs.Result.{IsErrAnd}
+use Rattle.mongo_wire.specs.declared.error.Error.{Error}
+use Rattle.mongo_wire.specs.declared.error.ErrorKind.{ErrorKind}
+use Rattle.mongo_wire.specs.declared.message.Message.{Message}
+use Rattle.mongo_wire.specs.Outside.{State}
+use Rattle.mongo_command.specs.Connection.{kept_fault, KeepsRest}
+use Rattle.mongo_command.specs.Conversation.{Plan, Stopped}
+use Rattle.mongo_command.specs.Exchange.{CountsStay, ExchangeRefused}
+use Rattle.mongo_sasl.specs.EndsByScript.{Standing, StopsBy}
+use Rattle.mongo_sasl.proofs.Handed.{handed_on, rest_same, counts_same}
+use Rattle.mongo_sasl.proofs.KeptAfter.{IsOwn, kept_after, row_keeps}
+use Rattle.mongo_sasl.proofs.Unsent.{answered_fault, not_replied}
+
+-- an exchange over a connection that keeps a fault answers it, and nothing is done
+abbrev pub AnswersFault : {L U : Type 0} → Type 0 → Result U Error → Standing L → Standing L → Type 0
+AnswersFault {L} {U} Buffer result old new =
+    (kind : ErrorKind) → kept_fault old.connection ≡ Some kind → (◌≡◌ {A = Result U Error} result (Err (record { kind = kind }))) × (new.link ≡ old.link) × (new.id ≡ old.id) × (kept_fault new.connection ≡ Some kind) × Buffer
+
+pub not_both : (fault : Option ErrorKind) (kind : ErrorKind) → fault ≡ None → fault ≡ Some kind → ⊥
+not_both fault kind none some = cc
+
+none_kept : (fault : Option ErrorKind) → ((kind : ErrorKind) → fault ≡ Some kind → ⊥) → fault ≡ None
+none_kept None never = refl
+none_kept (Some kind) never = absurd (never kind refl)
+
+-- what was exchanged wasn't over one
+pub was_faultless : {U : Type 0} (x : U) (fault : Option ErrorKind) → ((kind : ErrorKind) → fault ≡ Some kind → ◌≡◌ {A = Result U Error} (Ok x) (Err (record { kind = kind }))) → fault ≡ None
+was_faultless x fault kept = none_kept fault (λ kind is. not_replied x kind ⊥ (kept kind is))
+
+module _ {L T A : Type 0} (state : L → State) (plan : Plan A) where
+  stopped_answers : (r : Result T Error) (kind : ErrorKind) (old : Standing L) → IfErr r (λ e. Stopped plan e.kind (state old.link) (state old.link) old.id old.id) → IfErr r (λ e. (e.kind ≡ kind) ⊎ Stopped plan e.kind (state old.link) (state old.link) old.id old.id)
+  stopped_answers (Ok x) kind old stopped = tt
+  stopped_answers (Err e) kind old stopped = inr stopped
+
+  -- it made no exchange, and may be refused by a row of its own
+  pub no_exchange : (Row : ErrorKind → Type 0) (old : Standing L) (r : Result T Error) → ((kind : ErrorKind) → Row kind → IsOwn kind) → IfErr r (λ e. Row e.kind) → IfErr r (λ e. Stopped plan e.kind (state old.link) (state old.link) old.id old.id) → StopsBy state plan r old old
+  no_exchange Row old r own row stopped = record {
+    refused = λ faultless. stopped;
+    keeps = λ faultless. row_keeps r Row (kept_fault old.connection) own row faultless;
+    untouched = λ kind is. (refl, refl, is);
+    answers = λ kind is. stopped_answers r kind old stopped;
+    rest = rest_same old.connection;
+    counts = counts_same (state old.link);
+  }
+
+  -- it was refused before its exchange
+  pub before_exchange : (old : Standing L) (e : Error) → IsOwn e.kind → Stopped plan e.kind (state old.link) (state old.link) old.id old.id → StopsBy {T = T} state plan (Err e) old old
+  before_exchange old e own stopped = no_exchange IsOwn old (Err e) (λ kind is. is) own stopped
+
+  -- or it had nothing to do
+  pub nothing_done : (old : Standing L) (x : T) → StopsBy state plan (Ok x) old old
+  nothing_done old x = no_exchange IsOwn old (Ok x) (λ kind is. is) tt tt
+
+  -- the command wasn't sent, or no reply was received
+  pub at_exchange : {U : Type 0} (Buffer : Type 0) (maximum : ℤ) (message : Message) (old new : Standing L) (e : Error) → AnswersFault {U = U} Buffer (Err e) old new
+      → (kept_fault old.connection ≡ None → ExchangeRefused e.kind maximum message (state old.link) (state new.link) old.id new.id (kept_fault new.connection))
+      → (ExchangeRefused e.kind maximum message (state old.link) (state new.link) old.id new.id (kept_fault new.connection) → Stopped plan e.kind (state old.link) (state new.link) old.id new.id)
+      → KeepsRest old.connection new.connection → CountsStay (state old.link) (state new.link) → StopsBy {T = T} state plan (Err e) old new
+  at_exchange Buffer maximum message old new e kept refused stops rest counts = record {
+    refused = λ faultless. stops (refused faultless);
+    keeps = λ faultless. kept_after e.kind maximum message (state old.link) (state new.link) old.id new.id (kept_fault new.connection) (refused faultless);
+    untouched = λ kind is. let same = kept kind is in (same.1, same.2, same.3);
+    answers = λ kind is. inl (answered_fault e kind (kept kind is).0);
+    rest = rest;
+    counts = counts;
+  }
+
+  -- the reply was received, and may be refused by a row of its own
+  pub after_exchange : {U : Type 0} (Buffer : Type 0) (x : U) (Row : ErrorKind → Type 0) (old new : Standing L) (r : Result T Error) → AnswersFault Buffer (Ok x) old new → kept_fault new.connection ≡ None → KeepsRest old.connection new.connection → CountsStay (state old.link) (state new.link)
+      → ((kind : ErrorKind) → Row kind → IsOwn kind) → IfErr r (λ e. Row e.kind) → IfErr r (λ e. Stopped plan e.kind (state old.link) (state new.link) old.id new.id) → StopsBy state plan r old new
+  after_exchange Buffer x Row old new r kept none rest counts own row stopped = record {
+    refused = λ faultless. stopped;
+    keeps = λ faultless. row_keeps r Row (kept_fault new.connection) own row none;
+    untouched = λ kind is. not_replied x kind _ (kept kind is).0;
+    answers = λ kind is. not_replied x kind _ (kept kind is).0;
+    rest = rest;
+    counts = counts;
+  }
+
+  -- a connection that keeps none after it kept none before it
+  pub faultless_before : (r : Result T Error) (old new : Standing L) → StopsBy state plan r old new → kept_fault new.connection ≡ None → kept_fault old.connection ≡ None
+  faultless_before r old new stops none = none_kept (kept_fault old.connection) (λ kind is. not_both (kept_fault new.connection) kind none (stops.untouched kind is).2)
+
+  -- a refusal that is handed on leaves what it left
+  pub handed_stops : (old new : Standing L) (r : Result T Error) (e : Error) → IsErrAnd r (λ x. x ≡ e) → StopsBy {T = T} state plan (Err e) old new → StopsBy state plan r old new
+  handed_stops old new r e handed stops = handed_on (λ x. StopsBy state plan x old new) r e handed stops

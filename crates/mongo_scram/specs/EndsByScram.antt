@@ -1,0 +1,23 @@
+-- A SCRAM login: it ends by its script, and takes so much of the counter and of the cache.
+use Rattle.std.specs.Prelude.{◌≡◌, ℕ, ◌⊎◌, Result, None, Some, List, IfErr, OnOk, OnErr}
+use Rattle.mongo_wire.specs.declared.error.Error.{Error}
+use Rattle.mongo_wire.specs.declared.error.ErrorKind.{ErrorKind}
+use Rattle.mongo_wire.specs.Outside.{State}
+use Rattle.mongo_command.specs.Connection.{kept_fault}
+use Rattle.mongo_sasl.specs.EndsByScript.{Standing, EndsByScript}
+use Rattle.mongo_scram.specs.Costs.{Ledgers, SameEntries, Accepted, StoppedScram, FaultCosts}
+use Rattle.mongo_scram.specs.Plan.{Handed, scram_plan}
+use Rattle.mongo_scram.specs.Script.{IsScramLogin}
+
+-- A login that is handed this ends so; the document is the last reply.
+pub record EndsByScram {L : Type 0} (state : L → State) (handed : Handed) (document : List ℕ) (result : Result (Unit {0}) Error) (old new : Standing L) (first last : Ledgers) : Type 0 where
+  pub script : EndsByScript state (scram_plan handed) (IsScramLogin handed) handed.maximum result old new
+  -- the server's last message was taken for its verifier, equal as a whole, and the key has an entry
+  pub accepted : OnOk result (Accepted handed document (state old.link) (state new.link) old.id new.id first last)
+  -- whether the key was derived before a refusal
+  pub refused : kept_fault old.connection ≡ None → IfErr result (λ e. StoppedScram handed e.kind (state old.link) (state new.link) old.id new.id first last)
+  -- A fault that the connection keeps is answered in place of the first exchange, unless the login is stopped before that.
+  -- Where that is its first message's, nothing was derived, counted or put in.
+  pub answers : (kind : ErrorKind) → kept_fault old.connection ≡ Some kind → IfErr result (λ e. ((e.kind ≡ kind) × FaultCosts handed (state old.link) old.id first last) ⊎ StoppedScram handed e.kind (state old.link) (state old.link) old.id old.id first last)
+  -- a refusal leaves the entries as they were
+  pub entries : OnErr result (SameEntries first last)
