@@ -85,14 +85,14 @@ pub inner_held : (document key : List ℕ) (v : RawValue) → FindsValue (body_o
 inner_held document key (Document inner) (e, first, is) = record { element = e; first = first; is_document = is.0; inner_is = is.1 }
 inner_held document key other finds = λ inner has. other_kind document key other 0x03 finds refl refl has.element has.first has.is_document
 
-pub truth_held : (document key : List ℕ) (v : RawValue) → FindsValue (body_of document) key (Some v) → IsTrueBoolean v ↔ HasTrue document key
-truth_held document key (Boolean true) (e, first, is) = (λ _. record { element = e; first = first; boolean = is.0; set = is.1 }, λ _. refl)
-truth_held document key (Boolean false) (e, first, is) =
+pub boolean_held : (document key : List ℕ) (v : RawValue) → FindsValue (body_of document) key (Some v) → IsTrueBoolean v ↔ HasTrue document key
+boolean_held document key (Boolean true) (e, first, is) = (λ _. record { element = e; first = first; boolean = is.0; set = is.1 }, λ _. refl)
+boolean_held document key (Boolean false) (e, first, is) =
     (λ never. absurd (false≢true never), λ has. absurd (zero_or_one e.value is.1 (ap (λ x. x.value) (one_found (body_of document) key e has.element first has.first) ∙ has.set)))
   where
     zero_or_one : (bytes : List ℕ) → bytes ≡ 0 ∷ [] → bytes ≡ 1 ∷ [] → ⊥
     zero_or_one bytes zero one = cc
-truth_held document key other finds = (λ never. absurd never, λ has. absurd (other_kind document key other 0x08 finds refl refl has.element has.first has.boolean))
+boolean_held document key other finds = (λ never. absurd never, λ has. absurd (other_kind document key other 0x08 finds refl refl has.element has.first has.boolean))
 
 pub one_held : (document key : List ℕ) (v : RawValue) → FindsValue (body_of document) key (Some v) → SaysOne v ↔ HasOne document key
 one_held document key (Int32 n) (e, first, is) =

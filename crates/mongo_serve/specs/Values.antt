@@ -64,7 +64,7 @@ inner_of (Document inner) = Some inner
 inner_of other = None
 
 abbrev pub IsTrueBoolean : RawValue → Type 0
-IsTrueBoolean (Boolean truth) = truth ≡ true
+IsTrueBoolean (Boolean boolean) = boolean ≡ true
 IsTrueBoolean other = ⊥
 
 abbrev pub SaysOne : RawValue → Type 0

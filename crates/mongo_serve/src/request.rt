@@ -284,7 +284,7 @@ fn is_true_boolean(value: RawValue<'_>) -> bool
     ensures { IsTrue result ↔ IsTrueBoolean value.entry }
 {
     match value {
-        RawValue::Bool(truth) => truth,
+        RawValue::Bool(boolean) => boolean,
         _ => false,
     }
 }

@@ -74,12 +74,12 @@ session_line seconds = line (codes "session") (spelled_or_dash decimal seconds �
 unfoldable pub sizes_line : ℤ → ℤ → ℤ → List ℕ
 sizes_line document batch frame = line (codes "sizes") (signed_decimal document ∷ signed_decimal batch ∷ signed_decimal frame ∷ [])
 
-abbrev pub truth_word : Bool → List ℕ
-truth_word truth = if truth then codes "true" else codes "false"
+abbrev pub boolean_word : Bool → List ℕ
+boolean_word boolean = if boolean then codes "true" else codes "false"
 
 -- whether the server understands `hello`
 unfoldable pub hello_ok_line : Bool → List ℕ
-hello_ok_line truth = line (codes "hello-ok") (truth_word truth ∷ [])
+hello_ok_line boolean = line (codes "hello-ok") (boolean_word boolean ∷ [])
 
 -- the service behind a load balancer
 unfoldable pub service_line : Option ObjectId → List ℕ

@@ -2,7 +2,7 @@
 ghost use Rattle.std.specs.Prelude.{◌≡◌, ◌++◌, ◌∷◌, OnOk, option_map};
 ghost use Rattle.hex.specs.Hex.{encode_lower};
 ghost use Rattle.mongo_settings.specs.Line.{spaced, spelled_or_dash};
-ghost use Rattle.mongo_settings.specs.Report.{wire_line, mechanism_words, mechanisms_line, session_line, sizes_line, truth_word, hello_ok_line, service_line, normal_generation_line, server_id_line};
+ghost use Rattle.mongo_settings.specs.Report.{wire_line, mechanism_words, mechanisms_line, session_line, sizes_line, boolean_word, hello_ok_line, service_line, normal_generation_line, server_id_line};
 
 use crate::report::line::{
     begin_line, end_line, push_hex, push_number, push_optional_number, push_text, push_word,
@@ -89,14 +89,14 @@ pub fn push_hello_ok(out: &mut Vec<u8>, hello_ok: bool) -> Result<(), AllocError
     ensures { OnOk result (out.new.items ≡ out.old.items ++ hello_ok_line hello_ok) }
 {
     begin_line(out, "hello-ok")?;
-    push_word(out, truth_word(hello_ok))?;
+    push_word(out, boolean_word(hello_ok))?;
     end_line(out)
 }
 
-fn truth_word(truth: bool) -> &'static str
-    ensures { result.now ≡ truth_word truth }
+fn boolean_word(boolean: bool) -> &'static str
+    ensures { result.now ≡ boolean_word boolean }
 {
-    if truth { "true" } else { "false" }
+    if boolean { "true" } else { "false" }
 }
 
 /// Appends the service behind a load balancer in hex, or `-` where it is absent.

@@ -32,7 +32,7 @@ impl SettingValue for Text {
     }
 }
 
-/// A truth.
+/// A boolean.
 impl SettingValue for bool {
     ghost use Rattle.serde_json.specs.Find.{as_bool};
 
@@ -40,7 +40,7 @@ impl SettingValue for bool {
 
     fn read(_alloc: Global, value: &Value) -> Result<bool, SettingsError> {
         match value.as_bool() {
-            Some(truth) => Ok(truth),
+            Some(boolean) => Ok(boolean),
             None => Err(SettingsError::BadSettings),
         }
     }

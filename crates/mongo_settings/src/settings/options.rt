@@ -117,7 +117,7 @@ impl SettingValue for OsMetadata {
     }
 }
 
-/// An object with the stable API: its version, and the two optional truths.
+/// An object with the stable API: its version, and the two optional booleans.
 impl SettingValue for ServerApi {
     ghost use Rattle.mongo_settings.specs.Options.{server_api_in};
 
