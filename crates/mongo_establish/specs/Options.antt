@@ -1,7 +1,17 @@
--- The options of a client's handshakes.
+-- The options of a client's handshakes, and those that a handshaker and an establisher were made of.
 use Rattle.mongo_establish.specs.declared.options.TopologySpec.{TopologySpec}
 use Rattle.mongo_establish.specs.declared.options.HandshakerOptions.{HandshakerOptions}
+use Rattle.mongo_establish.specs.declared.handshaker.Handshaker.{Handshaker}
+use Rattle.mongo_establish.specs.declared.establisher.ConnectionEstablisher.{ConnectionEstablisher}
 
 -- the stable API holds for the hello and for the commands of a login
 abbrev pub options_of : TopologySpec → HandshakerOptions
 options_of spec = record { server_api = spec.options.server_api; load_balanced = spec.options.load_balanced; auth_options = record { server_api = spec.options.server_api }; metadata = spec.metadata; max_iterations = spec.max_iterations }
+
+-- what a handshaker was made of
+abbrev pub options_in : Handshaker → HandshakerOptions
+options_in handshaker = handshaker.options
+
+-- what an establisher was made of
+abbrev pub options_of_establisher : ConnectionEstablisher → HandshakerOptions
+options_of_establisher establisher = options_in establisher.handshaker

@@ -54,7 +54,7 @@ impl Handshaker {
     ghost use Rattle.mongo_establish.specs.Costs.{CostsOf};
     ghost use Rattle.mongo_establish.specs.Established.{GreetedBy, UngreetedBy, ShookHands, StoppedHandshake};
     ghost use Rattle.mongo_establish.specs.First.{first_document};
-    ghost use Rattle.mongo_establish.specs.Handshaker.{options_in};
+    ghost use Rattle.mongo_establish.specs.Options.{options_in};
     ghost use Rattle.mongo_establish.specs.HelloBody.{HelloBodyRefused};
     ghost use Rattle.mongo_establish.specs.Speculation.{SpeaksFor};
 

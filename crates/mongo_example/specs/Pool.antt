@@ -7,7 +7,7 @@ use Rattle.mongo_establish.specs.declared.generation.ConnectionGeneration.TheVar
 use Rattle.mongo_establish.specs.declared.generation.PoolGeneration.TheVariants.{Normal as PoolNormal}
 use Rattle.mongo_establish.specs.declared.login_state.Nonces.{Nonces}
 use Rattle.mongo_establish.specs.Asked.{Asked, asked_for}
-use Rattle.mongo_establish.specs.Establisher.{options_of_establisher}
+use Rattle.mongo_establish.specs.Options.{options_of_establisher}
 use Rattle.mongo_example.specs.declared.pool.Pool.{Pool}
 use Rattle.mongo_example.specs.Example.{example_server, example_user, example_handshake}
 

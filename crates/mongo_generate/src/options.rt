@@ -1,7 +1,6 @@
 ghost use Rattle.std.specs.Prelude.{◌≡◌, IfOk, IfErr};
 ghost use Rattle.mongo_wire.specs.declared.error.ErrorKind.TheVariants.{OutOfMemory};
-ghost use Rattle.mongo_establish.specs.Establisher.{options_of_establisher};
-ghost use Rattle.mongo_establish.specs.Options.{options_of};
+ghost use Rattle.mongo_establish.specs.Options.{options_of, options_of_establisher};
 ghost use Rattle.mongo_generate.specs.Options.{client_options, handshaker_options};
 
 use crate::memory::want_of_memory;

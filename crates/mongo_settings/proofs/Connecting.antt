@@ -9,7 +9,7 @@ use Rattle.mongo_establish.specs.declared.establisher.PooledConnection.{PooledCo
 use Rattle.mongo_establish.specs.Asked.{Asked, asked_for}
 use Rattle.mongo_establish.specs.Costs.{EstablishmentCosts}
 use Rattle.mongo_establish.specs.KeyCosts.{CostsAsLed}
-use Rattle.mongo_establish.specs.Establisher.{options_of_establisher}
+use Rattle.mongo_establish.specs.Options.{options_of_establisher}
 use Rattle.mongo_establish.specs.Established.{Established}
 use Rattle.mongo_establish.specs.Stopped.{StoppedIn}
 use Rattle.mongo_settings.specs.declared.rehearsal.login.Login.{Login}

@@ -3,8 +3,7 @@ ghost use Rattle.std.specs.Prelude.{◌≡◌, ◌≤◌, [], IfOk};
 ghost use Rattle.mongo_meta.specs.Options.{metadata_of};
 ghost use Rattle.mongo_scram.specs.Cache.{entries_of, rounds_of};
 ghost use Rattle.mongo_scram.specs.Costs.{ledgers};
-ghost use Rattle.mongo_establish.specs.Establisher.{options_of_establisher};
-ghost use Rattle.mongo_establish.specs.Options.{options_of};
+ghost use Rattle.mongo_establish.specs.Options.{options_of, options_of_establisher};
 ghost use Rattle.mongo_establish.specs.Speculation.{SpeaksFor};
 ghost use Rattle.mongo_settings.specs.Login.{asked_by, AsksForSettings, Ended};
 

@@ -1,5 +1,5 @@
 use Rattle.std.proofs.Common.{◌≡◌, IfOk, subst}
-use Rattle.mongo_establish.specs.Establisher.{options_of_establisher}
+use Rattle.mongo_establish.specs.Options.{options_of_establisher}
 use Rattle.mongo_generate.proofs.options.establisher.Goals as goal
 
 pub returns-clause-options : goal.returns-clause-options

@@ -1,6 +1,6 @@
 use Rattle.std.proofs.Common.{ap, ◌∙◌, Err}
 use Rattle.std.proofs.lemmas.Result.{err_from_is_err_and}
-use Rattle.mongo_establish.specs.Establisher.{options_of_establisher}
+use Rattle.mongo_establish.specs.Options.{options_of_establisher}
 use Rattle.mongo_establish.proofs.Monitoring.{monitored, unmonitored, monitored_memory, monitored_refused}
 use Rattle.mongo_establish.proofs.Shaking.{err_of, if_err_of}
 use Rattle.mongo_establish.proofs.establisher.ConnectionEstablisher.establish_monitoring_connection.Goals as goal

@@ -4,7 +4,7 @@ use Rattle.mongo_command.specs.Conversation.{or_else}
 use Rattle.mongo_sasl.proofs.KeptAfter.{row_keeps}
 use Rattle.mongo_scram.proofs.Derived.{costs_nothing, on_refused}
 use Rattle.mongo_establish.specs.First.{IsUnmade}
-use Rattle.mongo_establish.specs.Handshaker.{options_in}
+use Rattle.mongo_establish.specs.Options.{options_in}
 use Rattle.mongo_establish.specs.Speculation.{HelloRow, speculation}
 use Rattle.mongo_establish.proofs.Keeping.{first_own}
 use Rattle.mongo_establish.proofs.Shaking.{unmade_stopped, unmade_costs, ungreeted_stopped, ungreeted_costs, login_stopped, login_stopped_costs, shook, shook_costs, err_of, ok_of, if_err_of}

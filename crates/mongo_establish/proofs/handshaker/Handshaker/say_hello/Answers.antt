@@ -4,7 +4,7 @@ use Rattle.mongo_command.specs.Connection.{kept_fault}
 use Rattle.mongo_sasl.proofs.KeptAfter.{own_keeps, row_keeps}
 use Rattle.mongo_establish.specs.Client.{hello_with}
 use Rattle.mongo_establish.specs.First.{first_document}
-use Rattle.mongo_establish.specs.Handshaker.{options_in}
+use Rattle.mongo_establish.specs.Options.{options_in}
 use Rattle.mongo_establish.specs.HelloBody.{HelloBodyRefused}
 use Rattle.mongo_establish.proofs.HelloExchange.{unbuilt_greeting, unrun_greeting, undescribed_greeting, greeted}
 use Rattle.mongo_establish.proofs.Keeping.{body_own, run_keeps, description_own}

@@ -1,6 +1,6 @@
 use Rattle.std.proofs.Common.{◌∙◌, Some, drop, sym, ap, subst}
 use Rattle.mongo_scram.specs.Costs.{ledgers}
-use Rattle.mongo_establish.specs.Establisher.{options_of_establisher}
+use Rattle.mongo_establish.specs.Options.{options_of_establisher}
 use Rattle.mongo_establish.proofs.Counting.{costs_some, some_rise}
 use Rattle.mongo_generate.specs.Acceptance.{IsAcceptedAs}
 use Rattle.mongo_generate.proofs.Outcomes.{no_fault, never_refused, has_its_script, accepted_writes, accepted_takes, keeps_entries, keeps_still}

@@ -1,7 +1,7 @@
 use Rattle.std.proofs.Common.{rules, ◌∙◌, refl, FitsSigned}
 use Rattle.std.specs.Int.{w32}
 use Rattle.std.proofs.lemmas.Int.{to_z-of_z}
-use Rattle.mongo_establish.specs.Establisher.{options_of_establisher}
+use Rattle.mongo_establish.specs.Options.{options_of_establisher}
 use Rattle.mongo_settings.specs.Login.{asked_by}
 use Rattle.mongo_settings.proofs.Ready.{asked_for-settings}
 use Rattle.mongo_settings.proofs.rehearsal.login.prepare.Goals as goal
