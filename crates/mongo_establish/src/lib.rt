@@ -31,14 +31,15 @@ pub use establisher::{
 pub use generation::{ConnectionGeneration, Generations, PoolGeneration};
 pub use handshaker::Handshaker;
 pub use login_state::{LoginInputs, LoginState, Nonces};
-pub use mongo_bson::{BsonFault, Bytes, ObjectId, Text, Texts};
+pub use mongo_bson::{BsonFault, Bytes, ObjectId, RawDocumentBuf, Text, Texts};
 pub use mongo_command::{
-    Connection, DEFAULT_PORT, HelloReply, ServerAddress, ServerApi, ServerApiVersion, ServerType,
-    StreamDescription,
+    Connection, DEFAULT_PORT, HelloCommandResponse, HelloReply, LastWrite, ServerAddress,
+    ServerApi, ServerApiVersion, ServerType, StreamDescription, Tag, Tags, TopologyVersion,
 };
 pub use mongo_mac::Steps;
 pub use mongo_meta::{
-    ClientMetadata, ClientOptions, DriverInfo, Environment, OsMetadata, Variable, Variables,
+    ClientMetadata, ClientOptions, DriverInfo, DriverInfos, Environment, OsMetadata, Variable,
+    Variables,
 };
 pub use mongo_sasl::{AuthMechanism, AuthOptions, Credential, Moment};
 pub use mongo_scram::{SaltedCache, ScramVersion};
