@@ -22,7 +22,8 @@ use Rattle.mongo_establish.specs.Refusal.{DocumentRow}
 use Rattle.mongo_establish.specs.Speculation.{mechanism_before, ConversationRow, MechanismRow, HelloRow}
 use Rattle.mongo_establish.specs.Spoken.{conversation_of, HasConversation}
 use Rattle.mongo_establish.proofs.Conversations.{joins}
-use Rattle.mongo_scram.proofs.ScramFits.{Fits, credential_other}
+use Rattle.mongo_sasl.proofs.Fits.{Fits}
+use Rattle.mongo_scram.proofs.ScramFits.{credential_other}
 
 -- ---- a plan that never refuses so
 

@@ -8,11 +8,11 @@ use Rattle.mongo_command.proofs.Plans.{one_ending, one_followed}
 use Rattle.mongo_sasl.specs.declared.credential.Credential.{Credential}
 use Rattle.mongo_sasl.specs.Plain.{plain_handed}
 use Rattle.mongo_sasl.specs.X509.{x509_handed}
+use Rattle.mongo_sasl.proofs.Fits.{Fits, fits_followed}
 use Rattle.mongo_sasl.proofs.Joining.{JoinsLogin}
 use Rattle.mongo_sasl.proofs.LoginEvents.{replies_in, documents_in, AreWithin, LoginEnd, EndsBy}
 use Rattle.mongo_sasl.proofs.PlainJoins.{plain_joins}
 use Rattle.mongo_sasl.proofs.X509Joins.{x509_joins}
-use Rattle.mongo_scram.proofs.ScramFits.{Fits, fits_followed}
 use Rattle.mongo_scram.proofs.ScramJoins.{scram_joins}
 use Rattle.mongo_establish.specs.declared.conversation.Conversation.{Conversation}
 use Rattle.mongo_establish.specs.declared.conversation.Conversation.TheVariants.{Scram, Plain as PlainText, X509}

@@ -4,12 +4,10 @@ use Rattle.std.specs.Result.{IsErrAnd}
 use Rattle.mongo_wire.specs.declared.error.Error.{Error}
 use Rattle.mongo_wire.specs.declared.error.ErrorKind.{ErrorKind}
 use Rattle.mongo_wire.specs.declared.error.ErrorKind.TheVariants.{OutOfMemory}
-use Rattle.mongo_wire.specs.declared.frame_buffer.FrameBuffer.{FrameBuffer}
 use Rattle.mongo_wire.specs.Buffer.{frames_taken, held_document, IsFrameTaken}
 use Rattle.mongo_wire.specs.Outside.{State, Rose, risen}
 use Rattle.mongo_command.specs.Connection.{kept_fault}
 use Rattle.mongo_command.specs.Conversation.{Said, Turn, refuses, ends, Plan, Reached, Stopped, Leads}
-use Rattle.mongo_command.specs.Exchange.{HoldsReply}
 use Rattle.mongo_command.proofs.Leads.{only_end, only_refusal}
 use Rattle.mongo_sasl.specs.EndsByScript.{Standing, StopsBy, EndsByScript, HoldsItsReply}
 use Rattle.mongo_sasl.specs.Login.{HasLogin, AnswersLed, EndsByReply}
@@ -65,8 +63,8 @@ module _ {L A : Type 0} (state : L → State) (plan : Plan A) (login : List (Lis
   once_by_script answer document r reply was none stops = ends_by_script r (reached_by answer document r reply) (λ faultless. on_answer r _ none) (λ kind is. absurd (not_both (kept_fault old.connection) kind was is)) stops
 
 -- what an exchange took into a buffer, where its reply ended the login
-pub holds_its_reply : {L A : Type 0} (state : L → State) (plan : Plan A) (answer : A) (maximum : ℤ) (old new : Standing L) (before after : FrameBuffer) (r : Result (Unit {0}) Error)
-    → frames_taken after ≡ risen (frames_taken before) → HoldsReply after → IsFrameTaken maximum (state old.link) (state new.link) after → OnOk r (EndsByReply plan answer (held_document after) (state old.link) (state new.link) old.id new.id)
-    → OnOk r (HoldsItsReply state plan answer maximum old new before after)
-holds_its_reply state plan answer maximum old new before after (Ok done) frames holds taken reply = record { frames = frames; holds = holds; taken = taken; reply = reply }
-holds_its_reply state plan answer maximum old new before after (Err e) frames holds taken reply = tt
+pub holds_its_reply : {L A : Type 0} (state : L → State) (plan : Plan A) (answer : A) (maximum : ℤ) (old new : Standing L) (r : Result (Unit {0}) Error)
+    → frames_taken new.buffer ≡ risen (frames_taken old.buffer) → IsFrameTaken maximum (state old.link) (state new.link) new.buffer → OnOk r (EndsByReply plan answer (held_document new.buffer) (state old.link) (state new.link) old.id new.id)
+    → OnOk r (HoldsItsReply state plan answer maximum old new)
+holds_its_reply state plan answer maximum old new (Ok done) frames taken reply = record { frames = frames; taken = taken; reply = reply }
+holds_its_reply state plan answer maximum old new (Err e) frames taken reply = tt

@@ -13,6 +13,7 @@ pub mod PlainSteps
 pub mod X509Plan
 pub mod X509Steps
 pub mod OtherRows
+pub mod Fits
 pub mod Joining
 pub mod PlainJoins
 pub mod X509Joins

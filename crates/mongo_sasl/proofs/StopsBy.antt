@@ -14,9 +14,9 @@ use Rattle.mongo_sasl.proofs.KeptAfter.{IsOwn, kept_after, row_keeps}
 use Rattle.mongo_sasl.proofs.Unsent.{answered_fault, not_replied}
 
 -- an exchange over a connection that keeps a fault answers it, and nothing is done
-abbrev pub AnswersFault : {L U : Type 0} → Type 0 → Result U Error → Standing L → Standing L → Type 0
-AnswersFault {L} {U} Buffer result old new =
-    (kind : ErrorKind) → kept_fault old.connection ≡ Some kind → (◌≡◌ {A = Result U Error} result (Err (record { kind = kind }))) × (new.link ≡ old.link) × (new.id ≡ old.id) × (kept_fault new.connection ≡ Some kind) × Buffer
+abbrev pub AnswersFault : {L U : Type 0} → Result U Error → Standing L → Standing L → Type 0
+AnswersFault {L} {U} result old new =
+    (kind : ErrorKind) → kept_fault old.connection ≡ Some kind → (◌≡◌ {A = Result U Error} result (Err (record { kind = kind }))) × (new.link ≡ old.link) × (new.id ≡ old.id) × (kept_fault new.connection ≡ Some kind) × (new.buffer ≡ old.buffer)
 
 pub not_both : (fault : Option ErrorKind) (kind : ErrorKind) → fault ≡ None → fault ≡ Some kind → ⊥
 not_both fault kind none some = cc
@@ -39,7 +39,7 @@ module _ {L T A : Type 0} (state : L → State) (plan : Plan A) where
   no_exchange Row old r own row stopped = record {
     refused = λ faultless. stopped;
     keeps = λ faultless. row_keeps r Row (kept_fault old.connection) own row faultless;
-    untouched = λ kind is. (refl, refl, is);
+    untouched = λ kind is. (refl, refl, refl, is);
     answers = λ kind is. stopped_answers r kind old stopped;
     rest = rest_same old.connection;
     counts = counts_same (state old.link);
@@ -54,23 +54,23 @@ module _ {L T A : Type 0} (state : L → State) (plan : Plan A) where
   nothing_done old x = no_exchange IsOwn old (Ok x) (λ kind is. is) tt tt
 
   -- the command wasn't sent, or no reply was received
-  pub at_exchange : {U : Type 0} (Buffer : Type 0) (maximum : ℤ) (message : Message) (old new : Standing L) (e : Error) → AnswersFault {U = U} Buffer (Err e) old new
+  pub at_exchange : {U : Type 0} (maximum : ℤ) (message : Message) (old new : Standing L) (e : Error) → AnswersFault {U = U} (Err e) old new
       → (kept_fault old.connection ≡ None → ExchangeRefused e.kind maximum message (state old.link) (state new.link) old.id new.id (kept_fault new.connection))
       → (ExchangeRefused e.kind maximum message (state old.link) (state new.link) old.id new.id (kept_fault new.connection) → Stopped plan e.kind (state old.link) (state new.link) old.id new.id)
       → KeepsRest old.connection new.connection → CountsStay (state old.link) (state new.link) → StopsBy {T = T} state plan (Err e) old new
-  at_exchange Buffer maximum message old new e kept refused stops rest counts = record {
+  at_exchange maximum message old new e kept refused stops rest counts = record {
     refused = λ faultless. stops (refused faultless);
     keeps = λ faultless. kept_after e.kind maximum message (state old.link) (state new.link) old.id new.id (kept_fault new.connection) (refused faultless);
-    untouched = λ kind is. let same = kept kind is in (same.1, same.2, same.3);
+    untouched = λ kind is. let same = kept kind is in (same.1, same.2, same.4, same.3);
     answers = λ kind is. inl (answered_fault e kind (kept kind is).0);
     rest = rest;
     counts = counts;
   }
 
   -- the reply was received, and may be refused by a row of its own
-  pub after_exchange : {U : Type 0} (Buffer : Type 0) (x : U) (Row : ErrorKind → Type 0) (old new : Standing L) (r : Result T Error) → AnswersFault Buffer (Ok x) old new → kept_fault new.connection ≡ None → KeepsRest old.connection new.connection → CountsStay (state old.link) (state new.link)
+  pub after_exchange : {U : Type 0} (x : U) (Row : ErrorKind → Type 0) (old new : Standing L) (r : Result T Error) → AnswersFault (Ok x) old new → kept_fault new.connection ≡ None → KeepsRest old.connection new.connection → CountsStay (state old.link) (state new.link)
       → ((kind : ErrorKind) → Row kind → IsOwn kind) → IfErr r (λ e. Row e.kind) → IfErr r (λ e. Stopped plan e.kind (state old.link) (state new.link) old.id new.id) → StopsBy state plan r old new
-  after_exchange Buffer x Row old new r kept none rest counts own row stopped = record {
+  after_exchange x Row old new r kept none rest counts own row stopped = record {
     refused = λ faultless. stopped;
     keeps = λ faultless. row_keeps r Row (kept_fault new.connection) own row none;
     untouched = λ kind is. not_replied x kind _ (kept kind is).0;
@@ -81,7 +81,7 @@ module _ {L T A : Type 0} (state : L → State) (plan : Plan A) where
 
   -- a connection that keeps none after it kept none before it
   pub faultless_before : (r : Result T Error) (old new : Standing L) → StopsBy state plan r old new → kept_fault new.connection ≡ None → kept_fault old.connection ≡ None
-  faultless_before r old new stops none = none_kept (kept_fault old.connection) (λ kind is. not_both (kept_fault new.connection) kind none (stops.untouched kind is).2)
+  faultless_before r old new stops none = none_kept (kept_fault old.connection) (λ kind is. not_both (kept_fault new.connection) kind none (stops.untouched kind is).3)
 
   -- a refusal that is handed on leaves what it left
   pub handed_stops : (old new : Standing L) (r : Result T Error) (e : Error) → IsErrAnd r (λ x. x ≡ e) → StopsBy {T = T} state plan (Err e) old new → StopsBy state plan r old new

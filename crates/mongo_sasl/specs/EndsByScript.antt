@@ -1,4 +1,4 @@
--- What a login answers, and what it leaves of its connection, its link and its ids: the same for every mechanism.
+-- What a login answers, and what it leaves of its connection, its link, its ids and its buffer: the same for every mechanism.
 use Rattle.std.specs.Prelude.{◌≡◌, ℕ, ℤ, ◌⊎◌, Result, None, Some, List, [], IfErr, OnOk}
 use Rattle.mongo_wire.specs.declared.error.Error.{Error}
 use Rattle.mongo_wire.specs.declared.error.ErrorKind.{ErrorKind}
@@ -9,41 +9,44 @@ use Rattle.mongo_wire.specs.Outside.{State, Rose, risen}
 use Rattle.mongo_command.specs.declared.connection.Connection.{Connection}
 use Rattle.mongo_command.specs.Connection.{kept_fault, KeepsRest}
 use Rattle.mongo_command.specs.Conversation.{Said, Turn, ends, Plan, Reached, Stopped, Leads}
-use Rattle.mongo_command.specs.Exchange.{HoldsReply, CountsStay}
+use Rattle.mongo_command.specs.Exchange.{CountsStay}
 use Rattle.mongo_sasl.specs.Kept.{KeepsAfter}
 use Rattle.mongo_sasl.specs.Login.{HasLogin, AnswersLed, EndsByReply}
 
--- what a call stands on: its connection, its link and the next id
+-- what a call stands on: its connection, its link, the next id, and the buffer that its replies pass through
 pub record Standing (L : Type 0) : Type 0 where
   pub connection : Connection
   pub link : L
   pub id : ℤ
+  pub buffer : FrameBuffer
 
-abbrev pub standing : {L : Type 0} → Connection → L → ℤ → Standing L
-standing connection link id = record { connection = connection; link = link; id = id }
+abbrev pub standing : {L : Type 0} → Connection → L → ℤ → FrameBuffer → Standing L
+standing connection link id buffer = record { connection = connection; link = link; id = id; buffer = buffer }
 
 -- Why a call that goes by a plan is refused, and what it leaves however it ends.
 pub record StopsBy {L T A : Type 0} (state : L → State) (plan : Plan A) (result : Result T Error) (old new : Standing L) : Type 0 where
   -- a refusal says why it comes and what it left
   pub refused : kept_fault old.connection ≡ None → IfErr result (λ e. Stopped plan e.kind (state old.link) (state new.link) old.id new.id)
   -- After it the connection keeps the fault where it is one that ends a connection, and else none. Want of memory may be
-  -- kept, where a command's id was drawn.
+  -- kept, where it cut an exchange.
   pub keeps : kept_fault old.connection ≡ None → IfErr result (λ e. KeepsAfter e.kind (kept_fault new.connection))
   -- over a connection that keeps a fault nothing is done
-  pub untouched : (kind : ErrorKind) → kept_fault old.connection ≡ Some kind → (new.link ≡ old.link) × (new.id ≡ old.id) × (kept_fault new.connection ≡ Some kind)
-  -- and that fault is answered, unless the call is stopped before an exchange
+  pub untouched : (kind : ErrorKind) → kept_fault old.connection ≡ Some kind → (new.link ≡ old.link) × (new.id ≡ old.id) × (new.buffer ≡ old.buffer) × (kept_fault new.connection ≡ Some kind)
+  -- and a refusal answers that fault, or stops the plan before any exchange
   pub answers : (kind : ErrorKind) → kept_fault old.connection ≡ Some kind → IfErr result (λ e. (e.kind ≡ kind) ⊎ Stopped plan e.kind (state old.link) (state old.link) old.id old.id)
   -- nothing else of the connection changes
   pub rest : KeepsRest old.connection new.connection
+  -- what the link tells stays told, and no count falls
   pub counts : CountsStay (state old.link) (state new.link)
 
--- A login ends as its mechanism's script demands. The script is a plan, and the same as whole lists of commands and replies.
+-- A login ends as its mechanism's script demands, which is given twice: as a plan, and as whole lists of commands and replies.
 pub record EndsByScript {L A : Type 0} (state : L → State) (plan : Plan A) (IsLogin : List (List ℕ) → List (List ℕ) → Type 0) (maximum : ℤ) (result : Result (Unit {0}) Error) (old new : Standing L) : Type 0 where
   -- exactly the script's commands were written and its replies taken
   pub accepted : OnOk result ((answer : A) × Reached plan answer (state old.link) (state new.link) old.id new.id)
   -- an accepted login leaves the connection without a fault
   pub faultless : kept_fault old.connection ≡ None → OnOk result (kept_fault new.connection ≡ None)
-  -- over a connection that keeps one, a login is accepted only where its script ends at once
+  -- over a connection that keeps one, a login is accepted only where its script ends at once, which none does that begins with a
+  -- command
   pub at_once : (kind : ErrorKind) → kept_fault old.connection ≡ Some kind → OnOk result ((answer : A) × plan [] (ends answer))
   pub stops : StopsBy state plan result old new
   -- a login at the front of the bytes left is accepted, unless the link fails or memory runs out
@@ -54,8 +57,7 @@ pub record EndsByScript {L A : Type 0} (state : L → State) (plan : Plan A) (Is
       → (Rose (state old.link).read_faults (state new.link).read_faults → ⊥) → (Rose (state old.link).write_faults (state new.link).write_faults → ⊥) → AnswersLed result outcome commands unread (state old.link) (state new.link) old.id new.id
 
 -- The reply of a login's one exchange passed through the buffer, which holds just that.
-pub record HoldsItsReply {L A : Type 0} (state : L → State) (plan : Plan A) (answer : A) (maximum : ℤ) (old new : Standing L) (before after : FrameBuffer) : Type 0 where
-  pub frames : frames_taken after ≡ risen (frames_taken before)
-  pub holds : HoldsReply after
-  pub taken : IsFrameTaken maximum (state old.link) (state new.link) after
-  pub reply : EndsByReply plan answer (held_document after) (state old.link) (state new.link) old.id new.id
+pub record HoldsItsReply {L A : Type 0} (state : L → State) (plan : Plan A) (answer : A) (maximum : ℤ) (old new : Standing L) : Type 0 where
+  pub frames : frames_taken new.buffer ≡ risen (frames_taken old.buffer)
+  pub taken : IsFrameTaken maximum (state old.link) (state new.link) new.buffer
+  pub reply : EndsByReply plan answer (held_document new.buffer) (state old.link) (state new.link) old.id new.id

@@ -51,13 +51,13 @@ pub fn authenticate_stream<L: Link>(
     credential: &Credential,
     server_api: Option<&ServerApi>,
 ) -> Result<(), Error>
-    // It ends by its script: one command was written, and one reply taken that ends the conversation.
+    // It ends by its script: where it is accepted, one command was written, and one reply taken that ends the conversation.
     ensures login { EndsByPlain L.state (plain_handed credential.now (option_copied server_api.entry) (frame_maximum connection.old.stream_description)) result
-        (standing connection.old link.old ids.old) (standing connection.new link.new ids.new) }
+        (standing connection.old link.old ids.old buffer.old) (standing connection.new link.new ids.new buffer.new) }
 
     // The buffer holds just that reply.
     ensures buffer { OnOk result (HoldsItsReply L.state (plain_plan (plain_handed credential.now (option_copied server_api.entry) (frame_maximum connection.old.stream_description))) tt (frame_maximum connection.old.stream_description)
-        (standing connection.old link.old ids.old) (standing connection.new link.new ids.new) buffer.old buffer.new) }
+        (standing connection.old link.old ids.old buffer.old) (standing connection.new link.new ids.new buffer.new)) }
 {
     let login = login_of(credential)?;
     let command = start_command(alloc, login, server_api)?;

@@ -51,13 +51,14 @@ pub fn authenticate_stream<L: Link>(
     server_api: Option<&ServerApi>,
     speculated: bool,
 ) -> Result<(), Error>
-    // It ends by its script: one command was written, and one reply taken by which the server took the certificate.
+    // It ends by its script: where it is accepted without an answer in the hello, one command was written, and one reply taken by
+    // which the server took the certificate.
     ensures login { EndsByX509 L.state (x509_handed credential.now (option_copied server_api.entry) speculated (frame_maximum connection.old.stream_description)) result
-        (standing connection.old link.old ids.old) (standing connection.new link.new ids.new) }
+        (standing connection.old link.old ids.old buffer.old) (standing connection.new link.new ids.new buffer.new) }
 
     // The buffer holds just that reply.
     ensures buffer { speculated ≡ false → OnOk result (HoldsItsReply L.state (x509_plan (x509_handed credential.now (option_copied server_api.entry) speculated (frame_maximum connection.old.stream_description))) tt (frame_maximum connection.old.stream_description)
-        (standing connection.old link.old ids.old) (standing connection.new link.new ids.new) buffer.old buffer.new) }
+        (standing connection.old link.old ids.old buffer.old) (standing connection.new link.new ids.new buffer.new)) }
 
     // After an answer in the hello it succeeds at once, and nothing changes.
     ensures at_once { speculated ≡ true → (result ≡ Ok tt) × (connection.new ≡ connection.old) × (link.new ≡ link.old) × (ids.new ≡ ids.old) × (buffer.new ≡ buffer.old) }

@@ -25,7 +25,7 @@ use Rattle.mongo_scram.proofs.ScramJoins.{scram_joins}
 module _ {L : Type 0} (state : L → State) (handed : Handed) (document : List ℕ) (old new : Standing L) (first last : Ledgers) where
   -- nothing is done over a connection that keeps a fault
   abbrev Untouched : Type 0
-  Untouched = (kind : ErrorKind) → kept_fault old.connection ≡ Some kind → (new.link ≡ old.link) × (new.id ≡ old.id) × (kept_fault new.connection ≡ Some kind)
+  Untouched = (kind : ErrorKind) → kept_fault old.connection ≡ Some kind → (new.link ≡ old.link) × (new.id ≡ old.id) × (new.buffer ≡ old.buffer) × (kept_fault new.connection ≡ Some kind)
 
   abbrev AnswersFault : ErrorKind → ErrorKind → Type 0
   AnswersFault reason kind = ((reason ≡ kind) × FaultCosts handed (state old.link) old.id first last) ⊎ StoppedScram handed reason (state old.link) (state old.link) old.id old.id first last

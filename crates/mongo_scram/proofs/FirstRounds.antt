@@ -26,7 +26,7 @@ use Rattle.mongo_scram.specs.Commands.{mechanism_of, first_body, first_command}
 use Rattle.mongo_scram.specs.User.{User}
 use Rattle.mongo_scram.specs.Plan.{Handed, Challenge, message_by, nonce_by, start_said, challenged, opened}
 use Rattle.mongo_scram.specs.Replies.{CarriesFirst, FirstReplyRow}
-use Rattle.mongo_scram.specs.Rounds.{handed_by, ExchangesOnce, Replies, Opens, frames_opened}
+use Rattle.mongo_scram.specs.Rounds.{handed_by, LeavesOneExchange, Replies, Opens, frames_opened}
 use Rattle.mongo_sasl.proofs.Unsent.{unbuilt_stopped}
 use Rattle.mongo_scram.proofs.OwnRows.{first_reply_own}
 
@@ -77,7 +77,7 @@ start_exchanged handed user first command old new before after reply start is e 
 
 -- ---- its reply
 
-pub reply_stopped : (handed : Handed) (user : User) (reply : List ℕ) (kind : ErrorKind) (new : State) (after : ℤ) → FirstReplyRow reply kind ⊎ (kind ≡ OutOfMemory) → Stopped (challenged handed user reply) kind new new after after
+reply_stopped : (handed : Handed) (user : User) (reply : List ℕ) (kind : ErrorKind) (new : State) (after : ℤ) → FirstReplyRow reply kind ⊎ (kind ≡ OutOfMemory) → Stopped (challenged handed user reply) kind new new after after
 reply_stopped handed user reply kind new after (inl row) = stopped_row (FirstReplyRow reply) _ kind new after row
 reply_stopped handed user reply kind new after (inr memory) = stopped_memory (challenged handed user reply) kind new after memory
 
@@ -127,10 +127,10 @@ module _ {T : Type 0} (login : Login) (found : Option FirstRound) (maximum : ℤ
   start_aside (Err x) new after is = inl (ap speculated_of is)
 
   -- what its one exchange leaves
-  pub once_faultless : (r : Result T Error) (old new : Connection) (before after : FrameBuffer) → OnOk r (ExchangesOnce old new before after) → OnOk r (kept_fault new ≡ None)
+  pub once_faultless : (r : Result T Error) (old new : Connection) (before after : FrameBuffer) → OnOk r (LeavesOneExchange old new before after) → OnOk r (kept_fault new ≡ None)
   once_faultless (Ok x) old new before after once = once.is
   once_faultless (Err e) old new before after once = tt
 
-  pub once_frames : (r : Result T Error) (old new : Connection) (before after : FrameBuffer) → found ≡ None → OnOk r (ExchangesOnce old new before after) → OnOk r (frames_taken after ≡ frames_opened found (frames_taken before))
+  pub once_frames : (r : Result T Error) (old new : Connection) (before after : FrameBuffer) → found ≡ None → OnOk r (LeavesOneExchange old new before after) → OnOk r (frames_taken after ≡ frames_opened found (frames_taken before))
   once_frames (Ok x) old new before after is once = subst (λ f. frames_taken after ≡ frames_opened f (frames_taken before)) (sym is) once.frames
   once_frames (Err e) old new before after is once = tt

@@ -9,7 +9,7 @@ use Rattle.mongo_scram.specs.Costs.{Ledgers, SameEntries, Accepted, StoppedScram
 use Rattle.mongo_scram.specs.Plan.{Handed, scram_plan}
 use Rattle.mongo_scram.specs.Script.{IsScramLogin}
 
--- A login that is handed this ends so; the document is the last reply.
+-- A login that was handed this ends so. The document is what the buffer holds: of an accepted login, the last reply.
 pub record EndsByScram {L : Type 0} (state : L → State) (handed : Handed) (document : List ℕ) (result : Result (Unit {0}) Error) (old new : Standing L) (first last : Ledgers) : Type 0 where
   pub script : EndsByScript state (scram_plan handed) (IsScramLogin handed) handed.maximum result old new
   -- the server's last message was taken for its verifier, equal as a whole, and the key has an entry

@@ -37,8 +37,8 @@ handed_by login round maximum = handed_to login.version login.credential.now (op
 
 -- ---- a round
 
--- One exchange was made: its connection keeps no fault, before it and after it, and its reply passed through the buffer.
-pub record ExchangesOnce (old new : Connection) (before after : FrameBuffer) : Type 0 where
+-- What one exchange leaves: its connection keeps no fault, and kept none before it, and its reply passed through the buffer.
+pub record LeavesOneExchange (old new : Connection) (before after : FrameBuffer) : Type 0 where
   pub was : kept_fault old ≡ None
   pub is : kept_fault new ≡ None
   pub frames : frames_taken after ≡ risen (frames_taken before)

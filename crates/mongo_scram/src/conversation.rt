@@ -28,7 +28,8 @@ impl ScramVersion {
     ghost use Rattle.mongo_scram.specs.Costs.{ledgers};
     ghost use Rattle.mongo_scram.specs.EndsByScram.{EndsByScram};
 
-    /// Logs a connection in as the credential's user, by a nonce for a message of its own and at most `most` iterations.
+    /// Logs a connection in as the credential's user, by a nonce for a message of its own and at most
+    /// `max_iterations` iterations.
     ///
     /// With a first round that went with the hello, the login goes on from the server's answer in it. Else the client's
     /// first message is sent with the nonce. The salted password is looked up by its whole key, derived where it has no
@@ -60,12 +61,12 @@ impl ScramVersion {
         salted: &mut SaltedCache,
         steps: &mut Steps<G>,
     ) -> Result<(), Error>
-        // It ends by its script, by a verifier that was equal as a whole, and this is what it takes of the counter and of the
-        // cache.
+        // It ends by its script, and takes so much of the counter and of the cache; the verifier of an accepted login was equal
+        // as a whole.
         ensures login { EndsByScram L.state (handed_to self.now credential.now (option_copied server_api.entry) first_round (base64_of nonce.now) max_iterations (frame_maximum connection.old.stream_description)) (held_document buffer.new) result
-            (standing connection.old link.old ids.old) (standing connection.new link.new ids.new) (ledgers steps.old salted.old) (ledgers steps.new salted.new) }
+            (standing connection.old link.old ids.old buffer.old) (standing connection.new link.new ids.new buffer.new) (ledgers steps.old salted.old) (ledgers steps.new salted.new) }
 
-        // The replies passed through the buffer, which holds the last.
+        // The replies passed through the buffer, which holds a frame: by `login` its document is the last reply.
         ensures buffer { OnOk result ((frames_taken buffer.new ≡ frames_after first_round (frames_taken buffer.old)) × HoldsReply buffer.new) }
     {
         let login = Login {

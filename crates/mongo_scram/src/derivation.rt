@@ -29,7 +29,7 @@ pub struct Derived {
     pub salted: SaltedPassword,
 }
 
-/// Goes on from the server's first message, as a client with this nonce that derives by at most `most` iterations: the
+/// Goes on from the server's first message, as a client with this nonce that derives by at most `max_iterations` iterations: the
 /// salted password is looked up by its whole key, and derived where it has no entry.
 ///
 /// Refusals, in this order: those of [`ServerFirst::validate`] and of [`ScramVersion::compute_salted_password`]. They take

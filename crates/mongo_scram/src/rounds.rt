@@ -8,7 +8,7 @@ ghost use Rattle.mongo_scram.specs.Client.{auth_message_of, final_conversation};
 ghost use Rattle.mongo_scram.specs.Messages.{verifier};
 ghost use Rattle.mongo_scram.specs.Plan.{Challenge};
 ghost use Rattle.mongo_scram.specs.Replies.{CarriesFirst, FirstReplyRow};
-ghost use Rattle.mongo_scram.specs.Rounds.{final_said, last_round, TakesLastMessage, LastRefusal, ExchangesOnce, EndsLastRound};
+ghost use Rattle.mongo_scram.specs.Rounds.{final_said, last_round, TakesLastMessage, LastRefusal, LeavesOneExchange, EndsLastRound};
 ghost use Rattle.mongo_scram.specs.Version.{digest_of};
 
 use crate::auth_info::ClientAuthInfo;
@@ -67,7 +67,7 @@ impl<'a> Login<'a> {
     ghost use Rattle.mongo_sasl.specs.EndsByScript.{standing, StopsBy};
     ghost use Rattle.mongo_scram.specs.Client.{speculated_of, user_of};
     ghost use Rattle.mongo_scram.specs.Plan.{opened};
-    ghost use Rattle.mongo_scram.specs.Rounds.{handed_by, Opens, frames_opened, ExchangesOnce};
+    ghost use Rattle.mongo_scram.specs.Rounds.{handed_by, Opens, frames_opened, LeavesOneExchange};
 
     /// The first round: that which went with the hello, or one of its own, by the nonce.
     pub fn open<L: Link>(
@@ -83,7 +83,7 @@ impl<'a> Login<'a> {
         ensures opened { IfOk result (λ o. Opens (handed_by self.entry first_round (frame_maximum connection.old.stream_description)) (user_of user.now) o
             (L.state link.old) (L.state link.new) ids.old ids.new) }
         ensures stops { StopsBy L.state (opened (speculated_of first_round) (handed_by self.entry first_round (frame_maximum connection.old.stream_description)) (user_of user.now)) result
-            (standing connection.old link.old ids.old) (standing connection.new link.new ids.new) }
+            (standing connection.old link.old ids.old buffer.old) (standing connection.new link.new ids.new buffer.new) }
         // A round that went with the hello is no exchange, and never answers a fault that is kept.
         ensures aside { (kind : ErrorKind) → kept_fault connection.old ≡ Some kind → IfErr result (λ e. (speculated_of first_round ≡ None) ⊎ Stopped (opened (speculated_of first_round) (handed_by self.entry first_round (frame_maximum connection.old.stream_description)) (user_of user.now)) e.kind
             (L.state link.old) (L.state link.old) ids.old ids.old) }
@@ -109,8 +109,8 @@ impl<'a> Login<'a> {
         ensures opened { IfOk result (λ o. Opens (handed_by self.entry None (frame_maximum connection.old.stream_description)) (user_of user.now) o
             (L.state link.old) (L.state link.new) ids.old ids.new) }
         ensures stops { StopsBy L.state (opened None (handed_by self.entry None (frame_maximum connection.old.stream_description)) (user_of user.now)) result
-            (standing connection.old link.old ids.old) (standing connection.new link.new ids.new) }
-        ensures once { OnOk result (ExchangesOnce connection.old connection.new buffer.old buffer.new) }
+            (standing connection.old link.old ids.old buffer.old) (standing connection.new link.new ids.new buffer.new) }
+        ensures once { OnOk result (LeavesOneExchange connection.old connection.new buffer.old buffer.new) }
     {
         let client_first = ClientFirst::new(
             alloc,
@@ -160,10 +160,10 @@ pub fn close<L: Link>(
 ) -> Result<(), Error>
     // By one exchange, whose reply the buffer holds.
     ensures closed { OnOk result (EndsLastRound L.state (final_said client_final.now (frame_maximum connection.old.stream_description)) (final_conversation client_final.now) (verifier (digest_of version) salted.now (auth_message_of client_final.now)) buffer.new
-        (standing connection.old link.old ids.old) (standing connection.new link.new ids.new)) }
+        (standing connection.old link.old ids.old buffer.old) (standing connection.new link.new ids.new buffer.new)) }
     ensures stops { (c : Challenge) → StopsBy L.state (last_round (final_said client_final.now (frame_maximum connection.old.stream_description)) (final_conversation client_final.now) (verifier (digest_of version) salted.now (auth_message_of client_final.now)) c) result
-        (standing connection.old link.old ids.old) (standing connection.new link.new ids.new) }
-    ensures once { OnOk result (ExchangesOnce connection.old connection.new buffer.old buffer.new) }
+        (standing connection.old link.old ids.old buffer.old) (standing connection.new link.new ids.new buffer.new) }
+    ensures once { OnOk result (LeavesOneExchange connection.old connection.new buffer.old buffer.new) }
 {
     let command = client_final.to_command(alloc)?;
     connection.exchange_into(alloc, link, ids, command, buffer)?;

@@ -50,10 +50,10 @@ impl ServerFirst {
         }
     }
 
-    /// Whether a client whose nonce this is goes on, and derives by at most `most` iterations.
+    /// Whether a client whose nonce this is goes on, and derives by at most `max_iterations` iterations.
     ///
     /// In this order: `EndedEarly` where the conversation is done, `Nonce` where the server's nonce doesn't begin with the
-    /// client's, `CountLow` where the iteration count is below 4096, `CountHigh` where it is above `most`.
+    /// client's, `CountLow` where the iteration count is below 4096, `CountHigh` where it is above `max_iterations`.
     pub fn validate(&self, nonce: &str, max_iterations: u32) -> Result<(), Error>
         ensures valid { OnOk result (IsValidFirst self.now nonce.now max_iterations) }
         ensures refused { IfErr result (λ e. ServerFirstRow self.now nonce.now max_iterations e.kind) }

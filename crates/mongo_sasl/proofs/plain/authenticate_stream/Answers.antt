@@ -52,7 +52,7 @@ returns-in_err-exchange_into-clause-login g c =
     let r = c.from_residual-in_err-exchange_into.result in
     let passed = c.from_residual-in_err-exchange_into.ensures.1 in
     refused_by_script _ (plain_plan handed) (IsPlainLogin handed) handed.maximum (plain_joins handed) _ _ r e passed
-    (at_exchange _ (plain_plan handed) _ _ _ _ _ e exchange.kept exchange.refused
+    (at_exchange _ (plain_plan handed) _ _ _ _ e exchange.kept exchange.refused
     (λ refused. user_stopped handed user c.in_ok-login.ensures.user e.kind _ _ _ _ (unanswered_as sasl_start_key user.source (plain_body user) handed.server_api handed.maximum c.in_ok-command.command plain_heard e.kind _ _ _ _ _ c.in_ok-command.ensures.command exchange.counts refused))
     exchange.connection exchange.counts)
 
@@ -71,7 +71,7 @@ returns-clause-login g c =
     let exchanged = exchanged_as sasl_start_key user.source (plain_body user) handed.server_api handed.maximum c.in_ok-command.command _ _ _ _ _ _ c.in_ok-command.ensures.command c.held_reply.ensures exchange.exchanged in
     once_by_script _ (plain_plan handed) (IsPlainLogin handed) handed.maximum (plain_joins handed) _ _ tt _ r
     (plain_replied handed user c.in_ok-login.ensures.user r reply _ _ _ _ _ c.held_reply.ensures exchanged exchange.counts c.finish.ensures.finished) (was_faultless tt _ (λ kind is. (exchange.kept kind is).0)) exchange.faultless
-    (after_exchange _ (plain_plan handed) _ tt (λ kind. FinishedRow reply kind ⊎ (kind ≡ OutOfMemory)) _ _ r exchange.kept exchange.faultless exchange.connection exchange.counts (finished_own reply) c.finish.ensures.refused
+    (after_exchange _ (plain_plan handed) tt (λ kind. FinishedRow reply kind ⊎ (kind ≡ OutOfMemory)) _ _ r exchange.kept exchange.faultless exchange.connection exchange.counts (finished_own reply) c.finish.ensures.refused
     (plain_refused handed user c.in_ok-login.ensures.user r reply _ _ _ _ exchanged exchange.counts c.finish.ensures.refused))
 
 pub returns-clause-buffer : goal.returns-clause-buffer
@@ -80,5 +80,5 @@ returns-clause-buffer g c =
     let user = plain_user_of c.in_ok-login.login in
     let exchange = c.in_ok-exchange_into.ensures in
     let exchanged = exchanged_as sasl_start_key user.source (plain_body user) handed.server_api handed.maximum c.in_ok-command.command _ _ _ _ _ _ c.in_ok-command.ensures.command c.held_reply.ensures exchange.exchanged in
-    holds_its_reply _ (plain_plan handed) tt _ _ _ _ _ c.finish.result exchange.counted exchange.holds exchange.taken
+    holds_its_reply _ (plain_plan handed) tt _ _ _ c.finish.result exchange.counted exchange.taken
     (plain_replied handed user c.in_ok-login.ensures.user c.finish.result c.held_reply.result.bytes.now _ _ _ _ _ c.held_reply.ensures exchanged exchange.counts c.finish.ensures.finished)

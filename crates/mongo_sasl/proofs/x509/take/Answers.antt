@@ -1,4 +1,4 @@
-use Rattle.mongo_sasl.proofs.X509Rows.{taken_by, failed_by, unread_by}
+use Rattle.mongo_sasl.proofs.X509Rows.{taken_by, unread_by}
 use Rattle.mongo_sasl.proofs.x509.take.Goals as goal
 
 pub returns-in-Ok-clause-taken : goal.returns-in-Ok-clause-taken

@@ -41,7 +41,7 @@ returns-in_err-exchange_into-clause-stops g c challenge =
     let e = c.in_err-exchange_into.field-0.0 in
     let exchange = c.in_err-exchange_into.ensures in
     handed_stops _ _ _ _ c.from_residual-in_err-exchange_into.result e c.from_residual-in_err-exchange_into.ensures.1
-    (at_exchange _ _ _ _ _ _ _ e exchange.kept exchange.refused (final_unanswered c.args.client_final.now c.in_ok-command.command _ _ _ challenge e.kind _ _ _ _ _ c.in_ok-command.ensures.command exchange.counts) exchange.connection exchange.counts)
+    (at_exchange _ _ _ _ _ _ e exchange.kept exchange.refused (final_unanswered c.args.client_final.now c.in_ok-command.command _ _ _ challenge e.kind _ _ _ _ _ c.in_ok-command.ensures.command exchange.counts) exchange.connection exchange.counts)
 
 -- ---- after the reply
 
@@ -63,5 +63,5 @@ returns-clause-stops g c challenge =
     let said = final_said final (frame_maximum c.args.connection.now.stream_description) in
     let reply = c.held_reply.result.bytes.now in
     let exchange = c.in_ok-exchange_into.ensures in
-    after_exchange _ (last_round said conversation owed challenge) _ tt (λ kind. LastRefusal conversation owed reply kind ⊎ (kind ≡ OutOfMemory)) _ _ c.take_last.result exchange.kept exchange.faultless exchange.connection exchange.counts (last_own conversation owed reply) c.take_last.ensures.refused
+    after_exchange _ (last_round said conversation owed challenge) tt (λ kind. LastRefusal conversation owed reply kind ⊎ (kind ≡ OutOfMemory)) _ _ c.take_last.result exchange.kept exchange.faultless exchange.connection exchange.counts (last_own conversation owed reply) c.take_last.ensures.refused
     (refused_stopped c.take_last.result said conversation owed challenge reply _ _ _ _ (final_exchanged final c.in_ok-command.command _ _ _ _ _ _ _ c.in_ok-command.ensures.command c.held_reply.ensures exchange.exchanged) exchange.counts c.take_last.ensures.refused)

@@ -61,7 +61,7 @@ returns-in_err-exchange_into-clause-stops g c =
     let e = c.in_err-exchange_into.field-0.0 in
     let exchange = c.in_err-exchange_into.ensures in
     handed_stops _ _ _ _ c.from_residual-in_err-exchange_into.result e c.from_residual-in_err-exchange_into.ensures.1
-    (at_exchange _ _ _ _ _ _ _ e exchange.kept exchange.refused (start_unanswered handed user first c.in_ok-command.command e.kind _ _ _ _ _ start c.in_ok-command.ensures.command exchange.counts) exchange.connection exchange.counts)
+    (at_exchange _ _ _ _ _ _ e exchange.kept exchange.refused (start_unanswered handed user first c.in_ok-command.command e.kind _ _ _ _ _ start c.in_ok-command.ensures.command exchange.counts) exchange.connection exchange.counts)
 
 -- ---- where the reply is refused
 
@@ -81,7 +81,7 @@ returns-in_err-server_first-clause-stops g c =
     let e = c.in_err-server_first.field-0.0 in
     let exchange = c.in_ok-exchange_into.ensures in
     handed_stops _ _ _ _ c.from_residual-in_err-server_first.result e c.from_residual-in_err-server_first.ensures.1
-    (after_exchange _ _ _ tt IsOwn _ _ _ exchange.kept exchange.faultless exchange.connection exchange.counts (λ kind is. is) (first_reply_own c.held_reply.result.bytes.now e.kind c.in_err-server_first.ensures.refused)
+    (after_exchange _ _ tt IsOwn _ _ _ exchange.kept exchange.faultless exchange.connection exchange.counts (λ kind is. is) (first_reply_own c.held_reply.result.bytes.now e.kind c.in_err-server_first.ensures.refused)
     (start_refused handed user _ _ e.kind _ _ _ _ c.held_reply.ensures (start_exchanged handed user first c.in_ok-command.command _ _ _ _ _ start c.in_ok-command.ensures.command exchange.exchanged) exchange.counts c.in_err-server_first.ensures.refused))
 
 -- ---- after the reply
@@ -102,4 +102,4 @@ returns-clause-once g c = let exchange = c.in_ok-exchange_into.ensures in record
 pub returns-clause-stops : goal.returns-clause-stops
 returns-clause-stops g c =
     let exchange = c.in_ok-exchange_into.ensures in
-    after_exchange _ _ _ tt IsOwn _ _ _ exchange.kept exchange.faultless exchange.connection exchange.counts (λ kind is. is) tt tt
+    after_exchange _ _ tt IsOwn _ _ _ exchange.kept exchange.faultless exchange.connection exchange.counts (λ kind is. is) tt tt

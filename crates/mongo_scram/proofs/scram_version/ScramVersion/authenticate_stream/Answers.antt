@@ -24,7 +24,7 @@ returns-in_err-user-clause-login g c =
     let handed = handed_to c.args.self.now c.args.credential.now (option_copied c.args.server_api) c.args.first_round (base64_of c.args.nonce.now) c.args.max_iterations (frame_maximum c.args.connection.now.stream_description) in
     let e = c.in_err-user.field-0.0 in
     stopped_scram _ handed _ _ _ _ _ c.from_residual.result e c.from_residual.ensures.1
-    (inl (credential_stopped handed e.kind _ _ c.in_err-user.ensures.refused, costs_nothing c.args.steps.now c.args.salted.now)) (credential_own handed.credential e.kind c.in_err-user.ensures.refused) (λ none. none) refl (λ kind is. (refl, refl, is)) (rest_same c.args.connection.now) (counts_same _)
+    (inl (credential_stopped handed e.kind _ _ c.in_err-user.ensures.refused, costs_nothing c.args.steps.now c.args.salted.now)) (credential_own handed.credential e.kind c.in_err-user.ensures.refused) (λ none. none) refl (λ kind is. (refl, refl, refl, is)) (rest_same c.args.connection.now) (counts_same _)
 
 pub returns-in_err-user-clause-buffer : goal.returns-in_err-user-clause-buffer
 returns-in_err-user-clause-buffer g c = no_answer_on c.from_residual.result c.in_err-user.field-0.0 _ c.from_residual.ensures.1
@@ -107,15 +107,15 @@ returns-in_err-close-clause-login g c =
     (λ none. stopped_late handed user o derived.key derived.salted e.kind _ _ _ _ _ _ _ _ between (closing_stopped handed challenge derived.salted final _ e.kind _ _ _ _ same is (stops.refused (opening.faultless none))))
     (λ kind kept.
     let still = opening.stops.untouched kind kept in
-    elim (stops.answers kind still.2) [
+    elim (stops.answers kind still.3) [
       | inl fault ↦ inl (fault, fault_costs handed user o derived.key derived.salted _ _ _ _ _ _ (ap g.L.Outside.state still.0) still.1 between)
       | inr stopped ↦ inr (stopped_still handed e.kind _ _ _ _ _ _ (ap g.L.Outside.state still.0) still.1 (stopped_late handed user o derived.key derived.salted e.kind _ _ _ _ _ _ _ _ between (closing_stopped handed challenge derived.salted final _ e.kind _ _ _ _ same is stopped)))
     ])
     c.in_ok-derived.ensures.answered.entries (λ none. stops.keeps (opening.faultless none))
     (λ kind kept.
     let still = opening.stops.untouched kind kept in
-    let closed = stops.untouched kind still.2 in
-    (closed.0 ∙ still.0, closed.1 ∙ still.1, closed.2))
+    let closed = stops.untouched kind still.3 in
+    (closed.0 ∙ still.0, closed.1 ∙ still.1, closed.2 ∙ still.2, closed.3))
     (rest_on _ _ _ opening.stops.rest stops.rest) (counts_on _ _ _ opening.stops.counts stops.counts)
 
 pub returns-in_err-close-clause-buffer : goal.returns-in_err-close-clause-buffer
