@@ -15,6 +15,7 @@ use Rattle.mongo_settings.specs.Task.{Asks, judged_as, Steps, Reports, ComesOut}
 use Rattle.mongo_login.specs.declared.words.Command.{Command}
 use Rattle.mongo_login.specs.declared.words.Command.TheVariants.{Rehearse, Generate}
 use Rattle.mongo_login.specs.Generated.{GenerateEnds}
+use Rattle.mongo_login.specs.Input.{NoReadFailed, NoReadEnded}
 use Rattle.mongo_login.specs.Words.{NamesCommand, NamesNone}
 
 -- ---- what was printed
@@ -51,39 +52,45 @@ LeftOver input left = ((length input ≤ limit) × (left ≡ Some [])) ⊎ ((lim
 -- ---- the ends, one a status
 
 module _ {S K : Type 0} (source : S → State) (sink : K → State) where
-  -- the report was written whole; an end of the source was met
+  -- the report was written whole; an end of the source was met, and no read failed
   pub record Reported (task : Task) (steps : Steps) (status : RehearsalStatus) (run : Run S K) : Type 0 where
+    pub unfailed : NoReadFailed (source run.source) (source run.source_after)
     pub ended : Rose (source run.source).ends (source run.source_after).ends
     pub printed : GaveInput (source run.source) (λ input. Printed task steps status input (source run.source_after) (sink run.sink) (sink run.sink_after))
 
-  -- the text asks for nothing: at most one byte past the limit was read, and nothing was written
+  -- the text asks for nothing: at most one byte past the limit was read, no read failed, and nothing was written
   pub record IsBad (task : Task) (run : Run S K) : Type 0 where
+    pub unfailed : NoReadFailed (source run.source) (source run.source_after)
     pub judged_so : GaveInput (source run.source) (λ input. judged_as task input ≡ Err Bad)
     pub read : GaveInput (source run.source) (λ input. LeftOver input (source run.source_after).left)
     pub unwritten : run.sink_after ≡ run.sink
 
-  -- a key that isn't read yet: the source was read to its end, and nothing was written
+  -- a key that isn't read yet: the source was read to its end, no read failed, and nothing was written
   pub record IsUnbuilt (task : Task) (run : Run S K) : Type 0 where
+    pub unfailed : NoReadFailed (source run.source) (source run.source_after)
     pub judged_so : GaveInput (source run.source) (λ input. judged_as task input ≡ Err Unbuilt)
     pub ended : Rose (source run.source).ends (source run.source_after).ends
     pub read : GaveInput (source run.source) (λ input. (source run.source_after).left ≡ Some [])
     pub unwritten : run.sink_after ≡ run.sink
 
-  -- the source failed: no more than one byte past the limit was read, and nothing was written
+  -- the source failed: no end was met before that, no more than one byte past the limit was read, and nothing was written
   pub record SourceFailed (run : Run S K) : Type 0 where
+    pub unended : NoReadEnded (source run.source) (source run.source_after)
     pub rose : Rose (source run.source).read_faults (source run.source_after).read_faults
     pub read : ConsumesAtMost (source run.source).left (source run.source_after).left (limit + 1)
     pub unwritten : run.sink_after ≡ run.sink
 
-  -- the sink failed: the source was read to its end, and a front of the report was written
+  -- the sink failed: the source was read to its end, no read failed, and a front of the report was written
   pub record SinkFailed (task : Task) (steps : Steps) (run : Run S K) : Type 0 where
+    pub unfailed : NoReadFailed (source run.source) (source run.source_after)
     pub rose : Rose (sink run.sink).write_faults (sink run.sink_after).write_faults
     pub ended : Rose (source run.source).ends (source run.source_after).ends
     pub read : GaveInput (source run.source) (λ input. (source run.source_after).left ≡ Some [])
     pub printed : GaveInput (source run.source) (λ input. PrintedFront task steps input (sink run.sink) (sink run.sink_after))
 
-  -- memory ran out: no more than one byte past the limit was read, and at most a front of the report was written
+  -- memory ran out: no more than one byte past the limit was read, no read failed, and at most a front of the report was written
   pub record TaskRanOut (task : Task) (steps : Steps) (run : Run S K) : Type 0 where
+    pub unfailed : NoReadFailed (source run.source) (source run.source_after)
     pub read : ConsumesAtMost (source run.source).left (source run.source_after).left (limit + 1)
     pub printed : GaveInput (source run.source) (λ input. PrintedAtMost task steps input (sink run.sink) (sink run.sink_after))
 

@@ -12,7 +12,7 @@ returns-in-Err-NotBuilt-clause-ends g c =
     let task = c.args.task in
     let run = run_of c.args.source.now c.read_input.new.source c.args.sink.now c.args.sink.now in
     ends_unbuilt g.S.Outside.state g.K.Outside.state task (steps_of c.args.steps.now c.args.steps.now) run c.in-Ok.text.items
-    (record { reads = c.in-Ok.ensures.read; alike = c.in-Ok.ensures.judged_alike task; ended = c.in-Ok.ensures.ended; at_most = c.read_input.ensures.at_most })
+    (record { reads = c.in-Ok.ensures.read; alike = c.in-Ok.ensures.judged_alike task; ended = c.in-Ok.ensures.ended; at_most = c.read_input.ensures.at_most; unfailed = c.in-Ok.ensures.unfailed })
     (ap (judged_as task) (sym c.as_slice.ensures.value) ∙ (rw c.in-Err-NotBuilt.field-0-is at c.in-Err-NotBuilt.ensures.logins)) refl
 
 pub returns-in-Ok-write_report-clause-ends : goal.returns-in-Ok-write_report-clause-ends
@@ -22,7 +22,7 @@ returns-in-Ok-write_report-clause-ends g c =
     let run = run_of c.args.source.now c.read_input.new.source c.args.sink.now c.write_report.new.sink in
     subst (TaskEnds g.S.Outside.state g.K.Outside.state task steps run) (sym c.after.ensures)
     (ends_reported g.S.Outside.state g.K.Outside.state task steps run c.in-Ok.text.items (asks_of c.in-Ok-read.logins) c.in-Ok-rehearse.rehearsal.status c.in-Ok-rehearse.rehearsal.report.items
-    (record { reads = c.in-Ok.ensures.read; alike = c.in-Ok.ensures.judged_alike task; ended = c.in-Ok.ensures.ended; at_most = c.read_input.ensures.at_most })
+    (record { reads = c.in-Ok.ensures.read; alike = c.in-Ok.ensures.judged_alike task; ended = c.in-Ok.ensures.ended; at_most = c.read_input.ensures.at_most; unfailed = c.in-Ok.ensures.unfailed })
     (ap (judged_as task) (sym c.as_slice.ensures.value) ∙ c.in-Ok-read.ensures.logins) c.in-Ok-rehearse.ensures.reported
     (subst (Appends _ _) c.as_slice-2.ensures.value c.in-Ok-write_report.ensures.written) c.in-Ok-write_report.ensures.flushed)
 
@@ -32,7 +32,7 @@ returns-in-Err-Failed-clause-ends g c =
     let steps = steps_of c.args.steps.now c.rehearse.new.steps in
     let run = run_of c.args.source.now c.read_input.new.source c.args.sink.now c.write_report.new.sink in
     ends_sink g.S.Outside.state g.K.Outside.state task steps run c.in-Ok.text.items (asks_of c.in-Ok-read.logins) c.in-Ok-rehearse.rehearsal.status c.in-Ok-rehearse.rehearsal.report.items
-    (record { reads = c.in-Ok.ensures.read; alike = c.in-Ok.ensures.judged_alike task; ended = c.in-Ok.ensures.ended; at_most = c.read_input.ensures.at_most })
+    (record { reads = c.in-Ok.ensures.read; alike = c.in-Ok.ensures.judged_alike task; ended = c.in-Ok.ensures.ended; at_most = c.read_input.ensures.at_most; unfailed = c.in-Ok.ensures.unfailed })
     (ap (judged_as task) (sym c.as_slice.ensures.value) ∙ c.in-Ok-read.ensures.logins) c.in-Ok-rehearse.ensures.reported
     (subst (AppendsFront _ _) c.as_slice-2.ensures.value c.in-Err-Failed.ensures.refused)
     ((rw c.in-Err-Failed.field-0-is at c.in-Err-Failed.ensures.failed) refl)
@@ -43,6 +43,6 @@ returns-clause-ends g c =
     let steps = steps_of c.args.steps.now c.rehearse.new.steps in
     let run = run_of c.args.source.now c.read_input.new.source c.args.sink.now c.write_report.new.sink in
     ends_unwritten g.S.Outside.state g.K.Outside.state task steps run c.in-Ok.text.items (asks_of c.in-Ok-read.logins) c.in-Ok-rehearse.rehearsal.status c.in-Ok-rehearse.rehearsal.report.items
-    (record { reads = c.in-Ok.ensures.read; alike = c.in-Ok.ensures.judged_alike task; ended = c.in-Ok.ensures.ended; at_most = c.read_input.ensures.at_most })
+    (record { reads = c.in-Ok.ensures.read; alike = c.in-Ok.ensures.judged_alike task; ended = c.in-Ok.ensures.ended; at_most = c.read_input.ensures.at_most; unfailed = c.in-Ok.ensures.unfailed })
     (ap (judged_as task) (sym c.as_slice.ensures.value) ∙ c.in-Ok-read.ensures.logins) c.in-Ok-rehearse.ensures.reported
     (subst (AppendsFront _ _) c.as_slice-2.ensures.value c.in-Err-OutOfMemory-write_report.ensures.refused)
