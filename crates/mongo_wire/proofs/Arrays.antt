@@ -10,7 +10,7 @@ use Rattle.mongo_bson.specs.declared.fault.BsonFault.{BsonFault}
 use Rattle.mongo_bson.specs.declared.fault.BsonFault.TheVariants.{Malformed, KeyHasZero, TooLong, DuplicateKey, UpdateEmpty, UpdateNotModifiers, ReplacementHasModifiers, OutOfMemory}
 use Rattle.mongo_bson.proofs.Enclosed.{length-enclosed, body_of-enclosed, enclosed-body_of}
 use Rattle.mongo_wire.specs.Error.{kind_of_fault}
-use Rattle.mongo_wire.specs.JoinedDocument.{array_element, arrays_bytes, JoinRefused}
+use Rattle.mongo_wire.specs.JoinedDocument.{sequence_element, arrays_bytes, JoinRefused}
 use Rattle.mongo_wire.specs.Measure.{IsWithoutZero}
 use Rattle.mongo_wire.specs.Message.{HasNames}
 use Rattle.mongo_wire.specs.declared.message.Message.{Message}
@@ -37,7 +37,7 @@ pub without_zero : (key identifier : List ℕ) → key ≡ identifier → AllByR
 without_zero key identifier is all holds = All-contains (λ b. b ≢ 0) identifier 0 (All-from_recursion (λ b. b ≢ 0) identifier all) (rw (sym is) holds) refl
 
 abbrev spelled_array : DocumentSequence → List ℕ
-spelled_array s = spell (array_element s)
+spelled_array s = spell (sequence_element s)
 
 -- one more sequence is in the document
 pub array_added : (sequences : List DocumentSequence) (i : ℕ) (s : DocumentSequence) → i < length sequences → s ≡ get_or sequences i s

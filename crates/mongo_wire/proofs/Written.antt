@@ -121,27 +121,23 @@ frame_spelled id size m head start document sequences id_fits to_fits p q r s co
     ∙ ap (λ i. fields (frame_length m) i to_code ++ (uint32 word ++ sections)) (to_z-of_z w32 id id_fits)
     ∙ ap (λ t. fields (frame_length m) id t ++ (uint32 word ++ sections)) (to_z-of_z w32 m.response_to to_fits)
 
--- the frame is the bytes before its checksum, and then it
-frame_parted : (id : ℤ) (m : Message) → before_checksum id m ++ checksum_bytes m.checksum ≡ written_frame id m
-frame_parted id m = refl
-
 -- the bytes before the checksum were written, and then it
 pub frame_written : (id : ℤ) (m : Message) (sum : Option ℕ) (old mid new : Option (List ℕ))
     → Appends old mid (before_checksum id m) → Appends mid new (checksum_bytes sum) → sum ≡ m.checksum → Appends old new (written_frame id m)
 frame_written id m sum old mid new p q is =
     let last = subst (λ c. Appends mid new (checksum_bytes c)) is q in
-    subst (Appends old new) (frame_parted id m) (Appends-trans old mid new (before_checksum id m) (checksum_bytes m.checksum) p last)
+    Appends-trans old mid new (before_checksum id m) (checksum_bytes m.checksum) p last
 
 -- the bytes before the checksum were refused
 pub frame_cut : (kind : ErrorKind) (id : ℤ) (m : Message) (old new : State) → WriteStops kind old new (before_checksum id m) → WriteStops kind old new (written_frame id m)
-frame_cut kind id m old new s = subst (WriteStops kind old new) (frame_parted id m) (cut_before kind old new (before_checksum id m) (checksum_bytes m.checksum) s)
+frame_cut kind id m old new s = cut_before kind old new (before_checksum id m) (checksum_bytes m.checksum) s
 
 -- the checksum was refused after them
 pub checksum_cut : (kind : ErrorKind) (id : ℤ) (m : Message) (sum : Option ℕ) (old mid new : State)
     → Appends old.written mid.written (before_checksum id m) → WritesOn old mid → WriteStops kind mid new (checksum_bytes sum) → sum ≡ m.checksum → WriteStops kind old new (written_frame id m)
 checksum_cut kind id m sum old mid new p on s is =
     let last = subst (λ c. WriteStops kind mid new (checksum_bytes c)) is s in
-    subst (WriteStops kind old new) (frame_parted id m) (cut_after kind old mid new (before_checksum id m) (checksum_bytes m.checksum) p on last)
+    cut_after kind old mid new (before_checksum id m) (checksum_bytes m.checksum) p on last
 
 pub write_refused : (kind : ErrorKind) (maximum : ℤ) (m : Message) (old new : State) (before after : ℤ)
     → Fits maximum m → after ≡ id_after m.request_id before → WriteStops kind old new (written_frame (id_of m before) m) → WriteRefused kind maximum m old new before after

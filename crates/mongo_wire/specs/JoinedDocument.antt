@@ -12,11 +12,11 @@ use Rattle.mongo_wire.specs.declared.fault.ArgumentFault.TheVariants.{Identifier
 use Rattle.mongo_bson.specs.declared.fault.BsonFault.TheVariants.{TooLong}
 
 -- the array of the documents, kind 0x04
-abbrev pub array_element : DocumentSequence → Element
-array_element s = record { kind = 0x04; key = s.identifier; value = array_of (document_entries s.documents) }
+abbrev pub sequence_element : DocumentSequence → Element
+sequence_element s = record { kind = 0x04; key = s.identifier; value = array_of (document_entries s.documents) }
 
 abbrev pub arrays_bytes : List DocumentSequence → List ℕ
-arrays_bytes sequences = flat_map (λ s. spell (array_element s)) sequences
+arrays_bytes sequences = flat_map (λ s. spell (sequence_element s)) sequences
 
 abbrev pub joined_document : Message → List ℕ
 joined_document m = enclosed (body_of m.document_payload ++ arrays_bytes m.document_sequences)

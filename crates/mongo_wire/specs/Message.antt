@@ -1,10 +1,11 @@
 -- What reading and writing a message answers.
-use Rattle.std.specs.Prelude.{◌≡◌, ◌≢◌, ℕ, ℤ, pos, ◌+◌, ◌%◌, ◌^◌, ◌<◌, ◌≤ℤ◌, ◌<ℤ◌, Option, None, Some, Result, Ok, Err, List, [], ◌∷◌, ◌++◌, length, map, flat_map, unwrap_or, bit_and, IfSome, ⊤}
+use Rattle.std.specs.Prelude.{◌≡◌, ℕ, ℤ, pos, ◌+◌, ◌%◌, ◌≤ℤ◌, ◌<ℤ◌, Option, None, Some, Result, Ok, Err, List, [], ◌∷◌, ◌++◌, length, map, flat_map, unwrap_or, bit_and, IfSome, ⊤}
 use Rattle.std.specs.List.{AllByRecursion}
 use Rattle.std.specs.Io.KnownBytes.{Appends, Consumes, Keeps}
 use Rattle.mongo_wire.specs.Outside.{State, Rose, AppendsFront, IsFlushed}
-use Rattle.mongo_wire.specs.Frame.{Frame, IsFrame, IsFrameWith, Section, body, sequence, section_bytes, sequence_bytes, int32, uint32, message_code, known_flags}
+use Rattle.mongo_wire.specs.Frame.{Frame, IsFrame, IsFrameWith, Section, body, sequence, section_bytes, int32, uint32, message_code, known_flags}
 use Rattle.mongo_wire.specs.Bytes.{next_id}
+use Rattle.mongo_wire.specs.Measure.{IsWithoutZero, HasCountedSize}
 use Rattle.mongo_wire.specs.Rows.{TakesRow, TakesStarted, TakesUnfinished, IsEmptied}
 use Rattle.mongo_wire.specs.declared.message.Message.{Message}
 use Rattle.mongo_wire.specs.declared.error.Error.{Error}
@@ -69,13 +70,13 @@ content_of m = flat_map section_bytes (sections_of m) ++ checksum_bytes m.checks
 abbrev pub frame_length : Message → ℕ
 frame_length m = 20 + length (content_of m)
 
--- the bytes that a message is written as under this request id
-abbrev pub written_frame : ℤ → Message → List ℕ
-written_frame id m = uint32 (frame_length m) ++ (int32 id ++ (int32 m.response_to ++ (uint32 message_code ++ (uint32 (bit_and m.flags.0 known_flags) ++ content_of m))))
-
--- the bytes of that frame before its checksum: the header, the flags and the sections
+-- the bytes of a message's frame under this request id before its checksum: the header, the flags and the sections
 abbrev pub before_checksum : ℤ → Message → List ℕ
 before_checksum id m = uint32 (frame_length m) ++ (int32 id ++ (int32 m.response_to ++ (uint32 message_code ++ (uint32 (bit_and m.flags.0 known_flags) ++ flat_map section_bytes (sections_of m)))))
+
+-- the bytes that it is written as
+abbrev pub written_frame : ℤ → Message → List ℕ
+written_frame id m = before_checksum id m ++ checksum_bytes m.checksum
 
 -- a frame of the message under this id, whose flag word holds the message's flags and no other bit
 abbrev pub IsFrameOf : ℤ → Message → List ℕ → Type 0
@@ -95,11 +96,11 @@ id_after (Some id) next = next
 
 -- no identifier holds a zero byte
 abbrev pub HasNames : Message → Type 0
-HasNames m = AllByRecursion (λ s. AllByRecursion (λ b. b ≢ 0) s.identifier) m.document_sequences
+HasNames m = AllByRecursion IsWithoutZero m.document_sequences
 
 -- each sequence's size is one that an int32 counts
 abbrev pub HasSizes : Message → Type 0
-HasSizes m = AllByRecursion (λ s. 4 + length (sequence_bytes s) < 2 ^ 31) m.document_sequences
+HasSizes m = AllByRecursion HasCountedSize m.document_sequences
 
 -- the message can be written within the maximum, which isn't negative
 pub record Fits (maximum : ℤ) (m : Message) : Type 0 where

@@ -3,7 +3,7 @@ ghost use Rattle.std.specs.List.{AllByRecursion};
 ghost use Rattle.mongo_bson.specs.Framed.{body_of, enclosed, IsFramed};
 ghost use Rattle.mongo_bson.specs.Document.{spell};
 ghost use Rattle.mongo_bson.specs.Refusals.{PushRefuses};
-ghost use Rattle.mongo_wire.specs.JoinedDocument.{joined_document, JoinRefused, array_element, arrays_bytes};
+ghost use Rattle.mongo_wire.specs.JoinedDocument.{joined_document, JoinRefused, sequence_element, arrays_bytes};
 ghost use Rattle.mongo_wire.specs.Measure.{IsWithoutZero};
 ghost use Rattle.mongo_wire.specs.Message.{HasNames};
 
@@ -84,9 +84,9 @@ fn add_array(
     sequence: &DocumentSequence,
 ) -> Result<(), BsonFault>
     requires { IsWithoutZero sequence.now }
-    ensures added { OnOk result (document.new ≡ enclosed (body_of document.old ++ spell (array_element sequence.now))) }
+    ensures added { OnOk result (document.new ≡ enclosed (body_of document.old ++ spell (sequence_element sequence.now))) }
     ensures framed { OnOk result (IsFramed document.new) }
-    ensures too_long { IsErrOf result BsonFault.TooLong → 2 ^ 31 - 1 < length document.old + length (spell (array_element sequence.now)) }
+    ensures too_long { IsErrOf result BsonFault.TooLong → 2 ^ 31 - 1 < length document.old + length (spell (sequence_element sequence.now)) }
     ensures refused { IfErr result PushRefuses }
 {
     let array = to_raw_bson_array(alloc, &sequence.documents)?;
