@@ -11,20 +11,14 @@ use Rattle.mongo_wire.specs.declared.write_error.WriteError.{WriteError}
 use Rattle.mongo_wire.specs.declared.write_error.WriteConcernError.{WriteConcernError}
 use Rattle.mongo_wire.specs.declared.write_error.WriteFailure.{WriteFailure}
 use Rattle.mongo_wire.specs.declared.write_error.InsertManyError.{InsertManyError}
-use Rattle.mongo_command.specs.Field.{field_of}
-use Rattle.mongo_command.specs.WriteReply.{HoldsTable, EachReads, ReadsUnsigned32, IsWriteErrorTable, ReadsWriteError, HoldsWriteErrors, ReadsWriteErrors, TextsOrNone, IsConcernErrorTable, ReadsConcernError, IsWriteReplyTable, IsWriteReply, write_failure, insert_failure, SaysOfWrite, SingleWriteRefused, InsertManyRefused, IsKindFor, Validates}
-use Rattle.mongo_command.specs.Keys.{code_name_key, errmsg_key, error_labels_key}
-use Rattle.mongo_command.proofs.OneField.{ReadsOne, optional_one, required_one, text_or_empty_one, labels_one, text_one, texts_one, int32_one, minutes_one, document_one}
-use Rattle.mongo_command.proofs.OneReply.{◌·◌}
+use Rattle.mongo_command.specs.WriteReply.{EachReads, ReadsUnsigned32, IsWriteErrorTable, ReadsWriteError, HoldsWriteErrors, ReadsWriteErrors, IsConcernErrorTable, ReadsConcernError, IsWriteReplyTable, IsWriteReply, write_failure, insert_failure, SaysOfWrite, SingleWriteRefused, InsertManyRefused, IsKindFor, Validates}
+use Rattle.mongo_command.proofs.OneField.{ReadsOne, optional_one, required_one, or_empty_one, optional_or_empty_one, text_one, texts_one, int32_one, minutes_one, document_one}
+use Rattle.mongo_command.proofs.OneReply.{◌·◌, one_held}
 
 -- ---- one value of each kind
 
 unsigned32_one : ReadsOne ReadsUnsigned32
 unsigned32_one = record { one = λ e a b p q. minutes_one.one e a b p.0 q.0 }
-
-one_held : {A : Type 0} (Table : List Element → A → Type 0) → ((elements : List Element) (a b : A) → Table elements a → Table elements b → a ≡ b) → (document : List ℕ) (a b : A) → HoldsTable Table document a → HoldsTable Table document b → a ≡ b
-one_held Table only document a b p q =
-    only q.elements a b (subst (λ es. Table es a) (one_document document p.elements q.elements p.well_formed.document q.well_formed.document) p.table) q.table
 
 write_error_made : ℕ → ℤ → Option (List ℕ) → List ℕ → Option (List ℕ) → IndexedWriteError
 write_error_made index code code_name message details = let error : WriteError = record { code = code; code_name = code_name; message = message; details = details } in record { index = index; error = error }
@@ -37,7 +31,7 @@ one_write_error elements a b p q =
     · required_one _ unsigned32_one _ _ _ p.index q.index
     · required_one _ int32_one _ _ _ p.code q.code
     · optional_one _ text_one _ _ _ p.code_name q.code_name
-    · text_or_empty_one (field_of errmsg_key elements) a.error.message b.error.message p.message q.message
+    · or_empty_one _ text_one _ _ _ p.message q.message
     · optional_one _ document_one _ _ _ p.details q.details
 
 write_error_one : ReadsOne ReadsWriteError
@@ -58,10 +52,6 @@ one_errors document a b p q =
 write_errors_one : ReadsOne ReadsWriteErrors
 write_errors_one = record { one = λ e a b p q. one_errors e.value a b p.1 q.1 }
 
-one_texts : (found : Option Element) (a b : List (List ℕ)) → TextsOrNone found a → TextsOrNone found b → a ≡ b
-one_texts None a b p q = p ∙ sym q
-one_texts (Some e) a b p q = texts_one.one e a b p q
-
 concern_made : ℤ → List ℕ → List ℕ → Option (List ℕ) → List (List ℕ) → WriteConcernError
 concern_made code code_name message details labels = record { code = code; code_name = code_name; message = message; details = details; labels = labels }
 
@@ -71,10 +61,10 @@ one_concern_error elements a b p q =
     let made : concern_made ≡ concern_made = refl in
     made
     · required_one _ int32_one _ _ _ p.code q.code
-    · text_or_empty_one (field_of code_name_key elements) a.code_name b.code_name p.code_name q.code_name
-    · text_or_empty_one (field_of errmsg_key elements) a.message b.message p.message q.message
+    · or_empty_one _ text_one _ _ _ p.code_name q.code_name
+    · or_empty_one _ text_one _ _ _ p.message q.message
     · optional_one _ document_one _ _ _ p.details q.details
-    · one_texts (field_of error_labels_key elements) a.labels b.labels p.labels q.labels
+    · or_empty_one _ texts_one _ _ _ p.labels q.labels
 
 concern_error_one : ReadsOne ReadsConcernError
 concern_error_one = record { one = λ e a b p q. one_held IsConcernErrorTable one_concern_error e.value a b p.1 q.1 }
@@ -91,7 +81,7 @@ one_reply elements a b p q =
     made
     · optional_one _ write_errors_one _ _ _ p.write_errors q.write_errors
     · optional_one _ concern_error_one _ _ _ p.write_concern_error q.write_concern_error
-    · labels_one (field_of error_labels_key elements) a.labels b.labels p.labels q.labels
+    · optional_or_empty_one _ texts_one _ _ _ p.labels q.labels
 
 one_said : {F : Type 0} (failure_of : InsertManyError → Option F) (document : List ℕ) (a b : Option F) → SaysOfWrite failure_of document a → SaysOfWrite failure_of document b → a ≡ b
 one_said failure_of document a b p q =

@@ -70,7 +70,7 @@ received (Ok m) maximum old new unwritten read = record { unwritten = unwritten;
 received (Err e) maximum old new unwritten read = tt
 
 -- the document of a buffer is the body of the frame that it holds
-document_held : (frame : List ℕ) (parts : Frame) (buffer : FrameBuffer) → HoldsFrame frame parts buffer → held_document buffer ≡ parts.body
+pub document_held : (frame : List ℕ) (parts : Frame) (buffer : FrameBuffer) → HoldsFrame frame parts buffer → held_document buffer ≡ parts.body
 document_held frame parts buffer h =
     ap (λ last. document_at last (held_bytes buffer)) h.last_is
     ∙ ap (document_at (Some h.held)) h.bytes_are

@@ -1,5 +1,5 @@
 -- A table over a document's elements, as the document's; and a list of values, one for each element that was read.
-use Rattle.std.proofs.Common.{◌≡◌, ℕ, Option, None, Some, Result, Ok, Err, List, [], ◌∷◌, ◌++◌, subst}
+use Rattle.std.proofs.Common.{◌≡◌, ℕ, Result, Ok, Err, List, [], ◌∷◌, ◌++◌, subst}
 use Rattle.std.specs.Result.{IsErrAnd}
 use Rattle.mongo_bson.specs.Document.{Element, IsWellFormed}
 use Rattle.mongo_bson.specs.Framed.{IsFramed, body_of}
@@ -9,9 +9,9 @@ use Rattle.mongo_bson.proofs.OneElement.{one_document}
 use Rattle.mongo_wire.specs.declared.write_error.IndexedWriteError.{IndexedWriteError}
 use Rattle.mongo_command.specs.declared.field.FieldFault.{FieldFault}
 use Rattle.mongo_command.specs.declared.field.FieldFault.TheVariants.{Unreadable, OutOfMemory}
-use Rattle.mongo_command.specs.Field.{ReadsTexts}
-use Rattle.mongo_command.specs.Fields.{Answers, IsNotWellFormed, IsValueOf}
-use Rattle.mongo_command.specs.WriteReply.{HoldsTable, EachReads, ReadsWriteError, HoldsWriteErrors, TextsOrNone}
+use Rattle.mongo_command.specs.Fields.{Answers, IsNotWellFormed}
+use Rattle.mongo_command.specs.Field.{HoldsTable}
+use Rattle.mongo_command.specs.WriteReply.{EachReads, ReadsWriteError, HoldsWriteErrors}
 use Rattle.mongo_command.proofs.Elements.{Passes, passes_none, passes_more, passes_all, no_element, document_begins_with}
 use Rattle.mongo_command.proofs.FieldAnswers.{ReadsValue, part_fault}
 
@@ -76,11 +76,3 @@ no_write_error document rest after key value read fault answer passed so_far tak
     let begins = document_begins_with document rest after key value so_far.elements holds.items so_far.passes takes holds.filled in
     value_at ReadsWriteError so_far.elements begins.0 e errors (subst (λ items. EachReads ReadsWriteError items errors) begins.1 holds.each))
     (none e takes.value_is)
-
--- ---- texts that may be absent
-
-pub texts_field : (found : Option Element) (value : RawValue) (answer : Result (List (List ℕ)) FieldFault) → IsValueOf found (Some value) → ReadsValue ReadsTexts value answer → Answers TextsOrNone found answer
-texts_field None value answer is reads = absurd is
-texts_field (Some e) value (Ok read) is reads = reads e is
-texts_field (Some e) value (Err Unreadable) is reads = reads e is
-texts_field (Some e) value (Err OutOfMemory) is reads = tt

@@ -1,9 +1,9 @@
 -- One field of a document: the first element of its key, and what it reads as. A table of fields says for each key which
 -- reading it has, and whether it has to be there.
-use Rattle.std.specs.Prelude.{◌≡◌, ◌≢◌, ℕ, ℤ, pos, ◌==◌, Bool, Option, None, Some, List, [], ◌∷◌, map, bytes_eq, FitsSigned, if◌then◌else◌, ⊤}
+use Rattle.std.specs.Prelude.{◌≡◌, ◌≢◌, ℕ, ℤ, pos, ◌==◌, Bool, Option, None, Some, List, [], ◌∷◌, map, unwrap_or, bytes_eq, FitsSigned, if◌then◌else◌, ⊤}
 use Rattle.std.specs.List.{AllByRecursion}
 use Rattle.std.specs.Int.{from_le_bytes, from_bool, cast_signed, w32, w64}
-use Rattle.mongo_bson.specs.Document.{Element, IsDocument, text_of}
+use Rattle.mongo_bson.specs.Document.{Element, IsDocument, IsWellFormed, text_of}
 use Rattle.mongo_bson.specs.declared.raw_value.ObjectId.{ObjectId}
 
 -- the first element of a key
@@ -14,6 +14,12 @@ field_of key (e ∷ es) = if bytes_eq e.key key then Some e else field_of key es
 -- elements fill the document
 abbrev pub IsFilled : List ℕ → Type 0
 IsFilled document = ((elements : List Element) → IsDocument document elements → ⊥) → ⊥
+
+-- a well-formed document whose elements are a table's
+pub record HoldsTable {A : Type 0} (Table : List Element → A → Type 0) (document : List ℕ) (value : A) : Type 0 where
+  pub elements : List Element
+  pub well_formed : IsWellFormed document elements
+  pub table : Table elements value
 
 -- ---- whether it is there
 
@@ -29,7 +35,16 @@ Optional Reads None (Some value) = ⊥
 Optional Reads (Some e) None = e.kind ≡ 0x0A
 Optional Reads (Some e) (Some value) = (e.kind ≢ 0x0A) × Reads e value
 
--- three such fields, by their keys
+-- a list that is empty where the field is absent; null is a value
+unfoldable pub OrEmpty : {A : Type 0} → (Element → List A → Type 0) → Option Element → List A → Type 0
+OrEmpty Reads None list = list ≡ []
+OrEmpty Reads (Some e) list = Reads e list
+
+-- a list that is empty where the field is absent or null
+unfoldable pub OptionalOrEmpty : {A : Type 0} → (Element → List A → Type 0) → Option Element → List A → Type 0
+OptionalOrEmpty {A} Reads found list = (said : Option (List A)) × Optional Reads found said × (list ≡ unwrap_or said [])
+
+-- three optional fields, by their keys
 abbrev pub OptionalThree : {A B C : Type 0} → (Element → A → Type 0) → (Element → B → Type 0) → (Element → C → Type 0) → List ℕ → List ℕ → List ℕ → List Element → Option A × Option B × Option C → Type 0
 OptionalThree ReadsFirst ReadsSecond ReadsThird first second third elements values =
     Optional ReadsFirst (field_of first elements) values.0 × Optional ReadsSecond (field_of second elements) values.1 × Optional ReadsThird (field_of third elements) values.2
@@ -61,10 +76,6 @@ ReadsId e id = (e.kind ≡ 0x07) × (id.0 ≡ e.value)
 
 abbrev pub ReadsDocument : Element → List ℕ → Type 0
 ReadsDocument e document = (e.kind ≡ 0x03) × (document ≡ e.value)
-
--- milliseconds since 1970, UTC
-abbrev pub ReadsDate : Element → ℤ → Type 0
-ReadsDate e milliseconds = (e.kind ≡ 0x09) × (milliseconds ≡ cast_signed w64 (from_le_bytes w64 e.value))
 
 -- a document of texts alone: what each of its elements says, in their order
 pub record HoldsTexts {A : Type 0} (says : Element → A) (document : List ℕ) (list : List A) : Type 0 where

@@ -1,6 +1,6 @@
 -- The reply to a write, by the server's write commands: which writes were refused, and whether the write concern was met.
 use Rattle.std.specs.Prelude.{◌≡◌, ℕ, pos, ◌^◌, ◌<◌, ◌||◌, ◌⊎◌, Option, None, Some, Result, Ok, Err, List, [], ◌∷◌, codes, if◌then◌else◌, is_some, option_map, ⊤}
-use Rattle.mongo_bson.specs.Document.{Element, IsDocument, IsWellFormed}
+use Rattle.mongo_bson.specs.Document.{Element, IsDocument}
 use Rattle.mongo_wire.specs.declared.error.Error.{Error}
 use Rattle.mongo_wire.specs.declared.error.ErrorKind.{ErrorKind}
 use Rattle.mongo_wire.specs.declared.error.ErrorKind.TheVariants.{InvalidResponse, Write, InsertMany, OutOfMemory}
@@ -12,15 +12,8 @@ use Rattle.mongo_wire.specs.declared.write_error.WriteFailure.{WriteFailure}
 use Rattle.mongo_wire.specs.declared.write_error.WriteFailureCause.{WriteFailureCause}
 use Rattle.mongo_wire.specs.declared.write_error.WriteFailureCause.TheVariants.{WriteError as OfWrite, WriteConcernError as OfConcern}
 use Rattle.mongo_wire.specs.declared.write_error.InsertManyError.{InsertManyError}
-use Rattle.mongo_command.specs.Field.{field_of, whole_number, Required, Optional, ReadsText, ReadsInt32, ReadsDocument, ReadsTexts}
-use Rattle.mongo_command.specs.Hello.{TextOrEmpty, Labels}
+use Rattle.mongo_command.specs.Field.{field_of, whole_number, HoldsTable, Required, Optional, OrEmpty, OptionalOrEmpty, ReadsText, ReadsInt32, ReadsDocument, ReadsTexts}
 use Rattle.mongo_command.specs.Keys.{code_key, code_name_key, err_info_key, errmsg_key, error_labels_key}
-
--- a well-formed document whose elements are a table's
-pub record HoldsTable {A : Type 0} (Table : List Element → A → Type 0) (document : List ℕ) (value : A) : Type 0 where
-  pub elements : List Element
-  pub well_formed : IsWellFormed document elements
-  pub table : Table elements value
 
 -- each element reads as the value at its place
 abbrev pub EachReads : {A : Type 0} → (Element → A → Type 0) → List Element → List A → Type 0
@@ -38,7 +31,7 @@ pub record IsWriteErrorTable (elements : List Element) (indexed : IndexedWriteEr
   pub index : Required ReadsUnsigned32 (field_of (codes "index") elements) indexed.index
   pub code : Required ReadsInt32 (field_of code_key elements) indexed.error.code
   pub code_name : Optional ReadsText (field_of code_name_key elements) indexed.error.code_name
-  pub message : TextOrEmpty (field_of errmsg_key elements) indexed.error.message
+  pub message : OrEmpty ReadsText (field_of errmsg_key elements) indexed.error.message
   pub details : Optional ReadsDocument (field_of err_info_key elements) indexed.error.details
 
 abbrev pub ReadsWriteError : Element → IndexedWriteError → Type 0
@@ -56,17 +49,12 @@ ReadsWriteErrors e errors = (e.kind ≡ 0x04) × HoldsWriteErrors e.value errors
 
 -- ---- a write concern that wasn't met
 
--- an array of texts, which is empty where the field is absent
-abbrev pub TextsOrNone : Option Element → List (List ℕ) → Type 0
-TextsOrNone None texts = texts ≡ []
-TextsOrNone (Some e) texts = ReadsTexts e texts
-
 pub record IsConcernErrorTable (elements : List Element) (error : WriteConcernError) : Type 0 where
   pub code : Required ReadsInt32 (field_of code_key elements) error.code
-  pub code_name : TextOrEmpty (field_of code_name_key elements) error.code_name
-  pub message : TextOrEmpty (field_of errmsg_key elements) error.message
+  pub code_name : OrEmpty ReadsText (field_of code_name_key elements) error.code_name
+  pub message : OrEmpty ReadsText (field_of errmsg_key elements) error.message
   pub details : Optional ReadsDocument (field_of err_info_key elements) error.details
-  pub labels : TextsOrNone (field_of error_labels_key elements) error.labels
+  pub labels : OrEmpty ReadsTexts (field_of error_labels_key elements) error.labels
 
 abbrev pub ReadsConcernError : Element → WriteConcernError → Type 0
 ReadsConcernError e error = (e.kind ≡ 0x03) × HoldsTable IsConcernErrorTable e.value error
@@ -76,7 +64,7 @@ ReadsConcernError e error = (e.kind ≡ 0x03) × HoldsTable IsConcernErrorTable 
 pub record IsWriteReplyTable (elements : List Element) (reply : InsertManyError) : Type 0 where
   pub write_errors : Optional ReadsWriteErrors (field_of (codes "writeErrors") elements) reply.write_errors
   pub write_concern_error : Optional ReadsConcernError (field_of (codes "writeConcernError") elements) reply.write_concern_error
-  pub labels : Labels (field_of error_labels_key elements) reply.labels
+  pub labels : OptionalOrEmpty ReadsTexts (field_of error_labels_key elements) reply.labels
 
 abbrev pub IsWriteReply : List ℕ → InsertManyError → Type 0
 IsWriteReply = HoldsTable IsWriteReplyTable

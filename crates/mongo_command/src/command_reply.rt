@@ -30,7 +30,7 @@ pub fn command_body(alloc: Global, response: &RawCommandResponse) -> Result<RawD
 {
     let document = response.raw_body();
     match Fields::of_well_formed(alloc, document) {
-        Ok(fields) => match failure_of(alloc, &fields) {
+        Ok(fields) => match failure_of(&fields) {
             Some(failure) => Err(failure),
             None => Ok(document),
         },
@@ -39,14 +39,14 @@ pub fn command_body(alloc: Global, response: &RawCommandResponse) -> Result<RawD
 }
 
 // Why a command failed whose reply has these fields, or None where it succeeded.
-fn failure_of(alloc: Global, fields: &Fields<'_>) -> Option<Error>
+fn failure_of(fields: &Fields<'_>) -> Option<Error>
     ensures succeeded { (document : List ℕ) → HoldsWellFormed document fields.now → result ≡ None → IsCommandBody document }
     ensures refused { IfSome result (λ e. (document : List ℕ) → HoldsWellFormed document fields.now → CommandRefused e.kind document) }
 {
     if is_success(fields) {
         None
     } else {
-        Some(refusal_of(alloc, fields, ResponseFault::Body))
+        Some(refusal_of(fields, ResponseFault::Body))
     }
 }
 
@@ -61,10 +61,10 @@ pub fn is_success(fields: &Fields<'_>) -> bool
 }
 
 // Why fields are refused that aren't those of the reply that was owed: as a command error, or else as this fault.
-pub(crate) fn refusal_of(alloc: Global, fields: &Fields<'_>, otherwise: ResponseFault) -> Error
+pub(crate) fn refusal_of(fields: &Fields<'_>, otherwise: ResponseFault) -> Error
     ensures { (elements : List Element) → AreFields elements fields.now → FieldsRefused otherwise result.kind elements }
 {
-    match command_error_of(alloc, fields) {
+    match command_error_of(fields) {
         Ok(error) => Error {
             kind: ErrorKind::Command(error),
         },

@@ -1,7 +1,7 @@
 ghost use Rattle.std.specs.Prelude.{List};
 ghost use Rattle.mongo_bson.specs.Document.{Element};
 ghost use Rattle.mongo_command.specs.Fields.{Answers, AreFields};
-ghost use Rattle.mongo_command.specs.WriteReply.{HoldsTable};
+ghost use Rattle.mongo_command.specs.Field.{HoldsTable};
 
 use crate::field::FieldFault;
 use crate::fields::Fields;
@@ -14,7 +14,7 @@ pub(crate) trait Table {
     ghost table: { List Element → Self → Type 0 };
 
     // The value that the fields say.
-    fn of_fields(alloc: Global, fields: &Fields<'_>) -> Result<Self, FieldFault>
+    fn of_fields(fields: &Fields<'_>) -> Result<Self, FieldFault>
         ensures { (elements : List Element) → AreFields elements fields.now → Answers table elements result };
 }
 
@@ -28,7 +28,7 @@ pub(crate) fn read_table<T: Table>(
     ensures { Answers (HoldsTable T.table) document.entry.bytes.now result }
 {
     match Fields::of_well_formed(alloc, document) {
-        Ok(fields) => T::of_fields(alloc, &fields),
+        Ok(fields) => T::of_fields(&fields),
         Err(fault) => Err(fault),
     }
 }

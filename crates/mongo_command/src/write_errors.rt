@@ -1,14 +1,11 @@
-ghost use Rattle.std.specs.Prelude.{Option};
-ghost use Rattle.mongo_bson.specs.Document.{Element};
-ghost use Rattle.mongo_command.specs.Fields.{Answers, IsValueOf};
-ghost use Rattle.mongo_command.specs.WriteReply.{HoldsWriteErrors, TextsOrNone};
+ghost use Rattle.mongo_command.specs.Fields.{Answers};
+ghost use Rattle.mongo_command.specs.WriteReply.{HoldsWriteErrors};
 
-use crate::error_table::text_or_empty;
 use crate::field::{FieldFault, FieldValue};
 use crate::fields::Fields;
 use crate::keys::{CODE, CODE_NAME, ERR_INFO, ERRMSG, ERROR_LABELS};
 use crate::table::{Table, read_table};
-use mongo_bson::{RawDocument, RawValue, Texts};
+use mongo_bson::{RawDocument, RawValue};
 use mongo_wire::{IndexedWriteError, WriteConcernError, WriteError, WriteErrors};
 use std::alloc::Global;
 
@@ -17,11 +14,11 @@ impl Table for IndexedWriteError {
 
     ghost table = { IsWriteErrorTable };
 
-    fn of_fields(alloc: Global, fields: &Fields<'_>) -> Result<IndexedWriteError, FieldFault> {
+    fn of_fields(fields: &Fields<'_>) -> Result<IndexedWriteError, FieldFault> {
         let index = fields.required("index")?;
         let code = fields.required(CODE)?;
         let code_name = fields.optional(CODE_NAME)?;
-        let message = text_or_empty(alloc, fields.value(ERRMSG))?;
+        let message = fields.text_or_empty(ERRMSG)?;
         let details = fields.optional(ERR_INFO)?;
         let error = WriteError {
             code,
@@ -38,12 +35,12 @@ impl Table for WriteConcernError {
 
     ghost table = { IsConcernErrorTable };
 
-    fn of_fields(alloc: Global, fields: &Fields<'_>) -> Result<WriteConcernError, FieldFault> {
+    fn of_fields(fields: &Fields<'_>) -> Result<WriteConcernError, FieldFault> {
         let code = fields.required(CODE)?;
-        let code_name = text_or_empty(alloc, fields.value(CODE_NAME))?;
-        let message = text_or_empty(alloc, fields.value(ERRMSG))?;
+        let code_name = fields.text_or_empty(CODE_NAME)?;
+        let message = fields.text_or_empty(ERRMSG)?;
         let details = fields.optional(ERR_INFO)?;
-        let labels = texts_or_none(alloc, fields.value(ERROR_LABELS))?;
+        let labels = fields.texts_or_empty(ERROR_LABELS)?;
         Ok(WriteConcernError {
             code,
             code_name,
@@ -106,14 +103,4 @@ fn write_errors_in(alloc: Global, array: RawDocument<'_>) -> Result<WriteErrors,
         errors.push(error)?;
     }
     Ok(errors)
-}
-
-// An array of texts, which is empty where the field is absent. Null is none.
-fn texts_or_none(alloc: Global, value: Option<RawValue<'_>>) -> Result<Texts, FieldFault>
-    ensures { (found : Option Element) → IsValueOf found value.entry → Answers TextsOrNone found result }
-{
-    match value {
-        Some(value) => Texts::read(alloc, value),
-        None => Ok(Texts::new(alloc)),
-    }
 }

@@ -3,7 +3,6 @@ ghost use Rattle.mongo_wire.specs.declared.error.ErrorKind.TheVariants.{Write};
 ghost use Rattle.mongo_command.specs.WriteReply.{IsWriteReply, WriteReplyRefused, first_error, first_cause, write_failure, insert_failure, SaysOfWrite, SingleWriteRefused, InsertManyRefused, Validates};
 
 use crate::command_reply::refused_as;
-use crate::error_table::labels_of;
 use crate::field::FieldFault;
 use crate::fields::Fields;
 use crate::keys::ERROR_LABELS;
@@ -20,10 +19,10 @@ impl Table for InsertManyError {
 
     ghost table = { IsWriteReplyTable };
 
-    fn of_fields(alloc: Global, fields: &Fields<'_>) -> Result<InsertManyError, FieldFault> {
+    fn of_fields(fields: &Fields<'_>) -> Result<InsertManyError, FieldFault> {
         let write_errors = fields.optional("writeErrors")?;
         let write_concern_error = fields.optional("writeConcernError")?;
-        let labels = labels_of(alloc, fields.value(ERROR_LABELS))?;
+        let labels = fields.labels(ERROR_LABELS)?;
         Ok(InsertManyError {
             write_errors,
             write_concern_error,

@@ -1,5 +1,3 @@
-use Rattle.mongo_command.specs.Field.{OptionalThree}
-use Rattle.mongo_command.proofs.FieldAnswers.{refused}
 use Rattle.mongo_command.proofs.fields.Fields.optional_three.Goals as goal
 
 pub returns : goal.returns

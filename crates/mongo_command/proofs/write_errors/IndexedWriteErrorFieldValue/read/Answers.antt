@@ -1,4 +1,5 @@
-use Rattle.mongo_command.specs.WriteReply.{HoldsTable, IsWriteErrorTable}
+use Rattle.mongo_command.specs.Field.{HoldsTable}
+use Rattle.mongo_command.specs.WriteReply.{IsWriteErrorTable}
 use Rattle.mongo_command.proofs.FieldAnswers.{of_kind}
 use Rattle.mongo_command.proofs.write_errors.IndexedWriteErrorFieldValue.read.Goals as goal
 

@@ -1,8 +1,5 @@
-use Rattle.mongo_command.specs.Field.{field_of}
-use Rattle.mongo_command.specs.Hello.{TextOrEmpty}
 use Rattle.mongo_command.specs.WriteReply.{IsWriteErrorTable}
-use Rattle.mongo_command.specs.Keys.{errmsg_key}
-use Rattle.mongo_command.proofs.FieldAnswers.{refused, required_refused, part_fault}
+use Rattle.mongo_command.proofs.FieldAnswers.{refused, required_refused, or_empty_refused}
 use Rattle.mongo_command.proofs.write_errors.IndexedWriteErrorTable.of_fields.Goals as goal
 
 pub returns-in_err-index : goal.returns-in_err-index
@@ -15,9 +12,7 @@ pub returns-in_err-code_name : goal.returns-in_err-code_name
 returns-in_err-code_name c = λ es are. refused IsWriteErrorTable es _ _ _ _ c.from_residual-in_err-code_name.ensures.1 (λ t is. (t.error.code_name, is.code_name)) (c.in_err-code_name.ensures es are)
 
 pub returns-in_err-message : goal.returns-in_err-message
-returns-in_err-message c = λ es are.
-    let field = field_of errmsg_key es in
-    part_fault IsWriteErrorTable TextOrEmpty es field c.in_err-message.field-0.0 c.from_residual-in_err-message.result c.from_residual-in_err-message.ensures.1 (λ t is. (t.error.message, is.message)) (c.in_err-message.ensures field (c.value.ensures es are))
+returns-in_err-message c = λ es are. or_empty_refused IsWriteErrorTable es _ _ _ _ c.from_residual-in_err-message.ensures.1 (λ t is. (t.error.message, is.message)) (c.in_err-message.ensures es are)
 
 pub returns-in_err-details : goal.returns-in_err-details
 returns-in_err-details c = λ es are. refused IsWriteErrorTable es _ _ _ _ c.from_residual-in_err-details.ensures.1 (λ t is. (t.error.details, is.details)) (c.in_err-details.ensures es are)

@@ -1,4 +1,5 @@
-use Rattle.mongo_command.specs.WriteReply.{HoldsTable, IsConcernErrorTable}
+use Rattle.mongo_command.specs.Field.{HoldsTable}
+use Rattle.mongo_command.specs.WriteReply.{IsConcernErrorTable}
 use Rattle.mongo_command.proofs.FieldAnswers.{of_kind}
 use Rattle.mongo_command.proofs.write_errors.WriteConcernErrorFieldValue.read.Goals as goal
 
