@@ -1,5 +1,5 @@
 -- What a call that hands a refusal on, and one that ends after an exchange or before one, says by its plain clauses.
-use Rattle.std.proofs.Common.{◌≡◌, ℕ, ◌≤◌, refl, sym, ◌∙◌, subst, arith, Result, Ok, Err, IfOk, IfErr, OnOk}
+use Rattle.std.proofs.Common.{◌≡◌, ℕ, ◌≤◌, refl, sym, ◌∙◌, subst, arith, Result, Ok, Err, IfOk, IfErr, OnOk, OnErr}
 use Rattle.std.specs.Result.{IsErrAnd}
 use Rattle.mongo_wire.specs.declared.error.Error.{Error}
 use Rattle.mongo_wire.specs.declared.error.ErrorKind.{ErrorKind}
@@ -31,6 +31,11 @@ handed_row (Err x) e Row handed row = subst (λ (y : Error). Row y.kind) (sym ha
 pub on_answer : {T E : Type 0} (r : Result T E) (Holds : Type 0) → Holds → OnOk r Holds
 on_answer (Ok x) Holds is = is
 on_answer (Err x) Holds is = tt
+
+-- and of a refusal
+pub on_refusal : {T E : Type 0} (r : Result T E) (Holds : Type 0) → Holds → OnErr r Holds
+on_refusal (Ok x) Holds is = tt
+on_refusal (Err x) Holds is = is
 
 -- one change after the other
 pub rest_on : (old middle new : Connection) → KeepsRest old middle → KeepsRest middle new → KeepsRest old new

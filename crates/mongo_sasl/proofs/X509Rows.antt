@@ -1,7 +1,9 @@
 -- What an X.509 login's reply is, by what its readers found.
-use Rattle.std.proofs.Common.{◌≡◌, ◌⊎◌, ◌↔◌, ℕ, Bool, true, IsTrue, sym, subst, inl, inr, List}
+use Rattle.std.proofs.Common.{◌≡◌, ◌⊎◌, ◌↔◌, ℕ, Bool, true, false, IsTrue, sym, ◌∙◌, subst, inl, inr, List}
+use Rattle.std.proofs.lemmas.Bool.{false≢true}
+use Rattle.mongo_wire.specs.declared.auth_fault.AuthFault.TheVariants.{X509Failed}
 use Rattle.mongo_wire.specs.declared.error.ErrorKind.{ErrorKind}
-use Rattle.mongo_wire.specs.declared.error.ErrorKind.TheVariants.{OutOfMemory}
+use Rattle.mongo_wire.specs.declared.error.ErrorKind.TheVariants.{Authentication, OutOfMemory}
 use Rattle.mongo_command.specs.declared.field.FieldFault.{FieldFault}
 use Rattle.mongo_command.specs.declared.field.FieldFault.TheVariants.{Unreadable, OutOfMemory as NoMemory}
 use Rattle.mongo_command.specs.declared.fields.Fields.{Fields}
@@ -16,6 +18,10 @@ module _ (reply : List ℕ) (fields : Fields) (held : HoldsWellFormed reply fiel
   -- the command succeeded
   pub taken_by : succeeded ≡ true → IsCertificateTaken reply
   taken_by is = (held.elements, record { well_formed = held.well_formed; ok = tells.0 is })
+
+  -- it didn't
+  pub failed_by : (kind : ErrorKind) → succeeded ≡ false → kind ≡ Authentication X509Failed → X509Row reply kind ⊎ (kind ≡ OutOfMemory)
+  failed_by kind is same = inl (subst (X509Row reply) (sym same) (record { elements = held.elements; well_formed = held.well_formed; failed = λ success. false≢true (sym is ∙ tells.1 success) }))
 
 -- the reply can't be read
 pub unread_by : (reply : List ℕ) (fault : FieldFault) (kind : ErrorKind) → IsNotWellFormed reply fault → kind ≡ kind_of_field_fault fault → X509Row reply kind ⊎ (kind ≡ OutOfMemory)

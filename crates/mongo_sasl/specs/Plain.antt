@@ -11,7 +11,7 @@ use Rattle.mongo_command.specs.Command.{command_of, command_document}
 use Rattle.mongo_command.specs.Conversation.{Said, Plan, ending, unless, reading, saying}
 use Rattle.mongo_sasl.specs.declared.credential.Credential.{Credential}
 use Rattle.mongo_sasl.specs.declared.mechanism.AuthMechanism.TheVariants.{Plain}
-use Rattle.mongo_sasl.specs.declared.plain.Login.{Login}
+use Rattle.mongo_sasl.specs.declared.plain.PlainLogin.{PlainLogin}
 use Rattle.mongo_sasl.specs.declared.sasl_response.SaslResponse.{SaslResponse}
 use Rattle.mongo_sasl.specs.Commands.{start_body}
 use Rattle.mongo_sasl.specs.Credential.{NoUserRow}
@@ -94,7 +94,7 @@ pub record IsPlainLogin (handed : PlainHanded) (commands replies : List (List �
 
 -- ---- what the code holds
 
-abbrev pub plain_user_of : Login → PlainUser
+abbrev pub plain_user_of : PlainLogin → PlainUser
 plain_user_of login = record { username = login.username.now; password = login.password.now; source = login.source.now }
 
 abbrev pub plain_handed : Credential → Option ServerApi → ℤ → PlainHanded

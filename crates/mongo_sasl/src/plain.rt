@@ -17,7 +17,7 @@ use std::alloc::Global;
 
 // Who logs in, and the database that the user belongs to.
 #[derive(Clone, Copy, Drop)]
-struct Login<'a> {
+struct PlainLogin<'a> {
     username: &'a str,
     password: &'a str,
     source: &'a str,
@@ -66,7 +66,7 @@ pub fn authenticate_stream<L: Link>(
 }
 
 // The user of a credential.
-fn login_of(credential: &Credential) -> Result<Login<'_>, Error>
+fn login_of(credential: &Credential) -> Result<PlainLogin<'_>, Error>
     ensures user { IfOk result (λ login. IsPlainUser credential.now (plain_user_of login)) }
     ensures refused { IfErr result (λ e. PlainRow credential.now e.kind) }
 {
@@ -80,7 +80,7 @@ fn login_of(credential: &Credential) -> Result<Login<'_>, Error>
         Some(source) => source.as_str(),
         None => EXTERNAL,
     };
-    Ok(Login {
+    Ok(PlainLogin {
         username: username.as_str(),
         password: password.as_str(),
         source,
@@ -90,7 +90,7 @@ fn login_of(credential: &Credential) -> Result<Login<'_>, Error>
 // The command that carries the user's message.
 fn start_command(
     alloc: Global,
-    login: Login<'_>,
+    login: PlainLogin<'_>,
     server_api: Option<&ServerApi>,
 ) -> Result<Command, Error>
     ensures command { IfOk result (λ command. command ≡ plain_command (plain_user_of login.entry) (option_copied server_api.entry)) }
