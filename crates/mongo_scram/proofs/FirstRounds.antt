@@ -19,7 +19,7 @@ use Rattle.mongo_sasl.specs.EndsByScript.{Standing, StopsBy}
 use Rattle.mongo_sasl.proofs.StopsBy.{no_exchange}
 use Rattle.mongo_scram.specs.declared.messages.ClientFirst.{ClientFirst}
 use Rattle.mongo_scram.specs.declared.conversation.FirstRound.{FirstRound}
-use Rattle.mongo_scram.specs.declared.rounds.Login.{Login}
+use Rattle.mongo_scram.specs.declared.rounds.ScramLogin.{ScramLogin}
 use Rattle.mongo_scram.specs.declared.rounds.Opened.{Opened}
 use Rattle.mongo_scram.specs.Client.{message_of, nonce_of, first_source, includes_db, server_api_of, speculated_of}
 use Rattle.mongo_scram.specs.Commands.{mechanism_of, first_body, first_command}
@@ -99,10 +99,10 @@ start_opens handed user opened reply held old new before after none start nonce 
 
 -- ---- with a round that went with the hello, or without
 
-abbrev opened_by : Login → ℤ → User → Option FirstRound → Plan Challenge
+abbrev opened_by : ScramLogin → ℤ → User → Option FirstRound → Plan Challenge
 opened_by login maximum user found = opened (speculated_of found) (handed_by login found maximum) user
 
-module _ {T : Type 0} (login : Login) (found : Option FirstRound) (maximum : ℤ) (user : User) where
+module _ {T : Type 0} (login : ScramLogin) (found : Option FirstRound) (maximum : ℤ) (user : User) where
   round_stopped : (r : Result T Error) (round : FirstRound) (new : State) (after : ℤ) → found ≡ Some round → IfErr r (λ e. FirstReplyRow round.server_first e.kind ⊎ (e.kind ≡ OutOfMemory)) → IfErr r (λ e. Stopped (opened_by login maximum user found) e.kind new new after after)
   round_stopped (Ok x) round new after is h = tt
   round_stopped (Err x) round new after is h =

@@ -16,7 +16,7 @@ use Rattle.mongo_scram.specs.declared.scram_version.ScramVersion.{ScramVersion}
 use Rattle.mongo_scram.specs.declared.cache.SaltedKey.{SaltedKey}
 use Rattle.mongo_scram.specs.declared.conversation.FirstRound.{FirstRound}
 use Rattle.mongo_scram.specs.declared.messages.ClientFinal.{ClientFinal}
-use Rattle.mongo_scram.specs.declared.rounds.Login.{Login}
+use Rattle.mongo_scram.specs.declared.rounds.ScramLogin.{ScramLogin}
 use Rattle.mongo_scram.specs.declared.rounds.Opened.{Opened}
 use Rattle.mongo_scram.specs.declared.server_first.ServerFirst.{ServerFirst}
 use Rattle.mongo_scram.specs.declared.server_final.ServerFinal.{ServerFinal}
@@ -32,7 +32,7 @@ use Rattle.mongo_scram.specs.User.{User}
 use Rattle.mongo_scram.specs.Validity.{IsValidFirst, ServerFirstRow, ServerFinalRow}
 
 -- what a login is handed, with a first round or without, over a link of this maximum
-abbrev pub handed_by : Login → Option FirstRound → ℤ → Handed
+abbrev pub handed_by : ScramLogin → Option FirstRound → ℤ → Handed
 handed_by login round maximum = handed_to login.version login.credential.now (option_copied login.server_api) round (base64_of login.nonce.now) login.max_iterations maximum
 
 -- ---- a round

@@ -1,5 +1,5 @@
 use crate::derivation::{answer, keep};
-use crate::rounds::{Login, close};
+use crate::rounds::{ScramLogin, close};
 use crate::{ClientFinal, ClientFirst, SaltedCache, ScramVersion};
 use mongo_bson::RawDocumentBuf;
 use mongo_command::{Connection, ServerApi};
@@ -69,7 +69,7 @@ impl ScramVersion {
         // The replies passed through the buffer, which holds a frame: by `login` its document is the last reply.
         ensures buffer { OnOk result ((frames_taken buffer.new ≡ frames_after first_round (frames_taken buffer.old)) × HoldsReply buffer.new) }
     {
-        let login = Login {
+        let login = ScramLogin {
             version: *self,
             credential,
             server_api,

@@ -26,7 +26,7 @@ use std::alloc::Global;
 
 /// What a login is handed, beside its connection.
 #[derive(Clone, Copy)]
-pub struct Login<'a> {
+pub struct ScramLogin<'a> {
     /// The version of SCRAM.
     pub version: ScramVersion,
     /// Who logs in.
@@ -57,7 +57,7 @@ impl Drop for Opened {
     }
 }
 
-impl<'a> Login<'a> {
+impl<'a> ScramLogin<'a> {
     ghost use Rattle.std.specs.Prelude.{◌≡◌, ◌⊎◌, None, Some, IfOk, IfErr, OnOk};
     ghost use Rattle.mongo_wire.specs.declared.error.ErrorKind.{ErrorKind};
     ghost use Rattle.mongo_wire.specs.Buffer.{frames_taken};

@@ -9,7 +9,7 @@ use Rattle.mongo_sasl.proofs.Handed.{no_answer_on, no_answer_by}
 use Rattle.mongo_sasl.proofs.KeptAfter.{IsOwn, unbuilt_own}
 use Rattle.mongo_sasl.proofs.StopsBy.{was_faultless, before_exchange, at_exchange, after_exchange, handed_stops}
 use Rattle.mongo_scram.proofs.OwnRows.{first_reply_own}
-use Rattle.mongo_scram.proofs.rounds.Login.say_first.Goals as goal
+use Rattle.mongo_scram.proofs.rounds.ScramLogin.say_first.Goals as goal
 
 -- ---- where the message is not made
 
