@@ -2,6 +2,7 @@
 use Rattle.std.specs.Prelude.{◌≡◌, ◌+◌, ◌-◌, ◌*◌, max, ℕ, ℤ, pos, ◌≤◌, ◌⊎◌, ◌≤ℤ◌, Option, None, Some, Result, Ok, Err, List, [], length, take, drop, slice_range, vec_capacity, Bool, true}
 use Rattle.std.specs.Io.KnownBytes.{Consumes}
 use Rattle.mongo_wire.specs.Frame.{Frame}
+use Rattle.mongo_wire.specs.Header.{header_length}
 use Rattle.mongo_wire.specs.Held.{IsHeldFrame}
 use Rattle.mongo_wire.specs.Error.{kind_of_frame_fault}
 use Rattle.mongo_wire.specs.Message.{IsUnreadable}
@@ -37,7 +38,7 @@ pub record HoldsFrame (frame : List ℕ) (parts : Frame) (buffer : FrameBuffer) 
   pub held : HeldFrame
   pub last_is : buffer.last ≡ Some held
   pub is_held : IsHeldFrame frame parts held
-  pub bytes_are : held_bytes buffer ≡ drop 16 frame
+  pub bytes_are : held_bytes buffer ≡ drop header_length frame
 
 -- it holds nothing
 pub record HoldsNothing (buffer : FrameBuffer) : Type 0 where

@@ -9,6 +9,10 @@ use Rattle.mongo_wire.specs.declared.header.Header.{Header}
 use Rattle.mongo_wire.specs.declared.op_code.OpCode.{OpCode}
 use Rattle.mongo_wire.specs.declared.op_code.OpCode.TheVariants.{Reply, Query, Message, Compressed}
 
+-- how many bytes a header has
+abbrev pub header_length : ℕ
+header_length = 16
+
 -- the number that stands at a place: unsigned, and signed
 abbrev pub number_at : ℕ → List ℕ → ℕ
 number_at place bytes = from_le_bytes w32 (drop place bytes)

@@ -2,6 +2,7 @@
 use Rattle.std.specs.Prelude.{◌≡◌, ◌≤◌, ℕ, pos, List, length, drop, slice_range, flat_map, bit_and}
 use Rattle.mongo_bson.specs.Framed.{IsFramed}
 use Rattle.mongo_wire.specs.Frame.{Frame, IsFrame, section_bytes, known_flags}
+use Rattle.mongo_wire.specs.Header.{header_length}
 use Rattle.mongo_wire.specs.Content.{IsAt}
 use Rattle.mongo_wire.specs.declared.header.Header.{Header}
 use Rattle.mongo_wire.specs.declared.op_code.OpCode.TheVariants.{Message}
@@ -17,8 +18,8 @@ pub record IsHeldFrame (frame : List ℕ) (parts : Frame) (held : HeldFrame) : T
   pub header_is : held.header ≡ header_of frame parts
   pub flags_are : bit_and held.word known_flags ≡ parts.flags
   pub checksum_is : held.checksum ≡ parts.checksum
-  pub body_at : IsAt (drop 16 frame) parts.body held.offsets.body_start held.offsets.body_end
-  pub sections_at : IsAt (drop 16 frame) (flat_map section_bytes is_frame.sections) 4 held.offsets.sections_end
+  pub body_at : IsAt (drop header_length frame) parts.body held.offsets.body_start held.offsets.body_end
+  pub sections_at : IsAt (drop header_length frame) (flat_map section_bytes is_frame.sections) 4 held.offsets.sections_end
 
 -- the places of its parts lie in the bytes, and a document lies at the body's
 pub record LiesIn (bytes : List ℕ) (held : HeldFrame) : Type 0 where

@@ -2,7 +2,7 @@
 use Rattle.std.specs.Prelude.{◌≡◌, ℕ, ℤ, pos, ◌<◌, ◌≤◌, ◌<ℤ◌, ◌≤ℤ◌, ◌⊎◌, Option, None, Some, List, length, ⊤}
 use Rattle.std.specs.Io.KnownBytes.{Consumes}
 use Rattle.mongo_wire.specs.Outside.{State, Rose, ConsumesFewer, RanOut}
-use Rattle.mongo_wire.specs.Header.{number_at, signed_at, op_code_of, header_with}
+use Rattle.mongo_wire.specs.Header.{header_length, number_at, signed_at, op_code_of, header_with}
 use Rattle.mongo_wire.specs.Rows.{IsEmptied}
 use Rattle.mongo_wire.specs.declared.header.Header.{Header}
 use Rattle.mongo_wire.specs.declared.error.ErrorKind.{ErrorKind}
@@ -24,25 +24,25 @@ FillStops kind old new wanted = ⊥
 
 -- ---- headers
 
--- the next 16 bytes are the header's
+-- the next bytes are the header's
 pub record TakesHeader (old new : State) (header : Header) : Type 0 where
   pub bytes : List ℕ
   pub taken : Consumes old.left new.left bytes
-  pub whole : length bytes ≡ 16
+  pub whole : length bytes ≡ header_length
   pub known : op_code_of (signed_at 12 bytes) ≡ Some header.op_code
   pub header_is : header ≡ header_with bytes header.op_code
 
--- 16 bytes were taken, whose op code is this number and unknown
+-- a header's bytes were taken, whose op code is this number and unknown
 pub record TakesUnknown (number : ℤ) (old new : State) : Type 0 where
   pub bytes : List ℕ
   pub taken : Consumes old.left new.left bytes
-  pub whole : length bytes ≡ 16
+  pub whole : length bytes ≡ header_length
   pub number_is : number ≡ signed_at 12 bytes
   pub unknown : op_code_of number ≡ None
 
 abbrev pub HeaderRefused : ErrorKind → State → State → Type 0
 HeaderRefused (InvalidResponse (OpCodeFault number)) old new = TakesUnknown number old new
-HeaderRefused kind old new = FillStops kind old new 16
+HeaderRefused kind old new = FillStops kind old new header_length
 
 -- ---- numbers
 
