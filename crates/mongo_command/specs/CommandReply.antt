@@ -20,7 +20,7 @@ pub record IsCommandBody (document : List ℕ) : Type 0 where
 abbrev pub IsNoCommandBody : List ℕ → Type 0
 IsNoCommandBody document = IsCommandBody document → ⊥
 
--- why a reply isn't given: it is none of a command that succeeded, or memory ran out
+-- why a reply isn't given: it isn't that of a command that succeeded, or memory ran out
 abbrev pub CommandRefused : ErrorKind → List ℕ → Type 0
 CommandRefused kind document = (IsNoCommandBody document × FailureRow (IsCommandError document) Body kind) ⊎ (kind ≡ NoMemoryLeft)
 

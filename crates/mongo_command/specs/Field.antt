@@ -35,7 +35,7 @@ Optional Reads None (Some value) = ⊥
 Optional Reads (Some e) None = e.kind ≡ 0x0A
 Optional Reads (Some e) (Some value) = (e.kind ≢ 0x0A) × Reads e value
 
--- a list that is empty where the field is absent; null is a value
+-- a list that is empty where the field is absent; null doesn't count as absent
 unfoldable pub OrEmpty : {A : Type 0} → (Element → List A → Type 0) → Option Element → List A → Type 0
 OrEmpty Reads None list = list ≡ []
 OrEmpty Reads (Some e) list = Reads e list
