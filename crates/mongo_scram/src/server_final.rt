@@ -78,7 +78,7 @@ impl ServerFinal {
         ensures refused { IfErr result (λ e. FinalReplyRow response.entry.bytes.now e.kind ⊎ (e.kind ≡ OutOfMemory)) }
     {
         match SaslView::parse(alloc, response) {
-            Ok(view) => final_of(alloc, &view),
+            Ok(view) => server_final_of(alloc, &view),
             Err(refused) => Err(refused),
         }
     }
@@ -148,7 +148,7 @@ impl ServerFinal {
 }
 
 // The server's last message, from what the reply says.
-fn final_of(alloc: Global, view: &SaslView<'_>) -> Result<ServerFinal, Error>
+fn server_final_of(alloc: Global, view: &SaslView<'_>) -> Result<ServerFinal, Error>
     ensures read { (reply : List ℕ) → IsSaslReply reply (response_of view.now) → IfOk result (CarriesFinal reply) }
     ensures refused { (reply : List ℕ) → IsSaslReply reply (response_of view.now) → IfErr result (λ e. FinalReplyRow reply e.kind ⊎ (e.kind ≡ OutOfMemory)) }
 {

@@ -5,7 +5,7 @@ use Rattle.mongo_sasl.specs.View.{response_of}
 use Rattle.mongo_scram.specs.Parsed.{ServerFinalUnread}
 use Rattle.mongo_scram.specs.Replies.{FinalReplyRow}
 use Rattle.mongo_scram.proofs.ReplyRead.{handed_on, final_refused, final_without_text}
-use Rattle.mongo_scram.proofs.server_final.final_of.Goals as goal
+use Rattle.mongo_scram.proofs.server_final.server_final_of.Goals as goal
 
 pub returns-in_default-clause-refused : goal.returns-in_default-clause-refused
 returns-in_default-clause-refused c = λ reply is.
