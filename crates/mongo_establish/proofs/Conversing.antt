@@ -3,6 +3,9 @@ use Rattle.std.proofs.Common.{◌≡◌, ℕ, ℤ, ◌∙◌, ap, subst, sym, Bo
 use Rattle.mongo_wire.specs.declared.error.Error.{Error}
 use Rattle.mongo_wire.specs.declared.error.ErrorKind.{ErrorKind}
 use Rattle.mongo_wire.specs.Outside.{State}
+use Rattle.mongo_wire.specs.declared.frame_buffer.FrameBuffer.{FrameBuffer}
+use Rattle.mongo_command.specs.declared.connection.Connection.{Connection}
+use Rattle.mongo_command.specs.Connection.{kept_fault}
 use Rattle.mongo_command.specs.declared.server_api.ServerApi.{ServerApi}
 use Rattle.mongo_command.specs.declared.stream_description.StreamDescription.{StreamDescription}
 use Rattle.mongo_command.specs.Conversation.{Event, Turn, Plan, ending, followed_by, Reached, Stopped}
@@ -10,7 +13,7 @@ use Rattle.mongo_command.specs.Exchange.{frame_maximum}
 use Rattle.mongo_command.proofs.Steps.{reached_ending, reached_more, stopped_more}
 use Rattle.mongo_command.proofs.FollowedBy.{reached_both, stopped_first}
 use Rattle.mongo_sasl.specs.declared.credential.Credential.{Credential}
-use Rattle.mongo_sasl.specs.Kept.{KeepsAfter}
+use Rattle.mongo_sasl.specs.EndsByScript.{standing, EndsByScript}
 use Rattle.mongo_sasl.specs.Plain.{plain_handed, plain_plan}
 use Rattle.mongo_sasl.specs.X509.{x509_handed, x509_plan}
 use Rattle.mongo_scram.specs.declared.conversation.FirstRound.{FirstRound as ScramRound}
@@ -18,7 +21,9 @@ use Rattle.mongo_scram.specs.declared.scram_version.ScramVersion.{ScramVersion}
 use Rattle.mongo_scram.specs.Base64.{base64_of}
 use Rattle.mongo_scram.specs.Client.{speculated_of, handed_to}
 use Rattle.mongo_scram.specs.Costs.{Ledgers, CostsNothing, Accepted, StoppedScram}
+use Rattle.mongo_scram.specs.EndsByScram.{EndsByScram}
 use Rattle.mongo_scram.specs.Plan.{Handed, scram_plan}
+use Rattle.mongo_sasl.proofs.Handed.{on_refusal}
 use Rattle.mongo_scram.proofs.ScramCosts.{accepted_reached, stopped_whole}
 use Rattle.mongo_establish.specs.declared.conversation.Conversation.{Conversation}
 use Rattle.mongo_establish.specs.declared.conversation.Conversation.TheVariants.{Scram, Plain as PlainText, X509}
@@ -65,25 +70,35 @@ scram_stopped version asked credential greeting kind old new before after early 
   costs = is;
 }
 
-module _ (version : ScramVersion) (asked : Asked) (credential : Credential) (held : Option StreamDescription) (round : Option FirstRound) (api : Option ServerApi) (same : api ≡ asked.options.auth_options.server_api) (begun : Option ScramRound) (begins : begun ≡ scram_round round) where
+module _ (version : ScramVersion) (asked : Asked) (credential : Credential) (round : Option FirstRound) (opened left : Connection) (api : Option ServerApi) (same : api ≡ asked.options.auth_options.server_api) (begun : Option ScramRound) (begins : begun ≡ scram_round round) where
   abbrev handed : Handed
-  handed = handed_to version credential api begun (base64_of asked.nonces.second) asked.options.max_iterations (frame_maximum held)
+  handed = handed_to version credential api begun (base64_of asked.nonces.second) asked.options.max_iterations (frame_maximum opened.stream_description)
 
-  pub scram_converses : (r : Result (Unit {0}) Error) (kept : Option ErrorKind) (document : List ℕ) (old new : State) (before after : ℤ) (early late : Ledgers) → OnOk r (Accepted handed document old new before after early late) → IfErr r (λ e. StoppedScram handed e.kind old new before after early late) → IfErr r (λ e. KeepsAfter e.kind kept)
-      → Converses r (Scram version) asked credential held round kept old new before after early late
-  scram_converses (Ok done) kept document old new before after early late accepted stopped keeps = record {
-    accepted = λ greeting described went.
-        let is = handed_same version asked credential greeting api round begun held same begins went described in
-        scram_accepted version asked credential greeting document old new before after early late (subst (λ h. Accepted h document old new before after early late) is accepted);
-    refused = λ greeting described went. tt;
-    keeps = keeps;
-  }
-  scram_converses (Err e) kept document old new before after early late accepted stopped keeps = record {
-    accepted = λ greeting described went. tt;
-    refused = λ greeting described went.
-        let is = handed_same version asked credential greeting api round begun held same begins went described in
-        scram_stopped version asked credential greeting e.kind old new before after early late (subst (λ h. StoppedScram h e.kind old new before after early late) is stopped);
-    keeps = keeps;
+  scram_done : (greeting : Greeting) (r : Result (Unit {0}) Error) (document : List ℕ) (old new : State) (before after : ℤ) (early late : Ledgers) → opened.stream_description ≡ Some greeting.description → IsRoundBy (Some (Scram version)) credential asked greeting round
+      → OnOk r (Accepted handed document old new before after early late) → OnOk r (Conversed (Scram version) asked credential greeting old new before after early late)
+  scram_done greeting (Ok done) document old new before after early late described went accepted =
+      let is = handed_same version asked credential greeting api round begun opened.stream_description same begins went described in
+      scram_accepted version asked credential greeting document old new before after early late (subst (λ h. Accepted h document old new before after early late) is accepted)
+  scram_done greeting (Err e) document old new before after early late described went accepted = tt
+
+  scram_failed : (greeting : Greeting) (r : Result (Unit {0}) Error) (old new : State) (before after : ℤ) (early late : Ledgers) → opened.stream_description ≡ Some greeting.description → IsRoundBy (Some (Scram version)) credential asked greeting round
+      → IfErr r (λ e. StoppedScram handed e.kind old new before after early late) → IfErr r (λ e. ConversationStopped (Scram version) asked credential greeting e.kind old new before after early late)
+  scram_failed greeting (Ok done) old new before after early late described went stopped = tt
+  scram_failed greeting (Err e) old new before after early late described went stopped =
+      let is = handed_same version asked credential greeting api round begun opened.stream_description same begins went described in
+      scram_stopped version asked credential greeting e.kind old new before after early late (subst (λ h. StoppedScram h e.kind old new before after early late) is stopped)
+
+  -- what a login by SCRAM promises is what its conversation does
+  pub scram_converses : {L : Type 0} (state : L → State) (link link' : L) (before after : ℤ) (buffer buffer' : FrameBuffer) (r : Result (Unit {0}) Error) (document : List ℕ) (early late : Ledgers) → kept_fault opened ≡ None
+      → EndsByScram state handed document r (standing opened link before buffer) (standing left link' after buffer') early late → Converses r (Scram version) asked credential round opened left (state link) (state link') before after early late
+  scram_converses state link link' before after buffer buffer' r document early late faultless login = record {
+    accepted = λ greeting described went. scram_done greeting r document (state link) (state link') before after early late described went login.accepted;
+    refused = λ greeting described went. scram_failed greeting r (state link) (state link') before after early late described went (login.refused faultless);
+    faultless = login.script.faultless faultless;
+    keeps = login.script.stops.keeps faultless;
+    rest = login.script.stops.rest;
+    counts = login.script.stops.counts;
+    entries = login.entries;
   }
 
 -- ---- a conversation that costs nothing
@@ -94,36 +109,37 @@ abbrev pub IsPartBy : {A : Type 0} → Plan A → Conversation → Asked → Cre
 IsPartBy plan conversation asked credential held round =
     (greeting : Greeting) → held ≡ Some greeting.description → IsRoundBy (Some conversation) credential asked greeting round → (past : List Event) (turn : Turn Greeting) → followed plan greeting past turn → conversation_plan conversation asked credential greeting past turn
 
-module _ (own conversation : Conversation) (is : conversation ≡ own) (free : scram_in (Some own) ≡ None) (asked : Asked) (credential : Credential) (held : Option StreamDescription) (round : Option FirstRound) {A : Type 0} (plan : Plan A) (part : IsPartBy plan own asked credential held round) where
-  free_accepted : (greeting : Greeting) (old new : State) (before after : ℤ) (ledgers : Ledgers) → CostsNothing ledgers ledgers → AcceptedCosts (scram_in (Some own)) asked credential greeting old new before after ledgers ledgers
-  free_accepted greeting old new before after ledgers nothing = subst (λ version. AcceptedCosts version asked credential greeting old new before after ledgers ledgers) (sym free) nothing
-
-  free_stopped : (greeting : Greeting) (kind : ErrorKind) (old new : State) (before after : ℤ) (ledgers : Ledgers) → CostsNothing ledgers ledgers → StoppedCosts (scram_in (Some own)) asked credential greeting kind old new before after ledgers ledgers
-  free_stopped greeting kind old new before after ledgers nothing = subst (λ version. StoppedCosts version asked credential greeting kind old new before after ledgers ledgers) (sym free) nothing
-
-  free_answered : (r : Result (Unit {0}) Error) (kept : Option ErrorKind) (old new : State) (before after : ℤ) (ledgers : Ledgers) → CostsNothing ledgers ledgers → OnOk r ((answer : A) × Reached plan answer old new before after) → IfErr r (λ e. Stopped plan e.kind old new before after) → IfErr r (λ e. KeepsAfter e.kind kept)
-      → Converses r own asked credential held round kept old new before after ledgers ledgers
-  free_answered (Ok done) kept old new before after ledgers nothing reached stopped keeps = record {
-    accepted = λ greeting described went. record {
-      reached = reached_more (followed plan greeting) (conversation_plan own asked credential greeting) greeting old new before after (part greeting described went) (then_reached plan reached.0 greeting old new before after reached.1);
-      costs = free_accepted greeting old new before after ledgers nothing;
-    };
-    refused = λ greeting described went. tt;
-    keeps = keeps;
+module _ (own conversation : Conversation) (is : conversation ≡ own) (free : scram_in (Some own) ≡ None) (asked : Asked) (credential : Credential) (round : Option FirstRound) (opened left : Connection) {A : Type 0} (plan : Plan A) (part : IsPartBy plan own asked credential opened.stream_description round) where
+  free_done : (greeting : Greeting) (r : Result (Unit {0}) Error) (old new : State) (before after : ℤ) (ledgers : Ledgers) → CostsNothing ledgers ledgers → opened.stream_description ≡ Some greeting.description → IsRoundBy (Some own) credential asked greeting round
+      → OnOk r ((answer : A) × Reached plan answer old new before after) → OnOk r (Conversed own asked credential greeting old new before after ledgers ledgers)
+  free_done greeting (Ok done) old new before after ledgers nothing described went reached = record {
+    reached = reached_more (followed plan greeting) (conversation_plan own asked credential greeting) greeting old new before after (part greeting described went) (then_reached plan reached.0 greeting old new before after reached.1);
+    costs = subst (λ version. AcceptedCosts version asked credential greeting old new before after ledgers ledgers) (sym free) nothing;
   }
-  free_answered (Err e) kept old new before after ledgers nothing reached stopped keeps = record {
-    accepted = λ greeting described went. tt;
-    refused = λ greeting described went. record {
-      stopped = stopped_more (followed plan greeting) (conversation_plan own asked credential greeting) e.kind old new before after (part greeting described went) (then_stopped plan greeting e.kind old new before after stopped);
-      costs = free_stopped greeting e.kind old new before after ledgers nothing;
-    };
-    keeps = keeps;
+  free_done greeting (Err e) old new before after ledgers nothing described went reached = tt
+
+  free_failed : (greeting : Greeting) (r : Result (Unit {0}) Error) (old new : State) (before after : ℤ) (ledgers : Ledgers) → CostsNothing ledgers ledgers → opened.stream_description ≡ Some greeting.description → IsRoundBy (Some own) credential asked greeting round
+      → IfErr r (λ e. Stopped plan e.kind old new before after) → IfErr r (λ e. ConversationStopped own asked credential greeting e.kind old new before after ledgers ledgers)
+  free_failed greeting (Ok done) old new before after ledgers nothing described went stopped = tt
+  free_failed greeting (Err e) old new before after ledgers nothing described went stopped = record {
+    stopped = stopped_more (followed plan greeting) (conversation_plan own asked credential greeting) e.kind old new before after (part greeting described went) (then_stopped plan greeting e.kind old new before after stopped);
+    costs = subst (λ version. StoppedCosts version asked credential greeting e.kind old new before after ledgers ledgers) (sym free) nothing;
   }
 
-  pub free_converses : (r : Result (Unit {0}) Error) (kept : Option ErrorKind) (old new : State) (before after : ℤ) (ledgers : Ledgers) → CostsNothing ledgers ledgers → OnOk r ((answer : A) × Reached plan answer old new before after) → IfErr r (λ e. Stopped plan e.kind old new before after) → IfErr r (λ e. KeepsAfter e.kind kept)
-      → Converses r conversation asked credential held round kept old new before after ledgers ledgers
-  free_converses r kept old new before after ledgers nothing reached stopped keeps =
-      subst (λ c. Converses r c asked credential held round kept old new before after ledgers ledgers) (sym is) (free_answered r kept old new before after ledgers nothing reached stopped keeps)
+  -- what a login that costs nothing promises is what its conversation does
+  pub free_converses : {L : Type 0} (state : L → State) (IsLogin : List (List ℕ) → List (List ℕ) → Type 0) (maximum : ℤ) (link link' : L) (before after : ℤ) (buffer buffer' : FrameBuffer) (r : Result (Unit {0}) Error) (ledgers : Ledgers) → CostsNothing ledgers ledgers → kept_fault opened ≡ None
+      → EndsByScript state plan IsLogin maximum r (standing opened link before buffer) (standing left link' after buffer') → Converses r conversation asked credential round opened left (state link) (state link') before after ledgers ledgers
+  free_converses state IsLogin maximum link link' before after buffer buffer' r ledgers nothing faultless login =
+      let answered : Converses r own asked credential round opened left (state link) (state link') before after ledgers ledgers = record {
+        accepted = λ greeting described went. free_done greeting r (state link) (state link') before after ledgers nothing described went login.accepted;
+        refused = λ greeting described went. free_failed greeting r (state link) (state link') before after ledgers nothing described went (login.stops.refused faultless);
+        faultless = login.faultless faultless;
+        keeps = login.stops.keeps faultless;
+        rest = login.stops.rest;
+        counts = login.stops.counts;
+        entries = on_refusal r _ nothing.entries;
+      } in
+      subst (λ c. Converses r c asked credential round opened left (state link) (state link') before after ledgers ledgers) (sym is) answered
 
 -- ---- PLAIN and X.509
 

@@ -7,9 +7,8 @@ use Rattle.mongo_bson.specs.Framed.{body_of}
 use Rattle.mongo_bson.specs.declared.fault.BsonFault.TheVariants.{TooLong}
 use Rattle.mongo_wire.specs.declared.error.Error.{Error}
 use Rattle.mongo_wire.specs.declared.error.ErrorKind.{ErrorKind}
-use Rattle.mongo_wire.specs.declared.error.ErrorKind.TheVariants.{InvalidArgument, InvalidResponse, Command as CommandFailed, OutOfMemory}
+use Rattle.mongo_wire.specs.declared.error.ErrorKind.TheVariants.{InvalidArgument, OutOfMemory}
 use Rattle.mongo_wire.specs.declared.fault.ArgumentFault.TheVariants.{Bson}
-use Rattle.mongo_wire.specs.declared.fault.ResponseFault.TheVariants.{Hello as HelloFault, SessionTimeout}
 use Rattle.mongo_wire.specs.declared.message.Message.{Message}
 use Rattle.mongo_wire.specs.Outside.{State}
 use Rattle.mongo_wire.specs.Bytes.{first_maximum}
@@ -20,9 +19,9 @@ use Rattle.mongo_command.specs.declared.server_address.ServerAddress.{ServerAddr
 use Rattle.mongo_command.specs.declared.stream_description.StreamDescription.{StreamDescription}
 use Rattle.mongo_command.specs.Command.{argument_elements, command_document}
 use Rattle.mongo_command.specs.Connection.{kept_fault, KeepsRest}
-use Rattle.mongo_command.specs.Conversation.{Plan, Stopped, Reached, plain_message}
+use Rattle.mongo_command.specs.Conversation.{Plan, HasNone, Stopped, Reached, plain_message}
 use Rattle.mongo_command.specs.Exchange.{command_message, frame_maximum, CountsStay}
-use Rattle.mongo_command.specs.Hello.{IsHelloResponse, HelloRefused, DescriptionRefused, TimeoutFits, description_of}
+use Rattle.mongo_command.specs.Hello.{IsHelloResponse, HelloRefused, DescriptionRow, DescriptionRefused, description_of}
 use Rattle.mongo_command.specs.HelloExchange.{RunsHello, RunHelloRefused}
 use Rattle.mongo_command.proofs.Steps.{reached_ending, reached_unless, reached_reading, reached_saying, stopped_memory, stopped_row, stopped_saying, stopped_later}
 use Rattle.mongo_sasl.specs.declared.credential.Credential.{Credential}
@@ -51,26 +50,24 @@ document_longer c least =
 
 -- a hello's reply that was refused
 no_hello : (address : ServerAddress) (kind : ErrorKind) (document : List ℕ) (new : State) (after : ℤ) → HelloRefused kind document → Stopped (after_hello address document) kind new new after after
-no_hello address (CommandFailed error) document new after h = stopped_row _ _ (CommandFailed error) new after h
-no_hello address (InvalidResponse HelloFault) document new after h = stopped_row _ _ (InvalidResponse HelloFault) new after h
-no_hello address OutOfMemory document new after h = stopped_memory _ OutOfMemory new after refl
-no_hello address kind document new after h = absurd h
+no_hello address kind document new after (inl row) = stopped_row _ _ kind new after (inl row)
+no_hello address kind document new after (inr memory) = stopped_memory _ kind new after memory
 
 -- one whose description isn't made
 no_description : (address : ServerAddress) (kind : ErrorKind) (reply : HelloReply) (new : State) (after : ℤ) → IsHelloResponse reply.raw_command_response reply.command_response reply.cluster_time → DescriptionRefused kind reply.command_response → Stopped (after_hello address reply.raw_command_response) kind new new after after
-no_description address (InvalidResponse SessionTimeout) reply new after reads h = stopped_row _ _ (InvalidResponse SessionTimeout) new after (record { response = reply.command_response; time = reply.cluster_time; reads = reads; passes = h })
-no_description address OutOfMemory reply new after reads h = stopped_memory _ OutOfMemory new after refl
-no_description address kind reply new after reads h = absurd h
+no_description address kind reply new after reads (inl row) =
+    stopped_row _ _ kind new after (inr (λ other refuses. refuses.0 reply.command_response reply.cluster_time reads, record { response = reply.command_response; time = reply.cluster_time; reads = reads; row = row }))
+no_description address kind reply new after reads (inr memory) = stopped_memory _ kind new after memory
 
 -- one that describes
-describes : (address : ServerAddress) (reply : HelloReply) (new : State) (after : ℤ) → IsHelloResponse reply.raw_command_response reply.command_response reply.cluster_time → TimeoutFits reply.command_response → Reached (after_hello address reply.raw_command_response) (greeting_in address reply) new new after after
+describes : (address : ServerAddress) (reply : HelloReply) (new : State) (after : ℤ) → IsHelloResponse reply.raw_command_response reply.command_response reply.cluster_time → HasNone (DescriptionRow reply.command_response) → Reached (after_hello address reply.raw_command_response) (greeting_in address reply) new new after after
 unfolding greeting_in
-describes address reply new after reads fits =
+describes address reply new after reads taken =
     let document = reply.raw_command_response in
     let response = reply.command_response in
     let greeting : Greeting = greeting_in address reply in
-    let greets : Greets address document greeting = (refl, record { response = response; time = reply.cluster_time; reads = reads; timeout_fits = fits; description_is = refl; speculative_is = refl; connection_id_is = refl }) in
-    reached_unless _ _ greeting new new after after (λ kind. no_row document kind response reply.cluster_time reads fits) (reached_reading _ _ greeting greeting new new after after greets (reached_ending greeting new after))
+    let greets : Greets address document greeting = (refl, record { response = response; time = reply.cluster_time; reads = reads; taken = taken; description_is = refl; speculative_is = refl; connection_id_is = refl }) in
+    reached_unless _ _ greeting new new after after (λ kind. no_row document kind response reply.cluster_time reads taken) (reached_reading _ _ greeting greeting new new after after greets (reached_ending greeting new after))
 
 -- before a description the first maximum holds
 maximum_before : (description : Option StreamDescription) → description ≡ None → frame_maximum description ≡ first_maximum
@@ -157,6 +154,6 @@ module _ (options : HandshakerOptions) (credential : Option Credential) (login :
       greeted connection at faultless h = record {
         address = at;
         reads = runs.reads;
-        reached = reached_saying (hello_said_with options credential login) (after_hello opened.address) reply.raw_command_response (greeting_in opened.address reply) old new new before after after runs_so.exchanges counts (describes opened.address reply new after runs.reads h.fits);
+        reached = reached_saying (hello_said_with options credential login) (after_hello opened.address) reply.raw_command_response (greeting_in opened.address reply) old new new before after after runs_so.exchanges counts (describes opened.address reply new after runs.reads h.taken);
         described = record { holds = holds connection at h; faultless = h.fault ∙ faultless };
       }

@@ -1,16 +1,14 @@
 -- The hello's plan has one turn, and what it says of its events where it ended.
-use Rattle.std.proofs.Common.{◌≡◌, ℕ, ℤ, ◌∙◌, refl, ap, subst, sym, inr, Option, None, Some, List, [], ◌∷◌}
+use Rattle.std.proofs.Common.{◌≡◌, ℕ, ℤ, ◌∙◌, refl, ap, subst, sym, inl, inr, Option, None, Some, List, [], ◌∷◌}
 use Rattle.mongo_wire.specs.declared.error.ErrorKind.{ErrorKind}
-use Rattle.mongo_wire.specs.declared.error.ErrorKind.TheVariants.{InvalidResponse, Command}
-use Rattle.mongo_wire.specs.declared.fault.ResponseFault.TheVariants.{Hello as HelloFault, SessionTimeout}
 use Rattle.mongo_command.specs.declared.hello.HelloCommandResponse.{HelloCommandResponse}
 use Rattle.mongo_command.specs.declared.server_address.ServerAddress.{ServerAddress}
 use Rattle.mongo_command.specs.declared.stream_description.StreamDescription.{StreamDescription}
 use Rattle.mongo_command.specs.Conversation.{Event, exchanged, IsOne, HasNone, HasOneTurn, ending, reading, saying, IsSendable}
-use Rattle.mongo_command.specs.Hello.{IsHelloResponse, TimeoutFits, description_of}
-use Rattle.mongo_command.proofs.OneReply.{one_hello_response, one_command_error}
+use Rattle.mongo_command.specs.Hello.{IsHelloResponse, DescriptionRow, description_of}
+use Rattle.mongo_command.proofs.OneReply.{one_hello_response, one_hello_reply_row, one_description_row}
 use Rattle.mongo_command.proofs.Ends.{Ends, ends_ending, ends_unless, ends_reading, ends_saying}
-use Rattle.mongo_command.proofs.Plans.{one_is, one_ending, one_unless, one_reading, one_saying}
+use Rattle.mongo_command.proofs.Plans.{one_else, one_is, one_ending, one_unless, one_reading, one_saying}
 use Rattle.mongo_sasl.specs.declared.credential.Credential.{Credential}
 use Rattle.mongo_sasl.specs.declared.mechanism.AuthMechanism.{AuthMechanism}
 use Rattle.mongo_sasl.specs.declared.mechanism.AuthMechanism.TheVariants.{MongoDbCr}
@@ -20,34 +18,23 @@ use Rattle.mongo_establish.specs.declared.conversation.Conversation.TheVariants.
 use Rattle.mongo_establish.specs.Asked.{Asked}
 use Rattle.mongo_establish.specs.Greeting.{Greeting, Greets}
 use Rattle.mongo_establish.specs.Plan.{hello_said, after_hello, hello_plan}
-use Rattle.mongo_establish.specs.Refusal.{DocumentRow}
+use Rattle.mongo_establish.specs.Refusal.{SaidRow, DocumentRow}
 use Rattle.mongo_establish.specs.Speculation.{mechanism_before, ConversationRow, MechanismRow, HelloRow}
 use Rattle.mongo_establish.specs.Spoken.{conversation_of}
 
 -- ---- the reply
 
 -- a hello reply's document calls for no refusal
-pub no_row : (document : List ℕ) (kind : ErrorKind) (response : HelloCommandResponse) (time : Option (List ℕ)) → IsHelloResponse document response time → TimeoutFits response → DocumentRow document kind → ⊥
-no_row document (Command error) response time reads fits row = row.0 response time reads
-no_row document (InvalidResponse HelloFault) response time reads fits row = row.0 response time reads
-no_row document (InvalidResponse SessionTimeout) response time reads fits row = row.passes (subst TimeoutFits (one_hello_response document response row.response time row.time reads row.reads).0 fits)
-no_row document kind response time reads fits row = absurd row
+pub no_row : (document : List ℕ) (kind : ErrorKind) (response : HelloCommandResponse) (time : Option (List ℕ)) → IsHelloResponse document response time → HasNone (DescriptionRow response) → DocumentRow document kind → ⊥
+no_row document kind response time reads taken (inl row) = row.0 response time reads
+no_row document kind response time reads taken (inr (hello, said)) = taken kind (subst (λ r. DescriptionRow r kind) (sym (one_hello_response document response said.response time said.time reads said.reads).0) said.row)
+
+one_said : (document : List ℕ) → IsOne (SaidRow document)
+one_said document a b p q = one_description_row q.response a b (subst (λ r. DescriptionRow r a) (one_hello_response document p.response q.response p.time q.time p.reads q.reads).0 p.row) q.row
 
 -- a document calls for one refusal
 one_document_row : (document : List ℕ) → IsOne (DocumentRow document)
-one_document_row document (Command a) (Command b) p q = ap Command (one_command_error document a b p.1 q.1)
-one_document_row document (Command a) (InvalidResponse HelloFault) p q = absurd (q.1 a p.1)
-one_document_row document (Command a) (InvalidResponse SessionTimeout) p q = absurd (p.0 q.response q.time q.reads)
-one_document_row document (InvalidResponse HelloFault) (Command b) p q = absurd (p.1 b q.1)
-one_document_row document (InvalidResponse HelloFault) (InvalidResponse HelloFault) p q = refl
-one_document_row document (InvalidResponse HelloFault) (InvalidResponse SessionTimeout) p q = absurd (p.0 q.response q.time q.reads)
-one_document_row document (InvalidResponse SessionTimeout) (Command b) p q = absurd (q.0 p.response p.time p.reads)
-one_document_row document (InvalidResponse SessionTimeout) (InvalidResponse HelloFault) p q = absurd (q.0 p.response p.time p.reads)
-one_document_row document (InvalidResponse SessionTimeout) (InvalidResponse SessionTimeout) p q = refl
-one_document_row document (Command a) also p q = absurd q
-one_document_row document (InvalidResponse HelloFault) also p q = absurd q
-one_document_row document (InvalidResponse SessionTimeout) also p q = absurd q
-one_document_row document kind also p q = absurd p
+one_document_row document = one_else _ _ (one_hello_reply_row document) (one_said document)
 
 greeting_of : List ℕ → StreamDescription → Option (List ℕ) → Option ℤ → Greeting
 greeting_of document d x n = record { document = document; description = d; speculative = x; connection_id = n }
@@ -113,5 +100,5 @@ pub greeting_ends : (asked : Asked) (reply : List ℕ) (greeting : Greeting) →
 unfolding hello_plan
 greeting_ends asked reply greeting made sendable greets = record {
   follows = (inr (made, refl), sendable, tt);
-  answer_is = inr (made, inr (λ kind. no_row reply kind greets.1.response greets.1.time greets.1.reads greets.1.timeout_fits, (greeting, greets, refl)));
+  answer_is = inr (made, inr (λ kind. no_row reply kind greets.1.response greets.1.time greets.1.reads greets.1.taken, (greeting, greets, refl)));
 }

@@ -2,9 +2,8 @@
 use Rattle.std.proofs.Common.{ℕ, ℤ, refl, ap, inl, inr, false, Option, None, Some, List}
 use Rattle.mongo_bson.specs.declared.fault.BsonFault.TheVariants.{TooLong}
 use Rattle.mongo_wire.specs.declared.error.ErrorKind.{ErrorKind}
-use Rattle.mongo_wire.specs.declared.error.ErrorKind.TheVariants.{InvalidArgument, InvalidResponse, Command as CommandFailed, OutOfMemory}
+use Rattle.mongo_wire.specs.declared.error.ErrorKind.TheVariants.{InvalidArgument, Command as CommandFailed, OutOfMemory}
 use Rattle.mongo_wire.specs.declared.fault.ArgumentFault.TheVariants.{Bson}
-use Rattle.mongo_wire.specs.declared.fault.ResponseFault.TheVariants.{Hello as HelloFault, SessionTimeout}
 use Rattle.mongo_wire.specs.declared.message.Message.{Message}
 use Rattle.mongo_wire.specs.Outside.{State}
 use Rattle.mongo_command.specs.declared.hello.HelloCommandResponse.{HelloCommandResponse}
@@ -12,6 +11,8 @@ use Rattle.mongo_command.specs.Conversation.{or_else}
 use Rattle.mongo_command.specs.Fault.{is_kept}
 use Rattle.mongo_command.specs.Hello.{HelloRefused, DescriptionRefused}
 use Rattle.mongo_command.specs.HelloExchange.{RunHelloRefused}
+use Rattle.mongo_command.proofs.OneReply.{description_row_own}
+use Rattle.mongo_command.proofs.Plans.{all_else, all_of, all_row}
 use Rattle.mongo_sasl.specs.declared.credential.Credential.{Credential}
 use Rattle.mongo_sasl.specs.declared.mechanism.AuthMechanism.{AuthMechanism}
 use Rattle.mongo_sasl.specs.declared.mechanism.AuthMechanism.TheVariants.{MongoDbCr}
@@ -59,10 +60,8 @@ body_own body kind row = absurd row
 -- ---- the hello
 
 hello_refused_own : (kind : ErrorKind) (document : List ℕ) → HelloRefused kind document → IsOwn kind
-hello_refused_own (CommandFailed error) document row = inl refl
-hello_refused_own (InvalidResponse HelloFault) document row = inl refl
-hello_refused_own OutOfMemory document row = inr refl
-hello_refused_own kind document row = absurd row
+hello_refused_own kind document (inl row) = all_else IsOwn _ _ (all_of IsOwn CommandFailed _ (λ error. inl refl)) (all_row IsOwn _ _ (inl refl)) kind row.1
+hello_refused_own kind document (inr memory) = inr memory
 
 -- one that was refused
 pub run_keeps : (kind : ErrorKind) (maximum : ℤ) (message : Message) (old new : State) (before after : ℤ) (kept : Option ErrorKind) → RunHelloRefused kind maximum message old new before after kept → KeepsAfter kind kept
@@ -71,9 +70,8 @@ run_keeps kind maximum message old new before after kept (inr none) = own_keeps 
 
 -- a reply that doesn't describe the server
 pub description_own : (response : HelloCommandResponse) (kind : ErrorKind) → DescriptionRefused kind response → IsOwn kind
-description_own response (InvalidResponse SessionTimeout) row = inl refl
-description_own response OutOfMemory row = inr refl
-description_own response kind row = absurd row
+description_own response kind (inl row) = inl (description_row_own response kind row).0
+description_own response kind (inr memory) = inr memory
 
 -- ---- a mechanism that doesn't take the credential
 

@@ -104,24 +104,24 @@ module _ (opened : Connection) (options : HandshakerOptions) (given : Option Cre
     abbrev this : Option Credential → Asked
     this c = asked_over opened options c nonces id
 
-    here : (r : Result (Unit {0}) Error) (kept : Option ErrorKind) (old new : State) (before after : ℤ) (early late : Ledgers) → Converses r conversation (this (Some credential)) credential held round kept old new before after early late → Converses r conversation asked credential held round kept old new before after early late
-    here r kept old new before after early late h = subst (λ c. Converses r conversation (this c) credential held round kept old new before after early late) (sym who) h
+    here : (r : Result (Unit {0}) Error) (left : Connection) (old new : State) (before after : ℤ) (early late : Ledgers) → Converses r conversation (this (Some credential)) credential round opened left old new before after early late → Converses r conversation asked credential round opened left old new before after early late
+    here r left old new before after early late h = subst (λ c. Converses r conversation (this c) credential round opened left old new before after early late) (sym who) h
 
     -- its conversation was followed to its end
-    pub log_in_accepted : (r : Result (Unit {0}) Error) (kept : Option ErrorKind) (old new : State) (before after : ℤ) (early late : Ledgers) → Converses r conversation (this (Some credential)) credential held round kept old new before after early late → OnOk r (LogsIn asked held round old new before after early late)
-    log_in_accepted (Ok done) kept old new before after early late h =
-        let conversed = (here (Ok done) kept old new before after early late h).accepted in
+    pub log_in_accepted : (r : Result (Unit {0}) Error) (left : Connection) (old new : State) (before after : ℤ) (early late : Ledgers) → Converses r conversation (this (Some credential)) credential round opened left old new before after early late → OnOk r (LogsIn asked held round old new before after early late)
+    log_in_accepted (Ok done) left old new before after early late h =
+        let conversed = (here (Ok done) left old new before after early late h).accepted in
         record {
           reached = λ greeting described r. conversed_reached asked greeting credential round mechanism who (users greeting described) (went greeting r) (mechanisms greeting described) conversation has taken old new before after early late (conversed greeting described (by_it greeting described r));
           costs = λ greeting described r. conversed_costs asked greeting credential round mechanism who (users greeting described) (went greeting r) (mechanisms greeting described) conversation has taken old new before after early late (conversed greeting described (by_it greeting described r));
         }
-    log_in_accepted (Err e) kept old new before after early late h = tt
+    log_in_accepted (Err e) left old new before after early late h = tt
 
     -- it was stopped
-    pub log_in_stopped : (r : Result (Unit {0}) Error) (kept : Option ErrorKind) (old new : State) (before after : ℤ) (early late : Ledgers) → Converses r conversation (this (Some credential)) credential held round kept old new before after early late → IfErr r (λ e. LoginStops asked held round e.kind old new before after early late)
-    log_in_stopped (Ok done) kept old new before after early late h = tt
-    log_in_stopped (Err e) kept old new before after early late h =
-        let stopped = (here (Err e) kept old new before after early late h).refused in
+    pub log_in_stopped : (r : Result (Unit {0}) Error) (left : Connection) (old new : State) (before after : ℤ) (early late : Ledgers) → Converses r conversation (this (Some credential)) credential round opened left old new before after early late → IfErr r (λ e. LoginStops asked held round e.kind old new before after early late)
+    log_in_stopped (Ok done) left old new before after early late h = tt
+    log_in_stopped (Err e) left old new before after early late h =
+        let stopped = (here (Err e) left old new before after early late h).refused in
         record {
           stopped = λ greeting described r. stopped_stopped asked greeting credential round mechanism who (users greeting described) (went greeting r) (mechanisms greeting described) conversation has taken e.kind old new before after early late (stopped greeting described (by_it greeting described r));
           costs = λ greeting described r. stopped_costs asked greeting credential round mechanism who (users greeting described) (went greeting r) (mechanisms greeting described) conversation has taken e.kind old new before after early late (stopped greeting described (by_it greeting described r));

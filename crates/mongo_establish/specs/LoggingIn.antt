@@ -1,15 +1,18 @@
 -- What a login did over a connection that holds a description, from a first round that went with the hello or without one.
-use Rattle.std.specs.Prelude.{◌≡◌, ℤ, Bool, true, false, Option, Some, Result, Ok, IfErr, OnOk, ⊤}
+use Rattle.std.specs.Prelude.{◌≡◌, ℤ, Bool, true, false, Option, None, Some, Result, Ok, IfErr, OnOk, OnErr, ⊤}
 use Rattle.mongo_wire.specs.declared.error.Error.{Error}
 use Rattle.mongo_wire.specs.declared.error.ErrorKind.{ErrorKind}
 use Rattle.mongo_wire.specs.Outside.{State}
+use Rattle.mongo_command.specs.declared.connection.Connection.{Connection}
 use Rattle.mongo_command.specs.declared.stream_description.StreamDescription.{StreamDescription}
+use Rattle.mongo_command.specs.Connection.{kept_fault, KeepsRest}
 use Rattle.mongo_command.specs.Conversation.{Reached, Stopped}
+use Rattle.mongo_command.specs.Exchange.{CountsStay}
 use Rattle.mongo_sasl.specs.declared.credential.Credential.{Credential}
 use Rattle.mongo_sasl.specs.declared.mechanism.AuthMechanism.{AuthMechanism}
 use Rattle.mongo_sasl.specs.Kept.{KeepsAfter}
 use Rattle.mongo_sasl.specs.Validation.{IsValidated}
-use Rattle.mongo_scram.specs.Costs.{Ledgers}
+use Rattle.mongo_scram.specs.Costs.{Ledgers, SameEntries}
 use Rattle.mongo_establish.specs.declared.conversation.Conversation.{Conversation}
 use Rattle.mongo_establish.specs.declared.first_round.FirstRound.{FirstRound}
 use Rattle.mongo_establish.specs.Asked.{Asked}
@@ -31,12 +34,18 @@ pub record ConversationStopped (conversation : Conversation) (asked : Asked) (cr
   pub stopped : Stopped (conversation_plan conversation asked credential greeting) kind old new before after
   pub costs : StoppedCosts (scram_in (Some conversation)) asked credential greeting kind old new before after first last
 
--- what an answer means, by each greeting that says what the connection holds and what the first round is, and what a refusal
--- leaves the connection to keep
-pub record Converses (result : Result (Unit {0}) Error) (conversation : Conversation) (asked : Asked) (credential : Credential) (held : Option StreamDescription) (round : Option FirstRound) (kept : Option ErrorKind) (old new : State) (before after : ℤ) (first last : Ledgers) : Type 0 where
-  pub accepted : (greeting : Greeting) → held ≡ Some greeting.description → IsRoundBy (Some conversation) credential asked greeting round → OnOk result (Conversed conversation asked credential greeting old new before after first last)
-  pub refused : (greeting : Greeting) → held ≡ Some greeting.description → IsRoundBy (Some conversation) credential asked greeting round → IfErr result (λ e. ConversationStopped conversation asked credential greeting e.kind old new before after first last)
-  pub keeps : IfErr result (λ e. KeepsAfter e.kind kept)
+-- what an answer means and leaves, by each greeting that says what the connection holds and what the first round is
+pub record Converses (result : Result (Unit {0}) Error) (conversation : Conversation) (asked : Asked) (credential : Credential) (round : Option FirstRound) (opened left : Connection) (old new : State) (before after : ℤ) (first last : Ledgers) : Type 0 where
+  pub accepted : (greeting : Greeting) → opened.stream_description ≡ Some greeting.description → IsRoundBy (Some conversation) credential asked greeting round → OnOk result (Conversed conversation asked credential greeting old new before after first last)
+  pub refused : (greeting : Greeting) → opened.stream_description ≡ Some greeting.description → IsRoundBy (Some conversation) credential asked greeting round → IfErr result (λ e. ConversationStopped conversation asked credential greeting e.kind old new before after first last)
+  -- an accepted one leaves the connection without a fault, a refused one with the fault that `KeepsAfter` says
+  pub faultless : OnOk result (kept_fault left ≡ None)
+  pub keeps : IfErr result (λ e. KeepsAfter e.kind (kept_fault left))
+  -- nothing else of the connection changes, and no count of the link falls
+  pub rest : KeepsRest opened left
+  pub counts : CountsStay old new
+  -- a refusal leaves the entries of the cache as they were
+  pub entries : OnErr result (SameEntries first last)
 
 -- ---- a login
 

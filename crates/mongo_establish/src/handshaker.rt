@@ -72,7 +72,7 @@ impl Handshaker {
     ///
     /// Refusals, in this order. Nothing is written at those of [`build_speculative_client_first`], at `Bson(TooLong)` where the
     /// hello is longer than 2147483647 bytes and at `TooLong` where its frame is longer than 50331648. `WriteFault` where the
-    /// link failed to take it; those of [`mongo_wire::Message::read_from`]; `Command`, `Hello`, `SessionTimeout`. Up to here
+    /// link failed to take it; those of [`mongo_wire::FrameBuffer::read`]; `Command`, `Hello`, `SessionTimeout`. Up to here
     /// the connection has no description; then it has that of the reply, and the refusals of the mechanism follow. A
     /// connection on which a fault of the link was met, bytes that are no frame among them, keeps it, and answers it from then on.
     pub fn handshake<L: Link, G: Ledger>(

@@ -21,6 +21,7 @@ mod handshaker;
 mod hello;
 mod login;
 mod login_state;
+mod memory;
 mod options;
 
 pub use client_first::{ClientFirst, build_speculative_client_first};
@@ -31,7 +32,8 @@ pub use establisher::{
 pub use generation::{ConnectionGeneration, Generations, PoolGeneration};
 pub use handshaker::Handshaker;
 pub use login_state::{LoginInputs, LoginState, Nonces};
-pub use mongo_bson::{BsonFault, Bytes, ObjectId, RawDocumentBuf, Text, Texts};
+pub use memory::want_of_memory;
+pub use mongo_bson::{BsonFault, Bytes, Items, ObjectId, RawDocumentBuf, Text, Texts};
 pub use mongo_command::{
     Connection, DEFAULT_PORT, HelloCommandResponse, HelloReply, LastWrite, ServerAddress,
     ServerApi, ServerApiVersion, ServerType, StreamDescription, Tag, Tags, TopologyVersion,

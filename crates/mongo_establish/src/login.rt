@@ -90,12 +90,8 @@ fn converse<L: Link, G: Ledger>(
     steps: &mut Steps<G>,
 ) -> Result<(), Error>
     requires faultless { kept_fault connection.old ≡ None }
-    ensures converses { Converses result conversation (asked_over connection.old options.now (Some credential.now) inputs.now.nonces state.old.ids) credential.now connection.old.stream_description round (kept_fault connection.new)
+    ensures converses { Converses result conversation (asked_over connection.old options.now (Some credential.now) inputs.now.nonces state.old.ids) credential.now round connection.old connection.new
         (L.state link.old) (L.state link.new) state.old.ids state.new.ids (ledgers steps.old state.old.salted) (ledgers steps.new state.new.salted) }
-    ensures entries { OnErr result (entries_of state.new.salted ≡ entries_of state.old.salted) }
-    ensures connection { KeepsRest connection.old connection.new }
-    ensures faultless { OnOk result (kept_fault connection.new ≡ None) }
-    ensures counts { CountsStay (L.state link.old) (L.state link.new) }
 {
     let api = options.auth_options.server_api.as_ref();
     let mut buffer = FrameBuffer::new(alloc);
@@ -139,12 +135,8 @@ fn by_scram<L: Link, G: Ledger>(
     steps: &mut Steps<G>,
 ) -> Result<(), Error>
     requires faultless { kept_fault connection.old ≡ None }
-    ensures converses { Converses result (Scram version) (asked_over connection.old options.now (Some credential.now) inputs.now.nonces state.old.ids) credential.now connection.old.stream_description round (kept_fault connection.new)
+    ensures converses { Converses result (Scram version) (asked_over connection.old options.now (Some credential.now) inputs.now.nonces state.old.ids) credential.now round connection.old connection.new
         (L.state link.old) (L.state link.new) state.old.ids state.new.ids (ledgers steps.old state.old.salted) (ledgers steps.new state.new.salted) }
-    ensures entries { OnErr result (entries_of state.new.salted ≡ entries_of state.old.salted) }
-    ensures connection { KeepsRest connection.old connection.new }
-    ensures faultless { OnOk result (kept_fault connection.new ≡ None) }
-    ensures counts { CountsStay (L.state link.old) (L.state link.new) }
 {
     let mut buffer = FrameBuffer::new(alloc);
     version.authenticate_stream(

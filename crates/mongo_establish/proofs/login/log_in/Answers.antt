@@ -40,3 +40,15 @@ returns-clause-refused g c =
 
 pub returns-clause-keeps : goal.returns-clause-keeps
 returns-clause-keeps g c = c.converse.ensures.converses.keeps
+
+pub returns-clause-entries : goal.returns-clause-entries
+returns-clause-entries g c = c.converse.ensures.converses.entries
+
+pub returns-clause-connection : goal.returns-clause-connection
+returns-clause-connection g c = c.converse.ensures.converses.rest
+
+pub returns-clause-faultless : goal.returns-clause-faultless
+returns-clause-faultless g c = c.converse.ensures.converses.faultless
+
+pub returns-clause-counts : goal.returns-clause-counts
+returns-clause-counts g c = c.converse.ensures.converses.counts
