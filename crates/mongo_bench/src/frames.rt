@@ -2,7 +2,7 @@ ghost use Rattle.std.specs.Prelude.{◌≡◌, ◌≢◌, IfOk};
 ghost use Rattle.mongo_bench.specs.Task.{HasPrinted};
 ghost use Rattle.mongo_bench.specs.Work.{work_of_frames};
 
-use crate::run::{Ran, Status};
+use crate::run::{RanTask, Status};
 use crate::task::{Direction, FrameSize, Task};
 use crate::walking::write_number;
 use crate::work::{Passed, read, read_owned, write};
@@ -23,15 +23,15 @@ pub fn run_frames<W: Write>(
     size: FrameSize,
     count: u32,
     out: &mut W,
-) -> Ran
+) -> RanTask
     ensures done { result.status ≡ Status.Done → HasPrinted (Task.Frames direction size count) (W.contents out.old) (W.contents out.new) }
     ensures work { result.status ≡ Status.Done → result.work ≡ work_of_frames direction count }
     ensures ran { (result.status ≢ Status.Usage) × (result.status ≢ Status.NoWords) }
 {
     // The frames are of the grammar and the memory never fails, so nothing but want of memory is refused.
     match pass_frames(alloc, direction, size, count) {
-        Ok(passed) => Ran::written(write_number(passed.last, out), passed.work),
-        Err(_) => Ran::without_memory(),
+        Ok(passed) => RanTask::written(write_number(passed.last, out), passed.work),
+        Err(_) => RanTask::without_memory(),
     }
 }
 

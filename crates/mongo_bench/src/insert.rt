@@ -3,7 +3,7 @@ ghost use Rattle.std.specs.Prelude.{◌≡◌, ◌≢◌};
 ghost use Rattle.mongo_bench.specs.Task.{HasPrinted};
 ghost use Rattle.mongo_bench.specs.Work.{only_built};
 
-use crate::run::{Ran, Status};
+use crate::run::{RanTask, Status};
 use crate::task::Task;
 use crate::walking::write_number;
 use crate::work::build;
@@ -25,15 +25,15 @@ const SECONDS: u32 = 1_700_000_000;
 const ONE: u64 = 0x3ff0_0000_0000_0000;
 
 /// Builds the command so often, and writes how many bytes the last one had.
-pub fn run_inserts<W: Write>(alloc: Global, count: u32, out: &mut W) -> Ran
+pub fn run_inserts<W: Write>(alloc: Global, count: u32, out: &mut W) -> RanTask
     ensures done { result.status ≡ Status.Done → HasPrinted (Task.Insert count) (W.contents out.old) (W.contents out.new) }
     ensures work { result.status ≡ Status.Done → result.work ≡ only_built count }
     ensures ran { (result.status ≢ Status.Usage) × (result.status ≢ Status.NoWords) }
 {
     // The keys hold no zero and the command is short, so nothing but want of memory is refused.
     match build(alloc, count) {
-        Ok(passed) => Ran::written(write_number(passed.last, out), passed.work),
-        Err(_) => Ran::without_memory(),
+        Ok(passed) => RanTask::written(write_number(passed.last, out), passed.work),
+        Err(_) => RanTask::without_memory(),
     }
 }
 

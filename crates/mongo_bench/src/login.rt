@@ -4,7 +4,7 @@ ghost use Rattle.mongo_bench.specs.Task.{HasPrinted, Costs};
 ghost use Rattle.mongo_bench.specs.Work.{only_logged_in};
 
 use crate::peers::Peers;
-use crate::run::{Ran, Status};
+use crate::run::{RanTask, Status};
 use crate::task::{Hash, Task};
 use crate::walking::write_number;
 use crate::work::{Passed, log_in};
@@ -20,7 +20,7 @@ pub fn run_logins<W: Write, G: Ledger>(
     count: u32,
     out: &mut W,
     steps: &mut Steps<G>,
-) -> Ran
+) -> RanTask
     requires { 1 ≤ count }
     ensures done { result.status ≡ Status.Done → HasPrinted (Task.Login hash count) (W.contents out.old) (W.contents out.new) }
     ensures work { result.status ≡ Status.Done → result.work ≡ only_logged_in count }
@@ -28,8 +28,8 @@ pub fn run_logins<W: Write, G: Ledger>(
     ensures ran { (result.status ≢ Status.Usage) × (result.status ≢ Status.NoWords) }
 {
     match make_logins(alloc, hash, count, steps) {
-        Ok(passed) => Ran::written(write_number(passed.last, out), passed.work),
-        Err(_) => Ran::without_memory(),
+        Ok(passed) => RanTask::written(write_number(passed.last, out), passed.work),
+        Err(_) => RanTask::without_memory(),
     }
 }
 

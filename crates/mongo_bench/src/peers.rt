@@ -3,7 +3,7 @@ ghost use Rattle.mongo_bench.specs.Login.{number_of_hash};
 
 use crate::task::Hash;
 use mongo_establish::{LoginState, RequestIds, SaltedCache};
-use mongo_generate::{Client, Login, generated_server};
+use mongo_generate::{Client, UserLogin, generated_server};
 use mongo_mac::Steps;
 use mongo_server::ServerCore;
 use std::alloc::{AllocError, Global};
@@ -13,7 +13,7 @@ use std::sync::ledger::Ledger;
 pub struct Peers {
     hash: Hash,
     client: Client,
-    login: Login,
+    login: UserLogin,
     server: ServerCore,
     state: LoginState,
 }
@@ -54,7 +54,7 @@ impl Peers {
     {
         let number = number_of(hash);
         let client = Client::new(alloc)?;
-        let login = Login::generated(alloc, number)?;
+        let login = UserLogin::generated(alloc, number)?;
         let server = generated_server(alloc, number, steps)?;
         let state = LoginState {
             salted: SaltedCache::new(alloc),

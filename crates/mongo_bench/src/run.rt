@@ -49,16 +49,16 @@ impl Status {
 
 /// How a run ended, and what was done in it.
 #[derive(Clone, Copy, PartialEq, Eq, Debug)]
-pub struct Ran {
+pub struct RanTask {
     /// How it ended.
     pub status: Status,
     /// What was done, where it ended well.
     pub work: Work,
 }
 
-impl Ran {
+impl RanTask {
     /// The end of a run whose line was written, or wasn't.
-    pub fn written(line: io::Result<()>, work: Work) -> Ran
+    pub fn written(line: io::Result<()>, work: Work) -> RanTask
         ensures done { (result.status ≡ Status.Done) ↔ IsOk line }
         ensures fault { result.status ≢ Status.Done → result.status ≡ Status.SinkFault }
         ensures work { result.work ≡ work }
@@ -67,14 +67,14 @@ impl Ran {
             Ok(()) => Status::Done,
             Err(_) => Status::SinkFault,
         };
-        Ran { status, work }
+        RanTask { status, work }
     }
 
     /// The end of a run for which there was no memory.
-    pub fn without_memory() -> Ran
+    pub fn without_memory() -> RanTask
         ensures { result ≡ record { status = Status.NoMemory; work = nothing_done } }
     {
-        Ran {
+        RanTask {
             status: Status::NoMemory,
             work: Work::nothing(),
         }
@@ -88,7 +88,7 @@ pub fn run<W: Write, G: Ledger>(
     words: &[String],
     out: &mut W,
     steps: &mut Steps<G>,
-) -> Ran
+) -> RanTask
     ensures done { (task : Task) → AsksTask (map string_bytes words.now) task → result.status ≡ Status.Done →
         HasPrinted task (W.contents out.old) (W.contents out.new) }
     // So many passes and frames were done, and no others.
@@ -102,7 +102,7 @@ pub fn run<W: Write, G: Ledger>(
     ensures had_words { result.status ≢ Status.NoWords }
 {
     let Some(task) = task_of(words) else {
-        return Ran {
+        return RanTask {
             status: Status::Usage,
             work: Work::nothing(),
         };
@@ -123,7 +123,7 @@ pub fn run_counted<W: Write, G: Ledger>(
     words: &[String],
     out: &mut W,
     blank: Blank,
-) -> Ran
+) -> RanTask
     requires name { blank.name ≡ G.name }
     requires parts { blank.parts ≡ G.parts }
     requires has_a_part { 0 < G.parts }
@@ -145,7 +145,7 @@ fn run_derivation<W: Write, G: Ledger>(
     count: u32,
     out: &mut W,
     steps: &mut Steps<G>,
-) -> Ran
+) -> RanTask
     requires { 1 ≤ count }
     ensures done { result.status ≡ Status.Done → HasPrinted (Task.Derive hash count) (W.contents out.old) (W.contents out.new) }
     ensures work { result.work ≡ nothing_done }
@@ -153,7 +153,7 @@ fn run_derivation<W: Write, G: Ledger>(
     ensures ran { (result.status ≢ Status.Usage) × (result.status ≢ Status.NoWords) }
 {
     let tag = derive(hash, count, steps);
-    Ran::written(write_line(&tag, out), Work::nothing())
+    RanTask::written(write_line(&tag, out), Work::nothing())
 }
 
 /// The bytes that a derivation gives.

@@ -5,7 +5,7 @@ ghost use Rattle.mongo_bench.specs.Task.{HasPrinted, HasTold};
 ghost use Rattle.mongo_bench.specs.Work.{nothing_done, work_of_pass};
 
 use crate::documents::document_of;
-use crate::run::{Ran, Status};
+use crate::run::{RanTask, Status};
 use crate::task::{Pass, Shape, Task};
 use crate::work::{Work, iterate, judge};
 use itoa::Buffer;
@@ -18,20 +18,26 @@ use std::io::Write;
 const LEVELS: u32 = 100;
 
 /// Makes the document, passes over it so often, and writes what the last pass found.
-pub fn run_walk<W: Write>(alloc: Global, pass: Pass, shape: Shape, count: u32, out: &mut W) -> Ran
+pub fn run_walk<W: Write>(
+    alloc: Global,
+    pass: Pass,
+    shape: Shape,
+    count: u32,
+    out: &mut W,
+) -> RanTask
     requires { 0 < count }
     ensures done { result.status ≡ Status.Done → HasPrinted (Task.Walk pass shape count) (W.contents out.old) (W.contents out.new) }
     ensures work { result.status ≡ Status.Done → result.work ≡ work_of_pass pass count }
     ensures ran { (result.status ≢ Status.Usage) × (result.status ≢ Status.NoWords) }
 {
     let Ok(document) = document_of(alloc, shape) else {
-        return Ran::without_memory();
+        return RanTask::without_memory();
     };
     walk(document.borrow(), pass, count, out)
 }
 
 /// Passes over the document so often, and writes what the last pass found.
-pub fn walk<W: Write>(document: RawDocument<'_>, pass: Pass, count: u32, out: &mut W) -> Ran
+pub fn walk<W: Write>(document: RawDocument<'_>, pass: Pass, count: u32, out: &mut W) -> RanTask
     requires { 0 < count }
     ensures told { result.status ≡ Status.Done → HasTold pass document.entry.bytes.now (W.contents out.old) (W.contents out.new) }
     ensures work { result.work ≡ work_of_pass pass count }
@@ -40,25 +46,25 @@ pub fn walk<W: Write>(document: RawDocument<'_>, pass: Pass, count: u32, out: &m
     match pass {
         Pass::Iterate => {
             let passed = iterate(document, count);
-            Ran::written(write_number(passed.last, out), passed.work)
+            RanTask::written(write_number(passed.last, out), passed.work)
         }
         Pass::Readable => {
             let passed = judge(document, count);
-            Ran::written(write_word(passed.last, out), passed.work)
+            RanTask::written(write_word(passed.last, out), passed.work)
         }
     }
 }
 
 /// Makes the document and writes its bytes.
-pub fn run_document<W: Write>(alloc: Global, shape: Shape, out: &mut W) -> Ran
+pub fn run_document<W: Write>(alloc: Global, shape: Shape, out: &mut W) -> RanTask
     ensures done { result.status ≡ Status.Done → HasPrinted (Task.Document shape) (W.contents out.old) (W.contents out.new) }
     ensures work { result.work ≡ nothing_done }
     ensures ran { (result.status ≢ Status.Usage) × (result.status ≢ Status.NoWords) }
 {
     let Ok(document) = document_of(alloc, shape) else {
-        return Ran::without_memory();
+        return RanTask::without_memory();
     };
-    Ran::written(write_bytes(document.as_bytes(), out), Work::nothing())
+    RanTask::written(write_bytes(document.as_bytes(), out), Work::nothing())
 }
 
 /// How many elements stand in the document and in the documents and arrays inside it, down to 100 levels, up to the first

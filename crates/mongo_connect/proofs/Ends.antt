@@ -12,10 +12,10 @@ use Rattle.mongo_settings.specs.declared.rehearsal.Rehearsal.{Rehearsal}
 use Rattle.mongo_settings.specs.declared.rehearsal.RehearsalStatus.{RehearsalStatus}
 use Rattle.mongo_settings.specs.declared.rehearsal.RehearsalStatus.TheVariants as rehearsal
 use Rattle.mongo_settings.specs.Run.{Run}
-use Rattle.mongo_settings.specs.Settings.{limit}
+use Rattle.mongo_settings.specs.Settings.{maximum_length}
 use Rattle.mongo_settings.specs.Status.{status_after, JudgementDecides}
 use Rattle.mongo_settings.specs.Outcome.{taken_by}
-use Rattle.mongo_settings.specs.Task.{Steps, LoginComesOut}
+use Rattle.mongo_settings.specs.Task.{StepsTaken, LoginComesOut}
 use Rattle.mongo_settings.proofs.Outcomes.{one_status}
 use Rattle.mongo_settings.specs.declared.status.Status.{Status}
 use Rattle.mongo_settings.specs.declared.status.Status.TheVariants.{Done, Refused, BadSettings, Usage, SourceFault, SinkFault, NoMemory, NotBuilt}
@@ -29,7 +29,7 @@ use Rattle.mongo_connect.specs.Run.{Connected, LineRead, Attempt, ConnectReporte
 -- what follows a line is no more than its input
 after_line_short : (input : List ℕ) → length input < 2 ^ 64 → length (after_line input) < 2 ^ 64
 unfolding after_line
-after_line_short input fits = grind (arith, nat_tests, length-drop (position_or_len is_line_feed input + 1) input, length-drop (limit + 1) input)
+after_line_short input fits = grind (arith, nat_tests, length-drop (position_or_len is_line_feed input + 1) input, length-drop (maximum_length + 1) input)
 
 told_after : (input line : List ℕ) (old middle : State) → LineRead line old middle → TellsBytes old input → TellsBytes middle (after_line input)
 told_after input line old middle read told = record {
@@ -52,7 +52,7 @@ faultless_after old middle new on f = record {
   stays a b e = omega arith
 
 -- what the settings of the line asked for, over told bytes
-connected : (input line : List ℕ) (settings : Settings) (steps : Steps) (old middle new : State) (x : Rehearsal) → LineRead line old middle → line_judged line ≡ Ok settings
+connected : (input line : List ℕ) (settings : Settings) (steps : StepsTaken) (old middle new : State) (x : Rehearsal) → LineRead line old middle → line_judged line ≡ Ok settings
     → ((bytes : List ℕ) → TellsBytes middle bytes → Faultless middle new → ReportsConnection settings bytes steps middle new x) → TellsBytes old input → Faultless old new → Connected input steps x old new
 connected input line settings steps old middle new x read judged rehearses told f =
     let r = rehearses (after_line input) (told_after input line old middle read told) (faultless_after old middle new read.on f) in
@@ -67,7 +67,7 @@ connected input line settings steps old middle new x read judged rehearses told 
       counted = r.counted;
     }
 
-pub attempt : (line : List ℕ) (settings : Settings) (steps : Steps) (old middle new : State) (x : Rehearsal)
+pub attempt : (line : List ℕ) (settings : Settings) (steps : StepsTaken) (old middle new : State) (x : Rehearsal)
     → ReadsOn old middle → ((input : List ℕ) → old.left ≡ Some input → line ≡ line_of input) → ((input : List ℕ) → old.left ≡ Some input → middle.left ≡ Some (after_line input))
     → line_judged line ≡ Ok settings → IsConnectionTold settings steps middle new x → ((bytes : List ℕ) → TellsBytes middle bytes → Faultless middle new → ReportsConnection settings bytes steps middle new x) → Attempt steps x old new
 attempt line settings steps old middle new x on line_is left judged told rehearses =
@@ -88,7 +88,7 @@ ok_error judgement settings error p q = cc
 bad_unbuilt : (judgement : Result Settings SettingsError) → judgement ≡ Err Bad → judgement ≡ Err Unbuilt → ⊥
 bad_unbuilt judgement p q = cc
 
-module _ {L K : Type 0} (link : L → State) (sink : K → State) (steps : Steps) (run : Run L K) where
+module _ {L K : Type 0} (link : L → State) (sink : K → State) (steps : StepsTaken) (run : Run L K) where
   -- ---- each end
 
   pub ends_refused : (line : List ℕ) (error : SettingsError) → LineRead line (link run.source) (link run.source_after) → line_judged line ≡ Err error → run.sink_after ≡ run.sink → IsRefusedLine link sink error run

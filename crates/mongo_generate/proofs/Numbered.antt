@@ -12,7 +12,7 @@ use Rattle.mongo_scram.specs.Base64.{base64_of}
 use Rattle.mongo_scram.specs.Key.{IsControl, PasswordRow}
 use Rattle.mongo_scram.specs.Messages.{open_message}
 use Rattle.mongo_establish.specs.declared.login_state.Nonces.{Nonces}
-use Rattle.mongo_generate.specs.declared.user_login.Login.{Login}
+use Rattle.mongo_generate.specs.declared.user_login.UserLogin.{UserLogin}
 use Rattle.mongo_generate.specs.Generated.{version_at, exchange_at, nonces_at}
 use Rattle.mongo_generate.specs.Login.{credential_by, IsUserLogin, IsPossible, IsExchangeClient}
 use Rattle.mongo_generate.proofs.Texts.{length_base64, alike_nonce}
@@ -72,7 +72,7 @@ nonces_as_at k nonces first second =
     let second_is : nonces.second ≡ replicate 32 ((k + 1) % 256) = second ∙ ap (replicate 32) next in
     λ i. record { first = first i; second = second_is i }
 
-pub login_at : {E : Type 0} (k : ℕ) (r : Result Login E) (version : ScramVersion) (username password : List ℕ) (nonces : Nonces) → version ≡ version_at k → username ≡ codes "u" ++ decimal (k % 7) → password ≡ codes "p" ++ decimal (k % 3) → nonces ≡ nonces_at k
+pub login_at : {E : Type 0} (k : ℕ) (r : Result UserLogin E) (version : ScramVersion) (username password : List ℕ) (nonces : Nonces) → version ≡ version_at k → username ≡ codes "u" ++ decimal (k % 7) → password ≡ codes "p" ++ decimal (k % 3) → nonces ≡ nonces_at k
     → IfOk r (IsUserLogin version username password nonces) → IfOk r (IsExchangeClient (exchange_at k))
 login_at k (Ok login) version username password nonces v u p n is = record {
   possible = possible_at k;
@@ -82,6 +82,6 @@ login_at k (Ok login) version username password nonces v u p n is = record {
 }
 login_at k (Err e) version username password nonces v u p n is = tt
 
-pub nonces_of_login : {E : Type 0} (k : ℕ) (r : Result Login E) (version : ScramVersion) (username password : List ℕ) (nonces : Nonces) → nonces ≡ nonces_at k → IfOk r (IsUserLogin version username password nonces) → IfOk r (λ login. login.inputs.nonces ≡ nonces_at k)
+pub nonces_of_login : {E : Type 0} (k : ℕ) (r : Result UserLogin E) (version : ScramVersion) (username password : List ℕ) (nonces : Nonces) → nonces ≡ nonces_at k → IfOk r (IsUserLogin version username password nonces) → IfOk r (λ login. login.inputs.nonces ≡ nonces_at k)
 nonces_of_login k (Ok login) version username password nonces n is = is.nonces_are ∙ n
 nonces_of_login k (Err e) version username password nonces n is = tt

@@ -24,7 +24,7 @@ use Rattle.mongo_establish.specs.Script.{HasScript}
 use Rattle.mongo_establish.proofs.Counting.{costs_some, taken_as_led}
 use Rattle.mongo_establish.proofs.Establishment.{one_script}
 use Rattle.mongo_server.specs.Exchange.{Exchange, close_of}
-use Rattle.mongo_generate.specs.declared.user_login.Login.{Login}
+use Rattle.mongo_generate.specs.declared.user_login.UserLogin.{UserLogin}
 use Rattle.mongo_generate.specs.Acceptance.{IsAcceptedAs, AreExchangeReplies}
 use Rattle.mongo_generate.specs.Login.{IsExchangeClient, KeepsEntries, key_of}
 use Rattle.mongo_generate.specs.Options.{handshaker_options}
@@ -48,7 +48,7 @@ sent_by asked bytes old new after pooled h e is =
     let k : HasScript asked bytes = record { script = e.script; is_script = e.is_script; sent = e.sent; is_written = e.is_written; taken = t.taken; rest = t.rest; joined = t.joined; is_taken = t.is_taken } in
     subst (Appends old.written new.written) (one_script asked bytes k h).sent e.written
 
-module _ (pending : PendingConnection) (options : HandshakerOptions) (first_id : ℤ) (x : Exchange) (login : Login) (bytes : List ℕ) (logs : IsExchangeClient x login) (heard : AreExchangeReplies x bytes) (pool : pending.generation ≡ Normal 0) (usual : options ≡ handshaker_options) (first : first_id ≡ pos 0) where
+module _ (pending : PendingConnection) (options : HandshakerOptions) (first_id : ℤ) (x : Exchange) (login : UserLogin) (bytes : List ℕ) (logs : IsExchangeClient x login) (heard : AreExchangeReplies x bytes) (pool : pending.generation ≡ Normal 0) (usual : options ≡ handshaker_options) (first : first_id ≡ pos 0) where
   abbrev asked : Asked
   asked = asked_for pending options (Some login.credential) login.inputs.nonces first_id
 

@@ -15,7 +15,7 @@ use Rattle.mongo_scram.specs.Validity.{least_count}
 use Rattle.mongo_establish.specs.declared.login_state.Nonces.{Nonces}
 use Rattle.mongo_server.specs.ClientMessages.{IsNonce}
 use Rattle.mongo_server.specs.Exchange.{Exchange, open_of}
-use Rattle.mongo_generate.specs.declared.user_login.Login.{Login}
+use Rattle.mongo_generate.specs.declared.user_login.UserLogin.{UserLogin}
 use Rattle.mongo_generate.specs.Options.{most_iterations}
 
 -- the credential of a user of the database `admin` whose mechanism is given
@@ -23,7 +23,7 @@ abbrev pub credential_by : ScramVersion → List ℕ → List ℕ → Credential
 credential_by version username password = record { username = Some username; source = None; password = Some password; mechanism = Some (mechanism_of version); mechanism_properties = None }
 
 -- the user logs in by these nonces
-pub record IsUserLogin (version : ScramVersion) (username password : List ℕ) (nonces : Nonces) (login : Login) : Type 0 where
+pub record IsUserLogin (version : ScramVersion) (username password : List ℕ) (nonces : Nonces) (login : UserLogin) : Type 0 where
   pub credential_is : login.credential ≡ credential_by version username password
   pub nonces_are : login.inputs.nonces ≡ nonces
   pub first_is : login.client_first ≡ open_message username (base64_of nonces.first)
@@ -38,7 +38,7 @@ pub record IsPossible (x : Exchange) : Type 0 where
   pub short : length x.username + length x.salt + length x.nonce + length x.suffix ≤ 2 ^ 20
 
 -- the login is the client's side of a possible exchange
-pub record IsExchangeClient (x : Exchange) (login : Login) : Type 0 where
+pub record IsExchangeClient (x : Exchange) (login : UserLogin) : Type 0 where
   pub possible : IsPossible x
   pub credential_is : login.credential ≡ credential_by x.version x.username x.password
   pub nonce_is : base64_of login.inputs.nonces.first ≡ x.nonce

@@ -1,7 +1,7 @@
 //! Logins by SCRAM (RFC 5802, over SHA-1 and SHA-256) in memory: a client of `mongo_establish` and a server of
 //! `mongo_server`, which both accept.
 //!
-//! 1. [`Login`] is who logs in, and by which nonce. [`Login::generated`] is the login of a number, and [`generated_server`]
+//! 1. [`UserLogin`] is who logs in, and by which nonce. [`UserLogin::generated`] is the login of a number, and [`generated_server`]
 //!    the server that knows its user.
 //! 2. [`Client::log_in`] hands the server's two messages to the client, as the replies of a link in memory, and the
 //!    client's last message, as it was written to that link, back to the server.
@@ -15,7 +15,6 @@
 mod accepted;
 mod log_in;
 mod logins;
-mod memory;
 mod numbering;
 mod options;
 mod replies;
@@ -26,4 +25,4 @@ pub use accepted::Acceptance;
 pub use logins::{Generated, generate};
 pub use numbering::generated_server;
 pub use options::Client;
-pub use user_login::Login;
+pub use user_login::UserLogin;

@@ -7,14 +7,13 @@ ghost use Rattle.mongo_server.specs.Server.{Serves, HasBegun};
 ghost use Rattle.mongo_generate.specs.Acceptance.{IsAcceptedAs, AreExchangeReplies};
 ghost use Rattle.mongo_generate.specs.Login.{IsExchangeClient};
 
-use crate::memory::want_of_memory;
 use crate::replies::replies_of;
 use crate::written::client_final;
-use crate::{Acceptance, Client, Login};
+use crate::{Acceptance, Client, UserLogin};
 use mongo_bson::Bytes;
 use mongo_establish::{
     Error, ErrorKind, EstablishError, LoginState, MemoryLink, PendingConnection, PoolGeneration,
-    PooledConnection, RequestIds, ServerAddress, Text,
+    PooledConnection, RequestIds, ServerAddress, Text, want_of_memory,
 };
 use mongo_mac::Steps;
 use mongo_server::{ServerCore, ServerFault};
@@ -41,7 +40,7 @@ impl Client {
     pub fn log_in<G: Ledger>(
         &self,
         alloc: Global,
-        login: &Login,
+        login: &UserLogin,
         server: &mut ServerCore,
         state: &mut LoginState,
         steps: &mut Steps<G>,
@@ -80,7 +79,7 @@ impl Client {
     fn establish<G: Ledger>(
         &self,
         alloc: Global,
-        login: &Login,
+        login: &UserLogin,
         replies: Bytes,
         state: &mut LoginState,
         steps: &mut Steps<G>,
@@ -131,7 +130,11 @@ fn acceptance(ended: &Result<PooledConnection, EstablishError>) -> Result<bool, 
 
 // The replies of a server that heard the client's first message. None where it refuses that, or where a message of its own
 // doesn't fit into a reply.
-fn heard(alloc: Global, login: &Login, server: &mut ServerCore) -> Result<Option<Bytes>, AllocError>
+fn heard(
+    alloc: Global,
+    login: &UserLogin,
+    server: &mut ServerCore,
+) -> Result<Option<Bytes>, AllocError>
     ensures heard { (x : Exchange) → IsExchangeClient x login.now → Serves server.old x → IfOk result (λ replies. MatchOption replies ⊥ (AreExchangeReplies x)) }
     ensures begun { (x : Exchange) → IsExchangeClient x login.now → Serves server.old x → OnOk result (HasBegun server.new x) }
     ensures serves { (x : Exchange) → Serves server.old x → Serves server.new x }

@@ -7,7 +7,7 @@ ghost use Rattle.mongo_generate.specs.Acceptance.{acceptance_of};
 ghost use Rattle.mongo_generate.specs.Generated.{exchange_at, last_messages, IsGenerated};
 ghost use Rattle.mongo_generate.specs.Login.{key_of};
 
-use crate::{Acceptance, Client, Login, generated_server};
+use crate::{Acceptance, Client, UserLogin, generated_server};
 use mongo_establish::{LoginState, RequestIds, SaltedCache};
 use mongo_mac::Steps;
 use sha2::{Digest, Sha256};
@@ -85,7 +85,7 @@ fn log_in_numbered<G: Ledger>(
     ensures takes { OnOk result (TakesKey (key_of (exchange_at number)) (ledgers (steps.old + 4096) state.old.salted) (ledgers steps.new state.new.salted)) }
     ensures steps { steps.old ≤ steps.new }
 {
-    let login = Login::generated(alloc, number)?;
+    let login = UserLogin::generated(alloc, number)?;
     let mut server = generated_server(alloc, number, steps)?;
     client.log_in(alloc, &login, &mut server, state, steps)
 }

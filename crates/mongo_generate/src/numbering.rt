@@ -5,11 +5,10 @@ ghost use Rattle.mongo_server.specs.Server.{Serves};
 ghost use Rattle.mongo_generate.specs.Generated.{version_at, exchange_at, nonces_at};
 ghost use Rattle.mongo_generate.specs.Login.{IsExchangeClient};
 
-use crate::Login;
-use crate::memory::want_of_memory;
+use crate::UserLogin;
 use itoa::Buffer;
 use mongo_bson::{BsonFault, Bytes, Text};
-use mongo_establish::{Error, Nonces, ScramVersion};
+use mongo_establish::{Error, Nonces, ScramVersion, want_of_memory};
 use mongo_mac::Steps;
 use mongo_server::{ServerCore, ServerUser};
 use std::alloc::{AllocError, Global};
@@ -18,7 +17,7 @@ use std::sync::ledger::Ledger;
 // The iteration count of each login.
 const COUNT: u32 = 4096;
 
-impl Login {
+impl UserLogin {
     ghost use Rattle.std.specs.Prelude.{◌≡◌, IfOk};
     ghost use Rattle.mongo_generate.specs.Generated.{exchange_at, nonces_at};
     ghost use Rattle.mongo_generate.specs.Login.{IsExchangeClient};
@@ -26,7 +25,7 @@ impl Login {
     /// The login of this number: by SCRAM-SHA-1 where it is even, else by SCRAM-SHA-256; user `u` and the number modulo 7,
     /// password `p` and the number modulo 3; the first nonce is 32 bytes of the number modulo 256, and the second of the
     /// next number.
-    pub fn generated(alloc: Global, number: u32) -> Result<Login, AllocError>
+    pub fn generated(alloc: Global, number: u32) -> Result<UserLogin, AllocError>
         ensures login { IfOk result (IsExchangeClient (exchange_at number)) }
         ensures nonces { IfOk result (λ login. login.inputs.nonces ≡ nonces_at number) }
     {
@@ -37,7 +36,7 @@ impl Login {
     }
 }
 
-fn login_of(alloc: Global, number: u32) -> Result<Login, Error>
+fn login_of(alloc: Global, number: u32) -> Result<UserLogin, Error>
     ensures login { IfOk result (IsExchangeClient (exchange_at number)) }
     ensures nonces { IfOk result (λ login. login.inputs.nonces ≡ nonces_at number) }
     ensures refused { IfErr result (λ e. e.kind ≡ OutOfMemory) }
@@ -48,7 +47,7 @@ fn login_of(alloc: Global, number: u32) -> Result<Login, Error>
         first: [(number % 256) as u8; 32],
         second: [((number % 256 + 1) % 256) as u8; 32],
     };
-    Login::of_user(
+    UserLogin::of_user(
         alloc,
         version_at(number),
         username.as_str(),

@@ -3,10 +3,10 @@ ghost use Rattle.mongo_wire.specs.declared.error.ErrorKind.TheVariants.{OutOfMem
 ghost use Rattle.mongo_establish.specs.Options.{options_of, options_of_establisher};
 ghost use Rattle.mongo_generate.specs.Options.{client_options, handshaker_options};
 
-use crate::memory::want_of_memory;
 use mongo_bson::{BsonFault, Text};
 use mongo_establish::{
     ClientMetadata, ClientOptions, ConnectionEstablisher, Error, EstablisherOptions, TopologySpec,
+    want_of_memory,
 };
 use mongo_meta::{Environment, OsMetadata, Variables};
 use std::alloc::{AllocError, Global};

@@ -2,16 +2,15 @@ ghost use Rattle.std.specs.Prelude.{◌≡◌, Some, IsTrue};
 ghost use Rattle.mongo_scram.specs.Commands.{mechanism_of};
 ghost use Rattle.mongo_generate.specs.Scram.{is_scram};
 
-use crate::memory::want_of_memory;
 use mongo_bson::Text;
 use mongo_establish::{
-    AuthMechanism, Credential, Error, LoginInputs, Moment, Nonces, ScramVersion,
+    AuthMechanism, Credential, Error, LoginInputs, Moment, Nonces, ScramVersion, want_of_memory,
 };
 use mongo_scram::ClientFirst;
 use std::alloc::{AllocError, Global};
 
 /// A user who logs in by SCRAM, and the nonces of the login.
-pub struct Login {
+pub struct UserLogin {
     pub(crate) credential: Credential,
     pub(crate) inputs: LoginInputs,
     // The client's first message.
@@ -20,9 +19,9 @@ pub struct Login {
 }
 
 // Dropped by a call, so that the proofs of its owners don't walk through its parts.
-impl Drop for Login {
+impl Drop for UserLogin {
     fn drop(self) {
-        let Login {
+        let UserLogin {
             credential: _,
             inputs: _,
             client_first: _,
@@ -30,7 +29,7 @@ impl Drop for Login {
     }
 }
 
-impl Login {
+impl UserLogin {
     ghost use Rattle.std.specs.Prelude.{◌≡◌, IfOk, IfErr};
     ghost use Rattle.mongo_wire.specs.declared.error.ErrorKind.TheVariants.{OutOfMemory};
     ghost use Rattle.mongo_generate.specs.Login.{IsUserLogin, credential_by};
@@ -42,10 +41,10 @@ impl Login {
         username: &str,
         password: &str,
         nonces: Nonces,
-    ) -> Result<Login, AllocError>
+    ) -> Result<UserLogin, AllocError>
         ensures login { IfOk result (IsUserLogin version username.now password.now nonces) }
     {
-        match Login::of_user(alloc, version, username, password, nonces) {
+        match UserLogin::of_user(alloc, version, username, password, nonces) {
             Ok(login) => Ok(login),
             Err(error) => Err(want_of_memory(error)),
         }
@@ -58,7 +57,7 @@ impl Login {
         username: &str,
         password: &str,
         nonces: Nonces,
-    ) -> Result<Login, Error>
+    ) -> Result<UserLogin, Error>
         ensures login { IfOk result (IsUserLogin version username.now password.now nonces) }
         ensures refused { IfErr result (λ e. e.kind ≡ OutOfMemory) }
     {
@@ -66,7 +65,7 @@ impl Login {
         let client_first = Text::from_slice(alloc, first.message())?;
         let username = Text::from_slice(alloc, username)?;
         let password = Text::from_slice(alloc, password)?;
-        Ok(Login::with(version, username, password, client_first, nonces))
+        Ok(UserLogin::with(version, username, password, client_first, nonces))
     }
 
     // The login with these parts. Its mechanism is given.
@@ -76,7 +75,7 @@ impl Login {
         password: Text,
         client_first: Text,
         nonces: Nonces,
-    ) -> Login
+    ) -> UserLogin
         ensures credential { result.credential ≡ credential_by version username password }
         ensures nonces { result.inputs.nonces ≡ nonces }
         ensures first { result.client_first ≡ client_first }
@@ -85,7 +84,7 @@ impl Login {
             .username(Some(username))
             .password(Some(password))
             .mechanism(Some(mechanism_of(version)));
-        Login {
+        UserLogin {
             credential,
             inputs: inputs_of(nonces),
             client_first,

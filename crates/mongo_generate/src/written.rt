@@ -1,14 +1,16 @@
 //! What a client wrote.
-ghost use Rattle.std.specs.Prelude.{◌≡◌, ℕ, pos, ◌≤ℤ◌, List, ◌++◌, Some, length, IfOk, MatchResult};
+ghost use Rattle.std.specs.Prelude.{◌≡◌, ℕ, pos, ◌≤ℤ◌, List, ◌++◌, Some, length, IfOk, OnOk, MatchResult};
 ghost use Rattle.mongo_wire.specs.declared.fault.FrameFault.TheVariants.{OutOfMemory};
 ghost use Rattle.mongo_wire.specs.Buffer.{HoldsFrame};
 ghost use Rattle.mongo_wire.specs.Bytes.{first_maximum};
 ghost use Rattle.mongo_wire.specs.Frame.{Frame, IsFrame};
 ghost use Rattle.mongo_wire.specs.Memory.{bytes_left};
+ghost use Rattle.mongo_command.specs.Exchange.{HoldsReply};
 ghost use Rattle.mongo_generate.specs.Written.{IsBinaryOf, CarriesPayload, CarriesPayloadLast};
 
-use crate::memory::want_of_memory;
 use mongo_bson::{Bytes, RawDocument, RawValue};
+use mongo_establish::want_of_memory;
+use mongo_sasl::held_reply;
 use mongo_sasl::keys::PAYLOAD;
 use mongo_wire::{FrameBuffer, FrameFault, MemoryLink};
 use std::alloc::{AllocError, Global};
@@ -20,7 +22,7 @@ pub fn client_final(alloc: Global, written: Bytes) -> Result<Option<Bytes>, Allo
     let mut link = MemoryLink::new(alloc, written);
     let mut buffer = FrameBuffer::new(alloc);
     match take_second(&mut link, &mut buffer) {
-        Ok(()) => payload_held(alloc, &buffer),
+        Ok(()) => payload_of(alloc, held_reply(&buffer)),
         Err(fault) => match fault {
             FrameFault::OutOfMemory => Err(AllocError),
             _ => Ok(None),
@@ -32,6 +34,7 @@ pub fn client_final(alloc: Global, written: Bytes) -> Result<Option<Bytes>, Allo
 fn take_second(link: &mut MemoryLink, buffer: &mut FrameBuffer) -> Result<(), FrameFault>
     ensures second { (payload : List ℕ) (carries : CarriesPayloadLast payload (bytes_left link.old)) →
         MatchResult result (λ _. HoldsFrame carries.second carries.second_parts buffer.new) (λ fault. fault ≡ OutOfMemory) }
+    ensures holds { OnOk result (HoldsReply buffer.new) }
 {
     match take_next(link, buffer) {
         Ok(()) => take_next(link, buffer),
@@ -43,20 +46,11 @@ fn take_second(link: &mut MemoryLink, buffer: &mut FrameBuffer) -> Result<(), Fr
 fn take_next(link: &mut MemoryLink, buffer: &mut FrameBuffer) -> Result<(), FrameFault>
     ensures next { (frame rest : List ℕ) (parts : Frame) → bytes_left link.old ≡ frame ++ rest → IsFrame frame parts → pos (length frame) ≤ℤ first_maximum →
         MatchResult result (λ _. HoldsFrame frame parts buffer.new × (bytes_left link.new ≡ rest)) (λ fault. fault ≡ OutOfMemory) }
+    ensures holds { OnOk result (HoldsReply buffer.new) }
 {
     match buffer.take_frame(link, None) {
         Ok(()) => Ok(()),
         Err(fault) => Err(fault),
-    }
-}
-
-// The payload of the frame that a buffer holds.
-fn payload_held(alloc: Global, buffer: &FrameBuffer) -> Result<Option<Bytes>, AllocError>
-    ensures found { (frame payload : List ℕ) (parts : Frame) → HoldsFrame frame parts buffer.now → CarriesPayload payload parts.body → IfOk result (λ found. found ≡ Some payload) }
-{
-    match buffer.message() {
-        Some(message) => payload_of(alloc, message.document_payload),
-        None => Ok(None),
     }
 }
 

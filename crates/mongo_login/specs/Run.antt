@@ -9,9 +9,9 @@ use Rattle.mongo_settings.specs.declared.rehearsal.RehearsalStatus.TheVariants a
 use Rattle.mongo_settings.specs.declared.status.Status.{Status}
 use Rattle.mongo_settings.specs.declared.status.Status.TheVariants.{Done, Refused, BadSettings, Usage, SourceFault, SinkFault, NoMemory, NotBuilt}
 use Rattle.mongo_settings.specs.Run.{Run, GaveInput}
-use Rattle.mongo_settings.specs.Settings.{limit}
+use Rattle.mongo_settings.specs.Settings.{maximum_length}
 use Rattle.mongo_settings.specs.Status.{EndsAs, JudgementDecides}
-use Rattle.mongo_settings.specs.Task.{Asks, judged_as, Steps, Reports, ComesOut}
+use Rattle.mongo_settings.specs.Task.{Asks, judged_as, StepsTaken, Reports, ComesOut}
 use Rattle.mongo_login.specs.declared.words.Command.{Command}
 use Rattle.mongo_login.specs.declared.words.Command.TheVariants.{Rehearse, Generate}
 use Rattle.mongo_login.specs.Generated.{GenerateEnds}
@@ -22,7 +22,7 @@ use Rattle.mongo_login.specs.Words.{NamesCommand, NamesNone}
 
 -- The source was read to its end, its bytes ask for logins, and exactly the report of these, which ends so, was written after
 -- what was there, all of it flushed.
-pub record Printed (task : Task) (steps : Steps) (status : RehearsalStatus) (input : List ℕ) (source_after sink sink_after : State) : Type 0 where
+pub record Printed (task : Task) (steps : StepsTaken) (status : RehearsalStatus) (input : List ℕ) (source_after sink sink_after : State) : Type 0 where
   pub asks : Asks
   pub asks_are : judged_as task input ≡ Ok asks
   pub read : source_after.left ≡ Some []
@@ -32,7 +32,7 @@ pub record Printed (task : Task) (steps : Steps) (status : RehearsalStatus) (inp
   pub flushed : IsFlushed sink_after
 
 -- a front of the report of the logins was written after what was there
-pub record PrintedFront (task : Task) (steps : Steps) (input : List ℕ) (sink sink_after : State) : Type 0 where
+pub record PrintedFront (task : Task) (steps : StepsTaken) (input : List ℕ) (sink sink_after : State) : Type 0 where
   pub asks : Asks
   pub asks_are : judged_as task input ≡ Ok asks
   pub status : RehearsalStatus
@@ -41,24 +41,24 @@ pub record PrintedFront (task : Task) (steps : Steps) (input : List ℕ) (sink s
   pub front : AppendsFront sink.written sink_after.written text
 
 -- nothing was written, or a front of the report of the logins
-abbrev pub PrintedAtMost : Task → Steps → List ℕ → State → State → Type 0
+abbrev pub PrintedAtMost : Task → StepsTaken → List ℕ → State → State → Type 0
 PrintedAtMost task steps input sink sink_after = Keeps sink.written sink_after.written ⊎ PrintedFront task steps input sink sink_after
 
--- What is left of an input that was read as settings: nothing of one within the limit, and of a longer one what follows
--- the byte past the limit.
+-- What is left of an input that was read as settings: nothing of one within the greatest length, and of a longer one what follows
+-- the byte past the greatest length.
 abbrev pub LeftOver : List ℕ → Option (List ℕ) → Type 0
-LeftOver input left = ((length input ≤ limit) × (left ≡ Some [])) ⊎ ((limit < length input) × (left ≡ Some (drop (limit + 1) input)))
+LeftOver input left = ((length input ≤ maximum_length) × (left ≡ Some [])) ⊎ ((maximum_length < length input) × (left ≡ Some (drop (maximum_length + 1) input)))
 
 -- ---- the ends, one a status
 
 module _ {S K : Type 0} (source : S → State) (sink : K → State) where
   -- the report was written whole; an end of the source was met, and no read failed
-  pub record Reported (task : Task) (steps : Steps) (status : RehearsalStatus) (run : Run S K) : Type 0 where
+  pub record Reported (task : Task) (steps : StepsTaken) (status : RehearsalStatus) (run : Run S K) : Type 0 where
     pub unfailed : NoReadFailed (source run.source) (source run.source_after)
     pub ended : Rose (source run.source).ends (source run.source_after).ends
     pub printed : GaveInput (source run.source) (λ input. Printed task steps status input (source run.source_after) (sink run.sink) (sink run.sink_after))
 
-  -- the text asks for nothing: at most one byte past the limit was read, no read failed, and nothing was written
+  -- the text asks for nothing: at most one byte past the greatest length was read, no read failed, and nothing was written
   pub record IsBad (task : Task) (run : Run S K) : Type 0 where
     pub unfailed : NoReadFailed (source run.source) (source run.source_after)
     pub judged_so : GaveInput (source run.source) (λ input. judged_as task input ≡ Err Bad)
@@ -73,29 +73,30 @@ module _ {S K : Type 0} (source : S → State) (sink : K → State) where
     pub read : GaveInput (source run.source) (λ input. (source run.source_after).left ≡ Some [])
     pub unwritten : run.sink_after ≡ run.sink
 
-  -- the source failed: no end was met before that, no more than one byte past the limit was read, and nothing was written
+  -- the source failed: no end was met before that, no more than one byte past the greatest length was read, and nothing was written
   pub record SourceFailed (run : Run S K) : Type 0 where
     pub unended : NoReadEnded (source run.source) (source run.source_after)
     pub rose : Rose (source run.source).read_faults (source run.source_after).read_faults
-    pub read : ConsumesAtMost (source run.source).left (source run.source_after).left (limit + 1)
+    pub read : ConsumesAtMost (source run.source).left (source run.source_after).left (maximum_length + 1)
     pub unwritten : run.sink_after ≡ run.sink
 
   -- the sink failed: the source was read to its end, no read failed, and a front of the report was written
-  pub record SinkFailed (task : Task) (steps : Steps) (run : Run S K) : Type 0 where
+  pub record SinkFailed (task : Task) (steps : StepsTaken) (run : Run S K) : Type 0 where
     pub unfailed : NoReadFailed (source run.source) (source run.source_after)
     pub rose : Rose (sink run.sink).write_faults (sink run.sink_after).write_faults
     pub ended : Rose (source run.source).ends (source run.source_after).ends
     pub read : GaveInput (source run.source) (λ input. (source run.source_after).left ≡ Some [])
     pub printed : GaveInput (source run.source) (λ input. PrintedFront task steps input (sink run.sink) (sink run.sink_after))
 
-  -- memory ran out: no more than one byte past the limit was read, no read failed, and at most a front of the report was written
-  pub record TaskRanOut (task : Task) (steps : Steps) (run : Run S K) : Type 0 where
+  -- memory ran out: no more than one byte past the greatest length was read, no read failed, and at most a front of the report
+  -- was written
+  pub record TaskRanOut (task : Task) (steps : StepsTaken) (run : Run S K) : Type 0 where
     pub unfailed : NoReadFailed (source run.source) (source run.source_after)
-    pub read : ConsumesAtMost (source run.source).left (source run.source_after).left (limit + 1)
+    pub read : ConsumesAtMost (source run.source).left (source run.source_after).left (maximum_length + 1)
     pub printed : GaveInput (source run.source) (λ input. PrintedAtMost task steps input (sink run.sink) (sink run.sink_after))
 
   -- how a task ends, and the steps that it counted
-  abbrev pub TaskEnds : Task → Steps → Run S K → Status → Type 0
+  abbrev pub TaskEnds : Task → StepsTaken → Run S K → Status → Type 0
   TaskEnds task steps run Done = Reported task steps rehearsal.Accepted run
   TaskEnds task steps run Refused = Reported task steps rehearsal.Refused run
   TaskEnds task steps run BadSettings = IsBad task run
@@ -106,11 +107,11 @@ module _ {S K : Type 0} (source : S → State) (sink : K → State) where
   TaskEnds task steps run NotBuilt = IsUnbuilt task run
 
   -- logins are made, and nothing is read
-  pub record RanGenerate (count : ℕ) (steps : Steps) (run : Run S K) (status : Status) : Type 0 where
+  pub record RanGenerate (count : ℕ) (steps : StepsTaken) (run : Run S K) (status : Status) : Type 0 where
     pub unread : run.source_after ≡ run.source
     pub ends : GenerateEnds sink count steps run.sink run.sink_after status
 
-  abbrev pub CommandEnds : Command → Steps → Run S K → Status → Type 0
+  abbrev pub CommandEnds : Command → StepsTaken → Run S K → Status → Type 0
   CommandEnds (Rehearse task) steps run status = TaskEnds task steps run status
   CommandEnds (Generate count) steps run status = RanGenerate count steps run status
 
@@ -121,13 +122,13 @@ module _ {S K : Type 0} (source : S → State) (sink : K → State) where
     pub unwritten : run.sink_after ≡ run.sink
 
   -- the words name a command that ends so
-  pub record RanCommand (words : List (List ℕ)) (steps : Steps) (run : Run S K) (status : Status) : Type 0 where
+  pub record RanCommand (words : List (List ℕ)) (steps : StepsTaken) (run : Run S K) (status : Status) : Type 0 where
     pub command : Command
     pub named : NamesCommand words command
     pub ends : CommandEnds command steps run status
 
   -- how a run ends
-  abbrev pub RunEnds : List (List ℕ) → Steps → Run S K → Status → Type 0
+  abbrev pub RunEnds : List (List ℕ) → StepsTaken → Run S K → Status → Type 0
   RunEnds words steps run Usage = IsUsage words run
   RunEnds words steps run status = RanCommand words steps run status
 

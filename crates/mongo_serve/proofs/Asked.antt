@@ -12,7 +12,7 @@ use Rattle.mongo_bson.proofs.OneAnswer.{found_or_none, one_found, one_key}
 use Rattle.mongo_command.specs.Keys.{speculative_authenticate_key}
 use Rattle.mongo_scram.specs.declared.scram_version.ScramVersion.{ScramVersion}
 use Rattle.mongo_serve.specs.Settings.{version_named}
-use Rattle.mongo_serve.specs.declared.request.SaslStart.{SaslStart}
+use Rattle.mongo_serve.specs.declared.request.StartRequest.{StartRequest}
 use Rattle.mongo_serve.specs.Requests.{CarriesLogin, HasPayload, IsCommandName, IsCommandNamed, SaysStart, SaysVersion, SkipsEmptyExchange}
 use Rattle.mongo_serve.specs.Values.{binary_of, HasInside, HasOne, HasText, HasTrue, HoldsIfAny, inner_of, SaysOne, IsTrueBoolean, StandsAt, string_of}
 use Rattle.mongo_sasl.specs.Keys.{mechanism_key, options_key, payload_key, sasl_start_key}
@@ -117,6 +117,6 @@ skips_unsaid document none = (λ never. absurd (false≢true never), λ (options
 
 -- ---- the login that a hello carries
 
-pub carried : (document inner : List ℕ) → HasInside document speculative_authenticate_key inner → (start : Option SaslStart) → MatchOption start (IsCommandNamed inner sasl_start_key → ⊥) (SaysStart inner) → CarriesLogin document start
+pub carried : (document inner : List ℕ) → HasInside document speculative_authenticate_key inner → (start : Option StartRequest) → MatchOption start (IsCommandNamed inner sasl_start_key → ⊥) (SaysStart inner) → CarriesLogin document start
 carried document inner inside None none = λ other other_inside named. none (subst (λ i. IsCommandNamed i sasl_start_key) (one_inside document speculative_authenticate_key other inner other_inside inside) named)
 carried document inner inside (Some start) says = record { inner = inner; inside = inside; says = says }

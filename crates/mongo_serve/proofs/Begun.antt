@@ -23,8 +23,8 @@ use Rattle.mongo_serve.specs.Login.{exchange_of}
 use Rattle.mongo_serve.specs.Opened.{NamesUser, Suits, IsFound, IsOpening, BeginsExchange, OpensFor, OpensBy}
 use Rattle.mongo_serve.specs.Sasl.{AsksFor}
 use Rattle.mongo_serve.specs.declared.fault.ServeFault.{ServeFault}
-use Rattle.mongo_serve.specs.declared.open.Opened.{Opened}
-use Rattle.mongo_serve.specs.declared.request.SaslStart.{SaslStart}
+use Rattle.mongo_serve.specs.declared.open.OpenedLogin.{OpenedLogin}
+use Rattle.mongo_serve.specs.declared.request.StartRequest.{StartRequest}
 use Rattle.mongo_serve.specs.declared.settings.Account.{Account}
 use Rattle.mongo_serve.specs.declared.settings.Settings.{Settings}
 use Rattle.mongo_serve.proofs.Accounts.{all_weaker, all_split, one_first_account}
@@ -95,13 +95,13 @@ same_version : (v w : ScramVersion) (o : Option ScramVersion) → o ≡ Some v �
 same_version v w o p q = let same : Some v ≡ Some w = sym p ∙ q in cc
 
 -- nothing is asked for without a mechanism, nor without a message
-pub no_version : (settings : Settings) (start : SaslStart) → start.version ≡ None → (x : Exchange) → AsksFor settings start x → ⊥
+pub no_version : (settings : Settings) (start : StartRequest) → start.version ≡ None → (x : Exchange) → AsksFor settings start x → ⊥
 no_version settings start none x asked = let never : None ≡ Some x.version = sym none ∙ asked.version_is in cc
 
-pub no_message : (settings : Settings) (start : SaslStart) → start.payload ≡ None → (x : Exchange) → AsksFor settings start x → ⊥
+pub no_message : (settings : Settings) (start : StartRequest) → start.payload ≡ None → (x : Exchange) → AsksFor settings start x → ⊥
 no_message settings start none x asked = let never : None ≡ Some (open_of x) = sym (ap option_copied none) ∙ asked.said in cc
 
-module _ (settings : Settings) (start : SaslStart) (version : ScramVersion) (message : Bor (List ℕ)) (version_is : start.version ≡ Some version) (message_is : start.payload ≡ Some message) where
+module _ (settings : Settings) (start : StartRequest) (version : ScramVersion) (message : Bor (List ℕ)) (version_is : start.version ≡ Some version) (message_is : start.payload ≡ Some message) where
   -- the account of what is asked for suits
   asked_suits : (x : Exchange) (asked : AsksFor settings start x) → Suits version message.now asked.of_settings.account
   asked_suits x asked =
@@ -132,7 +132,7 @@ module _ (settings : Settings) (start : SaslStart) (version : ScramVersion) (mes
   }
 
   pub opens_by : (account : Account) (suffix : List ℕ) → IsFound settings.accounts.items version message.now account → suffix ≡ settings.suffix
-      → (found : Option Opened) → OpensFor account suffix message.now start.skips_empty_exchange found → OpensBy settings start found
+      → (found : Option OpenedLogin) → OpensFor account suffix message.now start.skips_empty_exchange found → OpensBy settings start found
   opens_by account suffix is suffix_is None none = λ x asked.
       let of = asked.of_settings in
       let same : of.account ≡ account = one_first_account settings.accounts.items of.account account of.counts (is_first account is) (of_one_user of.account account (asked_suits x asked) is.suits) in
@@ -154,7 +154,7 @@ module _ (settings : Settings) (start : SaslStart) (version : ScramVersion) (mes
       )
 
   pub opens_all : (account : Account) (suffix : List ℕ) → IsFound settings.accounts.items version message.now account → suffix ≡ settings.suffix
-      → (r : Result (Option Opened) ServeFault) → IfOk r (OpensFor account suffix message.now start.skips_empty_exchange) → IfOk r (OpensBy settings start)
+      → (r : Result (Option OpenedLogin) ServeFault) → IfOk r (OpensFor account suffix message.now start.skips_empty_exchange) → IfOk r (OpensBy settings start)
   opens_all account suffix is suffix_is (Ok found) h = opens_by account suffix is suffix_is found h
   opens_all account suffix is suffix_is (Err fault) h = tt
 

@@ -10,7 +10,7 @@ use Rattle.mongo_wire.specs.Header.{header_bytes}
 use Rattle.mongo_wire.specs.Outside.{State, AppendsFront, IsFlushed}
 use Rattle.mongo_wire.specs.declared.header.Header.{Header}
 use Rattle.mongo_serve.specs.declared.fault.ServeFault.{ServeFault}
-use Rattle.mongo_serve.specs.declared.reply.HelloReply.{HelloReply}
+use Rattle.mongo_serve.specs.declared.reply.HelloAnswer.{HelloAnswer}
 use Rattle.mongo_serve.specs.declared.reply.Reply.{Reply}
 use Rattle.mongo_serve.specs.declared.reply.SaslReply.{SaslReply}
 use Rattle.mongo_serve.specs.Replies.{description, hello_reply_elements, mechanism_elements, speculation_elements, sasl_document, writable_key, document_of_served}
@@ -24,7 +24,7 @@ speculated elements new speculation message bytes r given same h =
 regroup : (d : List Element) (a : Element) (m s : List Element) (o : Element) → (((d ++ a ∷ []) ++ m) ++ s) ++ o ∷ [] ≡ d ++ (a ∷ (m ++ (s ++ o ∷ [])))
 regroup d a m s o = append_assoc ((d ++ a ∷ []) ++ m) s (o ∷ []) ∙ append_assoc (d ++ a ∷ []) m (s ++ o ∷ []) ∙ append_assoc d (a ∷ []) (m ++ (s ++ o ∷ []))
 
-pub hello_described : (hello : HelloReply) (key : List ℕ) → key ≡ writable_key hello.is_legacy
+pub hello_described : (hello : HelloAnswer) (key : List ℕ) → key ≡ writable_key hello.is_legacy
     → document_of ((((description ++ boolean_element key true ∷ []) ++ mechanism_elements hello.mechanisms) ++ speculation_elements hello.speculation) ++ ok_element ∷ []) ≡ document_of (hello_reply_elements hello)
 hello_described hello key named =
     let m = mechanism_elements hello.mechanisms in

@@ -2,9 +2,9 @@
 use Rattle.std.proofs.Common.{◌≡◌, ℕ, Bool, true, false, Option, None, Some, IfSome, List, [], ◌∷◌, ◌++◌, option_copied, refl, sym, ap, ◌∙◌, subst, append_assoc}
 use Rattle.std.specs.Borrow.{Bor}
 use Rattle.mongo_server.specs.Exchange.{Exchange, open_of, close_of}
-use Rattle.mongo_serve.specs.declared.open.Opened.{Opened}
-use Rattle.mongo_serve.specs.declared.request.SaslStart.{SaslStart}
-use Rattle.mongo_serve.specs.declared.session.Login.{Login}
+use Rattle.mongo_serve.specs.declared.open.OpenedLogin.{OpenedLogin}
+use Rattle.mongo_serve.specs.declared.request.StartRequest.{StartRequest}
+use Rattle.mongo_serve.specs.declared.session.OpenLogin.{OpenLogin}
 use Rattle.mongo_serve.specs.declared.session.Session.{Session}
 use Rattle.mongo_serve.specs.declared.settings.Settings.{Settings}
 use Rattle.mongo_serve.specs.Requests.{OpensLogin, SaysSaslContinue}
@@ -46,7 +46,7 @@ pub user_later : (settings : Settings) (user : Option (List ℕ)) (requests : Li
 user_later settings None requests d h = tt
 user_later settings (Some name) requests d h = logged_in_later settings name requests d h
 
-pub login_later : (settings : Settings) (login : Option Login) (requests : List (List ℕ)) (d : List ℕ) → IfSome login (IsOpenLogin settings requests)
+pub login_later : (settings : Settings) (login : Option OpenLogin) (requests : List (List ℕ)) (d : List ℕ) → IfSome login (IsOpenLogin settings requests)
     → IfSome login (IsOpenLogin settings (requests ++ d ∷ []))
 login_later settings None requests d h = tt
 login_later settings (Some login) requests d h = record {
@@ -73,7 +73,7 @@ said_is : (P : List ℕ → Type 0) (message : Option (Bor (List ℕ))) (text : 
 said_is P None text is h = let never : None ≡ Some text = is in absurd (cc never)
 said_is P (Some m) text is h = let same : Some m.now ≡ Some text = is in let one : m.now ≡ text = cc in subst P one h
 
-pub opens_with : (settings : Settings) (requests : List (List ℕ)) (d : List ℕ) (start : SaslStart) (opened : Opened) → OpensBy settings start (Some opened) → IfSome start.payload (λ p. OpensLogin d p.now)
+pub opens_with : (settings : Settings) (requests : List (List ℕ)) (d : List ℕ) (start : StartRequest) (opened : OpenedLogin) → OpensBy settings start (Some opened) → IfSome start.payload (λ p. OpensLogin d p.now)
     → IsOpenLogin settings (requests ++ d ∷ []) opened.login
 opens_with settings requests d start opened (x, asked, begins) said = record {
   x = x;
@@ -90,9 +90,9 @@ opens_with settings requests d start opened (x, asked, begins) said = record {
 -- ---- a login that ends
 
 -- the client's last message proves the key, and the user is logged in
-pub logged_in_now : (settings : Settings) (requests : List (List ℕ)) (d : List ℕ) (login : Login) → (h : IsOpenLogin settings requests login) → SaysSaslContinue d (close_of h.x) → HasLoggedIn settings login.name (requests ++ d ∷ [])
+pub logged_in_now : (settings : Settings) (requests : List (List ℕ)) (d : List ℕ) (login : OpenLogin) → (h : IsOpenLogin settings requests login) → SaysSaslContinue d (close_of h.x) → HasLoggedIn settings login.name (requests ++ d ∷ [])
 logged_in_now settings requests d login h c = record { x = h.x; of_settings = h.of_settings; name_is = h.name_is; proved = proved_now h.x requests d h.opened c }
 
 -- the key was proved before
-pub logged_in_before : (settings : Settings) (requests : List (List ℕ)) (d : List ℕ) (login : Login) → IsOpenLogin settings requests login → login.is_proved ≡ true → HasLoggedIn settings login.name (requests ++ d ∷ [])
+pub logged_in_before : (settings : Settings) (requests : List (List ℕ)) (d : List ℕ) (login : OpenLogin) → IsOpenLogin settings requests login → login.is_proved ≡ true → HasLoggedIn settings login.name (requests ++ d ∷ [])
 logged_in_before settings requests d login h is = record { x = h.x; of_settings = h.of_settings; name_is = h.name_is; proved = proved_later h.x requests d (h.proved is) }

@@ -12,7 +12,7 @@ use Rattle.mongo_serve.specs.Faults.{IsOfDocument}
 use Rattle.mongo_serve.specs.Replies.{description, hello_reply_elements, mechanism_elements, names_document, sasl_document, speculation_elements, writable_key}
 use Rattle.mongo_serve.specs.declared.fault.ServeFault.{ServeFault}
 use Rattle.mongo_serve.specs.declared.fault.ServeFault.TheVariants.{ReadFault, WriteFault, CutFrame, NoFrame, NoHello, ReplyTooLong, TooManyRequests, OutOfMemory}
-use Rattle.mongo_serve.specs.declared.reply.HelloReply.{HelloReply}
+use Rattle.mongo_serve.specs.declared.reply.HelloAnswer.{HelloAnswer}
 use Rattle.mongo_serve.specs.declared.reply.Mechanisms.{Mechanisms}
 use Rattle.mongo_serve.specs.declared.reply.SaslReply.{SaslReply}
 use Rattle.mongo_serve.proofs.Described.{hello_described}
@@ -64,27 +64,27 @@ front_shorter xs ys =
 abbrev pub written : List ℕ → List Element
 written key = description ++ boolean_element key true ∷ []
 
-hello_front : (hello : HelloReply) (key : List ℕ) → key ≡ writable_key hello.is_legacy → (xs ys : List Element)
+hello_front : (hello : HelloAnswer) (key : List ℕ) → key ≡ writable_key hello.is_legacy → (xs ys : List Element)
     → xs ++ ys ≡ ((written key ++ mechanism_elements hello.mechanisms) ++ speculation_elements hello.speculation) ++ ok_element ∷ [] → length (document_of xs) ≤ length (document_of (hello_reply_elements hello))
 hello_front hello key named xs ys e = omega (arith, front_shorter xs ys, ap length (ap document_of e ∙ hello_described hello key named))
 
-pub to_writable : (hello : HelloReply) (key : List ℕ) → key ≡ writable_key hello.is_legacy → length (document_of (written key)) ≤ length (document_of (hello_reply_elements hello))
+pub to_writable : (hello : HelloAnswer) (key : List ℕ) → key ≡ writable_key hello.is_legacy → length (document_of (written key)) ≤ length (document_of (hello_reply_elements hello))
 to_writable hello key named =
     let m = mechanism_elements hello.mechanisms in
     let s = speculation_elements hello.speculation in
     hello_front hello key named (written key) (m ++ (s ++ ok_element ∷ [])) (sym (append_assoc (written key ++ m) s (ok_element ∷ []) ∙ append_assoc (written key) m (s ++ ok_element ∷ [])))
 
-pub to_mechanisms : (hello : HelloReply) (key : List ℕ) → key ≡ writable_key hello.is_legacy → length (document_of (written key ++ mechanism_elements hello.mechanisms)) ≤ length (document_of (hello_reply_elements hello))
+pub to_mechanisms : (hello : HelloAnswer) (key : List ℕ) → key ≡ writable_key hello.is_legacy → length (document_of (written key ++ mechanism_elements hello.mechanisms)) ≤ length (document_of (hello_reply_elements hello))
 to_mechanisms hello key named =
     let m = mechanism_elements hello.mechanisms in
     let s = speculation_elements hello.speculation in
     hello_front hello key named (written key ++ m) (s ++ ok_element ∷ []) (sym (append_assoc (written key ++ m) s (ok_element ∷ [])))
 
-pub to_speculation : (hello : HelloReply) (key : List ℕ) → key ≡ writable_key hello.is_legacy
+pub to_speculation : (hello : HelloAnswer) (key : List ℕ) → key ≡ writable_key hello.is_legacy
     → length (document_of ((written key ++ mechanism_elements hello.mechanisms) ++ speculation_elements hello.speculation)) ≤ length (document_of (hello_reply_elements hello))
 to_speculation hello key named = hello_front hello key named ((written key ++ mechanism_elements hello.mechanisms) ++ speculation_elements hello.speculation) (ok_element ∷ []) refl
 
-pub to_ok : (hello : HelloReply) (key : List ℕ) → key ≡ writable_key hello.is_legacy
+pub to_ok : (hello : HelloAnswer) (key : List ℕ) → key ≡ writable_key hello.is_legacy
     → length (document_of (((written key ++ mechanism_elements hello.mechanisms) ++ speculation_elements hello.speculation) ++ ok_element ∷ [])) ≤ length (document_of (hello_reply_elements hello))
 to_ok hello key named =
     let all = ((written key ++ mechanism_elements hello.mechanisms) ++ speculation_elements hello.speculation) ++ ok_element ∷ [] in

@@ -1,14 +1,14 @@
 -- What a session answers.
 use Rattle.std.specs.Prelude.{◌≡◌, ℕ, Option, None, Some, List}
-use Rattle.mongo_serve.specs.declared.reply.HelloReply.{HelloReply}
-use Rattle.mongo_serve.specs.declared.reply.Refusal.TheVariants.{AuthenticationFailed, Unauthorized, CommandNotFound}
+use Rattle.mongo_serve.specs.declared.reply.HelloAnswer.{HelloAnswer}
+use Rattle.mongo_serve.specs.declared.reply.RefusedCommand.TheVariants.{AuthenticationFailed, Unauthorized, CommandNotFound}
 use Rattle.mongo_serve.specs.declared.reply.Reply.{Reply}
 use Rattle.mongo_serve.specs.declared.reply.Reply.TheVariants.{Hello as Described, Sasl, BuildInfo as Version, Done, Refused}
 use Rattle.mongo_serve.specs.declared.reply.SaslReply.{SaslReply}
 use Rattle.mongo_serve.specs.declared.request.Hello.{Hello as Greeting}
 use Rattle.mongo_serve.specs.declared.request.Request.{Request}
 use Rattle.mongo_serve.specs.declared.request.Request.TheVariants.{Hello, SaslStart, SaslContinue, Ping, BuildInfo, EndSessions, Other}
-use Rattle.mongo_serve.specs.declared.request.SaslStart.{SaslStart as Start}
+use Rattle.mongo_serve.specs.declared.request.StartRequest.{StartRequest as Start}
 use Rattle.mongo_serve.specs.declared.session.Session.{Session}
 use Rattle.mongo_serve.specs.declared.settings.Settings.{Settings}
 use Rattle.mongo_serve.specs.Accounts.{AreMechanismsOf}
@@ -30,7 +30,7 @@ AnswersCarried settings old None new answer = (answer ≡ None) × (new ≡ old)
 AnswersCarried settings old (Some start) new answer = AnswersStart settings start new answer
 
 -- A hello is answered by the mechanisms of the user that it asks for, and by what the login comes to that it carries.
-pub record AnswersHello (settings : Settings) (old : Session) (hello : Greeting) (new : Session) (reply : HelloReply) : Type 0 where
+pub record AnswersHello (settings : Settings) (old : Session) (hello : Greeting) (new : Session) (reply : HelloAnswer) : Type 0 where
   pub user : new.user ≡ old.user
   pub legacy : reply.is_legacy ≡ hello.is_legacy
   pub mechanisms : AreMechanismsOf settings.accounts.items hello.mechanisms_of reply.mechanisms

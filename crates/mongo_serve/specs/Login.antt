@@ -6,7 +6,7 @@ use Rattle.mongo_server.specs.Exchange.{Exchange, open_of, close_of}
 use Rattle.mongo_server.specs.Server.{HasBegun}
 use Rattle.mongo_wire.specs.declared.error.ErrorKind.{ErrorKind}
 use Rattle.mongo_serve.specs.Accounts.{IsFirstAccount}
-use Rattle.mongo_serve.specs.declared.session.Login.{Login}
+use Rattle.mongo_serve.specs.declared.session.OpenLogin.{OpenLogin}
 use Rattle.mongo_serve.specs.declared.session.Session.{Session}
 use Rattle.mongo_serve.specs.declared.settings.Account.{Account}
 use Rattle.mongo_serve.specs.declared.settings.Settings.{Settings}
@@ -53,7 +53,7 @@ pub record HasLoggedIn (settings : Settings) (name : List ℕ) (requests : List 
 -- ---- what a session holds after these requests
 
 -- a login that goes on
-pub record IsOpenLogin (settings : Settings) (requests : List (List ℕ)) (login : Login) : Type 0 where
+pub record IsOpenLogin (settings : Settings) (requests : List (List ℕ)) (login : OpenLogin) : Type 0 where
   pub x : Exchange
   pub of_settings : IsExchange settings x
   pub name_is : login.name ≡ x.username

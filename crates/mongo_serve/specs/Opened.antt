@@ -8,8 +8,8 @@ use Rattle.mongo_scram.specs.declared.scram_version.ScramVersion.{ScramVersion}
 use Rattle.mongo_server.specs.ClientMessages.{IsNonce}
 use Rattle.mongo_server.specs.Exchange.{Exchange, first_of}
 use Rattle.mongo_wire.specs.declared.error.ErrorKind.{ErrorKind}
-use Rattle.mongo_serve.specs.declared.open.Opened.{Opened}
-use Rattle.mongo_serve.specs.declared.request.SaslStart.{SaslStart}
+use Rattle.mongo_serve.specs.declared.open.OpenedLogin.{OpenedLogin}
+use Rattle.mongo_serve.specs.declared.request.StartRequest.{StartRequest}
 use Rattle.mongo_serve.specs.declared.settings.Account.{Account}
 use Rattle.mongo_serve.specs.declared.settings.Settings.{Settings}
 use Rattle.mongo_serve.specs.Login.{exchange_of}
@@ -46,16 +46,16 @@ pub record IsOpening (account : Account) (suffix message nonce : List ℕ) : Typ
   pub said : message ≡ open_message account.name nonce
 
 -- a login of the exchange has begun, and the answer is the server's first message
-pub record BeginsExchange (x : Exchange) (skips : Bool) (opened : Opened) : Type 0 where
+pub record BeginsExchange (x : Exchange) (skips : Bool) (opened : OpenedLogin) : Type 0 where
   pub begun : IsBegun x skips opened.login
   pub answer_is : opened.answer ≡ first_of x
 
 -- what the message comes to at an account
-abbrev pub OpensFor : Account → List ℕ → List ℕ → Bool → Option Opened → Type 0
+abbrev pub OpensFor : Account → List ℕ → List ℕ → Bool → Option OpenedLogin → Type 0
 OpensFor account suffix message skips None = (nonce : List ℕ) → IsOpening account suffix message nonce → ⊥
 OpensFor account suffix message skips (Some opened) = (nonce : List ℕ) × IsOpening account suffix message nonce × BeginsExchange (exchange_of account suffix nonce) skips opened
 
 -- what a `saslStart` comes to: a login begins exactly where it asks for an exchange of the settings
-abbrev pub OpensBy : Settings → SaslStart → Option Opened → Type 0
+abbrev pub OpensBy : Settings → StartRequest → Option OpenedLogin → Type 0
 OpensBy settings start None = (x : Exchange) → AsksFor settings start x → ⊥
 OpensBy settings start (Some opened) = (x : Exchange) × AsksFor settings start x × BeginsExchange x start.skips_empty_exchange opened

@@ -10,12 +10,12 @@ use Rattle.mongo_scram.specs.Version.{version_name}
 use Rattle.mongo_scram.specs.declared.scram_version.ScramVersion.TheVariants as version
 use Rattle.mongo_serve.specs.declared.reply.Reply.{Reply}
 use Rattle.mongo_serve.specs.declared.reply.Reply.TheVariants.{Hello, Sasl, BuildInfo, Done, Refused}
-use Rattle.mongo_serve.specs.declared.reply.HelloReply.{HelloReply}
+use Rattle.mongo_serve.specs.declared.reply.HelloAnswer.{HelloAnswer}
 use Rattle.mongo_serve.specs.declared.reply.SaslReply.{SaslReply}
 use Rattle.mongo_serve.specs.declared.reply.Mechanisms.{Mechanisms}
 use Rattle.mongo_serve.specs.declared.reply.Mechanisms.TheVariants.{Sha1, Sha256, Both}
-use Rattle.mongo_serve.specs.declared.reply.Refusal.{Refusal}
-use Rattle.mongo_serve.specs.declared.reply.Refusal.TheVariants.{AuthenticationFailed, Unauthorized, CommandNotFound}
+use Rattle.mongo_serve.specs.declared.reply.RefusedCommand.{RefusedCommand}
+use Rattle.mongo_serve.specs.declared.reply.RefusedCommand.TheVariants.{AuthenticationFailed, Unauthorized, CommandNotFound}
 
 -- the greatest document and the greatest frame, in bytes
 abbrev pub document_maximum : ℤ
@@ -42,7 +42,7 @@ done_document = document_of (ok_element ∷ [])
 abbrev pub error_document : List ℕ → ℤ → List ℕ → List ℕ
 error_document message code name = document_of (double_element ok_key 0 ∷ text_element errmsg_key message ∷ int32_element code_key code ∷ text_element code_name_key name ∷ [])
 
-abbrev pub refusal_document : Refusal → List ℕ
+abbrev pub refusal_document : RefusedCommand → List ℕ
 refusal_document AuthenticationFailed = error_document (codes "Authentication failed.") (pos 18) (codes "AuthenticationFailed")
 refusal_document Unauthorized = error_document (codes "Command requires authentication") (pos 13) (codes "Unauthorized")
 refusal_document (CommandNotFound name) = error_document (codes "no such command: '" ++ (name ++ codes "'")) (pos 59) (codes "CommandNotFound")
@@ -101,7 +101,7 @@ abbrev pub speculation_elements : Option SaslReply → List Element
 speculation_elements None = []
 speculation_elements (Some message) = document_element speculative_authenticate_key (sasl_document message) ∷ []
 
-abbrev pub hello_reply_elements : HelloReply → List Element
+abbrev pub hello_reply_elements : HelloAnswer → List Element
 hello_reply_elements hello = description ++ (boolean_element (writable_key hello.is_legacy) true ∷ (mechanism_elements hello.mechanisms ++ (speculation_elements hello.speculation ++ ok_element ∷ [])))
 
 -- ---- the document of a reply

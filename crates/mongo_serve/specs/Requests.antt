@@ -11,8 +11,8 @@ use Rattle.mongo_serve.specs.Values.{HasInside, HasText, HasTrue, HasOne, HoldsI
 use Rattle.mongo_serve.specs.declared.request.Request.{Request}
 use Rattle.mongo_serve.specs.declared.request.Request.TheVariants.{Hello as Greeting, SaslStart as Starting, SaslContinue as Continuing, Ping, BuildInfo, EndSessions, Other}
 use Rattle.mongo_serve.specs.declared.request.Hello.{Hello}
-use Rattle.mongo_serve.specs.declared.request.SaslStart.{SaslStart}
-use Rattle.mongo_serve.specs.declared.request.SaslContinue.{SaslContinue}
+use Rattle.mongo_serve.specs.declared.request.StartRequest.{StartRequest}
+use Rattle.mongo_serve.specs.declared.request.ContinueRequest.{ContinueRequest}
 use Rattle.mongo_sasl.specs.Keys.{conversation_id_key, mechanism_key, options_key, payload_key, sasl_continue_key, sasl_start_key}
 
 -- the document's command
@@ -65,20 +65,20 @@ abbrev pub SkipsEmptyExchange : List ℕ → Type 0
 SkipsEmptyExchange document = (options : List ℕ) × HasInside document options_key options × HasTrue options (codes "skipEmptyExchange")
 
 -- a `saslStart`
-pub record SaysStart (document : List ℕ) (start : SaslStart) : Type 0 where
+pub record SaysStart (document : List ℕ) (start : StartRequest) : Type 0 where
   pub named : IsCommandNamed document sasl_start_key
   pub version : SaysVersion document start.version
   pub message : HoldsIfAny (HasPayload document) start.payload
   pub skips : IsTrue start.skips_empty_exchange ↔ SkipsEmptyExchange document
 
 -- a login that a hello carries
-pub record CarriesStart (document : List ℕ) (start : SaslStart) : Type 0 where
+pub record CarriesStart (document : List ℕ) (start : StartRequest) : Type 0 where
   pub inner : List ℕ
   pub inside : HasInside document speculative_authenticate_key inner
   pub says : SaysStart inner start
 
 -- the login that a hello carries; none where what it carries is no `saslStart`
-abbrev pub CarriesLogin : List ℕ → Option SaslStart → Type 0
+abbrev pub CarriesLogin : List ℕ → Option StartRequest → Type 0
 CarriesLogin document None = (inner : List ℕ) → HasInside document speculative_authenticate_key inner → IsCommandNamed inner sasl_start_key → ⊥
 CarriesLogin document (Some start) = CarriesStart document start
 
@@ -102,7 +102,7 @@ pub record SaysHello (document : List ℕ) (hello : Hello) : Type 0 where
   pub speculation : CarriesLogin document hello.speculation
 
 -- a `saslContinue`
-pub record SaysContinue (document : List ℕ) (next : SaslContinue) : Type 0 where
+pub record SaysContinue (document : List ℕ) (next : ContinueRequest) : Type 0 where
   pub named : IsCommandNamed document sasl_continue_key
   pub conversation : IsTrue next.is_of_conversation ↔ HasOne document conversation_id_key
   pub message : HoldsIfAny (HasPayload document) next.payload

@@ -8,6 +8,7 @@ use Rattle.hex.specs.Hex.{decode_of}
 use Rattle.serde_json.specs.Data.{Data, Items, no_items, item}
 use Rattle.serde_json.specs.Find.{get, as_number, as_u64, as_str, as_array}
 use Rattle.serde_json.specs.Read.{read}
+use Rattle.mongo_scram.specs.Validity.{least_count}
 use Rattle.mongo_scram.specs.Version.{version_name}
 use Rattle.mongo_scram.specs.declared.scram_version.ScramVersion.{ScramVersion}
 use Rattle.mongo_scram.specs.declared.scram_version.ScramVersion.TheVariants.{Sha1, Sha256}
@@ -43,7 +44,7 @@ salt_in d = option_and_then (λ text. result_ok (decode_of text)) (as_str d)
 
 -- an iteration count, 4096 to 4294967295
 abbrev pub count_in : Data → Option ℕ
-count_in d = option_and_then (λ n. if nat_le 4096 n && nat_le n (2 ^ 32 - 1) then Some n else None) (option_and_then as_u64 (option_and_then as_number (get (codes "count") d)))
+count_in d = option_and_then (λ n. if nat_le least_count n && nat_le n (2 ^ 32 - 1) then Some n else None) (option_and_then as_u64 (option_and_then as_number (get (codes "count") d)))
 
 -- printable ASCII without a comma
 abbrev pub is_printable : ℕ → Bool

@@ -8,8 +8,8 @@ ghost use Rattle.mongo_serve.specs.Requests.{CarriesLogin, IsGreeting, SaysReque
 ghost use Rattle.mongo_serve.specs.declared.fault.ServeFault.TheVariants.{OutOfMemory};
 
 use crate::fault::ServeFault;
-use crate::reply::{HelloReply, Mechanisms, Refusal, Reply, SaslReply};
-use crate::request::{Hello, Request, SaslStart};
+use crate::reply::{HelloAnswer, Mechanisms, RefusedCommand, Reply, SaslReply};
+use crate::request::{Hello, Request, StartRequest};
 use crate::session::Session;
 use crate::settings::{Account, Settings};
 use mongo_bson::Text;
@@ -43,7 +43,10 @@ pub fn answer<G: Ledger>(
         Request::EndSessions => Ok(guarded(session, Reply::Done)),
         Request::Other(name) => {
             let name = Text::from_slice(alloc, name)?;
-            Ok(guarded(session, Reply::Refused(Refusal::CommandNotFound(name))))
+            Ok(guarded(
+                session,
+                Reply::Refused(RefusedCommand::CommandNotFound(name)),
+            ))
         }
     }
 }
@@ -55,7 +58,7 @@ pub fn greet<G: Ledger>(
     session: &mut Session,
     hello: Hello<'_>,
     steps: &mut Steps<G>,
-) -> Result<HelloReply, ServeFault>
+) -> Result<HelloAnswer, ServeFault>
     ensures remembers { (requests : List (List ℕ)) (document : List ℕ) → Remembers settings.now requests session.old → SaysHello document hello.entry → Remembers settings.now (requests ++ document ∷ []) session.new }
     ensures answered { IfOk result (AnswersHello settings.now session.old hello.entry session.new) }
     ensures user { session.new.user ≡ session.old.user }
@@ -63,7 +66,7 @@ pub fn greet<G: Ledger>(
     ensures rises { steps.old ≤ steps.new }
 {
     let speculation = begin(alloc, settings, session, hello.speculation, steps)?;
-    Ok(HelloReply {
+    Ok(HelloAnswer {
         is_legacy: hello.is_legacy,
         mechanisms: mechanisms_of(settings.accounts.as_slice(), hello.mechanisms_of),
         speculation,
@@ -75,7 +78,7 @@ fn begin<G: Ledger>(
     alloc: Global,
     settings: &Settings,
     session: &mut Session,
-    speculation: Option<SaslStart<'_>>,
+    speculation: Option<StartRequest<'_>>,
     steps: &mut Steps<G>,
 ) -> Result<Option<SaslReply>, ServeFault>
     ensures remembers { (requests : List (List ℕ)) (document : List ℕ) → Remembers settings.now requests session.old → IsGreeting document → CarriesLogin document speculation.entry →
@@ -137,7 +140,7 @@ fn login_reply(message: Option<SaslReply>) -> Reply
 {
     match message {
         Some(message) => Reply::Sasl(message),
-        None => Reply::Refused(Refusal::AuthenticationFailed),
+        None => Reply::Refused(RefusedCommand::AuthenticationFailed),
     }
 }
 
@@ -147,6 +150,6 @@ fn guarded(session: &Session, reply: Reply) -> Reply
 {
     match &session.user {
         Some(_user) => reply,
-        None => Reply::Refused(Refusal::Unauthorized),
+        None => Reply::Refused(RefusedCommand::Unauthorized),
     }
 }

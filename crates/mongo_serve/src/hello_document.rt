@@ -8,7 +8,7 @@ ghost use Rattle.mongo_serve.specs.Faults.{IsOfDocument};
 ghost use Rattle.mongo_serve.specs.Replies.{description, hello_reply_elements, mechanism_elements, speculation_elements, names_document, writable_key};
 
 use crate::fault::ServeFault;
-use crate::reply::{HelloReply, Mechanisms, SaslReply};
+use crate::reply::{HelloAnswer, Mechanisms, SaslReply};
 use crate::reply_document::{DOCUMENT_MAXIMUM, FRAME_MAXIMUM, ONE, sasl_document};
 use mongo_bson::{RawDocument, RawDocumentBuf, RawValue};
 use mongo_command::keys::{
@@ -22,7 +22,10 @@ use std::alloc::Global;
 /// The document of a hello's reply.
 ///
 /// `ReplyTooLong` where it would pass 2147483647 bytes.
-pub fn hello_document(alloc: Global, hello: &HelloReply) -> Result<RawDocumentBuf, ServeFault>
+pub fn hello_reply_document(
+    alloc: Global,
+    hello: &HelloAnswer,
+) -> Result<RawDocumentBuf, ServeFault>
     ensures document { IfOk result (λ document. document ≡ document_of (hello_reply_elements hello.now)) }
     ensures refused { IfErr result (IsOfDocument (document_of (hello_reply_elements hello.now))) }
 {

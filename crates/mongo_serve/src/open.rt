@@ -6,8 +6,8 @@ ghost use Rattle.mongo_serve.specs.Opened.{NamesUser, Suits, FindsAccount, Opens
 ghost use Rattle.mongo_serve.specs.declared.fault.ServeFault.TheVariants.{OutOfMemory};
 
 use crate::fault::ServeFault;
-use crate::request::SaslStart;
-use crate::session::Login;
+use crate::request::StartRequest;
+use crate::session::OpenLogin;
 use crate::settings::{Account, Settings};
 use mongo_bson::Text;
 use mongo_mac::Steps;
@@ -18,9 +18,9 @@ use std::sync::ledger::Ledger;
 
 /// A login that began, and the server's first message in it.
 #[derive(Drop)]
-pub struct Opened {
+pub struct OpenedLogin {
     /// The login.
-    pub login: Login,
+    pub login: OpenLogin,
     /// The message.
     pub answer: Text,
 }
@@ -30,9 +30,9 @@ pub struct Opened {
 pub fn open_login<G: Ledger>(
     alloc: Global,
     settings: &Settings,
-    start: SaslStart<'_>,
+    start: StartRequest<'_>,
     steps: &mut Steps<G>,
-) -> Result<Option<Opened>, ServeFault>
+) -> Result<Option<OpenedLogin>, ServeFault>
     ensures opened { IfOk result (OpensBy settings.now start.entry) }
     ensures refused { IfErr result (λ fault. fault ≡ OutOfMemory) }
     ensures rises { steps.old ≤ steps.new }
@@ -40,7 +40,7 @@ pub fn open_login<G: Ledger>(
     let (Some(version), Some(payload)) = (start.version, start.payload) else {
         return Ok(None);
     };
-    match account_of(alloc, settings.accounts.as_slice(), version, payload)? {
+    match account_named(alloc, settings.accounts.as_slice(), version, payload)? {
         Some(account) => open(
             alloc,
             account,
@@ -54,7 +54,7 @@ pub fn open_login<G: Ledger>(
 }
 
 // The first account of that mechanism whose user the client's first message names.
-fn account_of<'a>(
+fn account_named<'a>(
     alloc: Global,
     accounts: &'a [Account],
     version: ScramVersion,
@@ -103,7 +103,7 @@ fn open<G: Ledger>(
     payload: &[u8],
     skips_empty_exchange: bool,
     steps: &mut Steps<G>,
-) -> Result<Option<Opened>, ServeFault>
+) -> Result<Option<OpenedLogin>, ServeFault>
     requires { IsNonce suffix.now }
     ensures opened { IfOk result (OpensFor account.now suffix.now payload.now skips_empty_exchange) }
     ensures refused { IfErr result (λ fault. fault ≡ OutOfMemory) }
@@ -130,8 +130,8 @@ fn open<G: Ledger>(
     };
     let mut core = ServerCore::new(user, Text::from_slice(alloc, suffix)?);
     match core.first(alloc, payload) {
-        Ok(answer) => Ok(Some(Opened {
-            login: Login {
+        Ok(answer) => Ok(Some(OpenedLogin {
+            login: OpenLogin {
                 core,
                 name: account.name.try_clone(alloc)?,
                 skips_empty_exchange,

@@ -6,7 +6,7 @@ use mongo_bson::Text;
 #[derive(Drop)]
 pub enum Reply {
     /// The server's description.
-    Hello(HelloReply),
+    Hello(HelloAnswer),
     /// A message of a login.
     Sasl(SaslReply),
     /// The server's version.
@@ -14,12 +14,12 @@ pub enum Reply {
     /// It is done; there is nothing to say.
     Done,
     /// It isn't done.
-    Refused(Refusal),
+    Refused(RefusedCommand),
 }
 
 /// What a hello's reply says beside the server's description.
 #[derive(Drop)]
-pub struct HelloReply {
+pub struct HelloAnswer {
     /// Whether it was asked for by a legacy name.
     pub is_legacy: bool,
     /// The mechanisms of the user that was asked for, where it is known.
@@ -50,7 +50,7 @@ pub struct SaslReply {
 
 /// Why a command isn't done.
 #[derive(Drop)]
-pub enum Refusal {
+pub enum RefusedCommand {
     /// A login failed. It is the same whatever the cause.
     AuthenticationFailed,
     /// Nobody is logged in.

@@ -5,8 +5,8 @@ ghost use Rattle.mongo_serve.specs.Replies.{document_of_served, done_document, e
 ghost use Rattle.mongo_serve.specs.Faults.{IsOfDocument};
 
 use crate::fault::ServeFault;
-use crate::hello_document::hello_document;
-use crate::reply::{Refusal, Reply, SaslReply};
+use crate::hello_document::hello_reply_document;
+use crate::reply::{RefusedCommand, Reply, SaslReply};
 use mongo_bson::{RawDocument, RawDocumentBuf, RawValue, Text};
 use mongo_command::keys::{CODE, CODE_NAME, ERRMSG, MAX_BSON_OBJECT_SIZE, OK};
 use mongo_sasl::document_of;
@@ -39,7 +39,7 @@ pub fn document_of_reply(alloc: Global, reply: &Reply) -> Result<RawDocumentBuf,
     ensures refused { IfErr result (IsOfDocument (document_of_served reply.now)) }
 {
     match reply {
-        Reply::Hello(hello) => hello_document(alloc, hello),
+        Reply::Hello(hello) => hello_reply_document(alloc, hello),
         Reply::Sasl(message) => sasl_document(alloc, message),
         Reply::BuildInfo => build_info_document(alloc),
         Reply::Done => done_document(alloc),
@@ -54,18 +54,18 @@ fn done_document(alloc: Global) -> Result<RawDocumentBuf, ServeFault>
     Ok(document_of(alloc, &[(OK, RawValue::Double(ONE))])?)
 }
 
-fn refusal_document(alloc: Global, refusal: &Refusal) -> Result<RawDocumentBuf, ServeFault>
+fn refusal_document(alloc: Global, refusal: &RefusedCommand) -> Result<RawDocumentBuf, ServeFault>
     ensures document { IfOk result (λ document. document ≡ refusal_document refusal.now) }
     ensures refused { IfErr result (IsOfDocument (refusal_document refusal.now)) }
 {
     match refusal {
-        Refusal::AuthenticationFailed => {
+        RefusedCommand::AuthenticationFailed => {
             error_document(alloc, "Authentication failed.", 18, "AuthenticationFailed")
         }
-        Refusal::Unauthorized => {
+        RefusedCommand::Unauthorized => {
             error_document(alloc, "Command requires authentication", 13, "Unauthorized")
         }
-        Refusal::CommandNotFound(name) => {
+        RefusedCommand::CommandNotFound(name) => {
             let mut text = Text::from_slice(alloc, "no such command: '")?;
             text.push_str(name.as_str())?;
             text.push_str("'")?;

@@ -18,9 +18,9 @@ pub enum Request<'a> {
     /// `hello`, and `isMaster` or `ismaster`, its legacy names.
     Hello(Hello<'a>),
     /// `saslStart`: a login begins.
-    SaslStart(SaslStart<'a>),
+    SaslStart(StartRequest<'a>),
     /// `saslContinue`: a login goes on.
-    SaslContinue(SaslContinue<'a>),
+    SaslContinue(ContinueRequest<'a>),
     /// `ping`.
     Ping,
     /// `buildInfo` or `buildinfo`.
@@ -39,12 +39,12 @@ pub struct Hello<'a> {
     /// The user whose mechanisms are asked for, without the database before it.
     pub mechanisms_of: Option<&'a str>,
     /// The login that begins with it.
-    pub speculation: Option<SaslStart<'a>>,
+    pub speculation: Option<StartRequest<'a>>,
 }
 
 /// What a `saslStart` asks for.
 #[derive(Clone, Copy)]
-pub struct SaslStart<'a> {
+pub struct StartRequest<'a> {
     /// The mechanism, where it is one that is spoken here.
     pub version: Option<ScramVersion>,
     /// The client's first message.
@@ -55,7 +55,7 @@ pub struct SaslStart<'a> {
 
 /// What a `saslContinue` asks for.
 #[derive(Clone, Copy)]
-pub struct SaslContinue<'a> {
+pub struct ContinueRequest<'a> {
     /// Whether it goes on with the conversation that this server numbers 1.
     pub is_of_conversation: bool,
     /// The client's next message.
@@ -113,7 +113,7 @@ fn user_asked_of<'a>(document: RawDocument<'a>) -> Option<&'a str>
 }
 
 // The login that a hello carries.
-fn carried_start<'a>(document: RawDocument<'a>) -> Option<SaslStart<'a>>
+fn carried_start<'a>(document: RawDocument<'a>) -> Option<StartRequest<'a>>
     ensures { CarriesLogin document.entry.bytes.now result }
 {
     match document_in(document, SPECULATIVE_AUTHENTICATE) {
@@ -123,7 +123,7 @@ fn carried_start<'a>(document: RawDocument<'a>) -> Option<SaslStart<'a>>
 }
 
 // The login that a document begins, where it is a `saslStart`.
-fn speculation_of<'a>(document: RawDocument<'a>) -> Option<SaslStart<'a>>
+fn speculation_of<'a>(document: RawDocument<'a>) -> Option<StartRequest<'a>>
     ensures { MatchOption result (IsCommandNamed document.entry.bytes.now sasl_start_key → ⊥) (SaysStart document.entry.bytes.now) }
 {
     match command_name(document) {
@@ -142,12 +142,12 @@ fn name_without_database(user: &str) -> &str
     }
 }
 
-fn start_of<'a>(document: RawDocument<'a>) -> SaslStart<'a>
+fn start_of<'a>(document: RawDocument<'a>) -> StartRequest<'a>
     ensures version { SaysVersion document.entry.bytes.now result.version }
     ensures message { HoldsIfAny (HasPayload document.entry.bytes.now) result.payload }
     ensures skips { IsTrue result.skips_empty_exchange ↔ SkipsEmptyExchange document.entry.bytes.now }
 {
-    SaslStart {
+    StartRequest {
         version: version_in(document),
         payload: payload_of(document),
         skips_empty_exchange: skips_empty_exchange(document),
@@ -174,11 +174,11 @@ fn skips_empty_exchange(document: RawDocument<'_>) -> bool
     }
 }
 
-fn continue_of<'a>(document: RawDocument<'a>) -> SaslContinue<'a>
+fn continue_of<'a>(document: RawDocument<'a>) -> ContinueRequest<'a>
     ensures conversation { IsTrue result.is_of_conversation ↔ HasOne document.entry.bytes.now conversation_id_key }
     ensures message { HoldsIfAny (HasPayload document.entry.bytes.now) result.payload }
 {
-    SaslContinue {
+    ContinueRequest {
         is_of_conversation: is_one_in(document, CONVERSATION_ID),
         payload: payload_of(document),
     }

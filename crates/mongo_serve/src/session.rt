@@ -3,7 +3,7 @@
 use crate::fault::ServeFault;
 use crate::open::open_login;
 use crate::reply::SaslReply;
-use crate::request::{SaslContinue, SaslStart};
+use crate::request::{ContinueRequest, StartRequest};
 use crate::settings::Settings;
 use mongo_bson::Text;
 use mongo_mac::Steps;
@@ -13,7 +13,7 @@ use std::sync::ledger::Ledger;
 
 /// A login that goes on: the server has answered the client's first message.
 #[derive(Drop)]
-pub struct Login {
+pub struct OpenLogin {
     /// The server of the user that logs in; its conversation has begun.
     pub core: ServerCore,
     /// The user's name.
@@ -30,7 +30,7 @@ pub struct Session {
     /// The user that is logged in.
     pub user: Option<Text>,
     /// The login that goes on.
-    pub login: Option<Login>,
+    pub login: Option<OpenLogin>,
 }
 
 impl Session {
@@ -59,7 +59,7 @@ impl Session {
         &mut self,
         alloc: Global,
         settings: &Settings,
-        start: SaslStart<'_>,
+        start: StartRequest<'_>,
         steps: &mut Steps<G>,
     ) -> Result<Option<SaslReply>, ServeFault>
         // Of all that the client sent, the session knows a login that this request begins, and who is logged in already.
@@ -89,7 +89,7 @@ impl Session {
     pub fn go_on(
         &mut self,
         alloc: Global,
-        next: SaslContinue<'_>,
+        next: ContinueRequest<'_>,
     ) -> Result<Option<SaslReply>, ServeFault>
         ensures remembers { (settings : SettingsValue) (requests : List (List ℕ)) (document : List ℕ) → Remembers settings requests self.old → IfSome next.entry.payload (λ payload. SaysSaslContinue document payload.now) →
             Remembers settings (requests ++ document ∷ []) self.new }
@@ -113,7 +113,7 @@ impl Session {
     fn prove(
         &mut self,
         alloc: Global,
-        login: Login,
+        login: OpenLogin,
         payload: &[u8],
     ) -> Result<Option<SaslReply>, ServeFault>
         requires { self.old.login ≡ None }
@@ -123,7 +123,7 @@ impl Session {
         ensures kept { OnErr result (self.new.user ≡ self.old.user) }
         ensures refused { IfErr result (λ fault. fault ≡ OutOfMemory) }
     {
-        let Login {
+        let OpenLogin {
             mut core,
             name,
             skips_empty_exchange,
@@ -138,7 +138,7 @@ impl Session {
                         payload: answer,
                     }));
                 }
-                self.login = Some(Login {
+                self.login = Some(OpenLogin {
                     core,
                     name,
                     skips_empty_exchange,
@@ -160,7 +160,7 @@ impl Session {
     fn end(
         &mut self,
         alloc: Global,
-        login: Login,
+        login: OpenLogin,
         payload: &[u8],
     ) -> Result<Option<SaslReply>, ServeFault>
         requires none { self.old.login ≡ None }

@@ -10,7 +10,7 @@ use mongo_wire::{Error, ErrorKind, Source, SyncLittleEndianRead};
 use std::alloc::{AllocError, Global};
 
 /// The longest line of settings, in bytes, without its end.
-pub const LIMIT: usize = 4_194_304;
+pub const MAXIMUM_LENGTH: usize = 4_194_304;
 
 /// Why no settings were read.
 #[derive(Clone, Copy, Debug, PartialEq, Eq)]
@@ -61,7 +61,7 @@ fn read_line<S: Source>(alloc: Global, source: &mut S) -> Result<Vec<u8>, LineEr
     ensures on { ReadsOn (S.state source.old) (S.state source.new) }
 {
     let mut line = Vec::new(alloc);
-    'reading: while line.len() <= LIMIT {
+    'reading: while line.len() <= MAXIMUM_LENGTH {
         let byte = next_byte(source)?;
         if byte == b'\n' {
             return Ok(line);

@@ -10,7 +10,7 @@ use Rattle.mongo_scram.specs.Version.{digest_of}
 use Rattle.mongo_scram.proofs.Signed.{verifier_is, proof_is}
 use Rattle.mongo_server.specs.declared.fault.ServerFault.{ServerFault}
 use Rattle.mongo_server.specs.declared.fault.ServerFault.TheVariants.{OutOfMemory}
-use Rattle.mongo_server.specs.declared.server_core.Conversation.{Conversation}
+use Rattle.mongo_server.specs.declared.server_core.ServerConversation.{ServerConversation}
 use Rattle.mongo_server.specs.declared.server_core.ServerCore.{ServerCore}
 use Rattle.mongo_server.specs.ClientMessages.{IsPrintable, IsNonce, IsClientFirst, IsClientFinal}
 use Rattle.mongo_server.specs.Exchange.{Exchange, joined_of, salted_between, open_of, first_of, auth_message_between, close_of, server_final_of, IsReadAs}
@@ -78,20 +78,20 @@ hears_first core message fault row x serves printable is =
 -- ---- the last message
 
 module _ (core : ServerCore) (x : Exchange) (begun : HasBegun core x) where
-  abbrev exchange_held : Conversation
+  abbrev exchange_held : ServerConversation
   exchange_held = record { nonce = joined_of x; auth_message = auth_message_between x }
 
-  held_is : (held : Conversation) → held_conversation core ≡ Some held → held ≡ exchange_held
+  held_is : (held : ServerConversation) → held_conversation core ≡ Some held → held ≡ exchange_held
   held_is held is = let same : Some held ≡ Some exchange_held = sym is ∙ begun.held in cc
 
-  final_is : (held : Conversation) → held_conversation core ≡ Some held → server_final (verifier_under core.user.keys held.auth_message) ≡ server_final_of x
+  final_is : (held : ServerConversation) → held_conversation core ≡ Some held → server_final (verifier_under core.user.keys held.auth_message) ≡ server_final_of x
   final_is held is =
-      ap (λ (c : Conversation). server_final (verifier_under core.user.keys c.auth_message)) (held_is held is)
+      ap (λ (c : ServerConversation). server_final (verifier_under core.user.keys c.auth_message)) (held_is held is)
       ∙ ap server_final (verifier_is core.user.keys x.version (salted_between x) (auth_message_between x) begun.serves.user.version_is begun.serves.user.keys)
 
-  owed_is : (held : Conversation) → held_conversation core ≡ Some held → proof_under core.user.keys held.auth_message ≡ proof (digest_of x.version) (salted_between x) (auth_message_between x)
+  owed_is : (held : ServerConversation) → held_conversation core ≡ Some held → proof_under core.user.keys held.auth_message ≡ proof (digest_of x.version) (salted_between x) (auth_message_between x)
   owed_is held is =
-      ap (λ (c : Conversation). proof_under core.user.keys c.auth_message) (held_is held is)
+      ap (λ (c : ServerConversation). proof_under core.user.keys c.auth_message) (held_is held is)
       ∙ proof_is core.user.keys x.version (salted_between x) (auth_message_between x) begun.serves.user.version_is begun.serves.user.keys
 
   client_final : (message : List ℕ) → message ≡ close_of x → IsClientFinal message (joined_of x) (proof (digest_of x.version) (salted_between x) (auth_message_between x))
@@ -103,12 +103,12 @@ module _ (core : ServerCore) (x : Exchange) (begun : HasBegun core x) where
   unfolding close_message
   taken_is message is = is.2.message_is ∙ (λ i. no_proof ((held_is is.0 is.1 i).nonce) ++ (codes ",p=" ++ base64_of (owed_is is.0 is.1 i)))
 
-  accepted_text : (text : List ℕ) (held : Conversation) → held_conversation core ≡ Some held → text ≡ server_final (verifier_under core.user.keys held.auth_message) → (text ≡ server_final_of x) × Accepts x text
+  accepted_text : (text : List ℕ) (held : ServerConversation) → held_conversation core ≡ Some held → text ≡ server_final (verifier_under core.user.keys held.auth_message) → (text ≡ server_final_of x) × Accepts x text
   accepted_text text held is text_is =
       let same : text ≡ server_final_of x = text_is ∙ final_is held is in
       (same, accepts x text begun.printable (suffix_printable core x begun.serves) begun.bytes begun.serves.user.within same)
 
-pub accepts_final : (core : ServerCore) (held : Conversation) (r : Result (List ℕ) ServerFault) → held_conversation core ≡ Some held → IfOk r (λ text. text ≡ server_final (verifier_under core.user.keys held.auth_message)) → IfErr r (λ fault. fault ≡ OutOfMemory)
+pub accepts_final : (core : ServerCore) (held : ServerConversation) (r : Result (List ℕ) ServerFault) → held_conversation core ≡ Some held → IfOk r (λ text. text ≡ server_final (verifier_under core.user.keys held.auth_message)) → IfErr r (λ fault. fault ≡ OutOfMemory)
     → (x : Exchange) → HasBegun core x → MatchResult r (λ text. (text ≡ server_final_of x) × Accepts x text) (λ fault. fault ≡ OutOfMemory)
 accepts_final core held (Ok text) is text_is memory x begun = accepted_text core x begun text held is text_is
 accepts_final core held (Err fault) is text_is memory x begun = memory

@@ -5,7 +5,7 @@ use Rattle.mongo_command.proofs.Plans.{one_else, one_row, none_else, no_row}
 use Rattle.mongo_scram.specs.UserName.{escaped}
 use Rattle.mongo_server.specs.declared.fault.ServerFault.{ServerFault}
 use Rattle.mongo_server.specs.declared.fault.ServerFault.TheVariants.{Proof, OutOfMemory}
-use Rattle.mongo_server.specs.declared.server_core.Conversation.{Conversation}
+use Rattle.mongo_server.specs.declared.server_core.ServerConversation.{ServerConversation}
 use Rattle.mongo_server.specs.declared.server_core.ServerCore.{ServerCore}
 use Rattle.mongo_server.specs.ClientMessages.{IsClientFirst, IsClientFinal}
 use Rattle.mongo_scram.specs.Keys.{proof_under}
@@ -33,21 +33,21 @@ heard_of core message username nonce text is said same = escaped_same username (
 
 -- ---- the last message
 
-not_started : (held : Option Conversation) (c : Conversation) → held ≡ None → held ≡ Some c → ⊥
+not_started : (held : Option ServerConversation) (c : ServerConversation) → held ≡ None → held ≡ Some c → ⊥
 not_started held c none some = let never : None ≡ Some c = sym none ∙ some in absurd (cc never)
 
-one_held : (held : Option Conversation) (c d : Conversation) → held ≡ Some c → held ≡ Some d → c ≡ d
+one_held : (held : Option ServerConversation) (c d : ServerConversation) → held ≡ Some c → held ≡ Some d → c ≡ d
 one_held held c d p q = let same : Some c ≡ Some d = sym p ∙ q in cc
 
 one_final_row : (core : ServerCore) (message : List ℕ) → IsOne (ClientFinalRow core message)
 one_final_row core message = one_else _ _ (one_row _ _) (one_else _ _ (one_row _ _) (one_else _ _ (one_row _ _) (one_row _ _)))
 
 -- a message of the nonce that is held has no other
-nonce_held : (core : ServerCore) (message : List ℕ) (c : Conversation) (proof : List ℕ) → held_conversation core ≡ Some c → IsClientFinal message c.nonce proof → (d : Conversation) (nonce other : List ℕ) → held_conversation core ≡ Some d → IsClientFinal message nonce other → nonce ≡ d.nonce
+nonce_held : (core : ServerCore) (message : List ℕ) (c : ServerConversation) (proof : List ℕ) → held_conversation core ≡ Some c → IsClientFinal message c.nonce proof → (d : ServerConversation) (nonce other : List ℕ) → held_conversation core ≡ Some d → IsClientFinal message nonce other → nonce ≡ d.nonce
 nonce_held core message c proof is final d nonce other also last =
-    (one_final message nonce other c.nonce proof last final).nonce_is ∙ ap (λ (x : Conversation). x.nonce) (one_held (held_conversation core) c d is also)
+    (one_final message nonce other c.nonce proof last final).nonce_is ∙ ap (λ (x : ServerConversation). x.nonce) (one_held (held_conversation core) c d is also)
 
-pub proof_row : (core : ServerCore) (message : List ℕ) (held : Conversation) (proof : List ℕ) → held_conversation core ≡ Some held → IsClientFinal message held.nonce proof → proof ≢ proof_under core.user.keys held.auth_message → ClientFinalRow core message Proof
+pub proof_row : (core : ServerCore) (message : List ℕ) (held : ServerConversation) (proof : List ℕ) → held_conversation core ≡ Some held → IsClientFinal message held.nonce proof → proof ≢ proof_under core.user.keys held.auth_message → ClientFinalRow core message Proof
 proof_row core message held proof is final other =
     inr (
       no_row _ _ (λ none. not_started (held_conversation core) held none is),
@@ -66,7 +66,7 @@ taken_no_row core message is =
     none_else _ _ (no_row _ _ (λ none. not_started (held_conversation core) is.0 none is.1))
     (none_else _ _ (no_row _ _ (λ none. none is.0.nonce proof is.2))
     (none_else _ _ (no_row _ _ (λ row. row.2.3 (nonce_held core message is.0 proof is.1 is.2 row.0 row.2.0 row.2.1 row.1 row.2.2)))
-    (no_row _ _ (λ row. row.2.2 ((one_final message row.0.nonce row.2.0 is.0.nonce proof row.2.1 is.2).proof_is ∙ ap (λ (c : Conversation). proof_under core.user.keys c.auth_message) (one_held (held_conversation core) is.0 row.0 is.1 row.1))))))
+    (no_row _ _ (λ row. row.2.2 ((one_final message row.0.nonce row.2.0 is.0.nonce proof row.2.1 is.2).proof_is ∙ ap (λ (c : ServerConversation). proof_under core.user.keys c.auth_message) (one_held (held_conversation core) is.0 row.0 is.1 row.1))))))
 
 pub exact_taken : {T : Type 0} (core : ServerCore) (message : List ℕ) (r : Result T ServerFault) → IsLastMessageTaken core message → (fault : ServerFault) → ClientFinalRow core message fault → (r ≡ Err fault) ⊎ (r ≡ Err OutOfMemory)
 exact_taken core message r is fault row = absurd (taken_no_row core message is fault row)

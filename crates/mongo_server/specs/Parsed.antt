@@ -3,13 +3,13 @@ use Rattle.std.specs.Prelude.{◌≡◌, ℕ, List, ⊤}
 use Rattle.mongo_scram.specs.UserName.{escaped}
 use Rattle.mongo_server.specs.declared.fault.ServerFault.{ServerFault}
 use Rattle.mongo_server.specs.declared.fault.ServerFault.TheVariants.{Malformed, OutOfMemory}
-use Rattle.mongo_server.specs.declared.parse.FirstMessage.{FirstMessage}
+use Rattle.mongo_server.specs.declared.parse.ClientFirstParts.{ClientFirstParts}
 use Rattle.mongo_server.specs.declared.parse.FinalMessage.{FinalMessage}
 use Rattle.mongo_scram.specs.Messages.{bare_message}
 use Rattle.mongo_server.specs.ClientMessages.{IsClientFirst, IsClientFinal}
 
 -- what the first message says
-pub record HoldsClientFirst (message : List ℕ) (first : FirstMessage) : Type 0 where
+pub record HoldsClientFirst (message : List ℕ) (first : ClientFirstParts) : Type 0 where
   pub username : List ℕ
   pub is_first : IsClientFirst message username first.nonce.now
   pub saslname_is : first.saslname.now ≡ escaped username

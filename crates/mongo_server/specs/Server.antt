@@ -6,9 +6,9 @@ use Rattle.mongo_scram.specs.Keys.{proof_under, verifier_under}
 use Rattle.mongo_scram.specs.Messages.{bare_message, transcript}
 use Rattle.mongo_server.specs.declared.fault.ServerFault.{ServerFault}
 use Rattle.mongo_server.specs.declared.fault.ServerFault.TheVariants.{Malformed, UnknownUser, Nonce, Proof, NotStarted, OutOfMemory}
-use Rattle.mongo_server.specs.declared.parse.FirstMessage.{FirstMessage}
+use Rattle.mongo_server.specs.declared.parse.ClientFirstParts.{ClientFirstParts}
 use Rattle.mongo_server.specs.declared.server_core.ServerCore.{ServerCore}
-use Rattle.mongo_server.specs.declared.server_core.Conversation.{Conversation}
+use Rattle.mongo_server.specs.declared.server_core.ServerConversation.{ServerConversation}
 use Rattle.mongo_server.specs.declared.user.ServerUser.{ServerUser}
 use Rattle.mongo_server.specs.ClientMessages.{IsNonce, IsClientFirst, IsClientFinal}
 use Rattle.mongo_server.specs.Exchange.{Exchange, joined_of, auth_message_between}
@@ -30,7 +30,7 @@ abbrev pub suffix_of : ServerCore → List ℕ
 suffix_of core = core.suffix
 
 -- the conversation that was begun last
-abbrev pub held_conversation : ServerCore → Option Conversation
+abbrev pub held_conversation : ServerCore → Option ServerConversation
 held_conversation core = core.conversation
 
 -- ---- what it answers
@@ -43,7 +43,7 @@ abbrev pub first_by : ServerCore → List ℕ → List ℕ
 first_by core nonce = server_first (joined_by core nonce) core.user.salt core.user.count
 
 -- the conversation with that client
-abbrev pub conversation_by : ServerCore → List ℕ → Conversation
+abbrev pub conversation_by : ServerCore → List ℕ → ServerConversation
 conversation_by core nonce = record { nonce = joined_by core nonce; auth_message = transcript (bare_message core.user.username nonce) (first_by core nonce) (joined_by core nonce) }
 
 -- a client of this nonce is answered by the text, and its conversation is held from then on
@@ -54,17 +54,17 @@ pub record BeginsConversation (core : ServerCore) (nonce text : List ℕ) (new :
   pub suffix : suffix_of new ≡ suffix_of core
 
 -- the client's first message, of the user, and what it says
-pub record HearsFirst (core : ServerCore) (message : List ℕ) (first : FirstMessage) : Type 0 where
+pub record HearsFirst (core : ServerCore) (message : List ℕ) (first : ClientFirstParts) : Type 0 where
   pub is_first : IsClientFirst message (username_of core) first.nonce.now
   pub bare_is : first.bare.now ≡ bare_message (username_of core) first.nonce.now
 
 -- the text is the last message that it owes in its conversation
 abbrev pub IsOwed : ServerCore → List ℕ → Type 0
-IsOwed core text = (held : Conversation) × (held_conversation core ≡ Some held) × (text ≡ server_final (verifier_under core.user.keys held.auth_message))
+IsOwed core text = (held : ServerConversation) × (held_conversation core ≡ Some held) × (text ≡ server_final (verifier_under core.user.keys held.auth_message))
 
 -- the message is a client's last one, with the joined nonce and the proof that the client owes
 abbrev pub IsLastMessageTaken : ServerCore → List ℕ → Type 0
-IsLastMessageTaken core message = (held : Conversation) × (held_conversation core ≡ Some held) × IsClientFinal message held.nonce (proof_under core.user.keys held.auth_message)
+IsLastMessageTaken core message = (held : ServerConversation) × (held_conversation core ≡ Some held) × IsClientFinal message held.nonce (proof_under core.user.keys held.auth_message)
 
 -- ---- why it refuses: the first row that applies
 
@@ -77,8 +77,8 @@ abbrev pub ClientFinalRow : ServerCore → List ℕ → ServerFault → Type 0
 ClientFinalRow core message =
     or_else (row_for NotStarted (held_conversation core ≡ None))
     (or_else (row_for Malformed ((nonce proof : List ℕ) → IsClientFinal message nonce proof → ⊥))
-    (or_else (row_for Nonce ((held : Conversation) × (held_conversation core ≡ Some held) × ((nonce : List ℕ) × (proof : List ℕ) × IsClientFinal message nonce proof × (nonce ≢ held.nonce))))
-    (row_for Proof ((held : Conversation) × (held_conversation core ≡ Some held) × ((proof : List ℕ) × IsClientFinal message held.nonce proof × (proof ≢ proof_under core.user.keys held.auth_message))))))
+    (or_else (row_for Nonce ((held : ServerConversation) × (held_conversation core ≡ Some held) × ((nonce : List ℕ) × (proof : List ℕ) × IsClientFinal message nonce proof × (nonce ≢ held.nonce))))
+    (row_for Proof ((held : ServerConversation) × (held_conversation core ≡ Some held) × ((proof : List ℕ) × IsClientFinal message held.nonce proof × (proof ≢ proof_under core.user.keys held.auth_message))))))
 
 -- the same, with what is known where memory ran out: a conversation was held
 abbrev pub FinalRefused : ServerCore → List ℕ → ServerFault → Type 0

@@ -19,7 +19,7 @@ use std::str;
 
 /// What a client's first message says, borrowed from it.
 #[derive(Clone, Copy)]
-pub struct FirstMessage<'a> {
+pub struct ClientFirstParts<'a> {
     /// The message without its GS2 header (`client-first-message-bare`).
     pub bare: &'a str,
     /// The user name as the message carries it.
@@ -38,7 +38,7 @@ pub struct FinalMessage<'a> {
 }
 
 /// Reads a client's first message: `n,,n=` user name `,r=` nonce. None where the bytes are none. It takes no memory.
-pub fn read_client_first(message: &[u8]) -> Option<FirstMessage<'_>>
+pub fn read_client_first(message: &[u8]) -> Option<ClientFirstParts<'_>>
     ensures { MatchOption result
         ((username nonce : List ℕ) → IsClientFirst message.now username nonce → ⊥)
         (HoldsClientFirst message.now) }
@@ -64,7 +64,7 @@ pub fn read_client_first(message: &[u8]) -> Option<FirstMessage<'_>>
     if !is_nonce(nonce) {
         return None;
     }
-    Some(FirstMessage {
+    Some(ClientFirstParts {
         bare,
         saslname,
         nonce,

@@ -5,7 +5,7 @@ ghost use Rattle.mongo_server.specs.ClientMessages.{IsNonce};
 
 use crate::fault::ServerFault;
 use crate::messages::{auth_message_text, joined_nonce, server_final_text, server_first_text};
-use crate::parse::{FirstMessage, read_client_final, read_client_first};
+use crate::parse::{ClientFirstParts, read_client_final, read_client_first};
 use crate::user::ServerUser;
 use mongo_bson::Text;
 use mongo_mac::{Tag, are_same_bytes};
@@ -13,7 +13,7 @@ use std::alloc::Global;
 use std::fmt;
 
 /// A conversation that has begun.
-pub(crate) struct Conversation {
+pub(crate) struct ServerConversation {
     // The client's nonce with the suffix behind it.
     nonce: Text,
     // What the client and the server sign (RFC 5802, `AuthMessage`).
@@ -21,9 +21,9 @@ pub(crate) struct Conversation {
 }
 
 // Dropped by a call, so that the proofs of its owners don't walk through its parts.
-impl Drop for Conversation {
+impl Drop for ServerConversation {
     fn drop(self) {
-        let Conversation {
+        let ServerConversation {
             nonce: _,
             auth_message: _,
         } = self;
@@ -33,7 +33,7 @@ impl Drop for Conversation {
 // A conversation, and the server's first message in it.
 #[derive(Drop)]
 pub(crate) struct Opening {
-    conversation: Conversation,
+    conversation: ServerConversation,
     server_first: Text,
 }
 
@@ -41,7 +41,7 @@ pub(crate) struct Opening {
 pub struct ServerCore {
     user: ServerUser,
     suffix: Text,
-    conversation: Option<Conversation>,
+    conversation: Option<ServerConversation>,
     // What the server owes in that conversation, signed once.
     verifier: Tag,
     pub ghost printable: { IsNonce suffix },
@@ -172,7 +172,7 @@ impl ServerCore {
     }
 
     // What a client's first message says, where it is one of the user. It takes no memory.
-    fn hear<'a>(&self, client_first: &'a [u8]) -> Result<FirstMessage<'a>, ServerFault>
+    fn hear<'a>(&self, client_first: &'a [u8]) -> Result<ClientFirstParts<'a>, ServerFault>
         ensures heard { IfOk result (HearsFirst self.now client_first.now) }
         ensures refused { IfErr result (ClientFirstRow self.now client_first.now) }
     {
@@ -186,7 +186,7 @@ impl ServerCore {
     }
 
     // The conversation that a client's first message opens, and the answer to it.
-    fn open(&self, alloc: Global, message: FirstMessage<'_>) -> Result<Opening, ServerFault>
+    fn open(&self, alloc: Global, message: ClientFirstParts<'_>) -> Result<Opening, ServerFault>
         requires { message.bare.now ≡ bare_message (username_of self.now) message.nonce.now }
         ensures conversation { IfOk result (λ opening. opening.conversation ≡ conversation_by self.now message.entry.nonce.now) }
         ensures server_first { IfOk result (λ opening. opening.server_first ≡ first_by self.now message.entry.nonce.now) }
@@ -203,7 +203,7 @@ impl ServerCore {
             nonce.as_str(),
         )?;
         Ok(Opening {
-            conversation: Conversation {
+            conversation: ServerConversation {
                 nonce,
                 auth_message,
             },

@@ -11,7 +11,7 @@ use Rattle.mongo_settings.specs.declared.settings.Settings.{Settings}
 use Rattle.mongo_settings.specs.declared.rehearsal.Rehearsal.{Rehearsal}
 use Rattle.mongo_settings.specs.declared.rehearsal.RehearsalStatus.TheVariants.{Accepted, Refused}
 use Rattle.mongo_settings.specs.Report.{CountsItself, front_length, sent_lines, read_line, accepted_lines, refused_lines}
-use Rattle.mongo_settings.specs.Outcome.{asked_of, Acceptance, IsAcceptance, Outcome, accepted, refused, IsOutcome, WritesOutcome, taken_by, status_of, LeadsToAcceptance, IsRefused}
+use Rattle.mongo_settings.specs.Outcome.{asked_of, AcceptedConnection, IsAcceptance, Outcome, accepted, refused, IsOutcome, WritesOutcome, taken_by, status_of, LeadsToAcceptance, IsRefused}
 use Rattle.mongo_settings.specs.Rehearsal.{outcome_lines, IsReport, IsRehearsal}
 use Rattle.mongo_settings.proofs.Frames.{no_frames, next_frame, front_length-front}
 
@@ -31,7 +31,7 @@ record SameOutcome (settings : Settings) (outcome other : Outcome) (bytes more :
   count : length (taken_by outcome) ≡ length (taken_by other)
   sent : bytes ≡ more
 
-abbrev script_of : (settings : Settings) (acceptance : Acceptance) (bytes : List ℕ) → IsAcceptance settings acceptance → IsWritten (asked_of settings) acceptance.script bytes → LeadsToAcceptance settings
+abbrev script_of : (settings : Settings) (acceptance : AcceptedConnection) (bytes : List ℕ) → IsAcceptance settings acceptance → IsWritten (asked_of settings) acceptance.script bytes → LeadsToAcceptance settings
 script_of settings acceptance bytes is written = record { script = acceptance.script; is_script = is.is_script; sent = bytes; is_written = written; taken = acceptance.taken; rest = acceptance.unread; joined = is.joined; is_taken = is.is_taken }
 
 same_outcome : (settings : Settings) (outcome other : Outcome) (bytes more : List ℕ) → IsOutcome settings outcome → IsOutcome settings other → WritesOutcome settings outcome bytes → WritesOutcome settings other more → SameOutcome settings outcome other bytes more

@@ -14,23 +14,23 @@ use Rattle.mongo_settings.specs.declared.settings.Settings.{Settings}
 use Rattle.mongo_settings.specs.declared.rehearsal.Rehearsal.{Rehearsal}
 use Rattle.mongo_settings.specs.declared.rehearsal.RehearsalStatus.{RehearsalStatus}
 use Rattle.mongo_settings.specs.declared.rehearsal.RehearsalStatus.TheVariants.{Accepted, Refused}
-use Rattle.mongo_settings.specs.Rounds.{Derived, logs_in, keys_after}
-use Rattle.mongo_settings.specs.Batch.{Login, IsBatchLogin, keys_with, AreLogins, both, status_of_all, rounds_of_all, capped_rounds, rounds_line}
+use Rattle.mongo_settings.specs.Rounds.{DerivedKey, logs_in, keys_after}
+use Rattle.mongo_settings.specs.Batch.{BatchLogin, IsBatchLogin, keys_with, AreLogins, both, status_of_all, rounds_of_all, capped_rounds, rounds_line}
 use Rattle.mongo_settings.specs.Takes.{TakesBy, JoinsReport}
 use Rattle.mongo_settings.specs.Task.{ReportsMany, steps_of}
 
 -- ---- one login more
 
 -- the accepted keys after logins
-abbrev pub all_keys : List SaltedKey → List Login → List SaltedKey
+abbrev pub all_keys : List SaltedKey → List BatchLogin → List SaltedKey
 all_keys keys [] = keys
 all_keys keys (login ∷ others) = all_keys (keys_with keys login) others
 
-all_keys-more : (keys : List SaltedKey) (logins : List Login) (login : Login) → all_keys keys (logins ++ login ∷ []) ≡ keys_with (all_keys keys logins) login
+all_keys-more : (keys : List SaltedKey) (logins : List BatchLogin) (login : BatchLogin) → all_keys keys (logins ++ login ∷ []) ≡ keys_with (all_keys keys logins) login
 all_keys-more keys [] login = refl
 all_keys-more keys (first ∷ others) login = all_keys-more (keys_with keys first) others login
 
-AreLogins-more : (keys : List SaltedKey) (logins : List Login) (login : Login) → AreLogins keys logins → IsBatchLogin (all_keys keys logins) login → AreLogins keys (logins ++ login ∷ [])
+AreLogins-more : (keys : List SaltedKey) (logins : List BatchLogin) (login : BatchLogin) → AreLogins keys logins → IsBatchLogin (all_keys keys logins) login → AreLogins keys (logins ++ login ∷ [])
 unfolding AreLogins
 AreLogins-more keys [] login are is = (is, tt)
 AreLogins-more keys (first ∷ others) login are is = (are.0, AreLogins-more (keys_with keys first) others login are.1 is)
@@ -43,7 +43,7 @@ both-accepted : (a : RehearsalStatus) → both a Accepted ≡ a
 both-accepted Accepted = refl
 both-accepted Refused = refl
 
-status-more : (logins : List Login) (login : Login) → status_of_all (logins ++ login ∷ []) ≡ both (status_of_all logins) login.status
+status-more : (logins : List BatchLogin) (login : BatchLogin) → status_of_all (logins ++ login ∷ []) ≡ both (status_of_all logins) login.status
 status-more [] login = both-accepted login.status
 status-more (first ∷ others) login = ap (both first.status) (status-more others login) ∙ both-assoc first.status (status_of_all others) login.status
 
@@ -96,7 +96,7 @@ holds_after false None first last keys t held = same_holds first last keys t.ent
 -- the rounds that a key takes
 record Taken (keys : List SaltedKey) (key : Option SaltedKey) (first last : Ledgers) : Type 0 where
   rounds : ℕ
-  derived : Derived keys key rounds
+  derived : DerivedKey keys key rounds
   counts : Counts rounds first last
 
 taken_key : (keys : List SaltedKey) (key : SaltedKey) (first last : Ledgers) → Derives key first last → Holds first.cache keys → Taken keys (Some key) first last
@@ -118,13 +118,13 @@ steps-add a b c = omega arith
 none-add : (n : ℕ) → 0 + n ≡ n
 none-add n = omega arith
 
-sums-more : (logins : List Login) (login : Login) → rounds_of_all (logins ++ login ∷ []) ≡ rounds_of_all logins + login.rounds
-sums-more logins login = sum_by-append (λ (l : Login). l.rounds) logins (login ∷ []) ∙ ap (λ n. rounds_of_all logins + n) (none-add login.rounds)
+sums-more : (logins : List BatchLogin) (login : BatchLogin) → rounds_of_all (logins ++ login ∷ []) ≡ rounds_of_all logins + login.rounds
+sums-more logins login = sum_by-append (λ (l : BatchLogin). l.rounds) logins (login ∷ []) ∙ ap (λ n. rounds_of_all logins + n) (none-add login.rounds)
 
 -- ---- what is shared
 
 pub record Shared (start : ℕ) (front : List Settings) (batch : Rehearsal) (now : Ledgers) : Type 0 where
-  pub logins : List Login
+  pub logins : List BatchLogin
   pub settings_are : map (λ login. login.settings) logins ≡ front
   pub are_logins : AreLogins [] logins
   pub status_is : batch.status ≡ status_of_all logins
@@ -155,15 +155,15 @@ shared_more start front settings old new now later s j =
     let report = j.taking.rehearsal_is.report in
     let keys = all_keys [] s.logins in
     let taken = taken_by (logs_in report.outcome) keys t.key now later t.taken s.held in
-    let login : Login = record { settings = settings; text = j.rehearsal.report.items; status = j.rehearsal.status; key = t.key; accepted = logs_in report.outcome; rounds = taken.rounds } in
+    let login : BatchLogin = record { settings = settings; text = j.rehearsal.report.items; status = j.rehearsal.status; key = t.key; accepted = logs_in report.outcome; rounds = taken.rounds } in
     let is : IsBatchLogin keys login = record { report = report; status_is = j.taking.rehearsal_is.status_is; accepted_is = refl; key_is = t.key_is; derived = taken.derived } in
     let sums = sums-more s.logins login in
     record {
       logins = s.logins ++ login ∷ [];
-      settings_are = map-append (λ (l : Login). l.settings) s.logins (login ∷ []) ∙ ap (λ l. l ++ settings ∷ []) s.settings_are;
+      settings_are = map-append (λ (l : BatchLogin). l.settings) s.logins (login ∷ []) ∙ ap (λ l. l ++ settings ∷ []) s.settings_are;
       are_logins = AreLogins-more [] s.logins login s.are_logins is;
       status_is = j.status ∙ ap (λ a. both a j.rehearsal.status) s.status_is ∙ sym (status-more s.logins login);
-      report_is = j.report ∙ ap (λ r. r ++ j.rehearsal.report.items) s.report_is ∙ ap (λ r. flat_map (λ (l : Login). l.text) s.logins ++ r) (sym (append-nil j.rehearsal.report.items)) ∙ sym (flat_map-append (λ (l : Login). l.text) s.logins (login ∷ []));
+      report_is = j.report ∙ ap (λ r. r ++ j.rehearsal.report.items) s.report_is ∙ ap (λ r. flat_map (λ (l : BatchLogin). l.text) s.logins ++ r) (sym (append-nil j.rehearsal.report.items)) ∙ sym (flat_map-append (λ (l : BatchLogin). l.text) s.logins (login ∷ []));
       steps_are = taken.counts.steps ∙ ap (λ n. n + taken.rounds) s.steps_are ∙ steps-add start (rounds_of_all s.logins) taken.rounds ∙ ap (λ n. start + n) (sym sums);
       rounds_are = taken.counts.rounds_are ∙ ap (λ n. min (n + taken.rounds) (2 ^ 64 - 1)) s.rounds_are ∙ counted-add (rounds_of_all s.logins) taken.rounds ∙ ap capped_rounds (sym sums);
       held = subst (Holds later.cache) (sym (all_keys-more [] s.logins login)) (holds_after (logs_in report.outcome) t.key now later keys t.taken s.held);
@@ -177,7 +177,7 @@ shared_report start settings batch now text s is = record {
     logins = s.logins;
     settings_are = s.settings_are;
     are_logins = s.are_logins;
-    text_is = is ∙ ap (λ r. r ++ rounds_line (rounds_of now.cache)) s.report_is ∙ ap (λ n. flat_map (λ (l : Login). l.text) s.logins ++ rounds_line n) s.rounds_are;
+    text_is = is ∙ ap (λ r. r ++ rounds_line (rounds_of now.cache)) s.report_is ∙ ap (λ n. flat_map (λ (l : BatchLogin). l.text) s.logins ++ rounds_line n) s.rounds_are;
   };
   status_is = s.status_is;
   steps_are = s.steps_are;

@@ -6,6 +6,7 @@ use Rattle.serde_json.specs.Data.{Data, Items, no_items, item, Members, no_membe
 use Rattle.serde_json.specs.Find.{get, as_number, as_u64, as_i64, as_str, as_array, as_object}
 use Rattle.mongo_bson.specs.declared.fault.BsonFault.{BsonFault}
 use Rattle.mongo_bson.specs.declared.fault.BsonFault.TheVariants.{OutOfMemory as NoMemory}
+use Rattle.mongo_scram.specs.Validity.{least_count}
 use Rattle.mongo_establish.specs.declared.login_state.Nonces.{Nonces}
 use Rattle.mongo_settings.specs.declared.settings.SettingsError.{SettingsError}
 use Rattle.mongo_settings.specs.declared.settings.SettingsError.TheVariants.{BadSettings, NotBuilt, OutOfMemory}
@@ -85,7 +86,7 @@ int32_in d =
 
 -- the most iterations of a login: no fewer than RFC 7677 asks for
 abbrev pub iterations_in : Data → Option ℕ
-iterations_in d = number_from 4096 (2 ^ 32 - 1) d
+iterations_in d = number_from least_count (2 ^ 32 - 1) d
 
 -- ---- bytes
 

@@ -20,17 +20,17 @@ unfoldable pub asked_of : Settings → Asked
 asked_of settings = asked_for settings.pending (options_of (spec_of settings)) settings.credential settings.nonces settings.first_id
 
 -- a script, and of the reply bytes what is taken and unread
-pub record Acceptance : Type 0 where
+pub record AcceptedConnection : Type 0 where
   pub script : Script
   pub taken : List ℕ
   pub unread : List ℕ
 
 pub data Outcome : Type 0 where
-  accepted : Acceptance → Outcome
+  accepted : AcceptedConnection → Outcome
   refused : Refusal → Outcome
 
 -- the reply bytes that are taken are exactly those of a script
-pub record IsAcceptance (settings : Settings) (acceptance : Acceptance) : Type 0 where
+pub record IsAcceptance (settings : Settings) (acceptance : AcceptedConnection) : Type 0 where
   pub is_script : IsScript (asked_of settings) acceptance.script
   pub joined : settings.replies ≡ acceptance.taken ++ acceptance.unread
   pub is_taken : AreRepliesTaken acceptance.script acceptance.taken

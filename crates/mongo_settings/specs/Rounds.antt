@@ -13,9 +13,9 @@ abbrev pub DerivesFrom : Settings → Option SaltedKey → Type 0
 DerivesFrom settings key = LeadsToKey (asked_of settings) settings.replies key
 
 -- the rounds that a login with this key derives, where these keys were accepted before
-abbrev pub Derived : List SaltedKey → Option SaltedKey → ℕ → Type 0
-Derived keys None rounds = rounds ≡ 0
-Derived keys (Some key) rounds = (Contains keys key × (rounds ≡ 0)) ⊎ ((Contains keys key → ⊥) × (rounds ≡ key.count))
+abbrev pub DerivedKey : List SaltedKey → Option SaltedKey → ℕ → Type 0
+DerivedKey keys None rounds = rounds ≡ 0
+DerivedKey keys (Some key) rounds = (Contains keys key × (rounds ≡ 0)) ⊎ ((Contains keys key → ⊥) × (rounds ≡ key.count))
 
 -- the rounds that it derives where none was accepted before
 abbrev pub rounds_alone : Option SaltedKey → ℕ

@@ -30,7 +30,7 @@ use serde_json::{Category, Value};
 use std::alloc::{AllocError, Global};
 
 /// The longest text of settings, in bytes.
-pub const LIMIT: usize = 4_194_304;
+pub const MAXIMUM_LENGTH: usize = 4_194_304;
 
 /// What a rehearsal is told.
 #[derive(Debug, Drop)]
@@ -104,7 +104,7 @@ pub fn read(alloc: Global, text: &[u8]) -> Result<Settings, SettingsError>
 fn value_of(alloc: Global, text: &[u8]) -> Result<Value, SettingsError>
     ensures { Gives view result (value_judged text.now) }
 {
-    check(text.len() <= LIMIT)?;
+    check(text.len() <= MAXIMUM_LENGTH)?;
     let value = json_of(alloc, text)?;
     check(!holds_float(&value))?;
     Ok(value)

@@ -1,5 +1,6 @@
 //! A login that is ready, and the establishment of its connection.
-ghost use Rattle.std.specs.Prelude.{◌≡◌, ◌≤◌, [], IfOk};
+ghost use Rattle.std.specs.Prelude.{◌≡◌, ◌≤◌, [], IfOk, IfErr};
+ghost use Rattle.mongo_wire.specs.declared.error.ErrorKind.TheVariants.{OutOfMemory};
 ghost use Rattle.mongo_meta.specs.Options.{metadata_of};
 ghost use Rattle.mongo_scram.specs.Cache.{entries_of, rounds_of};
 ghost use Rattle.mongo_scram.specs.Costs.{ledgers};
@@ -12,7 +13,7 @@ use mongo_bson::Bytes;
 use mongo_establish::{
     ClientMetadata, ClientOptions, ConnectionEstablisher, Credential, Error, EstablishError,
     EstablisherOptions, Link, LoginInputs, LoginState, Moment, Nonces, PendingConnection,
-    PooledConnection, RequestIds, SaltedCache, TopologySpec,
+    PooledConnection, RequestIds, SaltedCache, TopologySpec, want_of_memory,
 };
 use mongo_mac::Steps;
 use std::alloc::{AllocError, Global};
@@ -47,8 +48,9 @@ pub fn prepare(alloc: Global, settings: Settings) -> Result<(Login, Bytes), Allo
         options,
         max_iterations,
     } = settings;
-    let Ok(establisher) = establisher(alloc, options, max_iterations) else {
-        return Err(AllocError);
+    let establisher = match establisher(alloc, options, max_iterations) {
+        Ok(establisher) => establisher,
+        Err(error) => return Err(want_of_memory(error)),
     };
     let login = Login {
         establisher,
@@ -67,6 +69,7 @@ fn establisher(
     max_iterations: u32,
 ) -> Result<ConnectionEstablisher, Error>
     ensures options { IfOk result (λ establisher. options_of_establisher establisher ≡ options_of (record { options = options; metadata = metadata_of options; max_iterations = max_iterations })) }
+    ensures refused { IfErr result (λ e. e.kind ≡ OutOfMemory) }
 {
     let spec = spec_of(alloc, options, max_iterations)?;
     establisher_of(alloc, &spec)
@@ -79,6 +82,7 @@ fn spec_of(
     max_iterations: u32,
 ) -> Result<TopologySpec, Error>
     ensures spec { IfOk result (λ spec. spec ≡ record { options = options; metadata = metadata_of options; max_iterations = max_iterations }) }
+    ensures refused { IfErr result (λ e. e.kind ≡ OutOfMemory) }
 {
     let metadata = ClientMetadata::from_options(alloc, &options)?;
     Ok(TopologySpec {
@@ -91,6 +95,7 @@ fn spec_of(
 // The establisher of a client that is made so.
 fn establisher_of(alloc: Global, spec: &TopologySpec) -> Result<ConnectionEstablisher, Error>
     ensures options { IfOk result (λ establisher. options_of_establisher establisher ≡ options_of spec.now) }
+    ensures refused { IfErr result (λ e. e.kind ≡ OutOfMemory) }
 {
     ConnectionEstablisher::new(alloc, EstablisherOptions::from_spec(alloc, spec)?)
 }

@@ -1,6 +1,7 @@
 use Rattle.std.proofs.Common.{◌≡◌, ◌∙◌, ap, drop, subst, sym}
 use Rattle.mongo_wire.specs.Memory.{bytes_left}
-use Rattle.mongo_generate.specs.Written.{CarriesPayloadLast}
+use Rattle.mongo_command.proofs.Phases.{document_held}
+use Rattle.mongo_generate.specs.Written.{CarriesPayload, CarriesPayloadLast}
 use Rattle.mongo_generate.proofs.written.client_final.Goals as goal
 
 pub returns-in-Ok : goal.returns-in-Ok
@@ -9,7 +10,8 @@ returns-in-Ok c = record {
       let link = c.new-link in
       let left : bytes_left link.result ≡ c.args.written = ap (λ n. drop n link.result.input.items) link.ensures.at ∙ link.ensures.input in
       let here = subst (CarriesPayloadLast payload) (sym left) carries in
-      c.payload_held.ensures.found here.second payload here.second_parts (c.in-Ok.ensures.second payload here) here.carried;
+      let held = document_held here.second here.second_parts c.take_second.new.buffer (c.in-Ok.ensures.second payload here) in
+      c.payload_of.ensures.found payload (subst (CarriesPayload payload) (sym (c.held_reply.ensures ∙ held)) here.carried);
 }
 
 pub returns : goal.returns

@@ -3,7 +3,5 @@ use Rattle.std.proofs.lemmas.Result.{IfOk-weaker}
 use Rattle.mongo_establish.specs.Options.{options_of}
 use Rattle.mongo_settings.proofs.rehearsal.login.establisher.Goals as goal
 
-pub returns : goal.returns
-returns c = record {
-  options = IfOk-weaker c.establisher_of.result _ _ (λ establisher is. is ∙ ap options_of c.in_ok-spec.ensures.spec) c.establisher_of.ensures.options;
-}
+pub returns-clause-options : goal.returns-clause-options
+returns-clause-options c = IfOk-weaker c.establisher_of.result _ _ (λ establisher is. is ∙ ap options_of c.in_ok-spec.ensures.spec) c.establisher_of.ensures.options

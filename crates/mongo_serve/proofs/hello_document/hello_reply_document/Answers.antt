@@ -3,7 +3,7 @@ use Rattle.mongo_command.specs.Literal.{boolean_element, document_of, ok_element
 use Rattle.mongo_serve.specs.Replies.{description, hello_reply_elements, mechanism_elements, speculation_elements}
 use Rattle.mongo_serve.proofs.Described.{hello_described}
 use Rattle.mongo_serve.proofs.TooLong.{handed, ok_plain, to_mechanisms, to_ok, to_speculation, to_writable, writable_plain, written}
-use Rattle.mongo_serve.proofs.hello_document.hello_document.Goals as goal
+use Rattle.mongo_serve.proofs.hello_document.hello_reply_document.Goals as goal
 
 pub returns-clause-document : goal.returns-clause-document
 returns-clause-document c =
