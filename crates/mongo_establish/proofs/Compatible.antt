@@ -7,7 +7,7 @@ use Rattle.mongo_wire.specs.Outside.{State}
 use Rattle.mongo_command.specs.Exchange.{ExchangeRefused}
 use Rattle.mongo_command.specs.declared.connection.Connection.{Connection}
 use Rattle.mongo_command.specs.Conversation.{Plan, ending, reading, saying, plain_message, Stopped}
-use Rattle.mongo_command.proofs.OneReply.{description_row_own}
+use Rattle.mongo_command.proofs.OneReply.{description_row_other}
 use Rattle.mongo_command.proofs.Leads.{never_ending, never_unless, never_reading, never_saying}
 use Rattle.mongo_sasl.specs.declared.credential.Credential.{Credential}
 use Rattle.mongo_sasl.specs.declared.mechanism.AuthMechanism.{AuthMechanism}
@@ -55,7 +55,7 @@ no_hello_row (Some credential) row = no_mechanism_row (mechanism_before credenti
 no_document_row : (document : List ℕ) → DocumentRow document IncompatibleServer → ⊥
 no_document_row document (inl (other, inl said)) = let is = said.1 in cc
 no_document_row document (inl (other, inr row)) = let is = row.1.0 in cc
-no_document_row document (inr (other, said)) = (description_row_own said.response IncompatibleServer said.row).1 refl
+no_document_row document (inr (other, said)) = description_row_other said.response IncompatibleServer said.row refl
 
 fits_hello : (asked : Asked) → Fits (hello_plan asked)
 unfolding hello_plan

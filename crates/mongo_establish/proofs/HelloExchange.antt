@@ -19,9 +19,9 @@ use Rattle.mongo_command.specs.declared.server_address.ServerAddress.{ServerAddr
 use Rattle.mongo_command.specs.declared.stream_description.StreamDescription.{StreamDescription}
 use Rattle.mongo_command.specs.Command.{argument_elements, command_document}
 use Rattle.mongo_command.specs.Connection.{kept_fault, KeepsRest}
-use Rattle.mongo_command.specs.Conversation.{Plan, HasNone, Stopped, Reached, plain_message}
+use Rattle.mongo_command.specs.Conversation.{Plan, AreMet, HasNone, Stopped, Reached, plain_message}
 use Rattle.mongo_command.specs.Exchange.{command_message, frame_maximum, CountsStay}
-use Rattle.mongo_command.specs.Hello.{IsHelloResponse, HelloRefused, DescriptionRow, DescriptionRefused, description_of}
+use Rattle.mongo_command.specs.Hello.{IsHelloResponse, HelloRefused, description_demands, DescriptionRefused, description_of}
 use Rattle.mongo_command.specs.HelloExchange.{RunsHello, RunHelloRefused}
 use Rattle.mongo_command.proofs.Steps.{reached_ending, reached_unless, reached_reading, reached_saying, stopped_memory, stopped_row, stopped_saying, stopped_later}
 use Rattle.mongo_sasl.specs.declared.credential.Credential.{Credential}
@@ -60,7 +60,7 @@ no_description address kind reply new after reads (inl row) =
 no_description address kind reply new after reads (inr memory) = stopped_memory _ kind new after memory
 
 -- one that describes
-describes : (address : ServerAddress) (reply : HelloReply) (new : State) (after : ℤ) → IsHelloResponse reply.raw_command_response reply.command_response reply.cluster_time → HasNone (DescriptionRow reply.command_response) → Reached (after_hello address reply.raw_command_response) (greeting_in address reply) new new after after
+describes : (address : ServerAddress) (reply : HelloReply) (new : State) (after : ℤ) → IsHelloResponse reply.raw_command_response reply.command_response reply.cluster_time → AreMet (description_demands reply.command_response) → Reached (after_hello address reply.raw_command_response) (greeting_in address reply) new new after after
 unfolding greeting_in
 describes address reply new after reads taken =
     let document = reply.raw_command_response in

@@ -1,14 +1,15 @@
 -- The hello's plan has one turn, and what it says of its events where it ended.
 use Rattle.std.proofs.Common.{◌≡◌, ℕ, ℤ, ◌∙◌, refl, ap, subst, sym, inl, inr, Option, None, Some, List, [], ◌∷◌}
 use Rattle.mongo_wire.specs.declared.error.ErrorKind.{ErrorKind}
+use Rattle.mongo_wire.specs.declared.error.ErrorKind.TheVariants.{InvalidResponse}
 use Rattle.mongo_command.specs.declared.hello.HelloCommandResponse.{HelloCommandResponse}
 use Rattle.mongo_command.specs.declared.server_address.ServerAddress.{ServerAddress}
 use Rattle.mongo_command.specs.declared.stream_description.StreamDescription.{StreamDescription}
-use Rattle.mongo_command.specs.Conversation.{Event, exchanged, IsOne, HasNone, HasOneTurn, ending, reading, saying, IsSendable}
-use Rattle.mongo_command.specs.Hello.{IsHelloResponse, DescriptionRow, description_of}
+use Rattle.mongo_command.specs.Conversation.{Event, exchanged, AreMet, IsOne, HasNone, HasOneTurn, ending, reading, saying, IsSendable}
+use Rattle.mongo_command.specs.Hello.{IsHelloResponse, description_demands, DescriptionRow, description_of}
 use Rattle.mongo_command.proofs.OneReply.{one_hello_response, one_hello_reply_row, one_description_row}
 use Rattle.mongo_command.proofs.Ends.{Ends, ends_ending, ends_unless, ends_reading, ends_saying}
-use Rattle.mongo_command.proofs.Plans.{one_else, one_is, one_ending, one_unless, one_reading, one_saying}
+use Rattle.mongo_command.proofs.Plans.{no_of, none_unmet, one_else, one_is, one_ending, one_unless, one_reading, one_saying}
 use Rattle.mongo_sasl.specs.declared.credential.Credential.{Credential}
 use Rattle.mongo_sasl.specs.declared.mechanism.AuthMechanism.{AuthMechanism}
 use Rattle.mongo_sasl.specs.declared.mechanism.AuthMechanism.TheVariants.{MongoDbCr}
@@ -25,9 +26,11 @@ use Rattle.mongo_establish.specs.Spoken.{conversation_of}
 -- ---- the reply
 
 -- a hello reply's document calls for no refusal
-pub no_row : (document : List ℕ) (kind : ErrorKind) (response : HelloCommandResponse) (time : Option (List ℕ)) → IsHelloResponse document response time → HasNone (DescriptionRow response) → DocumentRow document kind → ⊥
+pub no_row : (document : List ℕ) (kind : ErrorKind) (response : HelloCommandResponse) (time : Option (List ℕ)) → IsHelloResponse document response time → AreMet (description_demands response) → DocumentRow document kind → ⊥
 no_row document kind response time reads taken (inl row) = row.0 response time reads
-no_row document kind response time reads taken (inr (hello, said)) = taken kind (subst (λ r. DescriptionRow r kind) (sym (one_hello_response document response said.response time said.time reads said.reads).0) said.row)
+no_row document kind response time reads taken (inr (hello, said)) =
+    let met : AreMet (description_demands said.response) = subst (λ r. AreMet (description_demands r)) (one_hello_response document response said.response time said.time reads said.reads).0 taken in
+    no_of InvalidResponse _ (none_unmet (description_demands said.response) met) kind said.row
 
 one_said : (document : List ℕ) → IsOne (SaidRow document)
 one_said document a b p q = one_description_row q.response a b (subst (λ r. DescriptionRow r a) (one_hello_response document p.response q.response p.time q.time p.reads q.reads).0 p.row) q.row

@@ -70,7 +70,7 @@ run_keeps kind maximum message old new before after kept (inr none) = own_keeps 
 
 -- a reply that doesn't describe the server
 pub description_own : (response : HelloCommandResponse) (kind : ErrorKind) → DescriptionRefused kind response → IsOwn kind
-description_own response kind (inl row) = inl (description_row_own response kind row).0
+description_own response kind (inl row) = inl (description_row_own response kind row)
 description_own response kind (inr memory) = inr memory
 
 -- ---- a mechanism that doesn't take the credential

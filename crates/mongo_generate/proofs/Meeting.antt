@@ -181,7 +181,7 @@ module _ (pending : PendingConnection) (x : Exchange) (nonces : Nonces) (bytes :
   made kind row = no_credential_row credential user is_user kind (row_by x.version credential kind row)
 
   greets : Greets asked.pending.address hello_heard greeting
-  greets = (refl, record { response = standalone inner; time = None; reads = hello_says (first_of x) short_first; taken = λ kind row. row.1 tt; description_is = refl; speculative_is = refl; connection_id_is = refl })
+  greets = (refl, record { response = standalone inner; time = None; reads = hello_says (first_of x) short_first; taken = (tt, tt); description_is = refl; speculative_is = refl; connection_id_is = refl })
 
   pub first_frame : List ℕ
   first_frame = written_frame (pos 0) (plain_message (hello_document asked))
@@ -294,7 +294,7 @@ module _ (pending : PendingConnection) (x : Exchange) (nonces : Nonces) (bytes :
     events_are = subst (λ s. OpensBy s handed close_heard [] inner) (sym speculates) (refl, refl);
     challenged = record {
       carries = first_carries;
-      valid = record { goes_on = refl; begins = subst (BeginsWith (joined_of x)) (sym is_client.nonce) heard.reads.begins; enough = possible.enough; within = is_client.within };
+      valid = (refl, subst (BeginsWith (joined_of x)) (sym is_client.nonce) heard.reads.begins, possible.enough, is_client.within, tt);
       usable = possible.usable;
     };
   }

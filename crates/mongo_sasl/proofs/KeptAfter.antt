@@ -8,11 +8,11 @@ use Rattle.mongo_wire.specs.declared.error.ErrorKind.TheVariants.{InvalidArgumen
 use Rattle.mongo_wire.specs.declared.fault.ArgumentFault.TheVariants.{Bson, CheckedFailure}
 use Rattle.mongo_wire.specs.declared.message.Message.{Message}
 use Rattle.mongo_wire.specs.Outside.{State}
-use Rattle.mongo_command.specs.Conversation.{row_for}
+use Rattle.mongo_command.specs.Conversation.{row_of}
 use Rattle.mongo_command.specs.Exchange.{SendRefused, ExchangeRefused}
 use Rattle.mongo_command.specs.Fault.{is_kept}
 use Rattle.mongo_command.proofs.Kept.{received_kept}
-use Rattle.mongo_command.proofs.Plans.{all_else, all_row}
+use Rattle.mongo_command.proofs.Plans.{all_of}
 use Rattle.mongo_sasl.specs.declared.credential.Credential.{Credential}
 use Rattle.mongo_sasl.specs.Commands.{IsNotBuilt}
 use Rattle.mongo_sasl.specs.Credential.{NoUserRow}
@@ -55,11 +55,9 @@ own_keeps OutOfMemory kept own none = inl none
 own_keeps kind kept (inl row) none = subst (λ ends. kept ≡ (if ends then Some kind else None)) (sym row) none
 own_keeps kind kept (inr memory) none = subst (λ k. KeepsAfter k kept) (sym memory) (inl none)
 
-pub refused_own : (fault : AuthFault) (Holds : Type 0) (kind : ErrorKind) → row_for (Authentication fault) Holds kind → IsOwn kind
-refused_own fault Holds = all_row IsOwn (Authentication fault) Holds (inl refl)
-
-pub no_user_own : (credential : Credential) (kind : ErrorKind) → NoUserRow credential kind → IsOwn kind
-no_user_own credential = all_else IsOwn _ _ (refused_own _ _) (refused_own _ _)
+-- no refusal of authentication ends a connection
+pub refused_own : (Holds : AuthFault → Type 0) (kind : ErrorKind) → row_of Authentication Holds kind → IsOwn kind
+refused_own Holds = all_of IsOwn Authentication Holds (λ fault. inl refl)
 
 pub unbuilt_own : (body : List ℕ) (kind : ErrorKind) → IsNotBuilt body kind → IsOwn kind
 unbuilt_own body (InvalidArgument (Bson TooLong)) row = inl refl

@@ -7,7 +7,7 @@ use Rattle.mongo_command.proofs.Leads.{Never, never_ending, never_unless, never_
 use Rattle.mongo_sasl.specs.Plain.{PlainHanded, PlainRow, IsPlainUser, UnfinishedRow, plain_said, plain_heard, plain_plan, IsPlainLogin}
 use Rattle.mongo_sasl.specs.Reply.{IsSaslReply, SaslRow}
 use Rattle.mongo_sasl.proofs.Joining.{JoinsLogin}
-use Rattle.mongo_sasl.proofs.OtherRows.{other, no_user_other}
+use Rattle.mongo_sasl.proofs.OtherRows.{other, other_row}
 use Rattle.mongo_sasl.proofs.PlainPlan.{one_plain, plain_ended, plain_ends}
 
 never_heard : (reply : List ℕ) → Never IncompatibleServer (plain_heard reply)
@@ -17,7 +17,7 @@ never_heard reply =
 
 never_plain : (handed : PlainHanded) → Never IncompatibleServer (plain_plan handed)
 never_plain handed =
-    never_unless IncompatibleServer (PlainRow handed.credential) (reading (IsPlainUser handed.credential) (λ user. saying (plain_said handed user) plain_heard)) (λ row. no_user_other handed.credential IncompatibleServer row refl)
+    never_unless IncompatibleServer (PlainRow handed.credential) (reading (IsPlainUser handed.credential) (λ user. saying (plain_said handed user) plain_heard)) (λ row. other_row _ IncompatibleServer row refl)
     (never_reading IncompatibleServer (IsPlainUser handed.credential) (λ user. saying (plain_said handed user) plain_heard) (λ user. never_saying IncompatibleServer (plain_said handed user) plain_heard never_heard))
 
 pub plain_joins : (handed : PlainHanded) → JoinsLogin (plain_plan handed) (IsPlainLogin handed) handed.maximum

@@ -1,24 +1,30 @@
 -- Credentials, and what they ask of a hello.
-use Rattle.std.specs.Prelude.{◌≡◌, ℕ, ◌+◌, ◌-◌, ◌^◌, ◌<◌, Option, None, Some, List, ◌++◌, codes, length, ⊤}
+use Rattle.std.specs.Prelude.{◌≡◌, ℕ, ◌+◌, ◌-◌, ◌^◌, ◌<◌, Option, None, Some, IsSome, List, ◌++◌, codes, length, ⊤}
 use Rattle.mongo_bson.specs.Document.{Element, spell}
 use Rattle.mongo_bson.specs.Framed.{body_of, enclosed}
 use Rattle.mongo_bson.specs.declared.fault.BsonFault.TheVariants.{TooLong}
 use Rattle.mongo_wire.specs.declared.error.ErrorKind.{ErrorKind}
 use Rattle.mongo_wire.specs.declared.error.ErrorKind.TheVariants.{InvalidArgument, Authentication, OutOfMemory}
+use Rattle.mongo_wire.specs.declared.auth_fault.AuthFault.{AuthFault}
 use Rattle.mongo_wire.specs.declared.auth_fault.AuthFault.TheVariants.{NoUsername, NoPassword}
 use Rattle.mongo_wire.specs.declared.fault.ArgumentFault.TheVariants.{Bson}
-use Rattle.mongo_command.specs.Conversation.{or_else, row_for}
+use Rattle.mongo_command.specs.Conversation.{Demands, no_demand, demand, UnmetRow, row_of}
 use Rattle.mongo_command.specs.Literal.{text_element}
 use Rattle.mongo_command.specs.Keys.{sasl_supported_mechs_key}
 use Rattle.mongo_sasl.specs.declared.mechanism.AuthMechanism.{AuthMechanism}
 use Rattle.mongo_sasl.specs.declared.credential.Credential.{Credential}
 use Rattle.mongo_sasl.specs.Mechanism.{source_of}
 
--- why a credential names no user with a password: the first row that applies
+-- what is demanded of a credential that names a user with a password, and what is demanded after that
+abbrev pub user_demands : Credential → Demands AuthFault → Demands AuthFault
+user_demands credential more =
+    demand NoUsername (IsSome credential.username)
+    (demand NoPassword (IsSome credential.password)
+    more)
+
+-- why a credential names none: the row of the first demand that it doesn't meet
 abbrev pub NoUserRow : Credential → ErrorKind → Type 0
-NoUserRow credential =
-    or_else (row_for (Authentication NoUsername) (credential.username ≡ None))
-    (row_for (Authentication NoPassword) (credential.password ≡ None))
+NoUserRow credential = row_of Authentication (UnmetRow (user_demands credential no_demand))
 
 -- the database of a credential's mechanism, whatever database the credential names
 abbrev pub resolved_source : Option AuthMechanism → List ℕ

@@ -7,16 +7,16 @@ use Rattle.std.proofs.lemmas.Bool.Decides.{Decides-eqb}
 use Rattle.mongo_bson.specs.declared.owned_value.OwnedValue.{OwnedValue}
 use Rattle.mongo_wire.specs.declared.error.ErrorKind.{ErrorKind}
 use Rattle.mongo_wire.specs.declared.error.ErrorKind.TheVariants.{Authentication}
-use Rattle.mongo_wire.specs.declared.auth_fault.AuthFault.TheVariants.{ServerError, NotCompleted}
+use Rattle.mongo_wire.specs.declared.auth_fault.AuthFault.TheVariants.{NotCompleted}
 use Rattle.mongo_command.specs.Conversation.{HasNone}
-use Rattle.mongo_command.proofs.Plans.{none_first, none_second, none_else, no_row, row_denied}
+use Rattle.mongo_command.proofs.Plans.{no_row, row_denied, no_of, of_denied, none_unmet, all_met}
 use Rattle.mongo_scram.specs.declared.server_first.ServerFirst.{ServerFirst}
 use Rattle.mongo_scram.specs.declared.server_final.ServerFinal.{ServerFinal}
 use Rattle.mongo_scram.specs.declared.server_final.ServerFinalBody.{ServerFinalBody}
 use Rattle.mongo_scram.specs.declared.server_final.ServerFinalBody.TheVariants.{Error, Verifier}
-use Rattle.mongo_scram.specs.Validity.{BeginsWith, least_count, IsValidFirst, ServerFirstRow, IsValidFinal, ServerErrorRow, ServerFinalRow}
+use Rattle.mongo_scram.specs.Validity.{BeginsWith, least_count, first_demands, IsValidFirst, ServerFirstRow, IsVerifier, IsReadable, final_demands, IsValidFinal, ServerFinalRow}
 
--- ---- what can be decided
+-- ---- what can be decided, holds where it can't but hold
 
 not_true : (b : Bool) → (b ≡ true → ⊥) → b ≡ false
 not_true true h = absurd (h refl)
@@ -28,6 +28,12 @@ not_false false h = absurd (h refl)
 
 not_less : (a b : ℕ) → (a < b → ⊥) → b ≤ a
 not_less a b h = omega (arith, h)
+
+is_false : (b : Bool) → ((b ≡ false → ⊥) → ⊥) → b ≡ false
+is_false b h = not_true b (λ yes. h (λ no. false≢true (sym no ∙ yes)))
+
+is_least : (a b : ℕ) → ((a ≤ b → ⊥) → ⊥) → a ≤ b
+is_least a b h = not_less b a (λ less. h (λ least. omega (arith, less, least)))
 
 stable : {P : Type 0} (r : Bool) → Decides r P → ((P → ⊥) → ⊥) → P
 stable true d h = d.0 refl
@@ -54,41 +60,30 @@ same_value a b h =
 
 pub valid_first : (first : ServerFirst) (nonce : List ℕ) (max_iterations : ℕ) → HasNone (ServerFirstRow first nonce max_iterations) → IsValidFirst first nonce max_iterations
 valid_first first nonce max_iterations none =
-    let after_done = none_second _ _ none in
-    let after_nonce = none_second _ _ after_done in
-    record {
-      goes_on = not_true first.done (row_denied _ _ (none_first _ _ none));
-      begins = begun first.nonce nonce (row_denied _ _ (none_first _ _ after_done));
-      enough = not_less first.i least_count (row_denied _ _ (none_first _ _ after_nonce));
-      within = not_less max_iterations first.i (row_denied _ _ (none_second _ _ after_nonce));
-    }
+    all_met (first_demands first nonce max_iterations) (
+      is_false first.done,
+      begun first.nonce nonce,
+      is_least least_count first.i,
+      is_least first.i max_iterations,
+      tt,
+    ) (of_denied Authentication _ none)
 
 pub valid_first_row : (first : ServerFirst) (nonce : List ℕ) (max_iterations : ℕ) → IsValidFirst first nonce max_iterations → HasNone (ServerFirstRow first nonce max_iterations)
-valid_first_row first nonce max_iterations valid =
-    none_else _ _ (no_row _ _ (λ done. false≢true (sym valid.goes_on ∙ done)))
-    (none_else _ _ (no_row _ _ (λ other. other valid.begins))
-    (none_else _ _ (no_row _ _ (λ low. omega (arith, low, valid.enough)))
-    (no_row _ _ (λ high. omega (arith, high, valid.within)))))
+valid_first_row first nonce max_iterations valid = no_of Authentication _ (none_unmet (first_demands first nonce max_iterations) valid)
 
 -- ---- the server's last message
 
-verified : (last : ServerFinal) (owed : List ℕ) → HasNone (ServerErrorRow last) → (last.body ≡ Verifier None → ⊥) → ((bytes : List ℕ) × (last.body ≡ Verifier (Some bytes)) × (bytes ≢ owed) → ⊥) → (body : ServerFinalBody) → last.body ≡ body → last.body ≡ Verifier (Some owed)
-verified last owed error unread other (Error text) is = absurd (error (Authentication (ServerError text)) (text, refl, is))
-verified last owed error unread other (Verifier None) is = absurd (unread is)
-verified last owed error unread other (Verifier (Some bytes)) is =
-    is ∙ ap (λ b. Verifier (Some b)) (same_bytes bytes owed (λ differs. other (bytes, is, differs)))
+is_verifier : (body : ServerFinalBody) → ((IsVerifier body → ⊥) → ⊥) → IsVerifier body
+is_verifier (Error text) h = h (λ is. is)
+is_verifier (Verifier found) h = tt
 
-pub valid_final : (last : ServerFinal) (conversation : OwnedValue) (owed : List ℕ) → HasNone (ServerFinalRow last conversation owed) → IsValidFinal last conversation owed
-valid_final last conversation owed none =
-    let after_id = none_second _ _ none in
-    let after_error = none_second _ _ after_id in
-    record {
-      conversation_is = same_value last.conversation_id conversation (row_denied _ _ (none_first _ _ none));
-      body = verified last owed (none_first _ _ after_id) (row_denied _ _ (none_first _ _ after_error)) (row_denied _ _ (none_second _ _ after_error)) last.body refl;
-    }
+is_readable : (body : ServerFinalBody) → ((IsReadable body → ⊥) → ⊥) → IsReadable body
+is_readable (Error text) h = tt
+is_readable (Verifier None) h = h (λ is. is)
+is_readable (Verifier (Some bytes)) h = tt
 
-no_error : (text : List ℕ) (found : Option (List ℕ)) → Error text ≡ Verifier found → ⊥
-no_error text found is = cc
+no_error : (text owed : List ℕ) → Error text ≡ Verifier (Some owed) → ⊥
+no_error text owed is = cc
 
 no_bytes : (owed : List ℕ) → ◌≡◌ {A = ServerFinalBody} (Verifier None) (Verifier (Some owed)) → ⊥
 no_bytes owed is = cc
@@ -96,12 +91,23 @@ no_bytes owed is = cc
 same_owed : (a b : List ℕ) → ◌≡◌ {A = ServerFinalBody} (Verifier (Some a)) (Verifier (Some b)) → a ≡ b
 same_owed a b is = cc
 
+is_owed : (body : ServerFinalBody) (owed : List ℕ) → ((body ≡ Verifier (Some owed) → ⊥) → ⊥) → body ≡ Verifier (Some owed)
+is_owed (Error text) owed h = absurd (h (no_error text owed))
+is_owed (Verifier None) owed h = absurd (h (no_bytes owed))
+is_owed (Verifier (Some bytes)) owed h = ap (λ b. Verifier (Some b)) (same_bytes bytes owed (λ other. h (λ is. other (same_owed bytes owed is))))
+
+pub valid_final : (last : ServerFinal) (conversation : OwnedValue) (owed : List ℕ) → HasNone (ServerFinalRow last conversation owed) → IsValidFinal last conversation owed
+valid_final last conversation owed none =
+    all_met (final_demands last conversation owed) (
+      same_value last.conversation_id conversation,
+      is_verifier last.body,
+      is_readable last.body,
+      is_owed last.body owed,
+      tt,
+    ) (of_denied Authentication _ none)
+
 pub valid_final_row : (last : ServerFinal) (conversation : OwnedValue) (owed : List ℕ) → IsValidFinal last conversation owed → HasNone (ServerFinalRow last conversation owed)
-valid_final_row last conversation owed valid =
-    none_else _ _ (no_row _ _ (λ other. other valid.conversation_is))
-    (none_else _ _ (λ kind row. no_error row.0 (Some owed) (sym row.2 ∙ valid.body))
-    (none_else _ _ (no_row _ _ (λ unread. no_bytes owed (sym unread ∙ valid.body)))
-    (no_row _ _ (λ other. other.2 (same_owed other.0 owed (sym other.1 ∙ valid.body))))))
+valid_final_row last conversation owed valid = no_of Authentication _ (none_unmet (final_demands last conversation owed) valid)
 
 pub completed : (done : Bool) → ((kind : ErrorKind) → (kind ≡ Authentication NotCompleted) × (done ≡ false) → ⊥) → done ≡ true
 completed done none = not_false done (row_denied _ _ none)

@@ -1,22 +1,18 @@
 -- A credential has one user, and each step of a login is refused for one reason at most.
-use Rattle.std.proofs.Common.{◌≡◌, ℕ, Option, None, Some, IsSome, List, sym, ap, ◌∙◌}
-use Rattle.std.proofs.lemmas.Bool.{false≢true}
+use Rattle.std.proofs.Common.{◌≡◌, ℕ, Option, Some, List, sym, ◌∙◌}
 use Rattle.mongo_bson.specs.declared.owned_value.OwnedValue.{OwnedValue}
-use Rattle.mongo_wire.specs.declared.auth_fault.AuthFault.TheVariants.{ServerError}
 use Rattle.mongo_wire.specs.declared.error.ErrorKind.TheVariants.{Authentication}
 use Rattle.mongo_command.specs.Conversation.{IsOne, HasNone}
-use Rattle.mongo_command.proofs.Plans.{one_else, one_row, none_else, no_row}
+use Rattle.mongo_command.proofs.Plans.{one_else, one_row, one_of, one_unmet, no_of, none_unmet}
 use Rattle.mongo_sasl.specs.declared.credential.Credential.{Credential}
-use Rattle.mongo_sasl.proofs.NoUser.{one_no_user, user_named}
+use Rattle.mongo_sasl.proofs.NoUser.{there}
 use Rattle.mongo_scram.specs.declared.scram_version.ScramVersion.{ScramVersion}
 use Rattle.mongo_scram.specs.declared.scram_version.ScramVersion.TheVariants.{Sha1, Sha256}
 use Rattle.mongo_scram.specs.declared.server_first.ServerFirst.{ServerFirst}
 use Rattle.mongo_scram.specs.declared.server_final.ServerFinal.{ServerFinal}
-use Rattle.mongo_scram.specs.declared.server_final.ServerFinalBody.{ServerFinalBody}
-use Rattle.mongo_scram.specs.declared.server_final.ServerFinalBody.TheVariants.{Error}
 use Rattle.mongo_scram.specs.Key.{PasswordRow}
-use Rattle.mongo_scram.specs.User.{User, IsUser, CredentialRow}
-use Rattle.mongo_scram.specs.Validity.{ServerFirstRow, ServerErrorRow, ServerFinalRow}
+use Rattle.mongo_scram.specs.User.{User, IsUser, credential_demands, CredentialRow}
+use Rattle.mongo_scram.specs.Validity.{first_demands, ServerFirstRow, final_demands, ServerFinalRow}
 
 -- ---- credentials
 
@@ -37,16 +33,17 @@ one_user credential = λ a b p q.
     (p.source ∙ sym q.source)
 
 pub one_credential_row : (credential : Credential) → IsOne (CredentialRow credential)
-one_credential_row credential = one_else _ _ (one_no_user credential) (one_row _ _)
-
-none_some : {A : Type 0} (o : Option A) → o ≡ None → IsSome o → ⊥
-none_some None is some = false≢true some
-none_some (Some a) is some = absurd (cc)
+one_credential_row credential = one_of Authentication _ (one_unmet (credential_demands credential))
 
 -- a credential with a user isn't refused
 pub no_credential_row : (credential : Credential) (user : User) → IsUser credential user → HasNone (CredentialRow credential)
 no_credential_row credential user is =
-    none_else _ _ (user_named credential user.username user.password is.username is.password) (no_row _ _ (none_some credential.mechanism_properties is.properties))
+    no_of Authentication _ (none_unmet (credential_demands credential) (
+      there credential.username user.username is.username,
+      there credential.password user.password is.password,
+      is.properties,
+      tt,
+    ))
 
 -- ---- passwords
 
@@ -57,17 +54,9 @@ one_password_row Sha256 password = one_else _ _ (one_row _ _) (one_row _ _)
 -- ---- whether the client goes on
 
 pub one_valid_first_row : (first : ServerFirst) (nonce : List ℕ) (max_iterations : ℕ) → IsOne (ServerFirstRow first nonce max_iterations)
-one_valid_first_row first nonce max_iterations =
-    one_else _ _ (one_row _ _) (one_else _ _ (one_row _ _) (one_else _ _ (one_row _ _) (one_row _ _)))
+one_valid_first_row first nonce max_iterations = one_of Authentication _ (one_unmet (first_demands first nonce max_iterations))
 
 -- ---- whether the server has proved itself
 
-same_text : (body : ServerFinalBody) (a b : List ℕ) → body ≡ Error a → body ≡ Error b → a ≡ b
-same_text body a b p q = let is : Error a ≡ Error b = sym p ∙ q in cc
-
-one_error_row : (last : ServerFinal) → IsOne (ServerErrorRow last)
-one_error_row last = λ a b p q. p.1 ∙ ap (λ text. Authentication (ServerError text)) (same_text last.body p.0 q.0 p.2 q.2) ∙ sym q.1
-
 pub one_valid_final_row : (last : ServerFinal) (id : OwnedValue) (owed : List ℕ) → IsOne (ServerFinalRow last id owed)
-one_valid_final_row last id owed =
-    one_else _ _ (one_row _ _) (one_else _ _ (one_error_row last) (one_else _ _ (one_row _ _) (one_row _ _)))
+one_valid_final_row last id owed = one_of Authentication _ (one_unmet (final_demands last id owed))

@@ -1,15 +1,13 @@
 -- A refusal of a SCRAM login's own, beside its exchanges, is for no fault that ends a connection.
-use Rattle.std.proofs.Common.{◌≡◌, ◌⊎◌, ℕ, refl, ap, sym, subst, inl, inr, List}
+use Rattle.std.proofs.Common.{◌≡◌, ◌⊎◌, ℕ, refl, ap, inl, inr, List}
 use Rattle.mongo_bson.specs.declared.owned_value.OwnedValue.{OwnedValue}
-use Rattle.mongo_wire.specs.declared.auth_fault.AuthFault.{AuthFault}
-use Rattle.mongo_wire.specs.declared.auth_fault.AuthFault.TheVariants.{ServerError}
+use Rattle.mongo_wire.specs.declared.auth_fault.AuthFault.TheVariants.{PasswordControl}
 use Rattle.mongo_wire.specs.declared.error.ErrorKind.{ErrorKind}
 use Rattle.mongo_wire.specs.declared.error.ErrorKind.TheVariants.{Authentication, PasswordNotAscii, OutOfMemory}
-use Rattle.mongo_command.specs.Conversation.{row_for}
 use Rattle.mongo_command.specs.Fault.{is_kept}
 use Rattle.mongo_command.proofs.Plans.{all_else, all_row}
 use Rattle.mongo_sasl.specs.declared.credential.Credential.{Credential}
-use Rattle.mongo_sasl.proofs.KeptAfter.{IsOwn, sasl_own}
+use Rattle.mongo_sasl.proofs.KeptAfter.{IsOwn, refused_own, sasl_own}
 use Rattle.mongo_scram.specs.declared.scram_version.ScramVersion.{ScramVersion}
 use Rattle.mongo_scram.specs.declared.scram_version.ScramVersion.TheVariants.{Sha1, Sha256}
 use Rattle.mongo_scram.specs.declared.server_first.ServerFirst.{ServerFirst}
@@ -18,31 +16,9 @@ use Rattle.mongo_scram.specs.Key.{PasswordRow}
 use Rattle.mongo_scram.specs.Replies.{FirstPayloadRow, FirstReplyRow, FinalReplyRow}
 use Rattle.mongo_scram.specs.Rounds.{AnswerRow, RoundRow, LastRefusal}
 use Rattle.mongo_scram.specs.User.{CredentialRow}
-use Rattle.mongo_scram.specs.Validity.{ServerFirstRow, ServerFinalRow}
-
--- ---- what holds of each refusal of authentication holds by each row
-
-module _ (P : ErrorKind → Type 0) (p : (fault : AuthFault) → P (Authentication fault)) where
-  by_row : (fault : AuthFault) (Holds : Type 0) (kind : ErrorKind) → row_for (Authentication fault) Holds kind → P kind
-  by_row fault Holds = all_row P (Authentication fault) Holds (p fault)
-
-  pub each_credential_row : (credential : Credential) (kind : ErrorKind) → CredentialRow credential kind → P kind
-  each_credential_row credential = all_else P _ _ (all_else P _ _ (by_row _ _) (by_row _ _)) (by_row _ _)
-
-  pub each_first_row : (first : ServerFirst) (nonce : List ℕ) (max_iterations : ℕ) (kind : ErrorKind) → ServerFirstRow first nonce max_iterations kind → P kind
-  each_first_row first nonce max_iterations =
-      all_else P _ _ (by_row _ _) (all_else P _ _ (by_row _ _) (all_else P _ _ (by_row _ _) (by_row _ _)))
-
-  pub each_password_row : P PasswordNotAscii → (version : ScramVersion) (password : List ℕ) (kind : ErrorKind) → PasswordRow version password kind → P kind
-  each_password_row ascii Sha1 password = λ kind row. absurd row
-  each_password_row ascii Sha256 password = all_else P _ _ (all_row P PasswordNotAscii _ ascii) (by_row _ _)
-
-  pub each_final_row : (last : ServerFinal) (conversation : OwnedValue) (owed : List ℕ) (kind : ErrorKind) → ServerFinalRow last conversation owed kind → P kind
-  each_final_row last conversation owed =
-      all_else P _ _ (by_row _ _) (all_else P _ _ (λ kind row. subst P (sym row.1) (p (ServerError row.0))) (all_else P _ _ (by_row _ _) (by_row _ _)))
 
 pub credential_own : (credential : Credential) (kind : ErrorKind) → CredentialRow credential kind → IsOwn kind
-credential_own = each_credential_row IsOwn (λ fault. inl refl)
+credential_own credential = refused_own _
 
 -- ---- the server's first message
 
@@ -57,9 +33,14 @@ first_reply_own reply kind (inr memory) = inr memory
 
 -- ---- the derivation
 
+-- what holds of both refusals of a password holds by its row
+pub each_password_row : (P : ErrorKind → Type 0) → P PasswordNotAscii → P (Authentication PasswordControl) → (version : ScramVersion) (password : List ℕ) (kind : ErrorKind) → PasswordRow version password kind → P kind
+each_password_row P ascii control Sha1 password = λ kind row. absurd row
+each_password_row P ascii control Sha256 password = all_else P _ _ (all_row P _ _ ascii) (all_row P _ _ control)
+
 pub answer_own : (first : ServerFirst) (nonce : List ℕ) (max_iterations : ℕ) (version : ScramVersion) (password : List ℕ) (kind : ErrorKind) → AnswerRow first nonce max_iterations version password kind ⊎ (kind ≡ OutOfMemory) → IsOwn kind
-answer_own first nonce max_iterations version password kind (inl (inl row)) = each_first_row IsOwn (λ fault. inl refl) first nonce max_iterations kind row
-answer_own first nonce max_iterations version password kind (inl (inr row)) = each_password_row IsOwn (λ fault. inl refl) (inl refl) version password kind row.1
+answer_own first nonce max_iterations version password kind (inl (inl row)) = refused_own _ kind row
+answer_own first nonce max_iterations version password kind (inl (inr row)) = each_password_row IsOwn (inl refl) (inl refl) version password kind row.1
 answer_own first nonce max_iterations version password kind (inr memory) = inr memory
 
 -- ---- the server's last message
@@ -69,7 +50,7 @@ final_reply_own document kind (inl row) = sasl_own document kind row
 final_reply_own document kind (inr row) = inl (ap is_kept row.1.0)
 
 round_own : (conversation : OwnedValue) (owed : List ℕ) (last : ServerFinal) (kind : ErrorKind) → RoundRow conversation owed last kind → IsOwn kind
-round_own conversation owed last kind (inl row) = each_final_row IsOwn (λ fault. inl refl) last conversation owed kind row
+round_own conversation owed last kind (inl row) = refused_own _ kind row
 round_own conversation owed last kind (inr row) = inl (ap is_kept row.1.0)
 
 pub last_own : (conversation : OwnedValue) (owed document : List ℕ) (kind : ErrorKind) → LastRefusal conversation owed document kind ⊎ (kind ≡ OutOfMemory) → IsOwn kind

@@ -2,10 +2,10 @@
 use Rattle.std.proofs.Common.{ℕ, refl, sym, inl, inr, Option, None, Some, List}
 use Rattle.mongo_wire.specs.declared.error.ErrorKind.{ErrorKind}
 use Rattle.mongo_wire.specs.declared.error.ErrorKind.TheVariants.{PasswordNotAscii, IncompatibleServer}
-use Rattle.mongo_wire.specs.declared.auth_fault.AuthFault.TheVariants.{Malformed}
+use Rattle.mongo_wire.specs.declared.auth_fault.AuthFault.TheVariants.{Malformed, NotCompleted, PasswordControl}
 use Rattle.mongo_command.specs.Conversation.{Plan, ending, reading, unless}
 use Rattle.mongo_command.proofs.Leads.{never_ending, never_unless, never_reading, never_saying}
-use Rattle.mongo_command.proofs.Plans.{all_else}
+use Rattle.mongo_command.proofs.Plans.{all_else, all_row}
 use Rattle.mongo_sasl.specs.declared.credential.Credential.{Credential}
 use Rattle.mongo_sasl.proofs.Fits.{Fits, fits_followed}
 use Rattle.mongo_sasl.proofs.OtherRows.{IsOther, other, other_row}
@@ -14,13 +14,13 @@ use Rattle.mongo_scram.specs.declared.server_final.ServerFinal.{ServerFinal}
 use Rattle.mongo_scram.specs.User.{User, IsUser, CredentialRow}
 use Rattle.mongo_scram.specs.Plan.{Speculated, Handed, Challenge, nonce_by, verifier_by, start_said, close_said, ChallengeRow, challenged, opened, opening, LastRow, closed, closing, scram_plan}
 use Rattle.mongo_scram.specs.Replies.{CarriesFirst, FirstReplyRow, CarriesFinal, FinalReplyRow}
-use Rattle.mongo_scram.proofs.OwnRows.{each_credential_row, each_first_row, each_password_row, each_final_row}
+use Rattle.mongo_scram.proofs.OwnRows.{each_password_row}
 use Rattle.mongo_scram.proofs.ScramPlan.{challenge_of}
 
 -- ---- rows
 
 pub credential_other : (credential : Credential) (kind : ErrorKind) → CredentialRow credential kind → IsOther kind
-credential_other = each_credential_row IsOther other
+credential_other credential = other_row _
 
 no_ascii : IsOther PasswordNotAscii
 no_ascii is = cc
@@ -31,7 +31,7 @@ no_first_reply : (reply : List ℕ) → FirstReplyRow reply IncompatibleServer �
 no_first_reply reply row = elim row [ inl x ↦ x | inr x ↦ x.1 ]
 
 no_challenge : (handed : Handed) (c : Challenge) → ChallengeRow handed c IncompatibleServer → ⊥
-no_challenge handed c row = all_else IsOther _ _ (each_first_row IsOther other c.first (nonce_by handed) handed.max_iterations) (each_password_row IsOther other no_ascii handed.version c.user.password) IncompatibleServer row refl
+no_challenge handed c row = all_else IsOther _ _ (other_row _) (each_password_row IsOther no_ascii (other PasswordControl) handed.version c.user.password) IncompatibleServer row refl
 
 -- after the server's first message and its last
 abbrev judged : Handed → User → ServerFirst → Plan Challenge
@@ -56,7 +56,7 @@ no_final_reply : (reply : List ℕ) → FinalReplyRow reply IncompatibleServer �
 no_final_reply reply row = elim row [ inl x ↦ x | inr x ↦ other Malformed (sym x.1.0) ]
 
 no_last : (handed : Handed) (c : Challenge) (last : ServerFinal) → LastRow handed c last IncompatibleServer → ⊥
-no_last handed c last row = all_else IsOther _ _ (each_final_row IsOther other last c.first.conversation_id (verifier_by handed c)) (other_row _ _) IncompatibleServer row refl
+no_last handed c last row = all_else IsOther _ _ (other_row _) (all_row IsOther _ _ (other NotCompleted)) IncompatibleServer row refl
 
 fits_closed : (handed : Handed) (c : Challenge) (reply : List ℕ) → Fits (closed handed c reply)
 fits_closed handed c reply =

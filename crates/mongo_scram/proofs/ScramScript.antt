@@ -31,19 +31,19 @@ first_said : (handed : Handed) (c : Challenge) (reply : List ℕ) → IsChalleng
 first_said handed c reply is =
     let carries = is.carries in
     let id : carries.sasl.conversation_id ≡ c.first.conversation_id = sym carries.conversation in
-    let done : carries.sasl.done ≡ false = sym carries.done ∙ is.valid.goes_on in
+    let done : carries.sasl.done ≡ false = sym carries.done ∙ is.valid.0 in
     let payload : carries.sasl.payload ≡ c.first.message = sym carries.message in
     subst (IsSaslReply reply) (λ i. said_by (id i) (done i) (payload i)) carries.is_reply
 
 last_payload : (handed : Handed) (c : Challenge) (reply : List ℕ) (is : IsProved handed c reply) → is.carries.sasl.payload ≡ owed_by handed c
 last_payload handed c reply is =
-    let says : SaysFinal is.carries.sasl.payload (Verifier (Some (verifier_by handed c))) = subst (SaysFinal is.carries.sasl.payload) is.valid.body is.carries.says in
+    let says : SaysFinal is.carries.sasl.payload (Verifier (Some (verifier_by handed c))) = subst (SaysFinal is.carries.sasl.payload) is.valid.3 is.carries.says in
     says.1.1 ∙ ap (λ text. codes "v=" ++ text) says.1.2.1
 
 last_said : (handed : Handed) (c : Challenge) (reply : List ℕ) → IsProved handed c reply → IsSaslReply reply (said_by c.first.conversation_id true (owed_by handed c))
 last_said handed c reply is =
     let carries = is.carries in
-    let id : carries.sasl.conversation_id ≡ c.first.conversation_id = sym carries.conversation ∙ is.valid.conversation_is in
+    let id : carries.sasl.conversation_id ≡ c.first.conversation_id = sym carries.conversation ∙ is.valid.0 in
     let done : carries.sasl.done ≡ true = sym carries.done ∙ is.done in
     let payload = last_payload handed c reply is in
     subst (IsSaslReply reply) (λ i. said_by (id i) (done i) (payload i)) carries.is_reply
@@ -52,14 +52,11 @@ conversation_by : (handed : Handed) (c : Challenge) (first last : List ℕ) → 
 conversation_by handed c first last p q = record {
   challenge = c;
   is_user = refl;
-  goes_on = p.valid.goes_on;
+  goes_on = p.valid;
   replied = first_said handed c first p;
   count = p.carries.count;
   is_first = subst (λ m. IsServerFirst m c.first.nonce c.first.salt p.carries.count) (sym p.carries.message) p.carries.is_first;
   is_count = p.carries.is_count;
-  begins = p.valid.begins;
-  enough = p.valid.enough;
-  within = p.valid.within;
   usable = p.usable;
   command_is = refl;
   ended = last_said handed c last q;
@@ -67,8 +64,8 @@ conversation_by handed c first last p q = record {
 
 challenged_by : (handed : Handed) (user : User) (first close last : List ℕ) (is : IsConversation handed user first close last) → IsChallenged handed first is.challenge
 challenged_by handed user first close last is = record {
-  carries = record { sasl = said_by is.challenge.first.conversation_id false is.challenge.first.message; is_reply = is.replied; conversation = refl; done = is.goes_on; message = refl; count = is.count; is_first = is.is_first; is_count = is.is_count };
-  valid = record { goes_on = is.goes_on; begins = is.begins; enough = is.enough; within = is.within };
+  carries = record { sasl = said_by is.challenge.first.conversation_id false is.challenge.first.message; is_reply = is.replied; conversation = refl; done = is.goes_on.0; message = refl; count = is.count; is_first = is.is_first; is_count = is.is_count };
+  valid = is.goes_on;
   usable = λ kind row. is.usable kind (subst (λ u. PasswordRow handed.version u.password kind) is.is_user row);
 }
 
@@ -86,7 +83,7 @@ proved_by handed user first close last is =
         done = refl;
         says = (verifier_text owed, (base64_of owed, refl, (verifier_bytes handed.version (salted_by handed c) (auth_message_by handed c), refl)));
       };
-      valid = record { conversation_is = refl; body = refl };
+      valid = (refl, tt, tt, refl, tt);
       done = refl;
     }
 

@@ -1,12 +1,12 @@
 -- The script of a SCRAM login, as whole lists: which commands are written and which replies are taken. It knows no buffer,
 -- no cache and no order of steps.
-use Rattle.std.specs.Prelude.{◌≡◌, ℕ, ◌≤◌, true, false, Option, None, Some, List, [], ◌∷◌, ◌++◌, codes}
+use Rattle.std.specs.Prelude.{◌≡◌, ℕ, true, false, Option, None, Some, List, [], ◌∷◌, ◌++◌, codes}
 use Rattle.mongo_wire.specs.declared.error.ErrorKind.{ErrorKind}
 use Rattle.mongo_sasl.specs.Reply.{IsSaslReply}
 use Rattle.mongo_scram.specs.Base64.{base64_of}
 use Rattle.mongo_scram.specs.Key.{PasswordRow}
 use Rattle.mongo_scram.specs.ServerMessages.{IsServerFirst, IsIterationCount}
-use Rattle.mongo_scram.specs.Validity.{BeginsWith, least_count}
+use Rattle.mongo_scram.specs.Validity.{IsValidFirst}
 use Rattle.mongo_scram.specs.User.{User, IsUser}
 use Rattle.mongo_scram.specs.Plan.{Speculated, Handed, Challenge, nonce_by, start_said, close_said, verifier_by}
 
@@ -15,15 +15,12 @@ use Rattle.mongo_scram.specs.Plan.{Speculated, Handed, Challenge, nonce_by, star
 pub record IsConversation (handed : Handed) (user : User) (first_reply command last_reply : List ℕ) : Type 0 where
   pub challenge : Challenge
   pub is_user : challenge.user ≡ user
-  -- the server's first message goes on from the client's nonce, by so many iterations
-  pub goes_on : challenge.first.done ≡ false
+  -- the server's first message meets what the client demands of it
+  pub goes_on : IsValidFirst challenge.first (nonce_by handed) handed.max_iterations
   pub replied : IsSaslReply first_reply (record { conversation_id = challenge.first.conversation_id; done = false; payload = challenge.first.message })
   pub count : List ℕ
   pub is_first : IsServerFirst challenge.first.message challenge.first.nonce challenge.first.salt count
   pub is_count : IsIterationCount count challenge.first.i
-  pub begins : BeginsWith challenge.first.nonce (nonce_by handed)
-  pub enough : least_count ≤ challenge.first.i
-  pub within : challenge.first.i ≤ handed.max_iterations
   -- the password is one that a key is derived from
   pub usable : (kind : ErrorKind) → PasswordRow handed.version user.password kind → ⊥
   -- the client proves the key, and the server does

@@ -1,11 +1,12 @@
 -- Who logs in by SCRAM, as a credential says it (RFC 5802, section 5, and MongoDB's authentication specification).
-use Rattle.std.specs.Prelude.{◌≡◌, ℕ, None, Some, IsSome, unwrap_or, List, codes}
+use Rattle.std.specs.Prelude.{◌≡◌, ℕ, None, Some, unwrap_or, List, codes}
 use Rattle.mongo_wire.specs.declared.error.ErrorKind.{ErrorKind}
 use Rattle.mongo_wire.specs.declared.error.ErrorKind.TheVariants.{Authentication}
+use Rattle.mongo_wire.specs.declared.auth_fault.AuthFault.{AuthFault}
 use Rattle.mongo_wire.specs.declared.auth_fault.AuthFault.TheVariants.{PropertiesGiven}
-use Rattle.mongo_command.specs.Conversation.{or_else, row_for}
+use Rattle.mongo_command.specs.Conversation.{Demands, no_demand, demand, UnmetRow, row_of}
 use Rattle.mongo_sasl.specs.declared.credential.Credential.{Credential}
-use Rattle.mongo_sasl.specs.Credential.{NoUserRow}
+use Rattle.mongo_sasl.specs.Credential.{user_demands}
 
 -- a user, by name and password, and the database that the user belongs to
 pub record User : Type 0 where
@@ -20,8 +21,13 @@ pub record IsUser (credential : Credential) (user : User) : Type 0 where
   pub properties : credential.mechanism_properties ≡ None
   pub source : user.source ≡ unwrap_or credential.source (codes "admin")
 
--- why a credential has no login by SCRAM: the first row that applies
+-- what is demanded of a credential that logs in by SCRAM
+abbrev pub credential_demands : Credential → Demands AuthFault
+credential_demands credential =
+    user_demands credential
+    (demand PropertiesGiven (credential.mechanism_properties ≡ None)
+    no_demand)
+
+-- why one has no such login: the row of the first demand that it doesn't meet
 abbrev pub CredentialRow : Credential → ErrorKind → Type 0
-CredentialRow credential =
-    or_else (NoUserRow credential)
-    (row_for (Authentication PropertiesGiven) (IsSome credential.mechanism_properties))
+CredentialRow credential = row_of Authentication (UnmetRow (credential_demands credential))

@@ -1,12 +1,14 @@
 -- Which messages of the server a client takes.
-use Rattle.std.specs.Prelude.{◌≡◌, ◌≢◌, ℕ, ◌<◌, ◌≤◌, true, false, Some, None, List, ◌++◌}
+use Rattle.std.specs.Prelude.{◌≡◌, ℕ, ◌≤◌, true, false, Some, None, List, [], ◌++◌, ⊤}
 use Rattle.mongo_wire.specs.declared.error.ErrorKind.{ErrorKind}
 use Rattle.mongo_wire.specs.declared.error.ErrorKind.TheVariants.{Authentication}
+use Rattle.mongo_wire.specs.declared.auth_fault.AuthFault.{AuthFault}
 use Rattle.mongo_wire.specs.declared.auth_fault.AuthFault.TheVariants.{EndedEarly, Nonce, CountLow, CountHigh, Conversation, ServerError, Malformed, Verifier as WrongVerifier}
 use Rattle.mongo_bson.specs.declared.owned_value.OwnedValue.{OwnedValue}
-use Rattle.mongo_command.specs.Conversation.{or_else, row_for}
+use Rattle.mongo_command.specs.Conversation.{Demands, no_demand, demand, AreMet, UnmetRow, row_of}
 use Rattle.mongo_scram.specs.declared.server_first.ServerFirst.{ServerFirst}
 use Rattle.mongo_scram.specs.declared.server_final.ServerFinal.{ServerFinal}
+use Rattle.mongo_scram.specs.declared.server_final.ServerFinalBody.{ServerFinalBody}
 use Rattle.mongo_scram.specs.declared.server_final.ServerFinalBody.TheVariants.{Error, Verifier}
 
 -- the nonce begins with this one
@@ -17,34 +19,53 @@ BeginsWith nonce ours = (suffix : List ℕ) × (nonce ≡ ours ++ suffix)
 abbrev pub least_count : ℕ
 least_count = 4096
 
--- a client with this nonce and this ceiling goes on
-pub record IsValidFirst (first : ServerFirst) (nonce : List ℕ) (max_iterations : ℕ) : Type 0 where
-  pub goes_on : first.done ≡ false
-  pub begins : BeginsWith first.nonce nonce
-  pub enough : least_count ≤ first.i
-  pub within : first.i ≤ max_iterations
+-- what a client with this nonce and this ceiling demands of the server's first message
+abbrev pub first_demands : ServerFirst → List ℕ → ℕ → Demands AuthFault
+first_demands first nonce max_iterations =
+    demand EndedEarly (first.done ≡ false)
+    (demand Nonce (BeginsWith first.nonce nonce)
+    (demand CountLow (least_count ≤ first.i)
+    (demand CountHigh (first.i ≤ max_iterations)
+    no_demand)))
 
--- why it doesn't: the first row that applies
+-- it goes on
+abbrev pub IsValidFirst : ServerFirst → List ℕ → ℕ → Type 0
+IsValidFirst first nonce max_iterations = AreMet (first_demands first nonce max_iterations)
+
+-- why it doesn't: the row of the first demand that isn't met
 abbrev pub ServerFirstRow : ServerFirst → List ℕ → ℕ → ErrorKind → Type 0
-ServerFirstRow first nonce max_iterations =
-    or_else (row_for (Authentication EndedEarly) (first.done ≡ true))
-    (or_else (row_for (Authentication Nonce) (BeginsWith first.nonce nonce → ⊥))
-    (or_else (row_for (Authentication CountLow) (first.i < least_count))
-    (row_for (Authentication CountHigh) (max_iterations < first.i))))
+ServerFirstRow first nonce max_iterations = row_of Authentication (UnmetRow (first_demands first nonce max_iterations))
 
--- the server has proved that it knows the key: it answers in this conversation with the verifier that it owes, all of it
-pub record IsValidFinal (last : ServerFinal) (conversation : OwnedValue) (owed : List ℕ) : Type 0 where
-  pub conversation_is : last.conversation_id ≡ conversation
-  pub body : last.body ≡ Verifier (Some owed)
+-- the text of an error
+abbrev pub error_text : ServerFinalBody → List ℕ
+error_text (Error text) = text
+error_text (Verifier found) = []
 
--- it answers an error, and the refusal has the error's text
-abbrev pub ServerErrorRow : ServerFinal → ErrorKind → Type 0
-ServerErrorRow last kind = (text : List ℕ) × (kind ≡ Authentication (ServerError text)) × (last.body ≡ Error text)
+-- it is no error
+abbrev pub IsVerifier : ServerFinalBody → Type 0
+IsVerifier (Error text) = ⊥
+IsVerifier (Verifier found) = ⊤
 
--- why it hasn't: the first row that applies
+-- it is no verifier in other letters than those of base64
+abbrev pub IsReadable : ServerFinalBody → Type 0
+IsReadable (Error text) = ⊤
+IsReadable (Verifier None) = ⊥
+IsReadable (Verifier (Some bytes)) = ⊤
+
+-- What is demanded of the server's last message: it proves that the server knows the key. It answers in this conversation, and
+-- with the verifier that the server owes, all of it. The refusal of an error has the error's text.
+abbrev pub final_demands : ServerFinal → OwnedValue → List ℕ → Demands AuthFault
+final_demands last conversation owed =
+    demand Conversation (last.conversation_id ≡ conversation)
+    (demand (ServerError (error_text last.body)) (IsVerifier last.body)
+    (demand Malformed (IsReadable last.body)
+    (demand WrongVerifier (last.body ≡ Verifier (Some owed))
+    no_demand)))
+
+-- it has proved it
+abbrev pub IsValidFinal : ServerFinal → OwnedValue → List ℕ → Type 0
+IsValidFinal last conversation owed = AreMet (final_demands last conversation owed)
+
+-- why it hasn't: the row of the first demand that isn't met
 abbrev pub ServerFinalRow : ServerFinal → OwnedValue → List ℕ → ErrorKind → Type 0
-ServerFinalRow last conversation owed =
-    or_else (row_for (Authentication Conversation) (last.conversation_id ≢ conversation))
-    (or_else (ServerErrorRow last)
-    (or_else (row_for (Authentication Malformed) (last.body ≡ Verifier None))
-    (row_for (Authentication WrongVerifier) ((bytes : List ℕ) × (last.body ≡ Verifier (Some bytes)) × (bytes ≢ owed)))))
+ServerFinalRow last conversation owed = row_of Authentication (UnmetRow (final_demands last conversation owed))

@@ -41,14 +41,11 @@ accepts x last nonce_is suffix_is bytes within same = λ handed user conversatio
   conversation = record {
     challenge = challenge_of x conversation_id user;
     is_user = refl;
-    goes_on = refl;
+    goes_on = (refl, (x.suffix, ap (λ nonce. nonce ++ x.suffix) (sym client.nonce)), client.enough, client.within, tt);
     replied = carries.first_carried;
     count = decimal x.count;
     is_first = read_first (joined_of x) x.salt x.count (All-append IsPrintable x.nonce x.suffix nonce_is suffix_is) bytes within;
     is_count = read_count x.count within;
-    begins = (x.suffix, ap (λ nonce. nonce ++ x.suffix) (sym client.nonce));
-    enough = client.enough;
-    within = client.within;
     usable = λ kind row. client.usable kind (subst (λ password. PasswordRow x.version password kind) client.password (subst (λ version. PasswordRow version user.password kind) client.version row));
     command_is = refl;
     ended = subst (λ payload. IsSaslReply last_reply (record { conversation_id = conversation_id; done = true; payload = payload })) (same ∙ sym (demands x handed user conversation_id client)) carries.last_carried;

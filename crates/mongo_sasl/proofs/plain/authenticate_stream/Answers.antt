@@ -5,7 +5,7 @@ use Rattle.mongo_sasl.specs.Plain.{FinishedRow, plain_handed, plain_body, plain_
 use Rattle.mongo_sasl.specs.Keys.{sasl_start_key}
 use Rattle.mongo_sasl.proofs.EndsByScript.{refused_by_script, once_by_script, holds_its_reply}
 use Rattle.mongo_sasl.proofs.Handed.{no_answer_on}
-use Rattle.mongo_sasl.proofs.KeptAfter.{no_user_own, unbuilt_own, finished_own}
+use Rattle.mongo_sasl.proofs.KeptAfter.{refused_own, unbuilt_own, finished_own}
 use Rattle.mongo_sasl.proofs.OneExchange.{exchanged_as, unanswered_as}
 use Rattle.mongo_sasl.proofs.PlainJoins.{plain_joins}
 use Rattle.mongo_sasl.proofs.PlainSteps.{credential_stopped, user_stopped, plain_unbuilt, plain_replied, plain_refused}
@@ -21,7 +21,7 @@ returns-in_err-login-clause-login g c =
     let r = c.from_residual.result in
     let passed = c.from_residual.ensures.1 in
     refused_by_script _ (plain_plan handed) (IsPlainLogin handed) handed.maximum (plain_joins handed) _ _ r e passed
-    (before_exchange _ (plain_plan handed) _ e (no_user_own handed.credential e.kind c.in_err-login.ensures.refused) (credential_stopped handed e.kind _ _ c.in_err-login.ensures.refused))
+    (before_exchange _ (plain_plan handed) _ e (refused_own _ e.kind c.in_err-login.ensures.refused) (credential_stopped handed e.kind _ _ c.in_err-login.ensures.refused))
 
 pub returns-in_err-login-clause-buffer : goal.returns-in_err-login-clause-buffer
 returns-in_err-login-clause-buffer g c = no_answer_on c.from_residual.result c.in_err-login.field-0.0 _ c.from_residual.ensures.1
