@@ -35,8 +35,9 @@ pub use login_state::{LoginInputs, LoginState, Nonces};
 pub use memory::want_of_memory;
 pub use mongo_bson::{BsonFault, Bytes, Items, ObjectId, RawDocumentBuf, Text, Texts};
 pub use mongo_command::{
-    Connection, DEFAULT_PORT, HelloCommandResponse, HelloReply, LastWrite, ServerAddress,
-    ServerApi, ServerApiVersion, ServerType, StreamDescription, Tag, Tags, TopologyVersion,
+    Connection, DEFAULT_PORT, HelloCommandResponse, HelloReply, LastWrite, MemberTag,
+    ServerAddress, ServerApi, ServerApiVersion, ServerType, StreamDescription, Tags,
+    TopologyVersion,
 };
 pub use mongo_mac::Steps;
 pub use mongo_meta::{

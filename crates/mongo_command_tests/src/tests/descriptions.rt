@@ -3,8 +3,8 @@ use super::rows::{RowCheck, check_rows, parts, wants_piece};
 use super::{Answered, hello_reply, response, text_of};
 use mongo_bson::{RawDocumentBuf, Text};
 use mongo_command::{
-    HelloCommandResponse, HelloReply, RawCommandResponse, ServerAddress, StreamDescription, Tag,
-    Tags,
+    HelloCommandResponse, HelloReply, MemberTag, RawCommandResponse, ServerAddress,
+    StreamDescription, Tags,
 };
 use mongo_wire::Error;
 use std::alloc::Global;
@@ -203,7 +203,7 @@ fn is_address_copied(alloc: Global, address: &ServerAddress) -> Result<bool, Fai
     is_copy(alloc, address, address.try_clone(alloc))
 }
 
-fn is_tag_copied(alloc: Global, tag: &Tag) -> Result<bool, Fail> {
+fn is_tag_copied(alloc: Global, tag: &MemberTag) -> Result<bool, Fail> {
     is_copy(alloc, tag, tag.try_clone(alloc))
 }
 

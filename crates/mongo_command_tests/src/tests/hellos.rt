@@ -88,7 +88,7 @@ passives=[ 0=text:b:2 1=text:a:1 ] => passives: Some(Items { held: [Text { text:
 arbiters=[ 0=text:b:2 1=text:a:1 ] => arbiters: Some(Items { held: [Text { text: "b:2" }, Text { text: "a:1" }] })
 compression=[ 0=text:zstd ] => compressors: Some(Items { held: [Text { text: "zstd" }] })
 saslSupportedMechs=[ 0=text:SCRAM-SHA-256 1=text:SCRAM-SHA-1 ] => sasl_supported_mechs: Some(Items { held: [Text { text: "SCRAM-SHA-256" }, Text { text: "SCRAM-SHA-1" }] })
-tags={ dc=text:east =text: dc=text:west } => tags: Some(Items { held: [Tag { key: Text { text: "dc" }, value: Text { text: "east" } }, Tag { key: Text { text: "" }, value: Text { text: "" } }, Tag { key: Text { text: "dc" }, value: Text { text: "west" } }] })
+tags={ dc=text:east =text: dc=text:west } => tags: Some(Items { held: [MemberTag { key: Text { text: "dc" }, value: Text { text: "east" } }, MemberTag { key: Text { text: "" }, value: Text { text: "" } }, MemberTag { key: Text { text: "dc" }, value: Text { text: "west" } }] })
 speculativeAuthenticate={ done=false } => speculative_authenticate: Some(RawDocumentBuf { held: [12, 0, 0, 0, 8, 100, 111, 110, 101, 0, 0, 0] })
 $clusterTime={ done=false } => , cluster_time: Some(RawDocumentBuf { held: [12, 0, 0, 0, 8, 100, 111, 110, 101, 0, 0, 0] }) })
 lastWrite={ lastWriteDate=date:5 } => last_write: Some(LastWrite { last_write_date: 5 })
