@@ -294,7 +294,7 @@ module _ (pending : PendingConnection) (x : Exchange) (nonces : Nonces) (bytes :
     events_are = subst (λ s. OpensBy s handed close_heard [] inner) (sym speculates) (refl, refl);
     challenged = record {
       carries = first_carries;
-      valid = (refl, subst (BeginsWith (joined_of x)) (sym is_client.nonce) heard.reads.begins, possible.enough, is_client.within, tt);
+      valid = (refl, (subst (BeginsWith (joined_of x)) (sym is_client.nonce) heard.reads.begins, (possible.enough, (is_client.within, tt))));
       usable = possible.usable;
     };
   }

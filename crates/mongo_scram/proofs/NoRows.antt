@@ -60,13 +60,13 @@ same_value a b h =
 
 pub valid_first : (first : ServerFirst) (nonce : List ℕ) (max_iterations : ℕ) → HasNone (ServerFirstRow first nonce max_iterations) → IsValidFirst first nonce max_iterations
 valid_first first nonce max_iterations none =
-    all_met (first_demands first nonce max_iterations) (
-      is_false first.done,
-      begun first.nonce nonce,
-      is_least least_count first.i,
-      is_least first.i max_iterations,
-      tt,
-    ) (of_denied Authentication _ none)
+    all_met (first_demands first nonce max_iterations)
+    (is_false first.done,
+    (begun first.nonce nonce,
+    (is_least least_count first.i,
+    (is_least first.i max_iterations,
+    tt))))
+    (of_denied Authentication _ none)
 
 pub valid_first_row : (first : ServerFirst) (nonce : List ℕ) (max_iterations : ℕ) → IsValidFirst first nonce max_iterations → HasNone (ServerFirstRow first nonce max_iterations)
 valid_first_row first nonce max_iterations valid = no_of Authentication _ (none_unmet (first_demands first nonce max_iterations) valid)
@@ -98,13 +98,13 @@ is_owed (Verifier (Some bytes)) owed h = ap (λ b. Verifier (Some b)) (same_byte
 
 pub valid_final : (last : ServerFinal) (conversation : OwnedValue) (owed : List ℕ) → HasNone (ServerFinalRow last conversation owed) → IsValidFinal last conversation owed
 valid_final last conversation owed none =
-    all_met (final_demands last conversation owed) (
-      same_value last.conversation_id conversation,
-      is_verifier last.body,
-      is_readable last.body,
-      is_owed last.body owed,
-      tt,
-    ) (of_denied Authentication _ none)
+    all_met (final_demands last conversation owed)
+    (same_value last.conversation_id conversation,
+    (is_verifier last.body,
+    (is_readable last.body,
+    (is_owed last.body owed,
+    tt))))
+    (of_denied Authentication _ none)
 
 pub valid_final_row : (last : ServerFinal) (conversation : OwnedValue) (owed : List ℕ) → IsValidFinal last conversation owed → HasNone (ServerFinalRow last conversation owed)
 valid_final_row last conversation owed valid = no_of Authentication _ (none_unmet (final_demands last conversation owed) valid)

@@ -37,7 +37,7 @@ first_said handed c reply is =
 
 last_payload : (handed : Handed) (c : Challenge) (reply : List ℕ) (is : IsProved handed c reply) → is.carries.sasl.payload ≡ owed_by handed c
 last_payload handed c reply is =
-    let says : SaysFinal is.carries.sasl.payload (Verifier (Some (verifier_by handed c))) = subst (SaysFinal is.carries.sasl.payload) is.valid.3 is.carries.says in
+    let says : SaysFinal is.carries.sasl.payload (Verifier (Some (verifier_by handed c))) = subst (SaysFinal is.carries.sasl.payload) is.valid.1.1.1.0 is.carries.says in
     says.1.1 ∙ ap (λ text. codes "v=" ++ text) says.1.2.1
 
 last_said : (handed : Handed) (c : Challenge) (reply : List ℕ) → IsProved handed c reply → IsSaslReply reply (said_by c.first.conversation_id true (owed_by handed c))
@@ -83,7 +83,7 @@ proved_by handed user first close last is =
         done = refl;
         says = (verifier_text owed, (base64_of owed, refl, (verifier_bytes handed.version (salted_by handed c) (auth_message_by handed c), refl)));
       };
-      valid = (refl, tt, tt, refl, tt);
+      valid = (refl, (tt, (tt, (refl, tt))));
       done = refl;
     }
 
