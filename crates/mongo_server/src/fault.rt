@@ -1,7 +1,6 @@
 ghost use Rattle.std.specs.Prelude.{◌≡◌};
 ghost use Rattle.mongo_server.specs.declared.fault.ServerFault.TheVariants.{OutOfMemory};
 
-use mongo_bson::BsonFault;
 use std::alloc::AllocError;
 use thiserror::Error;
 
@@ -32,15 +31,6 @@ impl From<AllocError> for ServerFault {
     ghost from_gives = { λ _ fault. fault ≡ OutOfMemory };
 
     fn from(_error: AllocError) -> ServerFault {
-        ServerFault::OutOfMemory
-    }
-}
-
-// Texts and bytes are copied here, which is refused for want of memory alone.
-impl From<BsonFault> for ServerFault {
-    ghost from_gives = { λ _ fault. fault ≡ OutOfMemory };
-
-    fn from(_fault: BsonFault) -> ServerFault {
         ServerFault::OutOfMemory
     }
 }
