@@ -17,7 +17,9 @@ returns-in_err-validate_by-clause-refused c =
 
 pub returns-else-done-clause-refused : goal.returns-else-done-clause-refused
 returns-else-done-clause-refused c =
-    inl (inr (c.in_ok-last.last, c.in_ok-last.ensures.read, inr (valid_final_row _ _ _ c.in_ok-validate_by.ensures.valid, (c.refused.ensures, c.if-done.false))))
+    let conversation = final_conversation c.args.client_final.now in
+    let owed = verifier (digest_of c.args.version) c.args.salted.now (auth_message_of c.args.client_final.now) in
+    inl (inr (c.in_ok-last.last, c.in_ok-last.ensures.read, inr (valid_final_row c.in_ok-last.last conversation owed c.in_ok-validate_by.ensures.valid, (c.refused.ensures, c.if-done.false))))
 
 pub returns-else-done-clause-taken : goal.returns-else-done-clause-taken
 returns-else-done-clause-taken c = tt
