@@ -7,14 +7,14 @@ use Rattle.mongo_bench.specs.declared.task.Hash.{Hash}
 use Rattle.mongo_bench.specs.declared.task.Hash.TheVariants.{Sha1, Sha256}
 use Rattle.mongo_bench.specs.declared.task.Pass.{Pass}
 use Rattle.mongo_bench.specs.declared.task.Pass.TheVariants.{Iterate, Readable}
-use Rattle.mongo_bench.specs.declared.task.Shape.{Shape}
-use Rattle.mongo_bench.specs.declared.task.Shape.TheVariants.{Nested, Flat, TooDeep}
+use Rattle.mongo_bench.specs.declared.task.DocumentShape.{DocumentShape}
+use Rattle.mongo_bench.specs.declared.task.DocumentShape.TheVariants.{Nested, Flat, TooDeep}
 use Rattle.mongo_bench.specs.declared.task.Direction.{Direction}
 use Rattle.mongo_bench.specs.declared.task.Direction.TheVariants.{Write, Read, ReadOwned}
 use Rattle.mongo_bench.specs.declared.task.FrameSize.{FrameSize}
 use Rattle.mongo_bench.specs.declared.task.FrameSize.TheVariants.{Small, Middle, Large}
-use Rattle.mongo_bench.specs.declared.task.Task.{Task}
-use Rattle.mongo_bench.specs.declared.task.Task.TheVariants.{Derive, Walk, Document, Frames, Insert, Login}
+use Rattle.mongo_bench.specs.declared.task.BenchTask.{BenchTask}
+use Rattle.mongo_bench.specs.declared.task.BenchTask.TheVariants.{Derive, Walk, Document, Frames, Insert, Login}
 use Rattle.mongo_bench.specs.Task.{AsksTask, name_of_hash, name_of_login, name_of_pass, name_of_shape, name_of_direction, name_of_size}
 
 one_hash : (h k : Hash) → name_of_hash h ≡ name_of_hash k → h ≡ k
@@ -29,7 +29,7 @@ one_pass Iterate Readable same = cc
 one_pass Readable Iterate same = cc
 one_pass Readable Readable same = refl
 
-one_shape : (s t : Shape) → name_of_shape s ≡ name_of_shape t → s ≡ t
+one_shape : (s t : DocumentShape) → name_of_shape s ≡ name_of_shape t → s ≡ t
 one_shape Nested Nested same = refl
 one_shape Nested Flat same = cc
 one_shape Nested TooDeep same = cc
@@ -108,7 +108,7 @@ three_not_four a b c d e f g same = cc
 same_count : (m n : ℕ) → m < 2 ^ 32 → n < 2 ^ 32 → decimal m ≡ decimal n → m ≡ n
 same_count m n m_fits n_fits same = decimal_injective m n (omega arith) (omega arith) same
 
-pub one_task : (words : List (List ℕ)) (t u : Task) → AsksTask words t → AsksTask words u → t ≡ u
+pub one_task : (words : List (List ℕ)) (t u : BenchTask) → AsksTask words t → AsksTask words u → t ≡ u
 one_task words (Derive h m) (Derive k n) t u =
     let both = two_same (name_of_hash h) (decimal m) (name_of_hash k) (decimal n) (sym t.0 ∙ u.0) in
     ap (λ x. Derive x m) (one_hash h k both.0) ∙ ap (Derive k) (same_count m n t.2 u.2 both.1)

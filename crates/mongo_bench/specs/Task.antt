@@ -7,27 +7,27 @@ use Rattle.mongo_bson.specs.Framed.{IsFramed}
 use Rattle.mongo_bson.specs.Document.{IsReadable, maximum_depth}
 use Rattle.mongo_mac.specs.Digests.{sha1, sha256}
 use Rattle.mongo_mac.specs.Hi.{hi_of}
-use Rattle.mongo_bench.specs.declared.run.Status.{Status}
-use Rattle.mongo_bench.specs.declared.run.Status.TheVariants.{Done, Usage}
+use Rattle.mongo_bench.specs.declared.run.BenchStatus.{BenchStatus}
+use Rattle.mongo_bench.specs.declared.run.BenchStatus.TheVariants.{Done, Usage}
 use Rattle.mongo_bench.specs.declared.task.Hash.{Hash}
 use Rattle.mongo_bench.specs.declared.task.Hash.TheVariants.{Sha1, Sha256}
 use Rattle.mongo_bench.specs.declared.task.Pass.{Pass}
 use Rattle.mongo_bench.specs.declared.task.Pass.TheVariants.{Iterate, Readable}
-use Rattle.mongo_bench.specs.declared.task.Shape.{Shape}
-use Rattle.mongo_bench.specs.declared.task.Shape.TheVariants.{Nested, Flat, TooDeep}
+use Rattle.mongo_bench.specs.declared.task.DocumentShape.{DocumentShape}
+use Rattle.mongo_bench.specs.declared.task.DocumentShape.TheVariants.{Nested, Flat, TooDeep}
 use Rattle.mongo_bench.specs.declared.task.Direction.{Direction}
 use Rattle.mongo_bench.specs.declared.task.Direction.TheVariants.{Write, Read, ReadOwned}
 use Rattle.mongo_bench.specs.declared.task.FrameSize.{FrameSize}
 use Rattle.mongo_bench.specs.declared.task.FrameSize.TheVariants.{Small, Middle, Large}
-use Rattle.mongo_bench.specs.declared.task.Task.{Task}
-use Rattle.mongo_bench.specs.declared.task.Task.TheVariants.{Derive, Walk, Document, Frames, Insert, Login}
+use Rattle.mongo_bench.specs.declared.task.BenchTask.{BenchTask}
+use Rattle.mongo_bench.specs.declared.task.BenchTask.TheVariants.{Derive, Walk, Document, Frames, Insert, Login}
 
 -- the password and the salt of each derivation, those of RFC 5802, section 5
-abbrev pub password : List ℕ
-password = codes "pencil"
+abbrev pub example_password : List ℕ
+example_password = codes "pencil"
 
-abbrev pub salt : List ℕ
-salt = 0x41 ∷ 0x25 ∷ 0xC2 ∷ 0x47 ∷ 0xE4 ∷ 0x3A ∷ 0xB1 ∷ 0xE9 ∷ 0x3C ∷ 0x6D ∷ 0xFF ∷ 0x76 ∷ []
+abbrev pub example_salt : List ℕ
+example_salt = 0x41 ∷ 0x25 ∷ 0xC2 ∷ 0x47 ∷ 0xE4 ∷ 0x3A ∷ 0xB1 ∷ 0xE9 ∷ 0x3C ∷ 0x6D ∷ 0xFF ∷ 0x76 ∷ []
 
 -- the text writes a count: a number from 1 to 2 ^ 32 - 1 in decimal digits with no sign and no
 -- leading zero
@@ -47,7 +47,7 @@ abbrev pub name_of_pass : Pass → List ℕ
 name_of_pass Iterate = codes "iterate"
 name_of_pass Readable = codes "readable"
 
-abbrev pub name_of_shape : Shape → List ℕ
+abbrev pub name_of_shape : DocumentShape → List ℕ
 name_of_shape Nested = codes "nested"
 name_of_shape Flat = codes "flat"
 name_of_shape TooDeep = codes "too-deep"
@@ -69,7 +69,7 @@ name_of_size Middle = codes "10000"
 name_of_size Large = codes "16777216"
 
 -- how often a task does what it does
-abbrev pub task_count : Task → ℕ
+abbrev pub task_count : BenchTask → ℕ
 task_count (Derive hash count) = count
 task_count (Walk pass shape count) = count
 task_count (Document shape) = 1
@@ -78,24 +78,24 @@ task_count (Insert count) = count
 task_count (Login hash count) = count
 
 -- the words that ask for a task
-abbrev pub words_of : Task → List (List ℕ)
-words_of (Derive hash count) = name_of_hash hash ∷ decimal count ∷ []
-words_of (Walk pass shape count) = name_of_pass pass ∷ name_of_shape shape ∷ decimal count ∷ []
-words_of (Document shape) = codes "document" ∷ name_of_shape shape ∷ []
-words_of (Frames direction size count) = codes "frames" ∷ name_of_direction direction ∷ name_of_size size ∷ decimal count ∷ []
-words_of (Insert count) = codes "insert" ∷ decimal count ∷ []
-words_of (Login hash count) = codes "login" ∷ name_of_login hash ∷ decimal count ∷ []
+abbrev pub task_words : BenchTask → List (List ℕ)
+task_words (Derive hash count) = name_of_hash hash ∷ decimal count ∷ []
+task_words (Walk pass shape count) = name_of_pass pass ∷ name_of_shape shape ∷ decimal count ∷ []
+task_words (Document shape) = codes "document" ∷ name_of_shape shape ∷ []
+task_words (Frames direction size count) = codes "frames" ∷ name_of_direction direction ∷ name_of_size size ∷ decimal count ∷ []
+task_words (Insert count) = codes "insert" ∷ decimal count ∷ []
+task_words (Login hash count) = codes "login" ∷ name_of_login hash ∷ decimal count ∷ []
 
-abbrev pub AsksTask : List (List ℕ) → Task → Type 0
-AsksTask words task = (words ≡ words_of task) × (1 ≤ task_count task) × (task_count task < 2 ^ 32)
+abbrev pub AsksTask : List (List ℕ) → BenchTask → Type 0
+AsksTask words task = (words ≡ task_words task) × (1 ≤ task_count task) × (task_count task < 2 ^ 32)
 
 -- the words ask for no task
 abbrev pub AsksNothing : List (List ℕ) → Type 0
-AsksNothing words = (task : Task) → ¬ (AsksTask words task)
+AsksNothing words = (task : BenchTask) → ¬ (AsksTask words task)
 
 -- the steps that a task counts: those of a derivation; those of logins, the user's key once for the server and once for the
 -- client, however many there are
-abbrev pub Costs : Task → Status → ℕ → ℕ → Type 0
+abbrev pub Costs : BenchTask → BenchStatus → ℕ → ℕ → Type 0
 Costs (Derive hash count) status old new = new ≡ old + count
 Costs (Login hash count) Done old new = new ≡ old + 8192
 Costs (Login hash count) Usage old new = new ≡ old
@@ -104,8 +104,8 @@ Costs task status old new = new ≡ old
 
 -- the bytes that a derivation gives
 abbrev pub derived_by : Hash → ℕ → List ℕ
-derived_by Sha1 count = hi_of sha1 password salt count
-derived_by Sha256 count = hi_of sha256 password salt count
+derived_by Sha1 count = hi_of sha1 example_password example_salt count
+derived_by Sha256 count = hi_of sha256 example_password example_salt count
 
 -- the line that a derivation prints: the hex of those bytes
 abbrev pub derived_line : Hash → ℕ → List ℕ
@@ -123,7 +123,7 @@ HasTold pass document old new = (text : List ℕ) × PassTells pass document tex
 
 -- what a task prints: a derivation its line, a walk what its pass tells of a document, a document its bytes, frames
 -- and commands a number, and logins how many were accepted, all of them
-abbrev pub Prints : Task → List ℕ → Type 0
+abbrev pub Prints : BenchTask → List ℕ → Type 0
 Prints (Derive hash count) text = text ≡ derived_line hash count
 Prints (Walk pass shape count) text = (document : List ℕ) × IsFramed document × PassTells pass document text
 Prints (Document shape) text = IsFramed text
@@ -132,5 +132,5 @@ Prints (Insert count) text = (length : ℕ) × (text ≡ decimal length ++ codes
 Prints (Login hash count) text = text ≡ decimal count ++ codes "\n"
 
 -- what was written grew by what the task prints
-abbrev pub HasPrinted : Task → Option (List ℕ) → Option (List ℕ) → Type 0
+abbrev pub HasPrinted : BenchTask → Option (List ℕ) → Option (List ℕ) → Type 0
 HasPrinted task old new = (text : List ℕ) × Prints task text × Appends old new text

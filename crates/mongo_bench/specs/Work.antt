@@ -5,8 +5,8 @@ use Rattle.mongo_bench.specs.declared.task.Pass.{Pass}
 use Rattle.mongo_bench.specs.declared.task.Pass.TheVariants.{Iterate, Readable}
 use Rattle.mongo_bench.specs.declared.task.Direction.{Direction}
 use Rattle.mongo_bench.specs.declared.task.Direction.TheVariants.{Write, Read, ReadOwned}
-use Rattle.mongo_bench.specs.declared.task.Task.{Task}
-use Rattle.mongo_bench.specs.declared.task.Task.TheVariants.{Derive, Walk, Document, Frames, Insert, Login}
+use Rattle.mongo_bench.specs.declared.task.BenchTask.{BenchTask}
+use Rattle.mongo_bench.specs.declared.task.BenchTask.TheVariants.{Derive, Walk, Document, Frames, Insert, Login}
 
 abbrev pub only_iterated : ℕ → Work
 only_iterated n = record { iterated = n; judged = 0; written = 0; read = 0; read_owned = 0; built = 0; logged_in = 0 }
@@ -42,7 +42,7 @@ work_of_frames Write count = only_written count
 work_of_frames Read count = only_read count
 work_of_frames ReadOwned count = only_read_owned count
 
-abbrev pub work_of : Task → Work
+abbrev pub work_of : BenchTask → Work
 work_of (Derive hash count) = nothing_done
 work_of (Walk pass shape count) = work_of_pass pass count
 work_of (Document shape) = nothing_done

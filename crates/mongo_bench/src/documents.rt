@@ -1,4 +1,4 @@
-use crate::task::Shape;
+use crate::task::DocumentShape;
 use itoa::Buffer;
 use mongo_bson::{BsonFault, ObjectId, RawArrayBuf, RawDocumentBuf, RawValue};
 use std::alloc::Global;
@@ -14,11 +14,14 @@ const FLAT_ELEMENTS: usize = 1_233_677;
 const TOO_DEEP_LEVELS: u32 = 101;
 
 /// The document of a shape: the nested and the flat one have nearly 16 MiB. Each call makes the same bytes.
-pub(crate) fn document_of(alloc: Global, shape: Shape) -> Result<RawDocumentBuf, BsonFault> {
+pub(crate) fn document_of_shape(
+    alloc: Global,
+    shape: DocumentShape,
+) -> Result<RawDocumentBuf, BsonFault> {
     match shape {
-        Shape::Nested => nested(alloc),
-        Shape::Flat => flat(alloc),
-        Shape::TooDeep => too_deep(alloc),
+        DocumentShape::Nested => nested(alloc),
+        DocumentShape::Flat => flat(alloc),
+        DocumentShape::TooDeep => too_deep(alloc),
     }
 }
 

@@ -2,10 +2,10 @@ ghost use Rattle.std.specs.Prelude.{◌≡◌, ◌≢◌, IfOk};
 ghost use Rattle.mongo_bench.specs.Task.{HasPrinted};
 ghost use Rattle.mongo_bench.specs.Work.{work_of_frames};
 
-use crate::run::{RanTask, Status};
-use crate::task::{Direction, FrameSize, Task};
+use crate::run::{BenchStatus, RanTask};
+use crate::task::{BenchTask, Direction, FrameSize};
 use crate::walking::write_number;
-use crate::work::{Passed, read, read_owned, write};
+use crate::work::{Passed, read_frames, read_owned_frames, write_frames};
 use bitflags::Flags;
 use mongo_bson::{RawDocumentBuf, RawValue};
 use mongo_wire::{Error, Message, MessageFlags, RequestIds, Sequences, StdSink};
@@ -24,9 +24,9 @@ pub fn run_frames<W: Write>(
     count: u32,
     out: &mut W,
 ) -> RanTask
-    ensures done { result.status ≡ Status.Done → HasPrinted (Task.Frames direction size count) (W.contents out.old) (W.contents out.new) }
-    ensures work { result.status ≡ Status.Done → result.work ≡ work_of_frames direction count }
-    ensures ran { (result.status ≢ Status.Usage) × (result.status ≢ Status.NoWords) }
+    ensures done { result.status ≡ BenchStatus.Done → HasPrinted (BenchTask.Frames direction size count) (W.contents out.old) (W.contents out.new) }
+    ensures work { result.status ≡ BenchStatus.Done → result.work ≡ work_of_frames direction count }
+    ensures ran { (result.status ≢ BenchStatus.Usage) × (result.status ≢ BenchStatus.NoWords) }
 {
     // The frames are of the grammar and the memory never fails, so nothing but want of memory is refused.
     match pass_frames(alloc, direction, size, count) {
@@ -44,11 +44,15 @@ fn pass_frames(
 ) -> Result<Passed<usize>, Error>
     ensures { IfOk result (λ passed. passed.work ≡ work_of_frames direction count) }
 {
-    let message = message_of(alloc, size)?;
+    let message = message_of_size(alloc, size)?;
     match direction {
-        Direction::Write => write(alloc, &message, count),
-        Direction::Read => read(alloc, frame_of(alloc, &message)?.as_slice(), count),
-        Direction::ReadOwned => read_owned(alloc, frame_of(alloc, &message)?.as_slice(), count),
+        Direction::Write => write_frames(alloc, &message, count),
+        Direction::Read => read_frames(alloc, frame_of(alloc, &message)?.as_slice(), count),
+        Direction::ReadOwned => read_owned_frames(
+            alloc,
+            frame_of(alloc, &message)?.as_slice(),
+            count,
+        ),
     }
 }
 
@@ -61,7 +65,7 @@ fn frame_of(alloc: Global, message: &Message) -> Result<Vec<u8>, Error> {
 }
 
 // A message whose frame has this size: its document holds one binary value.
-fn message_of(alloc: Global, size: FrameSize) -> Result<Message, Error> {
+fn message_of_size(alloc: Global, size: FrameSize) -> Result<Message, Error> {
     let content = vec![in alloc; 0x61; size.bytes() - AROUND]?;
     let mut document_payload = RawDocumentBuf::new(alloc)?;
     document_payload.append("data", RawValue::Binary(0, content.as_slice()))?;

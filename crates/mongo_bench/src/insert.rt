@@ -3,8 +3,8 @@ ghost use Rattle.std.specs.Prelude.{◌≡◌, ◌≢◌};
 ghost use Rattle.mongo_bench.specs.Task.{HasPrinted};
 ghost use Rattle.mongo_bench.specs.Work.{only_built};
 
-use crate::run::{RanTask, Status};
-use crate::task::Task;
+use crate::run::{BenchStatus, RanTask};
+use crate::task::BenchTask;
 use crate::walking::write_number;
 use crate::work::build;
 use mongo_bson::{ObjectId, RawArrayBuf, RawDocumentBuf, RawValue, Text};
@@ -17,7 +17,7 @@ use std::io::Write;
 const DOCUMENTS: u32 = 1_000;
 
 // The name in each document.
-const NAME: &str = "the name of a document";
+const DOCUMENT_NAME: &str = "the name of a document";
 
 // Seconds since 1970, and the bits of the double 1.0.
 const SECONDS: u32 = 1_700_000_000;
@@ -26,9 +26,9 @@ const ONE: u64 = 0x3ff0_0000_0000_0000;
 
 /// Builds the command so often, and writes how many bytes the last one had.
 pub fn run_inserts<W: Write>(alloc: Global, count: u32, out: &mut W) -> RanTask
-    ensures done { result.status ≡ Status.Done → HasPrinted (Task.Insert count) (W.contents out.old) (W.contents out.new) }
-    ensures work { result.status ≡ Status.Done → result.work ≡ only_built count }
-    ensures ran { (result.status ≢ Status.Usage) × (result.status ≢ Status.NoWords) }
+    ensures done { result.status ≡ BenchStatus.Done → HasPrinted (BenchTask.Insert count) (W.contents out.old) (W.contents out.new) }
+    ensures work { result.status ≡ BenchStatus.Done → result.work ≡ only_built count }
+    ensures ran { (result.status ≢ BenchStatus.Usage) × (result.status ≢ BenchStatus.NoWords) }
 {
     // The keys hold no zero and the command is short, so nothing but want of memory is refused.
     match build(alloc, count) {
@@ -64,7 +64,7 @@ fn inserted(alloc: Global, number: u32) -> Result<RawDocumentBuf, Error> {
     let id = ObjectId([0x5f, 0, 0, 0, 1, 2, 3, 4, 5, 6, 7, 8]);
     let mut document = RawDocumentBuf::new(alloc)?;
     document.append("_id", RawValue::ObjectId(id))?;
-    document.append("name", RawValue::Str(NAME))?;
+    document.append("name", RawValue::Str(DOCUMENT_NAME))?;
     document.append("number", RawValue::Int64(i64::from(number)))?;
     document.append("price", RawValue::Double(ONE))?;
     document.append("sold", RawValue::Bool(false))?;

@@ -4,10 +4,10 @@ ghost use Rattle.mongo_bench.specs.Task.{HasPrinted, Costs};
 ghost use Rattle.mongo_bench.specs.Work.{only_logged_in};
 
 use crate::peers::Peers;
-use crate::run::{RanTask, Status};
-use crate::task::{Hash, Task};
+use crate::run::{BenchStatus, RanTask};
+use crate::task::{BenchTask, Hash};
 use crate::walking::write_number;
-use crate::work::{Passed, log_in};
+use crate::work::{Passed, log_in_repeatedly};
 use mongo_mac::Steps;
 use std::alloc::{AllocError, Global};
 use std::io::Write;
@@ -22,10 +22,10 @@ pub fn run_logins<W: Write, G: Ledger>(
     steps: &mut Steps<G>,
 ) -> RanTask
     requires { 1 ≤ count }
-    ensures done { result.status ≡ Status.Done → HasPrinted (Task.Login hash count) (W.contents out.old) (W.contents out.new) }
-    ensures work { result.status ≡ Status.Done → result.work ≡ only_logged_in count }
-    ensures cost { Costs (Task.Login hash count) result.status steps.old steps.new }
-    ensures ran { (result.status ≢ Status.Usage) × (result.status ≢ Status.NoWords) }
+    ensures done { result.status ≡ BenchStatus.Done → HasPrinted (BenchTask.Login hash count) (W.contents out.old) (W.contents out.new) }
+    ensures work { result.status ≡ BenchStatus.Done → result.work ≡ only_logged_in count }
+    ensures cost { Costs (BenchTask.Login hash count) result.status steps.old steps.new }
+    ensures ran { (result.status ≢ BenchStatus.Usage) × (result.status ≢ BenchStatus.NoWords) }
 {
     match make_logins(alloc, hash, count, steps) {
         Ok(passed) => RanTask::written(write_number(passed.last, out), passed.work),
@@ -47,5 +47,5 @@ fn make_logins<G: Ledger>(
     ensures steps { steps.old ≤ steps.new }
 {
     let mut peers = Peers::new(alloc, hash, steps)?;
-    log_in(alloc, &mut peers, count, steps)
+    log_in_repeatedly(alloc, &mut peers, count, steps)
 }

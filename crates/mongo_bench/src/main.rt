@@ -25,7 +25,7 @@ mod tests;
 mod walking;
 mod work;
 
-use run::{Status, run_counted};
+use run::{BenchStatus, run_counted};
 use std::marker::Brand;
 use std::process::ExitCode;
 use std::rt::Env;
@@ -37,7 +37,7 @@ fn main(rt: HostRuntime) -> ExitCode {
         Ok(words) => {
             run_counted::<_, Brand>(rt.alloc(), &words, &mut rt.stdout(), Blank::new(1)).status
         }
-        Err(_) => Status::NoWords,
+        Err(_) => BenchStatus::NoWords,
     };
     ExitCode::from(status.code())
 }

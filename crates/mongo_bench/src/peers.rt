@@ -52,7 +52,7 @@ impl Peers {
         ensures cost { OnOk result (steps.new ≡ steps.old + 4096) }
         ensures steps { steps.old ≤ steps.new }
     {
-        let number = number_of(hash);
+        let number = number_of_hash(hash);
         let client = Client::new(alloc)?;
         let login = UserLogin::generated(alloc, number)?;
         let server = generated_server(alloc, number, steps)?;
@@ -89,7 +89,7 @@ impl Peers {
 }
 
 // The number of the first generated login over this hash.
-fn number_of(hash: Hash) -> u32
+fn number_of_hash(hash: Hash) -> u32
     ensures { result ≡ number_of_hash hash }
 {
     match hash {

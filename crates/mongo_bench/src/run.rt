@@ -8,7 +8,7 @@ ghost use Rattle.mongo_bench.specs.Work.{nothing_done, work_of};
 use crate::frames::run_frames;
 use crate::insert::run_inserts;
 use crate::login::run_logins;
-use crate::task::{Hash, PASSWORD, SALT, Task, task_of};
+use crate::task::{BenchTask, EXAMPLE_PASSWORD, EXAMPLE_SALT, Hash, task_of};
 use crate::walking::{run_document, run_walk};
 use crate::work::Work;
 use mongo_mac::{Sha1Fn, Sha256Fn, Steps, Tag, hi};
@@ -19,7 +19,7 @@ use std::sync::ledger::{Blank, Ledger};
 
 /// How a run ended.
 #[derive(Clone, Copy, PartialEq, Eq, Debug)]
-pub enum Status {
+pub enum BenchStatus {
     /// The task was run and its line written.
     Done,
     /// The words ask for no task.
@@ -32,17 +32,17 @@ pub enum Status {
     NoMemory,
 }
 
-impl Status {
+impl BenchStatus {
     /// The exit status of the program.
     pub fn code(self) -> u8
         ensures { result ≡ bench_code self }
     {
         match self {
-            Status::Done => 0,
-            Status::Usage => 3,
-            Status::SinkFault => 5,
-            Status::NoWords => 6,
-            Status::NoMemory => 6,
+            BenchStatus::Done => 0,
+            BenchStatus::Usage => 3,
+            BenchStatus::SinkFault => 5,
+            BenchStatus::NoWords => 6,
+            BenchStatus::NoMemory => 6,
         }
     }
 }
@@ -51,7 +51,7 @@ impl Status {
 #[derive(Clone, Copy, PartialEq, Eq, Debug)]
 pub struct RanTask {
     /// How it ended.
-    pub status: Status,
+    pub status: BenchStatus,
     /// What was done, where it ended well.
     pub work: Work,
 }
@@ -59,23 +59,23 @@ pub struct RanTask {
 impl RanTask {
     /// The end of a run whose line was written, or wasn't.
     pub fn written(line: io::Result<()>, work: Work) -> RanTask
-        ensures done { (result.status ≡ Status.Done) ↔ IsOk line }
-        ensures fault { result.status ≢ Status.Done → result.status ≡ Status.SinkFault }
+        ensures done { (result.status ≡ BenchStatus.Done) ↔ IsOk line }
+        ensures fault { result.status ≢ BenchStatus.Done → result.status ≡ BenchStatus.SinkFault }
         ensures work { result.work ≡ work }
     {
         let status = match line {
-            Ok(()) => Status::Done,
-            Err(_) => Status::SinkFault,
+            Ok(()) => BenchStatus::Done,
+            Err(_) => BenchStatus::SinkFault,
         };
         RanTask { status, work }
     }
 
     /// The end of a run for which there was no memory.
     pub fn without_memory() -> RanTask
-        ensures { result ≡ record { status = Status.NoMemory; work = nothing_done } }
+        ensures { result ≡ record { status = BenchStatus.NoMemory; work = nothing_done } }
     {
         RanTask {
-            status: Status::NoMemory,
+            status: BenchStatus::NoMemory,
             work: Work::nothing(),
         }
     }
@@ -89,31 +89,31 @@ pub fn run<W: Write, G: Ledger>(
     out: &mut W,
     steps: &mut Steps<G>,
 ) -> RanTask
-    ensures done { (task : Task) → AsksTask (map string_bytes words.now) task → result.status ≡ Status.Done →
+    ensures done { (task : BenchTask) → AsksTask (map string_bytes words.now) task → result.status ≡ BenchStatus.Done →
         HasPrinted task (W.contents out.old) (W.contents out.new) }
     // So many passes and frames were done, and no others.
-    ensures work { (task : Task) → AsksTask (map string_bytes words.now) task → result.status ≡ Status.Done →
+    ensures work { (task : BenchTask) → AsksTask (map string_bytes words.now) task → result.status ≡ BenchStatus.Done →
         result.work ≡ work_of task }
-    ensures cost { (task : Task) → AsksTask (map string_bytes words.now) task →
+    ensures cost { (task : BenchTask) → AsksTask (map string_bytes words.now) task →
         Costs task result.status steps.old steps.new }
-    ensures usage { (result.status ≡ Status.Usage) ↔ AsksNothing (map string_bytes words.now) }
-    ensures usage_does_nothing { result.status ≡ Status.Usage →
+    ensures usage { (result.status ≡ BenchStatus.Usage) ↔ AsksNothing (map string_bytes words.now) }
+    ensures usage_does_nothing { result.status ≡ BenchStatus.Usage →
         (out.new ≡ out.old) × (steps.new ≡ steps.old) }
-    ensures had_words { result.status ≢ Status.NoWords }
+    ensures had_words { result.status ≢ BenchStatus.NoWords }
 {
     let Some(task) = task_of(words) else {
         return RanTask {
-            status: Status::Usage,
+            status: BenchStatus::Usage,
             work: Work::nothing(),
         };
     };
     match task {
-        Task::Derive(hash, count) => run_derivation(hash, count, out, steps),
-        Task::Walk(pass, shape, count) => run_walk(alloc, pass, shape, count, out),
-        Task::Document(shape) => run_document(alloc, shape, out),
-        Task::Frames(direction, size, count) => run_frames(alloc, direction, size, count, out),
-        Task::Insert(count) => run_inserts(alloc, count, out),
-        Task::Login(hash, count) => run_logins(alloc, hash, count, out, steps),
+        BenchTask::Derive(hash, count) => run_derivation(hash, count, out, steps),
+        BenchTask::Walk(pass, shape, count) => run_walk(alloc, pass, shape, count, out),
+        BenchTask::Document(shape) => run_document(alloc, shape, out),
+        BenchTask::Frames(direction, size, count) => run_frames(alloc, direction, size, count, out),
+        BenchTask::Insert(count) => run_inserts(alloc, count, out),
+        BenchTask::Login(hash, count) => run_logins(alloc, hash, count, out, steps),
     }
 }
 
@@ -127,13 +127,13 @@ pub fn run_counted<W: Write, G: Ledger>(
     requires name { blank.name ≡ G.name }
     requires parts { blank.parts ≡ G.parts }
     requires has_a_part { 0 < G.parts }
-    ensures done { (task : Task) → AsksTask (map string_bytes words.now) task → result.status ≡ Status.Done →
+    ensures done { (task : BenchTask) → AsksTask (map string_bytes words.now) task → result.status ≡ BenchStatus.Done →
         HasPrinted task (W.contents out.old) (W.contents out.new) }
-    ensures work { (task : Task) → AsksTask (map string_bytes words.now) task → result.status ≡ Status.Done →
+    ensures work { (task : BenchTask) → AsksTask (map string_bytes words.now) task → result.status ≡ BenchStatus.Done →
         result.work ≡ work_of task }
-    ensures usage { (result.status ≡ Status.Usage) ↔ AsksNothing (map string_bytes words.now) }
-    ensures usage_writes_nothing { result.status ≡ Status.Usage → out.new ≡ out.old }
-    ensures had_words { result.status ≢ Status.NoWords }
+    ensures usage { (result.status ≡ BenchStatus.Usage) ↔ AsksNothing (map string_bytes words.now) }
+    ensures usage_writes_nothing { result.status ≡ BenchStatus.Usage → out.new ≡ out.old }
+    ensures had_words { result.status ≢ BenchStatus.NoWords }
 {
     let mut steps = Steps::<G>::new(blank);
     run(alloc, words, out, &mut steps)
@@ -147,24 +147,24 @@ fn run_derivation<W: Write, G: Ledger>(
     steps: &mut Steps<G>,
 ) -> RanTask
     requires { 1 ≤ count }
-    ensures done { result.status ≡ Status.Done → HasPrinted (Task.Derive hash count) (W.contents out.old) (W.contents out.new) }
+    ensures done { result.status ≡ BenchStatus.Done → HasPrinted (BenchTask.Derive hash count) (W.contents out.old) (W.contents out.new) }
     ensures work { result.work ≡ nothing_done }
     ensures cost { steps.new ≡ steps.old + count }
-    ensures ran { (result.status ≢ Status.Usage) × (result.status ≢ Status.NoWords) }
+    ensures ran { (result.status ≢ BenchStatus.Usage) × (result.status ≢ BenchStatus.NoWords) }
 {
-    let tag = derive(hash, count, steps);
+    let tag = derived_bytes(hash, count, steps);
     RanTask::written(write_line(&tag, out), Work::nothing())
 }
 
 /// The bytes that a derivation gives.
-fn derive<G: Ledger>(hash: Hash, count: u32, steps: &mut Steps<G>) -> Tag
+fn derived_bytes<G: Ledger>(hash: Hash, count: u32, steps: &mut Steps<G>) -> Tag
     requires { 1 ≤ count }
     ensures value { result ≡ derived_by hash count }
     ensures cost { steps.new ≡ steps.old + count }
 {
     match hash {
-        Hash::Sha1 => hi::<Sha1Fn, G>(PASSWORD, &SALT, count, steps),
-        Hash::Sha256 => hi::<Sha256Fn, G>(PASSWORD, &SALT, count, steps),
+        Hash::Sha1 => hi::<Sha1Fn, G>(EXAMPLE_PASSWORD, &EXAMPLE_SALT, count, steps),
+        Hash::Sha256 => hi::<Sha256Fn, G>(EXAMPLE_PASSWORD, &EXAMPLE_SALT, count, steps),
     }
 }
 

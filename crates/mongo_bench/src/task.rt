@@ -2,10 +2,10 @@ ghost use Rattle.std.specs.Prelude.{◌≡◌, ◌≢◌, ◌∷◌, [], ℕ, Ma
 ghost use Rattle.mongo_bench.specs.Task.{AsksTask, AsksNothing, IsTaskCount, size_of_frame, name_of_direction, name_of_hash, name_of_login, name_of_pass, name_of_shape, name_of_size};
 
 /// The password of each derivation (RFC 5802, section 5).
-pub const PASSWORD: &[u8] = b"pencil";
+pub const EXAMPLE_PASSWORD: &[u8] = b"pencil";
 
 /// The salt of each derivation (RFC 5802, section 5).
-pub const SALT: [u8; 12] = [
+pub const EXAMPLE_SALT: [u8; 12] = [
     0x41, 0x25, 0xC2, 0x47, 0xE4, 0x3A, 0xB1, 0xE9, 0x3C, 0x6D, 0xFF, 0x76,
 ];
 
@@ -29,7 +29,7 @@ pub enum Pass {
 
 /// A document that is made for a walk.
 #[derive(Clone, Copy, PartialEq, Eq, Debug)]
-pub enum Shape {
+pub enum DocumentShape {
     /// Documents and arrays in one another, with values of many kinds.
     Nested,
     /// Small elements, all of one level.
@@ -75,13 +75,13 @@ impl FrameSize {
 
 /// What the program is asked to do.
 #[derive(Clone, Copy, PartialEq, Eq, Debug)]
-pub enum Task {
+pub enum BenchTask {
     /// Hi with this many steps.
     Derive(Hash, u32),
     /// So many passes over a document.
-    Walk(Pass, Shape, u32),
+    Walk(Pass, DocumentShape, u32),
     /// The bytes of a document.
-    Document(Shape),
+    Document(DocumentShape),
     /// So many frames of a size, written or read.
     Frames(Direction, FrameSize, u32),
     /// So many times the command of an insert.
@@ -92,7 +92,7 @@ pub enum Task {
 
 /// The task that `words` ask for: its name, the shape of its document or the direction and size of its frames where it
 /// has them, and a count from 1 to 2^32 - 1 in decimal digits with no sign and no leading zero where it has one.
-pub fn task_of(words: &[String]) -> Option<Task>
+pub fn task_of(words: &[String]) -> Option<BenchTask>
     ensures { let texts = map string_bytes words.now in
         MatchOption result (AsksNothing texts) (AsksTask texts) }
 {
@@ -110,49 +110,49 @@ pub fn task_of(words: &[String]) -> Option<Task>
 }
 
 // The task of two words: a derivation, a document's bytes, or the command of an insert.
-fn task_of_two(name: &str, word: &str) -> Option<Task>
+fn task_of_two(name: &str, word: &str) -> Option<BenchTask>
     ensures { MatchOption result (AsksNothing (name.now ∷ word.now ∷ [])) (AsksTask (name.now ∷ word.now ∷ [])) }
 {
     if name == "document" {
-        return Some(Task::Document(shape_of(word)?));
+        return Some(BenchTask::Document(shape_named(word)?));
     }
     if name == "insert" {
-        return Some(Task::Insert(count_of(word)?));
+        return Some(BenchTask::Insert(count_of(word)?));
     }
     let hash = hash_of(name)?;
-    Some(Task::Derive(hash, count_of(word)?))
+    Some(BenchTask::Derive(hash, count_of(word)?))
 }
 
 // The task of three words: logins, or passes over a document.
-fn task_of_three(name: &str, kind: &str, count: &str) -> Option<Task>
+fn task_of_three(name: &str, kind: &str, count: &str) -> Option<BenchTask>
     ensures { MatchOption result (AsksNothing (name.now ∷ kind.now ∷ count.now ∷ [])) (AsksTask (name.now ∷ kind.now ∷ count.now ∷ [])) }
 {
     if name == "login" {
-        return login_of(kind, count);
+        return login_task(kind, count);
     }
     walk_of(name, kind, count)
 }
 
 // Logins by the hash of that name.
-fn login_of(kind: &str, count: &str) -> Option<Task>
+fn login_task(kind: &str, count: &str) -> Option<BenchTask>
     ensures { MatchOption result (AsksNothing (codes "login" ∷ kind.now ∷ count.now ∷ [])) (AsksTask (codes "login" ∷ kind.now ∷ count.now ∷ [])) }
 {
     let hash = login_hash_of(kind)?;
-    Some(Task::Login(hash, count_of(count)?))
+    Some(BenchTask::Login(hash, count_of(count)?))
 }
 
 // Passes over a document.
-fn walk_of(name: &str, shape: &str, count: &str) -> Option<Task>
+fn walk_of(name: &str, shape: &str, count: &str) -> Option<BenchTask>
     requires { name.now ≢ codes "login" }
     ensures { MatchOption result (AsksNothing (name.now ∷ shape.now ∷ count.now ∷ [])) (AsksTask (name.now ∷ shape.now ∷ count.now ∷ [])) }
 {
     let pass = pass_of(name)?;
-    let shape = shape_of(shape)?;
-    Some(Task::Walk(pass, shape, count_of(count)?))
+    let shape = shape_named(shape)?;
+    Some(BenchTask::Walk(pass, shape, count_of(count)?))
 }
 
 // The task of four words: frames.
-fn frames_of(name: &str, direction: &str, size: &str, count: &str) -> Option<Task>
+fn frames_of(name: &str, direction: &str, size: &str, count: &str) -> Option<BenchTask>
     ensures { MatchOption result (AsksNothing (name.now ∷ direction.now ∷ size.now ∷ count.now ∷ [])) (AsksTask (name.now ∷ direction.now ∷ size.now ∷ count.now ∷ [])) }
 {
     if name != "frames" {
@@ -160,7 +160,7 @@ fn frames_of(name: &str, direction: &str, size: &str, count: &str) -> Option<Tas
     }
     let direction = direction_of(direction)?;
     let size = size_of(size)?;
-    Some(Task::Frames(direction, size, count_of(count)?))
+    Some(BenchTask::Frames(direction, size, count_of(count)?))
 }
 
 // The hash of that name.
@@ -197,13 +197,13 @@ fn pass_of(name: &str) -> Option<Pass>
 }
 
 // The shape of that name.
-fn shape_of(name: &str) -> Option<Shape>
-    ensures { MatchOption result ((shape : Shape) → name.now ≢ name_of_shape shape) (λ shape. name.now ≡ name_of_shape shape) }
+fn shape_named(name: &str) -> Option<DocumentShape>
+    ensures { MatchOption result ((shape : DocumentShape) → name.now ≢ name_of_shape shape) (λ shape. name.now ≡ name_of_shape shape) }
 {
     match name {
-        "nested" => Some(Shape::Nested),
-        "flat" => Some(Shape::Flat),
-        "too-deep" => Some(Shape::TooDeep),
+        "nested" => Some(DocumentShape::Nested),
+        "flat" => Some(DocumentShape::Flat),
+        "too-deep" => Some(DocumentShape::TooDeep),
         _ => None,
     }
 }

@@ -1,4 +1,4 @@
-use crate::run::{Status, run_counted};
+use crate::run::{BenchStatus, run_counted};
 use std::alloc::{AllocError, Global};
 use std::marker::Brand;
 use std::sync::ledger::Blank;
@@ -34,7 +34,7 @@ fn each_task_prints_its_line(rt: HostRuntime) -> Result<(), Fail> {
         let words = words_of(rt.alloc(), words)?;
         let mut out = Vec::new(rt.alloc());
         let ran = run_counted::<_, Brand>(rt.alloc(), &words, &mut out, Blank::new(1));
-        assert_eq!(rt; ran.status, Status::Done);
+        assert_eq!(rt; ran.status, BenchStatus::Done);
         assert_eq!(rt; out.as_slice(), line.as_bytes());
     }
     Ok(())
@@ -54,7 +54,7 @@ fn passes_over_great_documents_tell_what_they_find(rt: HostRuntime) -> Result<()
         let words = words_of(rt.alloc(), words)?;
         let mut out = Vec::new(rt.alloc());
         let ran = run_counted::<_, Brand>(rt.alloc(), &words, &mut out, Blank::new(1));
-        assert_eq!(rt; ran.status, Status::Done);
+        assert_eq!(rt; ran.status, BenchStatus::Done);
         assert_eq!(rt; out.as_slice(), line.as_bytes());
     }
     Ok(())
@@ -85,7 +85,7 @@ fn documents_are_printed_whole(rt: HostRuntime) -> Result<(), Fail> {
         let words = words_of(rt.alloc(), &["document", shape])?;
         let mut out = Vec::new(rt.alloc());
         let ran = run_counted::<_, Brand>(rt.alloc(), &words, &mut out, Blank::new(1));
-        assert_eq!(rt; ran.status, Status::Done);
+        assert_eq!(rt; ran.status, BenchStatus::Done);
         assert_eq!(rt; out.len(), length);
         assert!(rt; out.starts_with(front), "{shape}");
     }
@@ -117,7 +117,7 @@ fn usage_for_other_words(rt: HostRuntime) -> Result<(), Fail> {
         let words = words_of(rt.alloc(), words)?;
         let mut out = Vec::new(rt.alloc());
         let ran = run_counted::<_, Brand>(rt.alloc(), &words, &mut out, Blank::new(1));
-        assert_eq!(rt; ran.status, Status::Usage);
+        assert_eq!(rt; ran.status, BenchStatus::Usage);
         assert!(rt; out.is_empty());
     }
     Ok(())

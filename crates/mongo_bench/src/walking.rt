@@ -4,9 +4,9 @@ ghost use Rattle.std.specs.Io.KnownBytes.{Appends};
 ghost use Rattle.mongo_bench.specs.Task.{HasPrinted, HasTold};
 ghost use Rattle.mongo_bench.specs.Work.{nothing_done, work_of_pass};
 
-use crate::documents::document_of;
-use crate::run::{RanTask, Status};
-use crate::task::{Pass, Shape, Task};
+use crate::documents::document_of_shape;
+use crate::run::{BenchStatus, RanTask};
+use crate::task::{BenchTask, DocumentShape, Pass};
 use crate::work::{Work, iterate, judge};
 use itoa::Buffer;
 use mongo_bson::{RawDocument, RawValue};
@@ -21,16 +21,16 @@ const LEVELS: u32 = 100;
 pub fn run_walk<W: Write>(
     alloc: Global,
     pass: Pass,
-    shape: Shape,
+    shape: DocumentShape,
     count: u32,
     out: &mut W,
 ) -> RanTask
     requires { 0 < count }
-    ensures done { result.status ≡ Status.Done → HasPrinted (Task.Walk pass shape count) (W.contents out.old) (W.contents out.new) }
-    ensures work { result.status ≡ Status.Done → result.work ≡ work_of_pass pass count }
-    ensures ran { (result.status ≢ Status.Usage) × (result.status ≢ Status.NoWords) }
+    ensures done { result.status ≡ BenchStatus.Done → HasPrinted (BenchTask.Walk pass shape count) (W.contents out.old) (W.contents out.new) }
+    ensures work { result.status ≡ BenchStatus.Done → result.work ≡ work_of_pass pass count }
+    ensures ran { (result.status ≢ BenchStatus.Usage) × (result.status ≢ BenchStatus.NoWords) }
 {
-    let Ok(document) = document_of(alloc, shape) else {
+    let Ok(document) = document_of_shape(alloc, shape) else {
         return RanTask::without_memory();
     };
     walk(document.borrow(), pass, count, out)
@@ -39,9 +39,9 @@ pub fn run_walk<W: Write>(
 /// Passes over the document so often, and writes what the last pass found.
 pub fn walk<W: Write>(document: RawDocument<'_>, pass: Pass, count: u32, out: &mut W) -> RanTask
     requires { 0 < count }
-    ensures told { result.status ≡ Status.Done → HasTold pass document.entry.bytes.now (W.contents out.old) (W.contents out.new) }
+    ensures told { result.status ≡ BenchStatus.Done → HasTold pass document.entry.bytes.now (W.contents out.old) (W.contents out.new) }
     ensures work { result.work ≡ work_of_pass pass count }
-    ensures ran { (result.status ≢ Status.Usage) × (result.status ≢ Status.NoWords) }
+    ensures ran { (result.status ≢ BenchStatus.Usage) × (result.status ≢ BenchStatus.NoWords) }
 {
     match pass {
         Pass::Iterate => {
@@ -56,12 +56,12 @@ pub fn walk<W: Write>(document: RawDocument<'_>, pass: Pass, count: u32, out: &m
 }
 
 /// Makes the document and writes its bytes.
-pub fn run_document<W: Write>(alloc: Global, shape: Shape, out: &mut W) -> RanTask
-    ensures done { result.status ≡ Status.Done → HasPrinted (Task.Document shape) (W.contents out.old) (W.contents out.new) }
+pub fn run_document<W: Write>(alloc: Global, shape: DocumentShape, out: &mut W) -> RanTask
+    ensures done { result.status ≡ BenchStatus.Done → HasPrinted (BenchTask.Document shape) (W.contents out.old) (W.contents out.new) }
     ensures work { result.work ≡ nothing_done }
-    ensures ran { (result.status ≢ Status.Usage) × (result.status ≢ Status.NoWords) }
+    ensures ran { (result.status ≢ BenchStatus.Usage) × (result.status ≢ BenchStatus.NoWords) }
 {
-    let Ok(document) = document_of(alloc, shape) else {
+    let Ok(document) = document_of_shape(alloc, shape) else {
         return RanTask::without_memory();
     };
     RanTask::written(write_bytes(document.as_bytes(), out), Work::nothing())

@@ -71,7 +71,7 @@ pub fn judge(document: RawDocument<'_>, count: u32) -> Passed<bool>
 }
 
 /// Writes the message's frame so often over itself into memory that is kept, and gives how many bytes the last one had.
-pub fn write(alloc: Global, message: &Message, count: u32) -> Result<Passed<usize>, Error>
+pub fn write_frames(alloc: Global, message: &Message, count: u32) -> Result<Passed<usize>, Error>
     ensures { IfOk result (λ passed. passed.work ≡ only_written count) }
 {
     let mut ids = RequestIds::new(0);
@@ -88,7 +88,7 @@ pub fn write(alloc: Global, message: &Message, count: u32) -> Result<Passed<usiz
 }
 
 /// Reads the frame so often into one buffer, and gives how many bytes the last one had.
-pub fn read(alloc: Global, frame: &[u8], count: u32) -> Result<Passed<usize>, Error>
+pub fn read_frames(alloc: Global, frame: &[u8], count: u32) -> Result<Passed<usize>, Error>
     ensures { IfOk result (λ passed. passed.work ≡ only_read count) }
 {
     let mut buffer = FrameBuffer::new(alloc);
@@ -101,7 +101,7 @@ pub fn read(alloc: Global, frame: &[u8], count: u32) -> Result<Passed<usize>, Er
 }
 
 /// Reads the frame so often into a message that owns its parts, and gives how many bytes the last one had.
-pub fn read_owned(alloc: Global, frame: &[u8], count: u32) -> Result<Passed<usize>, Error>
+pub fn read_owned_frames(alloc: Global, frame: &[u8], count: u32) -> Result<Passed<usize>, Error>
     ensures { IfOk result (λ passed. passed.work ≡ only_read_owned count) }
 {
     let mut last = 0;
@@ -125,7 +125,7 @@ pub fn build(alloc: Global, count: u32) -> Result<Passed<usize>, Error>
 }
 
 /// Logs in so often, and gives how many logins both sides accepted.
-pub fn log_in<G: Ledger>(
+pub fn log_in_repeatedly<G: Ledger>(
     alloc: Global,
     peers: &mut Peers,
     count: u32,

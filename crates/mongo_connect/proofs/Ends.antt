@@ -12,7 +12,7 @@ use Rattle.mongo_settings.specs.declared.rehearsal.Rehearsal.{Rehearsal}
 use Rattle.mongo_settings.specs.declared.rehearsal.RehearsalStatus.{RehearsalStatus}
 use Rattle.mongo_settings.specs.declared.rehearsal.RehearsalStatus.TheVariants as rehearsal
 use Rattle.mongo_settings.specs.Run.{Run}
-use Rattle.mongo_settings.specs.Settings.{maximum_length}
+use Rattle.mongo_settings.specs.Settings.{maximum_settings_length}
 use Rattle.mongo_settings.specs.Status.{status_after, JudgementDecides}
 use Rattle.mongo_settings.specs.Outcome.{taken_by}
 use Rattle.mongo_settings.specs.Task.{StepsTaken, LoginComesOut}
@@ -29,7 +29,7 @@ use Rattle.mongo_connect.specs.Run.{Connected, LineRead, Attempt, ConnectReporte
 -- what follows a line is no more than its input
 after_line_short : (input : List ℕ) → length input < 2 ^ 64 → length (after_line input) < 2 ^ 64
 unfolding after_line
-after_line_short input fits = grind (arith, nat_tests, length-drop (position_or_len is_line_feed input + 1) input, length-drop (maximum_length + 1) input)
+after_line_short input fits = grind (arith, nat_tests, length-drop (position_or_len is_line_feed input + 1) input, length-drop (maximum_settings_length + 1) input)
 
 told_after : (input line : List ℕ) (old middle : State) → LineRead line old middle → TellsBytes old input → TellsBytes middle (after_line input)
 told_after input line old middle read told = record {

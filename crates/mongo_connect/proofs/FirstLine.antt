@@ -11,7 +11,7 @@ use Rattle.std.proofs.KnownBytes.{Consumes-trans, Consumes-kept}
 use Rattle.mongo_wire.specs.Outside.{State, ReadsOn}
 use Rattle.mongo_wire.proofs.ReadStopped.{reads_on}
 use Rattle.std.specs.List.{position_or_len, before_first, after_first}
-use Rattle.mongo_settings.specs.Settings.{maximum_length}
+use Rattle.mongo_settings.specs.Settings.{maximum_settings_length}
 use Rattle.mongo_connect.specs.Input.{is_line_feed, line_of, after_line, IsUnbroken, TakesOfLine, TakesNoLineFeed}
 
 -- the first line feed stands after bytes that have none
@@ -45,29 +45,29 @@ pub record First (line rest input : List ℕ) : Type 0 where
   pub line_is : line ≡ line_of input
   pub rest_is : rest ≡ after_line input
 
-within : (line rest input : List ℕ) → before_first is_line_feed input ≡ line → after_first is_line_feed input ≡ rest → length line ≤ maximum_length → First line rest input
+within : (line rest input : List ℕ) → before_first is_line_feed input ≡ line → after_first is_line_feed input ≡ rest → length line ≤ maximum_settings_length → First line rest input
 unfolding line_of after_line
 within line rest input before_is after_is short =
-    let room : length line ≤ maximum_length + 1 = omega arith in
+    let room : length line ≤ maximum_settings_length + 1 = omega arith in
     record {
-      line_is = sym (ap (take (maximum_length + 1)) before_is ∙ take_all (maximum_length + 1) line room);
-      rest_is = sym (rw (before_is, le-leb (length line) maximum_length short) after_is);
+      line_is = sym (ap (take (maximum_settings_length + 1)) before_is ∙ take_all (maximum_settings_length + 1) line room);
+      rest_is = sym (rw (before_is, le-leb (length line) maximum_settings_length short) after_is);
     }
 
-first_fed : (held rest : List ℕ) → IsUnbroken held → length held ≤ maximum_length → First held rest (held ++ 10 ∷ rest)
+first_fed : (held rest : List ℕ) → IsUnbroken held → length held ≤ maximum_settings_length → First held rest (held ++ 10 ∷ rest)
 first_fed held rest unbroken short = within held rest (held ++ 10 ∷ rest) (before held (10 ∷ rest) unbroken ∙ append-nil held) (after held (10 ∷ rest) unbroken) short
 
-first_ended : (held : List ℕ) → IsUnbroken held → length held ≤ maximum_length → First held [] (held ++ [])
+first_ended : (held : List ℕ) → IsUnbroken held → length held ≤ maximum_settings_length → First held [] (held ++ [])
 first_ended held unbroken short = within held [] (held ++ []) (before held [] unbroken ∙ append-nil held) (after held [] unbroken) short
 
-first_cut : (held rest : List ℕ) → IsUnbroken held → length held ≡ maximum_length + 1 → First held rest (held ++ rest)
+first_cut : (held rest : List ℕ) → IsUnbroken held → length held ≡ maximum_settings_length + 1 → First held rest (held ++ rest)
 unfolding line_of after_line
 first_cut held rest unbroken long =
     let more = before_first is_line_feed rest in
-    let longer : maximum_length < length (held ++ more) = omega (arith, length-append held more) in
+    let longer : maximum_settings_length < length (held ++ more) = omega (arith, length-append held more) in
     record {
       line_is = sym (rw (before held rest unbroken) (ap (λ n. take n (held ++ more)) (sym long) ∙ take-append_seam held more));
-      rest_is = sym (rw (before held rest unbroken, lt-leb (length (held ++ more)) maximum_length longer) (ap (λ n. drop n (held ++ rest)) (sym long) ∙ drop-append_seam held rest));
+      rest_is = sym (rw (before held rest unbroken, lt-leb (length (held ++ more)) maximum_settings_length longer) (ap (λ n. drop n (held ++ rest)) (sym long) ∙ drop-append_seam held rest));
     }
 
 -- ---- what a source gave
@@ -87,22 +87,22 @@ gave (Some bytes) (Some rest) held given consumed first =
       left = λ input is. let same : given ++ rest ≡ input = cc in ap Some (f.rest_is ∙ ap after_line same);
     }
 
-pub gave_fed : (old new : Option (List ℕ)) (held : List ℕ) → Consumes old new (held ++ 10 ∷ []) → IsUnbroken held → length held ≤ maximum_length → Gave old new held
+pub gave_fed : (old new : Option (List ℕ)) (held : List ℕ) → Consumes old new (held ++ 10 ∷ []) → IsUnbroken held → length held ≤ maximum_settings_length → Gave old new held
 gave_fed old new held consumed unbroken short = gave old new held (held ++ 10 ∷ []) consumed (λ rest is. simp append_assoc (first_fed held rest unbroken short))
 
-pub gave_ended : (old new : Option (List ℕ)) (held : List ℕ) → Consumes old new held → IsAtEnd new → IsUnbroken held → length held ≤ maximum_length → Gave old new held
+pub gave_ended : (old new : Option (List ℕ)) (held : List ℕ) → Consumes old new held → IsAtEnd new → IsUnbroken held → length held ≤ maximum_settings_length → Gave old new held
 gave_ended old new held consumed end unbroken short = gave old new held held consumed (λ rest is. subst (λ r. First held r (held ++ r)) (sym (subst IsAtEnd is end)) (first_ended held unbroken short))
 
-pub gave_cut : (old new : Option (List ℕ)) (held : List ℕ) → Consumes old new held → IsUnbroken held → length held ≡ maximum_length + 1 → Gave old new held
+pub gave_cut : (old new : Option (List ℕ)) (held : List ℕ) → Consumes old new held → IsUnbroken held → length held ≡ maximum_settings_length + 1 → Gave old new held
 gave_cut old new held consumed unbroken long = gave old new held held consumed (λ rest is. first_cut held rest unbroken long)
 
 -- the same, by the last byte that was read
-pub gave_line_feed : (old mid new : Option (List ℕ)) (held : List ℕ) (next : Option ℕ) (byte : ℕ) → Consumes old mid held → Consumes mid new (option_to_list next) → next ≡ Some byte → byte ≡ 10 → IsUnbroken held → length held ≤ maximum_length → Gave old new held
+pub gave_line_feed : (old mid new : Option (List ℕ)) (held : List ℕ) (next : Option ℕ) (byte : ℕ) → Consumes old mid held → Consumes mid new (option_to_list next) → next ≡ Some byte → byte ≡ 10 → IsUnbroken held → length held ≤ maximum_settings_length → Gave old new held
 gave_line_feed old mid new held next byte front last is feed unbroken short =
     let e : option_to_list next ≡ 10 ∷ [] = ap option_to_list is ∙ ap (λ b. b ∷ []) feed in
     gave_fed old new held (Consumes-trans old mid new held (10 ∷ []) front (subst (Consumes mid new) e last)) unbroken short
 
-pub gave_end : (old mid new : Option (List ℕ)) (held : List ℕ) (next : Option ℕ) → Consumes old mid held → Consumes mid new (option_to_list next) → (next ≡ None → IsAtEnd new) → next ≡ None → IsUnbroken held → length held ≤ maximum_length → Gave old new held
+pub gave_end : (old mid new : Option (List ℕ)) (held : List ℕ) (next : Option ℕ) → Consumes old mid held → Consumes mid new (option_to_list next) → (next ≡ None → IsAtEnd new) → next ≡ None → IsUnbroken held → length held ≤ maximum_settings_length → Gave old new held
 gave_end old mid new held next front last end is unbroken short =
     let e : held ++ option_to_list next ≡ held = ap (λ n. held ++ option_to_list n) is ∙ append-nil held in
     gave_ended old new held (subst (Consumes old new) e (Consumes-trans old mid new held (option_to_list next) front last)) (end is) unbroken short
@@ -111,12 +111,12 @@ gave_end old mid new held next front last end is unbroken short =
 
 -- what is held is what the source gave so far, and no line feed
 pub record LineSoFar (old new : State) (held : List ℕ) : Type 0 where
-  pub within : length held ≤ maximum_length + 1
+  pub within : length held ≤ maximum_settings_length + 1
   pub unbroken : IsUnbroken held
   pub front : Consumes old.left new.left held
   pub on : ReadsOn old new
 
-stops : (old new : Option (List ℕ)) (held : List ℕ) → IsUnbroken held → length held ≤ maximum_length + 1 → Consumes old new held → TakesNoLineFeed old new
+stops : (old new : Option (List ℕ)) (held : List ℕ) → IsUnbroken held → length held ≤ maximum_settings_length + 1 → Consumes old new held → TakesNoLineFeed old new
 stops old new held unbroken within taken = record { taken = held; unended = unbroken; short = within; consumed = taken }
 
 -- what stopped within the line has taken no more than the line
@@ -133,7 +133,7 @@ module _ (old mid new : State) (held : List ℕ) (so_far : LineSoFar old mid hel
   stops_kept kept = stops old.left new.left held so_far.unbroken so_far.within (Consumes-kept old.left mid.left new.left held so_far.front kept)
 
   -- the next byte was taken, where there is one
-  pub takes_next : (next : Option ℕ) → length held ≤ maximum_length → Consumes mid.left new.left (option_to_list next) → TakesOfLine old.left new.left
+  pub takes_next : (next : Option ℕ) → length held ≤ maximum_settings_length → Consumes mid.left new.left (option_to_list next) → TakesOfLine old.left new.left
   takes_next None short taken = takes_stopped old.left new.left (stops old.left new.left held so_far.unbroken so_far.within (subst (Consumes old.left new.left) (append-nil held) (Consumes-trans old.left mid.left new.left held [] so_far.front taken)))
   takes_next (Some byte) short taken =
       let longer = length-append held (byte ∷ []) in
@@ -145,7 +145,7 @@ module _ (old mid new : State) (held : List ℕ) (so_far : LineSoFar old mid hel
       }
 
   -- it is no line feed
-  pub one_more : (next : Option ℕ) (byte : ℕ) → next ≡ Some byte → (byte ≡ 10 → ⊥) → length held ≤ maximum_length → Consumes mid.left new.left (option_to_list next) → ReadsOn mid new → LineSoFar old new (held ++ byte ∷ [])
+  pub one_more : (next : Option ℕ) (byte : ℕ) → next ≡ Some byte → (byte ≡ 10 → ⊥) → length held ≤ maximum_settings_length → Consumes mid.left new.left (option_to_list next) → ReadsOn mid new → LineSoFar old new (held ++ byte ∷ [])
   one_more next byte is other short taken on = record {
     within = omega (arith, short, length-append held (byte ∷ []));
     unbroken = unbroken_push held byte so_far.unbroken (no_line_feed byte other);
@@ -154,7 +154,7 @@ module _ (old mid new : State) (held : List ℕ) (so_far : LineSoFar old mid hel
   }
 
   -- and was pushed
-  pub one_pushed : (next : Option ℕ) (byte : ℕ) (pushed : Bool) (longer : List ℕ) → next ≡ Some byte → (byte ≡ 10 → ⊥) → longer ≡ (if pushed then held ++ byte ∷ [] else held) → pushed ≡ true → length held ≤ maximum_length
+  pub one_pushed : (next : Option ℕ) (byte : ℕ) (pushed : Bool) (longer : List ℕ) → next ≡ Some byte → (byte ≡ 10 → ⊥) → longer ≡ (if pushed then held ++ byte ∷ [] else held) → pushed ≡ true → length held ≤ maximum_settings_length
       → Consumes mid.left new.left (option_to_list next) → ReadsOn mid new → LineSoFar old new longer
   one_pushed next byte false longer is other grown ok short taken on = absurd cc
   one_pushed next byte true longer is other grown ok short taken on = subst (LineSoFar old new) (sym grown) (one_more next byte is other short taken on)

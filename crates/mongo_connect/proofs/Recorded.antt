@@ -4,7 +4,7 @@ use Rattle.std.specs.Prelude.{min, is_some}
 use Rattle.std.proofs.lemmas.List.{length-take-le}
 use Rattle.std.proofs.Math.Seq.{take-append-add, take-append_seam}
 use Rattle.std.specs.Io.KnownBytes.{append_known, Appends, Consumes, Keeps, ReadConsumes}
-use Rattle.mongo_connect.specs.Recording.{IsTakenCount, count_of}
+use Rattle.mongo_connect.specs.Recording.{IsTakenCount, given_count}
 
 -- a front of a piece was written after what was recorded
 pub kept_more : (origin old new : Option (List ℕ)) (recorded piece all : List ℕ) (n : ℕ) → old ≡ append_known origin recorded → is_some new ≡ is_some old → Appends old new (take n piece) → all ≡ take (length recorded + n) (recorded ++ piece) → new ≡ append_known origin all
@@ -47,7 +47,7 @@ counted_still origin (Some mid) (Some last) count counted tells still bytes rest
     counted bytes rest o (ap Some (sym still) ∙ s)
 
 -- a read was made
-pub counted_read : {E : Type 0} (origin old new : Option (List ℕ)) (buf : List ℕ) (r : Result ℕ E) (count sum : ℕ) → IsTakenCount origin old count → is_some new ≡ is_some old → ReadConsumes old new r buf → IfOk r (λ n. n ≤ length buf) → sum ≡ min (count + count_of r) (2 ^ 64 - 1) → count ≤ 2 ^ 64 - 1 → IsTakenCount origin new sum
+pub counted_read : {E : Type 0} (origin old new : Option (List ℕ)) (buf : List ℕ) (r : Result ℕ E) (count sum : ℕ) → IsTakenCount origin old count → is_some new ≡ is_some old → ReadConsumes old new r buf → IfOk r (λ n. n ≤ length buf) → sum ≡ min (count + given_count r) (2 ^ 64 - 1) → count ≤ 2 ^ 64 - 1 → IsTakenCount origin new sum
 counted_read origin old new buf (Ok n) count sum counted tells consumed most is fits = counted_more origin old new (take n buf) count n sum counted tells consumed.0 (length-take-le n buf most) is
 counted_read origin old new buf (Err e) count sum counted tells still most is fits =
     let same : sum ≡ count = omega arith in

@@ -3,18 +3,18 @@
 use Rattle.std.specs.Prelude.{◌≡◌, ℕ, ◌==◌, ◌+◌, ◌≤◌, Bool, nat_le, if◌then◌else◌, Option, List, length, take, drop}
 use Rattle.std.specs.Io.KnownBytes.{Consumes}
 use Rattle.std.specs.List.{before_first, after_first, position_or_len}
-use Rattle.mongo_settings.specs.Settings.{maximum_length}
+use Rattle.mongo_settings.specs.Settings.{maximum_settings_length}
 
 abbrev pub is_line_feed : ℕ → Bool
 is_line_feed byte = byte == 10
 
 -- what is read as the line
 unfoldable pub line_of : List ℕ → List ℕ
-line_of input = take (maximum_length + 1) (before_first is_line_feed input)
+line_of input = take (maximum_settings_length + 1) (before_first is_line_feed input)
 
 -- what follows it: of a line within the greatest length what stands after the line feed, of a longer one what stands after the cut
 unfoldable pub after_line : List ℕ → List ℕ
-after_line input = if nat_le (length (before_first is_line_feed input)) maximum_length then after_first is_line_feed input else drop (maximum_length + 1) input
+after_line input = if nat_le (length (before_first is_line_feed input)) maximum_settings_length then after_first is_line_feed input else drop (maximum_settings_length + 1) input
 
 -- no line feed stands in the bytes
 abbrev pub IsUnbroken : List ℕ → Type 0
@@ -28,12 +28,12 @@ IsOneLine bytes = length bytes ≤ position_or_len is_line_feed bytes + 1
 pub record TakesOfLine (old new : Option (List ℕ)) : Type 0 where
   pub taken : List ℕ
   pub one_line : IsOneLine taken
-  pub short : length taken ≤ maximum_length + 1
+  pub short : length taken ≤ maximum_settings_length + 1
   pub consumed : Consumes old new taken
 
 -- Reading stopped before the line's end: no line feed was taken either.
 pub record TakesNoLineFeed (old new : Option (List ℕ)) : Type 0 where
   pub taken : List ℕ
   pub unended : IsUnbroken taken
-  pub short : length taken ≤ maximum_length + 1
+  pub short : length taken ≤ maximum_settings_length + 1
   pub consumed : Consumes old new taken

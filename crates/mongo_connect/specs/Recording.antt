@@ -6,6 +6,6 @@ abbrev pub IsTakenCount : Option (List ℕ) → Option (List ℕ) → ℕ → Ty
 IsTakenCount old new count = (bytes rest : List ℕ) → old ≡ Some bytes → new ≡ Some rest → (length rest ≤ length bytes) × (count ≡ min (length bytes - length rest) (2 ^ 64 - 1))
 
 -- how many bytes a read gave
-abbrev pub count_of : {E : Type 0} → Result ℕ E → ℕ
-count_of (Ok count) = count
-count_of (Err failed) = 0
+abbrev pub given_count : {E : Type 0} → Result ℕ E → ℕ
+given_count (Ok count) = count
+given_count (Err failed) = 0

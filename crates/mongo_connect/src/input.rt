@@ -4,7 +4,7 @@ ghost use Rattle.std.specs.Io.KnownBytes.{Consumes, IsAtEnd, Keeps};
 ghost use Rattle.mongo_wire.specs.Outside.{ReadsOn, Rose};
 ghost use Rattle.mongo_connect.specs.Input.{line_of, after_line, TakesOfLine, TakesNoLineFeed};
 
-use mongo_settings::{InputError, MAXIMUM_LENGTH};
+use mongo_settings::{InputError, MAXIMUM_SETTINGS_LENGTH};
 use mongo_wire::{Failed, Source};
 use std::alloc::Global;
 
@@ -22,7 +22,7 @@ pub fn read_line<S: Source>(alloc: Global, source: &mut S) -> Result<Vec<u8>, In
     ensures on { ReadsOn (S.state source.old) (S.state source.new) }
 {
     let mut held = Vec::new(alloc);
-    'reading: while held.len() <= MAXIMUM_LENGTH {
+    'reading: while held.len() <= MAXIMUM_SETTINGS_LENGTH {
         match read_byte(source) {
             Ok(Some(b'\n')) => return Ok(held),
             Ok(Some(byte)) => {

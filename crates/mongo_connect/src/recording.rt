@@ -1,7 +1,7 @@
 ghost use Rattle.std.specs.Prelude.{◌≡◌};
 ghost use Rattle.std.specs.Io.KnownBytes.{append_known};
 ghost use Rattle.std.proofs.Props.{props};
-ghost use Rattle.mongo_connect.specs.Recording.{IsTakenCount, count_of};
+ghost use Rattle.mongo_connect.specs.Recording.{IsTakenCount, given_count};
 
 use crate::origin::Origin;
 use mongo_wire::{Failed, Link, Outside, Sink, SinkError, Source};
@@ -9,8 +9,8 @@ use std::alloc::Global;
 use std::marker::PhantomData;
 
 // How many bytes a read gave.
-fn count_of(read: &Result<usize, Failed>) -> usize
-    ensures { result ≡ count_of read.now }
+fn given_count(read: &Result<usize, Failed>) -> usize
+    ensures { result ≡ given_count read.now }
 {
     match read {
         Ok(count) => *count,
@@ -81,7 +81,7 @@ impl<L: Link, O: Origin> Outside for Recording<L, O> {
 impl<L: Link, O: Origin> Source for Recording<L, O> {
     fn read(&mut self, buf: &mut [u8]) -> Result<usize, Failed> {
         let read = self.link.read(buf);
-        self.taken = self.taken.saturating_add(count_of(&read));
+        self.taken = self.taken.saturating_add(given_count(&read));
         read
     }
 

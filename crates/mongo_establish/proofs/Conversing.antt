@@ -27,7 +27,7 @@ use Rattle.mongo_sasl.proofs.Handed.{on_refusal}
 use Rattle.mongo_scram.proofs.ScramCosts.{accepted_reached, stopped_whole}
 use Rattle.mongo_establish.specs.declared.conversation.Conversation.{Conversation}
 use Rattle.mongo_establish.specs.declared.conversation.Conversation.TheVariants.{Scram, Plain as PlainText, X509}
-use Rattle.mongo_establish.specs.declared.first_round.FirstRound.{FirstRound}
+use Rattle.mongo_establish.specs.declared.answered_round.AnsweredRound.{AnsweredRound}
 use Rattle.mongo_establish.specs.Asked.{Asked}
 use Rattle.mongo_establish.specs.Costs.{AcceptedCosts, StoppedCosts}
 use Rattle.mongo_establish.specs.First.{IsRoundBy, scram_round}
@@ -50,7 +50,7 @@ then_stopped plan greeting kind old new before after s = stopped_first plan (λ 
 -- ---- SCRAM
 
 -- what it was handed is what the plan says
-handed_same : (version : ScramVersion) (asked : Asked) (credential : Credential) (greeting : Greeting) (api : Option ServerApi) (round : Option FirstRound) (begun : Option ScramRound) (held : Option StreamDescription) → api ≡ asked.options.auth_options.server_api → begun ≡ scram_round round → IsRoundBy (Some (Scram version)) credential asked greeting round → held ≡ Some greeting.description
+handed_same : (version : ScramVersion) (asked : Asked) (credential : Credential) (greeting : Greeting) (api : Option ServerApi) (round : Option AnsweredRound) (begun : Option ScramRound) (held : Option StreamDescription) → api ≡ asked.options.auth_options.server_api → begun ≡ scram_round round → IsRoundBy (Some (Scram version)) credential asked greeting round → held ≡ Some greeting.description
     → handed_to version credential api begun (base64_of asked.nonces.second) asked.options.max_iterations (frame_maximum held) ≡ scram_handed_by version asked credential greeting
 handed_same version asked credential greeting api round begun held p b went d =
     let q = ap speculated_of b ∙ went.scram tt in
@@ -70,7 +70,7 @@ scram_stopped version asked credential greeting kind old new before after early 
   costs = is;
 }
 
-module _ (version : ScramVersion) (asked : Asked) (credential : Credential) (round : Option FirstRound) (opened left : Connection) (api : Option ServerApi) (same : api ≡ asked.options.auth_options.server_api) (begun : Option ScramRound) (begins : begun ≡ scram_round round) where
+module _ (version : ScramVersion) (asked : Asked) (credential : Credential) (round : Option AnsweredRound) (opened left : Connection) (api : Option ServerApi) (same : api ≡ asked.options.auth_options.server_api) (begun : Option ScramRound) (begins : begun ≡ scram_round round) where
   abbrev handed : Handed
   handed = handed_to version credential api begun (base64_of asked.nonces.second) asked.options.max_iterations (frame_maximum opened.stream_description)
 
@@ -105,11 +105,11 @@ module _ (version : ScramVersion) (asked : Asked) (credential : Credential) (rou
 
 -- The steps of what it was handed are those of its plan, by each greeting that says what the connection holds and what the first
 -- round is.
-abbrev pub IsPartBy : {A : Type 0} → Plan A → Conversation → Asked → Credential → Option StreamDescription → Option FirstRound → Type 0
+abbrev pub IsPartBy : {A : Type 0} → Plan A → Conversation → Asked → Credential → Option StreamDescription → Option AnsweredRound → Type 0
 IsPartBy plan conversation asked credential held round =
     (greeting : Greeting) → held ≡ Some greeting.description → IsRoundBy (Some conversation) credential asked greeting round → (past : List Event) (turn : Turn Greeting) → followed plan greeting past turn → conversation_plan conversation asked credential greeting past turn
 
-module _ (own conversation : Conversation) (is : conversation ≡ own) (free : scram_in (Some own) ≡ None) (asked : Asked) (credential : Credential) (round : Option FirstRound) (opened left : Connection) {A : Type 0} (plan : Plan A) (part : IsPartBy plan own asked credential opened.stream_description round) where
+module _ (own conversation : Conversation) (is : conversation ≡ own) (free : scram_in (Some own) ≡ None) (asked : Asked) (credential : Credential) (round : Option AnsweredRound) (opened left : Connection) {A : Type 0} (plan : Plan A) (part : IsPartBy plan own asked credential opened.stream_description round) where
   free_done : (greeting : Greeting) (r : Result (Unit {0}) Error) (old new : State) (before after : ℤ) (ledgers : Ledgers) → CostsNothing ledgers ledgers → opened.stream_description ≡ Some greeting.description → IsRoundBy (Some own) credential asked greeting round
       → OnOk r ((answer : A) × Reached plan answer old new before after) → OnOk r (Conversed own asked credential greeting old new before after ledgers ledgers)
   free_done greeting (Ok done) old new before after ledgers nothing described went reached = record {
@@ -143,7 +143,7 @@ module _ (own conversation : Conversation) (is : conversation ≡ own) (free : s
 
 -- ---- PLAIN and X.509
 
-module _ (asked : Asked) (credential : Credential) (held : Option StreamDescription) (round : Option FirstRound) (api : Option ServerApi) (same : api ≡ asked.options.auth_options.server_api) where
+module _ (asked : Asked) (credential : Credential) (held : Option StreamDescription) (round : Option AnsweredRound) (api : Option ServerApi) (same : api ≡ asked.options.auth_options.server_api) where
   pub plain_part : IsPartBy (plain_plan (plain_handed credential api (frame_maximum held))) PlainText asked credential held round
   unfolding conversation_plan
   plain_part greeting described went past turn h = subst (λ x. followed (plain_plan x) greeting past turn) (λ i. plain_handed credential (same i) (frame_maximum (described i))) h

@@ -20,7 +20,7 @@ use Rattle.mongo_command.specs.Keys.{speculative_authenticate_key}
 use Rattle.mongo_sasl.specs.declared.credential.Credential.{Credential}
 use Rattle.mongo_meta.specs.declared.client_metadata.ClientMetadata.{ClientMetadata}
 use Rattle.mongo_meta.specs.Client.{client_of}
-use Rattle.mongo_establish.specs.Client.{followed_by_element, with_document, balanced, hello_of, common_hello, asking_mechanisms, speculating, introducing, hello_with}
+use Rattle.mongo_establish.specs.Client.{followed_by_element, with_document, balanced, hello_command_of, common_hello, asking_mechanisms, speculating, introducing, hello_with}
 use Rattle.mongo_establish.specs.declared.options.HandshakerOptions.{HandshakerOptions}
 use Rattle.mongo_establish.specs.First.{IsUnmade}
 use Rattle.mongo_establish.specs.HelloBody.{HelloBodyRefused}
@@ -113,6 +113,6 @@ unmade_refused options credential (Some document) OutOfMemory r = tt
 unmade_refused options credential (Some document) kind r = absurd r
 
 -- the hello with the body that the mode asks for is the one that all logins have in common
-pub common_is : (options : HandshakerOptions) (hello given : Command) (body : List ℕ) → hello ≡ hello_of options → given ≡ record hello { body = body } → body ≡ balanced options.load_balanced hello.body → given ≡ common_hello options
+pub common_is : (options : HandshakerOptions) (hello given : Command) (body : List ℕ) → hello ≡ hello_command_of options → given ≡ record hello { body = body } → body ≡ balanced options.load_balanced hello.body → given ≡ common_hello options
 common_is options hello given body is given_is body_is =
     given_is ∙ ap (λ b. let g : Command = record hello { body = b } in g) body_is ∙ ap (λ h. let g : Command = record h { body = balanced options.load_balanced h.body } in g) is

@@ -14,7 +14,7 @@ use Rattle.mongo_sasl.specs.declared.mechanism.AuthMechanism.TheVariants.{MongoD
 use Rattle.mongo_sasl.specs.Mechanism.{IsNegotiated}
 use Rattle.mongo_scram.specs.Costs.{Ledgers, CostsNothing}
 use Rattle.mongo_establish.specs.declared.conversation.Conversation.{Conversation}
-use Rattle.mongo_establish.specs.declared.first_round.FirstRound.{FirstRound}
+use Rattle.mongo_establish.specs.declared.answered_round.AnsweredRound.{AnsweredRound}
 use Rattle.mongo_establish.specs.Asked.{Asked}
 use Rattle.mongo_establish.specs.Costs.{AcceptedCosts, StoppedCosts, LoginCostsOf, LoginCosts, StoppedLoginCostsOf, StoppedLoginCosts}
 use Rattle.mongo_establish.specs.First.{IsRoundBy}
@@ -109,7 +109,7 @@ row_stopped mechanism conversation asked credential greeting kind old before has
 
 -- ---- a login
 
-module _ (asked : Asked) (greeting : Greeting) (credential : Credential) (round : Option FirstRound) (mechanism : AuthMechanism) (who : asked.credential ≡ Some credential) (holds : holds_users greeting.description.initial_server_type ≡ true) (went : IsRoundBy (conversation_of (mechanism_before credential.mechanism)) credential asked greeting round)
+module _ (asked : Asked) (greeting : Greeting) (credential : Credential) (round : Option AnsweredRound) (mechanism : AuthMechanism) (who : asked.credential ≡ Some credential) (holds : holds_users greeting.description.initial_server_type ≡ true) (went : IsRoundBy (conversation_of (mechanism_before credential.mechanism)) credential asked greeting round)
     (negotiated : (reply : Option (List ℕ)) → is_some reply ≡ is_some round → IsMechanism credential.mechanism reply greeting.description mechanism) (conversation : Conversation) (has : HasConversation mechanism conversation) where
   by_mechanism : IsMechanism credential.mechanism (speculative_reply asked greeting) greeting.description mechanism
   by_mechanism = negotiated (speculative_reply asked greeting) (sym went.there)

@@ -12,7 +12,7 @@ use Rattle.mongo_sasl.specs.Kept.{KeepsAfter}
 use Rattle.mongo_sasl.proofs.KeptAfter.{own_keeps}
 use Rattle.mongo_scram.specs.Costs.{Ledgers, CostsNothing}
 use Rattle.mongo_establish.specs.declared.conversation.Conversation.{Conversation}
-use Rattle.mongo_establish.specs.declared.first_round.FirstRound.{FirstRound}
+use Rattle.mongo_establish.specs.declared.answered_round.AnsweredRound.{AnsweredRound}
 use Rattle.mongo_establish.specs.declared.login_state.Nonces.{Nonces}
 use Rattle.mongo_establish.specs.declared.options.HandshakerOptions.{HandshakerOptions}
 use Rattle.mongo_establish.specs.Asked.{Asked, asked_over}
@@ -32,7 +32,7 @@ no_row : (conversation : Conversation) → Some conversation ≡ None → ⊥
 no_row conversation is = cc
 
 -- the server holds no users
-pub empty_server : (asked : Asked) (description : StreamDescription) (held : Option StreamDescription) (round : Option FirstRound) (old : State) (before : ℤ) (ledgers : Ledgers) → held ≡ Some description → holds_users description.initial_server_type ≡ false → CostsNothing ledgers ledgers → LogsIn asked held round old old before before ledgers ledgers
+pub empty_server : (asked : Asked) (description : StreamDescription) (held : Option StreamDescription) (round : Option AnsweredRound) (old : State) (before : ℤ) (ledgers : Ledgers) → held ≡ Some description → holds_users description.initial_server_type ≡ false → CostsNothing ledgers ledgers → LogsIn asked held round old old before before ledgers ledgers
 empty_server asked description held round old before ledgers is empty nothing =
     let none : (greeting : Greeting) → held ≡ Some greeting.description → holds_users greeting.description.initial_server_type ≡ false =
     λ greeting described. subst (λ d. holds_users d.initial_server_type ≡ false) (same_description description greeting.description (sym is ∙ described)) empty in
@@ -42,18 +42,18 @@ empty_server asked description held round old before ledgers is empty nothing =
     }
 
 -- there is no credential
-pub no_login : (asked : Asked) (held : Option StreamDescription) (round : Option FirstRound) (old : State) (before : ℤ) (ledgers : Ledgers) → asked.credential ≡ None → CostsNothing ledgers ledgers → LogsIn asked held round old old before before ledgers ledgers
+pub no_login : (asked : Asked) (held : Option StreamDescription) (round : Option AnsweredRound) (old : State) (before : ℤ) (ledgers : Ledgers) → asked.credential ≡ None → CostsNothing ledgers ledgers → LogsIn asked held round old old before before ledgers ledgers
 no_login asked held round old before ledgers none nothing = record {
   reached = λ greeting described r. nobody asked greeting old before (no_credential asked greeting none);
   costs = λ greeting described r. nobody_costs asked greeting old before ledgers (no_credential asked greeting none) nothing;
 }
 
 -- a reply that is there where a first round is
-reply_like : (round : Option FirstRound) → (reply : Option (List ℕ)) × (is_some reply ≡ is_some round)
+reply_like : (round : Option AnsweredRound) → (reply : Option (List ℕ)) × (is_some reply ≡ is_some round)
 reply_like None = (None, refl)
 reply_like (Some round) = (Some [], refl)
 
-module _ (opened : Connection) (options : HandshakerOptions) (given : Option Credential) (nonces : Nonces) (id : ℤ) (credential : Credential) (who : given ≡ Some credential) (round : Option FirstRound) (mechanism : AuthMechanism) (description : StreamDescription) (is : opened.stream_description ≡ Some description)
+module _ (opened : Connection) (options : HandshakerOptions) (given : Option Credential) (nonces : Nonces) (id : ℤ) (credential : Credential) (who : given ≡ Some credential) (round : Option AnsweredRound) (mechanism : AuthMechanism) (description : StreamDescription) (is : opened.stream_description ≡ Some description)
     (at : (holds_users description.initial_server_type ≡ true) × ((reply : Option (List ℕ)) → is_some reply ≡ is_some round → IsMechanism credential.mechanism reply description mechanism)) (spoken : SpeaksFor given) (made : HasNone (HelloRow given)) where
   abbrev asked : Asked
   asked = asked_over opened options given nonces id

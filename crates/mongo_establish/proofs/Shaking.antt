@@ -13,7 +13,7 @@ use Rattle.mongo_sasl.specs.declared.credential.Credential.{Credential}
 use Rattle.mongo_scram.specs.Client.{speculated_of}
 use Rattle.mongo_scram.specs.Costs.{Ledgers, CostsNothing}
 use Rattle.mongo_establish.specs.declared.client_first.ClientFirst.{ClientFirst}
-use Rattle.mongo_establish.specs.declared.first_round.FirstRound.{FirstRound}
+use Rattle.mongo_establish.specs.declared.answered_round.AnsweredRound.{AnsweredRound}
 use Rattle.mongo_establish.specs.declared.login_state.Nonces.{Nonces}
 use Rattle.mongo_establish.specs.declared.options.HandshakerOptions.{HandshakerOptions}
 use Rattle.mongo_establish.specs.Asked.{Asked, asked_over}
@@ -100,7 +100,7 @@ module _ (opened : Connection) (options : HandshakerOptions) (credential : Optio
 
     -- ---- the login
 
-    module _ (old middle : State) (between : ℤ) (reply : HelloReply) (described : Connection) (greeted : GreetedBy options credential sent opened described old middle id between reply) (round : Option FirstRound)
+    module _ (old middle : State) (between : ℤ) (reply : HelloReply) (described : Connection) (greeted : GreetedBy options credential sent opened described old middle id between reply) (round : Option AnsweredRound)
         (there : is_some round ≡ is_some (answer_to sent reply.command_response.speculative_authenticate)) (scram : speculated_of (scram_round round) ≡ round_with first reply.command_response.speculative_authenticate) where
       abbrev greeting : Greeting
       greeting = greeting_in opened.address reply

@@ -19,8 +19,8 @@ use Rattle.mongo_establish.specs.declared.conversation.Conversation.{Conversatio
 use Rattle.mongo_establish.specs.declared.conversation.Conversation.TheVariants.{Scram as ByScram, X509 as ByX509}
 use Rattle.mongo_establish.specs.declared.client_first.ClientFirst.{ClientFirst}
 use Rattle.mongo_establish.specs.declared.client_first.ClientFirst.TheVariants.{Scram, X509}
-use Rattle.mongo_establish.specs.declared.first_round.FirstRound.{FirstRound}
-use Rattle.mongo_establish.specs.declared.first_round.FirstRound.TheVariants.{Scram as ScramAnswered}
+use Rattle.mongo_establish.specs.declared.answered_round.AnsweredRound.{AnsweredRound}
+use Rattle.mongo_establish.specs.declared.answered_round.AnsweredRound.TheVariants.{Scram as ScramAnswered}
 use Rattle.mongo_establish.specs.Spoken.{conversation_of, IsScram}
 use Rattle.mongo_establish.specs.Speculation.{mechanism_before, scram_speculation, speculative_message, speculative_nonce}
 
@@ -68,7 +68,7 @@ IsUnmade (Some document) kind = IsNotBuilt document kind
 -- ---- the first round
 
 -- a round of SCRAM
-abbrev pub scram_round : Option FirstRound → Option ScramRound
+abbrev pub scram_round : Option AnsweredRound → Option ScramRound
 scram_round (Some (ScramAnswered round)) = Some round
 scram_round round = None
 
@@ -79,11 +79,11 @@ round_with first answer = None
 
 -- A first round of the conversation is there where the greeting answers to what went with the hello; a round of SCRAM is what it
 -- answers.
-pub record IsRoundBy (conversation : Option Conversation) (credential : Credential) (asked : Asked) (greeting : Greeting) (round : Option FirstRound) : Type 0 where
+pub record IsRoundBy (conversation : Option Conversation) (credential : Credential) (asked : Asked) (greeting : Greeting) (round : Option AnsweredRound) : Type 0 where
   pub there : is_some round ≡ is_some (speculative_reply asked greeting)
   pub scram : IsScram conversation → speculated_of (scram_round round) ≡ speculated_by credential asked greeting
 
 -- the first round that went with the hello
-abbrev pub IsRoundOf : Option Credential → Asked → Greeting → Option FirstRound → Type 0
+abbrev pub IsRoundOf : Option Credential → Asked → Greeting → Option AnsweredRound → Type 0
 IsRoundOf None asked greeting round = ⊤
 IsRoundOf (Some credential) asked greeting round = IsRoundBy (conversation_of (mechanism_before credential.mechanism)) credential asked greeting round

@@ -14,7 +14,7 @@ use Rattle.mongo_sasl.specs.Kept.{KeepsAfter}
 use Rattle.mongo_sasl.specs.Validation.{IsValidated}
 use Rattle.mongo_scram.specs.Costs.{Ledgers, SameEntries}
 use Rattle.mongo_establish.specs.declared.conversation.Conversation.{Conversation}
-use Rattle.mongo_establish.specs.declared.first_round.FirstRound.{FirstRound}
+use Rattle.mongo_establish.specs.declared.answered_round.AnsweredRound.{AnsweredRound}
 use Rattle.mongo_establish.specs.Asked.{Asked}
 use Rattle.mongo_establish.specs.Costs.{AcceptedCosts, StoppedCosts, LoginCosts, StoppedLoginCosts}
 use Rattle.mongo_establish.specs.First.{IsRoundBy, IsRoundOf}
@@ -35,7 +35,7 @@ pub record ConversationStopped (conversation : Conversation) (asked : Asked) (cr
   pub costs : StoppedCosts (scram_in (Some conversation)) asked credential greeting kind old new before after first last
 
 -- what an answer means and leaves, by each greeting that says what the connection holds and what the first round is
-pub record Converses (result : Result (Unit {0}) Error) (conversation : Conversation) (asked : Asked) (credential : Credential) (round : Option FirstRound) (opened left : Connection) (old new : State) (before after : ℤ) (first last : Ledgers) : Type 0 where
+pub record Converses (result : Result (Unit {0}) Error) (conversation : Conversation) (asked : Asked) (credential : Credential) (round : Option AnsweredRound) (opened left : Connection) (old new : State) (before after : ℤ) (first last : Ledgers) : Type 0 where
   pub accepted : (greeting : Greeting) → opened.stream_description ≡ Some greeting.description → IsRoundBy (Some conversation) credential asked greeting round → OnOk result (Conversed conversation asked credential greeting old new before after first last)
   pub refused : (greeting : Greeting) → opened.stream_description ≡ Some greeting.description → IsRoundBy (Some conversation) credential asked greeting round → IfErr result (λ e. ConversationStopped conversation asked credential greeting e.kind old new before after first last)
   -- an accepted one leaves the connection without a fault, a refused one with the fault that `KeepsAfter` says
@@ -55,11 +55,11 @@ IsCredentialTaken true mechanism credential = ⊤
 IsCredentialTaken false mechanism credential = IsValidated mechanism credential false (Ok tt)
 
 -- the login of each greeting that says so was followed to its end
-pub record LogsIn (asked : Asked) (held : Option StreamDescription) (round : Option FirstRound) (old new : State) (before after : ℤ) (first last : Ledgers) : Type 0 where
+pub record LogsIn (asked : Asked) (held : Option StreamDescription) (round : Option AnsweredRound) (old new : State) (before after : ℤ) (first last : Ledgers) : Type 0 where
   pub reached : (greeting : Greeting) → held ≡ Some greeting.description → IsRoundOf asked.credential asked greeting round → Reached (login_plan asked greeting) greeting old new before after
   pub costs : (greeting : Greeting) → held ≡ Some greeting.description → IsRoundOf asked.credential asked greeting round → LoginCosts asked greeting old new before after first last
 
 -- it was stopped
-pub record LoginStops (asked : Asked) (held : Option StreamDescription) (round : Option FirstRound) (kind : ErrorKind) (old new : State) (before after : ℤ) (first last : Ledgers) : Type 0 where
+pub record LoginStops (asked : Asked) (held : Option StreamDescription) (round : Option AnsweredRound) (kind : ErrorKind) (old new : State) (before after : ℤ) (first last : Ledgers) : Type 0 where
   pub stopped : (greeting : Greeting) → held ≡ Some greeting.description → IsRoundOf asked.credential asked greeting round → Stopped (login_plan asked greeting) kind old new before after
   pub costs : (greeting : Greeting) → held ≡ Some greeting.description → IsRoundOf asked.credential asked greeting round → StoppedLoginCosts asked greeting kind old new before after first last

@@ -7,7 +7,7 @@ ghost use Rattle.mongo_establish.specs.First.{IsFirstMessage, IsUnmade};
 ghost use Rattle.mongo_establish.specs.Reply.{IsDescribedBy};
 ghost use Rattle.mongo_establish.specs.Speculation.{HelloRow, speculation};
 
-use crate::first_round::answered_round;
+use crate::answered_round::answered_round;
 use crate::hello::{ask_mechanisms, common_hello, introduce_client, speculate};
 use crate::login::log_in;
 use crate::{

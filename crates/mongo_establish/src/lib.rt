@@ -12,10 +12,10 @@
 //! the counter and of the cache of salted passwords. Want of memory may come in place of any answer that is a `Result`.
 #![tactic(auto)]
 
+mod answered_round;
 mod client_first;
 mod conversation;
 mod establisher;
-mod first_round;
 mod generation;
 mod handshaker;
 mod hello;

@@ -13,7 +13,7 @@ ghost use Rattle.mongo_establish.specs.Login.{holds_users, IsMechanism, InvalidR
 ghost use Rattle.mongo_establish.specs.LoggingIn.{Converses, IsCredentialTaken, LogsIn, LoginStops};
 ghost use Rattle.mongo_establish.specs.Speculation.{HelloRow, SpeaksFor};
 
-use crate::first_round::{FirstRound, scram_round};
+use crate::answered_round::{AnsweredRound, scram_round};
 use crate::{Conversation, HandshakerOptions, LoginInputs, LoginState, conversation_of};
 use mongo_command::{Connection, StreamDescription};
 use mongo_mac::Steps;
@@ -31,7 +31,7 @@ pub(crate) fn log_in<L: Link, G: Ledger>(
     link: &mut L,
     credential: Option<&Credential>,
     state: &mut LoginState,
-    round: Option<FirstRound>,
+    round: Option<AnsweredRound>,
     inputs: &LoginInputs,
     steps: &mut Steps<G>,
 ) -> Result<(), Error>
@@ -85,7 +85,7 @@ fn converse<L: Link, G: Ledger>(
     link: &mut L,
     credential: &Credential,
     state: &mut LoginState,
-    round: Option<FirstRound>,
+    round: Option<AnsweredRound>,
     inputs: &LoginInputs,
     steps: &mut Steps<G>,
 ) -> Result<(), Error>
@@ -130,7 +130,7 @@ fn by_scram<L: Link, G: Ledger>(
     link: &mut L,
     credential: &Credential,
     state: &mut LoginState,
-    round: Option<FirstRound>,
+    round: Option<AnsweredRound>,
     inputs: &LoginInputs,
     steps: &mut Steps<G>,
 ) -> Result<(), Error>

@@ -39,7 +39,7 @@ enum Who {
 
 /// The pool: of the generation 7, or behind a load balancer, where the service of the bytes 0 to 11 has this number or none.
 #[derive(Clone, Copy)]
-enum Pool {
+enum PoolKind {
     Normal,
     Balanced(Option<u32>),
 }
@@ -82,11 +82,11 @@ fn services(alloc: Global, number: u32) -> Result<Generations, Fail> {
     Ok(generations)
 }
 
-fn generation(alloc: Global, pool: Pool) -> Result<PoolGeneration, Fail> {
+fn generation(alloc: Global, pool: PoolKind) -> Result<PoolGeneration, Fail> {
     match pool {
-        Pool::Normal => Ok(PoolGeneration::Normal(7)),
-        Pool::Balanced(None) => Ok(PoolGeneration::LoadBalanced(Generations::new(alloc))),
-        Pool::Balanced(Some(number)) => {
+        PoolKind::Normal => Ok(PoolGeneration::Normal(7)),
+        PoolKind::Balanced(None) => Ok(PoolGeneration::LoadBalanced(Generations::new(alloc))),
+        PoolKind::Balanced(Some(number)) => {
             Ok(PoolGeneration::LoadBalanced(services(alloc, number)?))
         }
     }
@@ -98,7 +98,7 @@ fn address(alloc: Global) -> Result<ServerAddress, Fail> {
 }
 
 // The fifth connection of a pool.
-fn pending(alloc: Global, pool: Pool) -> Result<PendingConnection, Fail> {
+fn pending(alloc: Global, pool: PoolKind) -> Result<PendingConnection, Fail> {
     let address = address(alloc)?;
     Ok(PendingConnection {
         id: 5,
@@ -214,7 +214,7 @@ fn made_with<L: Link, G: Ledger>(
     alloc: Global,
     establisher: &ConnectionEstablisher,
     credential: Option<&Credential>,
-    pool: Pool,
+    pool: PoolKind,
     link: &mut L,
     state: &mut LoginState,
 ) -> Result<Made, Fail>
@@ -241,7 +241,7 @@ fn made_by<L: Link, G: Ledger>(
     alloc: Global,
     establisher: &ConnectionEstablisher,
     who: Who,
-    pool: Pool,
+    pool: PoolKind,
     link: &mut L,
     state: &mut LoginState,
 ) -> Result<Made, Fail>
@@ -262,7 +262,7 @@ fn made_over<L: Link, G: Ledger>(
     blank: Blank,
     alloc: Global,
     who: Who,
-    pool: Pool,
+    pool: PoolKind,
     link: &mut L,
     state: &mut LoginState,
 ) -> Result<Made, Fail>
@@ -277,7 +277,7 @@ fn made_over<L: Link, G: Ledger>(
 fn made_in_memory(
     alloc: Global,
     who: Who,
-    pool: Pool,
+    pool: PoolKind,
     link: &mut MemoryLink,
     state: &mut LoginState,
 ) -> Result<Made, Fail> {
@@ -287,7 +287,7 @@ fn made_in_memory(
 fn made_over_failing(
     alloc: Global,
     who: Who,
-    pool: Pool,
+    pool: PoolKind,
     link: &mut FailingLink,
     state: &mut LoginState,
 ) -> Result<Made, Fail> {

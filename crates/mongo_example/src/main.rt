@@ -2,7 +2,7 @@
 //! were recorded, and prints what a pool keeps of each.
 //!
 //! [`pool::Pool`] has what the connections of a pool share. [`Pool::establish`] is the call to read: a connection that it
-//! gives has a description, on which [`line_of`] relies.
+//! gives has a description, on which [`connection_line`] relies.
 #![tactic(auto)]
 
 ghost use Rattle.std.specs.Prelude.{◌≡◌, ◌<◌, IsSome};
@@ -71,21 +71,25 @@ fn connect<G: Ledger>(
     match pool.establish(alloc, pending, &mut link, &server.inputs, steps) {
         Ok(pooled) => {
             let derived = pool.rounds().saturating_sub(before);
-            Ok(line_of(alloc, &pooled, derived)?)
+            Ok(connection_line(alloc, &pooled, derived)?)
         }
         Err(refused) => Err(refused.cause),
     }
 }
 
 /// What a pool keeps of a connection that is ready for commands, and how many rounds its login derived.
-fn line_of(alloc: Global, pooled: &PooledConnection, derived: u64) -> Result<String, AllocError>
+fn connection_line(
+    alloc: Global,
+    pooled: &PooledConnection,
+    derived: u64,
+) -> Result<String, AllocError>
     requires described { IsSome pooled.now.connection.stream_description }
 {
     let connection = &pooled.connection;
     let Some(description) = &connection.stream_description else {
         unreachable!()
     };
-    let place = place_of(alloc, &connection.address)?;
+    let place = written_address(alloc, &connection.address)?;
     format!(in alloc;
         "connection {} to {place}, generation {:?}\n  {:?}, documents of {} bytes, messages of {} bytes, {} writes in a batch\n  {derived} rounds derived\n",
         connection.id,
@@ -98,7 +102,7 @@ fn line_of(alloc: Global, pooled: &PooledConnection, derived: u64) -> Result<Str
 }
 
 /// An address as people write it.
-fn place_of(alloc: Global, address: &ServerAddress) -> Result<String, AllocError> {
+fn written_address(alloc: Global, address: &ServerAddress) -> Result<String, AllocError> {
     match address {
         ServerAddress::Tcp { host, port } => {
             format!(in alloc; "{}:{}", host.as_str(), port.unwrap_or(DEFAULT_PORT))

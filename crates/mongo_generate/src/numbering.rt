@@ -29,14 +29,14 @@ impl UserLogin {
         ensures login { IfOk result (IsExchangeClient (exchange_at number)) }
         ensures nonces { IfOk result (λ login. login.inputs.nonces ≡ nonces_at number) }
     {
-        match login_of(alloc, number) {
+        match numbered_login(alloc, number) {
             Ok(login) => Ok(login),
             Err(error) => Err(want_of_memory(error)),
         }
     }
 }
 
-fn login_of(alloc: Global, number: u32) -> Result<UserLogin, Error>
+fn numbered_login(alloc: Global, number: u32) -> Result<UserLogin, Error>
     ensures login { IfOk result (IsExchangeClient (exchange_at number)) }
     ensures nonces { IfOk result (λ login. login.inputs.nonces ≡ nonces_at number) }
     ensures refused { IfErr result (λ e. e.kind ≡ OutOfMemory) }
@@ -67,13 +67,13 @@ pub fn generated_server<G: Ledger>(
     ensures cost { OnOk result (steps.new ≡ steps.old + 4096) }
     ensures steps { steps.old ≤ steps.new }
 {
-    match server_of(alloc, number, steps) {
+    match numbered_server(alloc, number, steps) {
         Ok(server) => Ok(server),
         Err(error) => Err(want_of_memory(error)),
     }
 }
 
-fn server_of<G: Ledger>(
+fn numbered_server<G: Ledger>(
     alloc: Global,
     number: u32,
     steps: &mut Steps<G>,

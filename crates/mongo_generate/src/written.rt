@@ -59,14 +59,14 @@ fn payload_of(alloc: Global, document: RawDocument<'_>) -> Result<Option<Bytes>,
     ensures found { (payload : List ℕ) → CarriesPayload payload document.entry.bytes.now → IfOk result (λ found. found ≡ Some payload) }
 {
     match document.get(PAYLOAD) {
-        Ok(Some(value)) => content_of(alloc, value),
+        Ok(Some(value)) => binary_content(alloc, value),
         Ok(None) => Ok(None),
         Err(_) => Ok(None),
     }
 }
 
 // The bytes of a binary value.
-fn content_of(alloc: Global, value: RawValue<'_>) -> Result<Option<Bytes>, AllocError>
+fn binary_content(alloc: Global, value: RawValue<'_>) -> Result<Option<Bytes>, AllocError>
     ensures found { (content : List ℕ) → IsBinaryOf content value.entry → IfOk result (λ found. found ≡ Some content) }
 {
     let RawValue::Binary(_, content) = value else {

@@ -7,7 +7,7 @@ use Rattle.std.specs.Io.KnownBytes.{Consumes, IsAtEnd}
 use Rattle.std.proofs.KnownBytes.{Consumes-trans}
 use Rattle.mongo_settings.specs.declared.task.Task.{Task}
 use Rattle.mongo_settings.specs.declared.task.Task.TheVariants.{Rehearse, Batch}
-use Rattle.mongo_settings.specs.Settings.{maximum_length, value_judged, judged}
+use Rattle.mongo_settings.specs.Settings.{maximum_settings_length, value_judged, judged}
 use Rattle.mongo_settings.specs.Logins.{logins_judged}
 use Rattle.mongo_settings.specs.Task.{judged_as}
 use Rattle.mongo_login.specs.Input.{ReadsInput}
@@ -26,19 +26,19 @@ cut n held rest input joined is = (
 )
 
 -- where the source has ended, all of its input is held
-pub reads_whole : (old left : Option (List ℕ)) (held input : List ℕ) → old ≡ Some input → Consumes old left held → IsAtEnd left → length held ≤ maximum_length → ReadsInput input held left
+pub reads_whole : (old left : Option (List ℕ)) (held input : List ℕ) → old ≡ Some input → Consumes old left held → IsAtEnd left → length held ≤ maximum_settings_length → ReadsInput input held left
 reads_whole old left held input told consumed end short =
     let (rest, is, joined) = held_front old left held input told consumed in
     let none = subst IsAtEnd is end in
     let all = joined ∙ ap (λ l. held ++ l) none ∙ append-nil held in
-    inl (subst (λ n. n ≤ maximum_length) (ap length (sym all)) short, sym all, is ∙ ap Some none)
+    inl (subst (λ n. n ≤ maximum_settings_length) (ap length (sym all)) short, sym all, is ∙ ap Some none)
 
 -- past the greatest length its front is held
-pub reads_front : (old left : Option (List ℕ)) (held input : List ℕ) → old ≡ Some input → Consumes old left held → length held ≡ maximum_length + 1 → ReadsInput input held left
+pub reads_front : (old left : Option (List ℕ)) (held input : List ℕ) → old ≡ Some input → Consumes old left held → length held ≡ maximum_settings_length + 1 → ReadsInput input held left
 reads_front old left held input told consumed past =
     let (rest, is, joined) = held_front old left held input told consumed in
-    let longer : maximum_length < length input = omega (arith, ap length joined, length-append held rest) in
-    let parts = cut (maximum_length + 1) held rest input joined past in
+    let longer : maximum_settings_length < length input = omega (arith, ap length joined, length-append held rest) in
+    let parts = cut (maximum_settings_length + 1) held rest input joined past in
     inr (longer, parts.0, is ∙ ap Some parts.1)
 
 -- ---- at a read
@@ -61,19 +61,19 @@ of_error P (Err e) p = p
 -- ---- judgements
 
 -- a text past the greatest length asks for nothing
-value_judged-past_limit : (text : List ℕ) → maximum_length < length text → value_judged text ≡ Err BadSettings
+value_judged-past_limit : (text : List ℕ) → maximum_settings_length < length text → value_judged text ≡ Err BadSettings
 unfolding value_judged
-value_judged-past_limit text past = rw (lt-leb (length text) maximum_length past) refl
+value_judged-past_limit text past = rw (lt-leb (length text) maximum_settings_length past) refl
 
-pub judged-past_limit : (task : Task) (text : List ℕ) → maximum_length < length text → judged_as task text ≡ Err BadSettings
+pub judged-past_limit : (task : Task) (text : List ℕ) → maximum_settings_length < length text → judged_as task text ≡ Err BadSettings
 unfolding judged_as judged logins_judged
 judged-past_limit Rehearse text past = rw (value_judged-past_limit text past) refl
 judged-past_limit Batch text past = rw (value_judged-past_limit text past) refl
 
 -- so its front past the greatest length is judged alike
-pub judged-front : (task : Task) (old left : Option (List ℕ)) (held input : List ℕ) → old ≡ Some input → Consumes old left held → length held ≡ maximum_length + 1 → judged_as task held ≡ judged_as task input
+pub judged-front : (task : Task) (old left : Option (List ℕ)) (held input : List ℕ) → old ≡ Some input → Consumes old left held → length held ≡ maximum_settings_length + 1 → judged_as task held ≡ judged_as task input
 judged-front task old left held input told consumed past =
     let (rest, is, joined) = held_front old left held input told consumed in
-    let longer : maximum_length < length input = omega (arith, ap length joined, length-append held rest) in
-    let held_longer : maximum_length < length held = omega arith in
+    let longer : maximum_settings_length < length input = omega (arith, ap length joined, length-append held rest) in
+    let held_longer : maximum_settings_length < length held = omega arith in
     judged-past_limit task held held_longer ∙ sym (judged-past_limit task input longer)

@@ -4,13 +4,13 @@ use Rattle.std.specs.Str.Parse.{ParsesUnsigned}
 use Rattle.std.proofs.lemmas.Fmt.{parse-decimal}
 use Rattle.mongo_settings.specs.declared.task.Task.{Task}
 use Rattle.mongo_settings.specs.declared.task.Task.TheVariants as task
-use Rattle.mongo_login.specs.declared.words.Command.TheVariants.{Rehearse, Generate}
-use Rattle.mongo_login.specs.Words.{task_name, IsCountWord, NamesCommand}
+use Rattle.mongo_login.specs.declared.words.Subcommand.TheVariants.{Rehearse, Generate}
+use Rattle.mongo_login.specs.Words.{task_name, IsCountWord, NamesSubcommand}
 
 two_names : ◌≡◌ {A = List (List ℕ)} (codes "rehearse" ∷ []) (codes "batch" ∷ []) → ⊥
 two_names e = cc
 
-pub one_task : (words : List (List ℕ)) (task other : Task) → NamesCommand words (Rehearse task) → NamesCommand words (Rehearse other) → other ≡ task
+pub one_task : (words : List (List ℕ)) (task other : Task) → NamesSubcommand words (Rehearse task) → NamesSubcommand words (Rehearse other) → other ≡ task
 one_task words task.Rehearse task.Rehearse p q = refl
 one_task words task.Batch task.Batch p q = refl
 one_task words task.Rehearse task.Batch p q = absurd (two_names (sym p ∙ q))
@@ -20,7 +20,7 @@ one_or_two : (a b c : List ℕ) (words : List (List ℕ)) → words ≡ a ∷ []
 one_or_two a b c words p q = cc
 
 -- one word is no pair of them
-pub not_both : (words : List (List ℕ)) (task : Task) (count : ℕ) → NamesCommand words (Rehearse task) → NamesCommand words (Generate count) → ⊥
+pub not_both : (words : List (List ℕ)) (task : Task) (count : ℕ) → NamesSubcommand words (Rehearse task) → NamesSubcommand words (Generate count) → ⊥
 not_both words task count p q = one_or_two (task_name task) (codes "generate") q.0 words p q.1
 
 -- a word that is a count is read as it

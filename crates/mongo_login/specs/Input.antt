@@ -1,12 +1,12 @@
 -- What is read of a source whose bytes are settings: all of it, or a front that is past the greatest length; and what no read did.
 use Rattle.std.specs.Prelude.{◌≡◌, ℕ, ◌+◌, ◌<◌, ◌≤◌, ◌⊎◌, Option, Some, List, [], length, take, drop}
 use Rattle.mongo_wire.specs.Outside.{State}
-use Rattle.mongo_settings.specs.Settings.{maximum_length}
+use Rattle.mongo_settings.specs.Settings.{maximum_settings_length}
 
 -- Of this input these bytes were held and these are left: the whole input and nothing, or one byte more than the greatest length
 -- and what follows it.
 abbrev pub ReadsInput : List ℕ → List ℕ → Option (List ℕ) → Type 0
-ReadsInput input held left = ((length input ≤ maximum_length) × (held ≡ input) × (left ≡ Some [])) ⊎ ((maximum_length < length input) × (held ≡ take (maximum_length + 1) input) × (left ≡ Some (drop (maximum_length + 1) input)))
+ReadsInput input held left = ((length input ≤ maximum_settings_length) × (held ≡ input) × (left ≡ Some [])) ⊎ ((maximum_settings_length < length input) × (held ≡ take (maximum_settings_length + 1) input) × (left ≡ Some (drop (maximum_settings_length + 1) input)))
 
 -- no read failed
 abbrev pub NoReadFailed : State → State → Type 0

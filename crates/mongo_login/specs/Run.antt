@@ -9,14 +9,14 @@ use Rattle.mongo_settings.specs.declared.rehearsal.RehearsalStatus.TheVariants a
 use Rattle.mongo_settings.specs.declared.status.Status.{Status}
 use Rattle.mongo_settings.specs.declared.status.Status.TheVariants.{Done, Refused, BadSettings, Usage, SourceFault, SinkFault, NoMemory, NotBuilt}
 use Rattle.mongo_settings.specs.Run.{Run, GaveInput}
-use Rattle.mongo_settings.specs.Settings.{maximum_length}
+use Rattle.mongo_settings.specs.Settings.{maximum_settings_length}
 use Rattle.mongo_settings.specs.Status.{EndsAs, JudgementDecides}
 use Rattle.mongo_settings.specs.Task.{Asks, judged_as, StepsTaken, Reports, ComesOut}
-use Rattle.mongo_login.specs.declared.words.Command.{Command}
-use Rattle.mongo_login.specs.declared.words.Command.TheVariants.{Rehearse, Generate}
+use Rattle.mongo_login.specs.declared.words.Subcommand.{Subcommand}
+use Rattle.mongo_login.specs.declared.words.Subcommand.TheVariants.{Rehearse, Generate}
 use Rattle.mongo_login.specs.Generated.{GenerateEnds}
 use Rattle.mongo_login.specs.Input.{NoReadFailed, NoReadEnded}
-use Rattle.mongo_login.specs.Words.{NamesCommand, NamesNone}
+use Rattle.mongo_login.specs.Words.{NamesSubcommand, NamesNone}
 
 -- ---- what was printed
 
@@ -47,7 +47,7 @@ PrintedAtMost task steps input sink sink_after = Keeps sink.written sink_after.w
 -- What is left of an input that was read as settings: nothing of one within the greatest length, and of a longer one what follows
 -- the byte past the greatest length.
 abbrev pub LeftOver : List ℕ → Option (List ℕ) → Type 0
-LeftOver input left = ((length input ≤ maximum_length) × (left ≡ Some [])) ⊎ ((maximum_length < length input) × (left ≡ Some (drop (maximum_length + 1) input)))
+LeftOver input left = ((length input ≤ maximum_settings_length) × (left ≡ Some [])) ⊎ ((maximum_settings_length < length input) × (left ≡ Some (drop (maximum_settings_length + 1) input)))
 
 -- ---- the ends, one a status
 
@@ -77,7 +77,7 @@ module _ {S K : Type 0} (source : S → State) (sink : K → State) where
   pub record SourceFailed (run : Run S K) : Type 0 where
     pub unended : NoReadEnded (source run.source) (source run.source_after)
     pub rose : Rose (source run.source).read_faults (source run.source_after).read_faults
-    pub read : ConsumesAtMost (source run.source).left (source run.source_after).left (maximum_length + 1)
+    pub read : ConsumesAtMost (source run.source).left (source run.source_after).left (maximum_settings_length + 1)
     pub unwritten : run.sink_after ≡ run.sink
 
   -- the sink failed: the source was read to its end, no read failed, and a front of the report was written
@@ -92,7 +92,7 @@ module _ {S K : Type 0} (source : S → State) (sink : K → State) where
   -- was written
   pub record TaskRanOut (task : Task) (steps : StepsTaken) (run : Run S K) : Type 0 where
     pub unfailed : NoReadFailed (source run.source) (source run.source_after)
-    pub read : ConsumesAtMost (source run.source).left (source run.source_after).left (maximum_length + 1)
+    pub read : ConsumesAtMost (source run.source).left (source run.source_after).left (maximum_settings_length + 1)
     pub printed : GaveInput (source run.source) (λ input. PrintedAtMost task steps input (sink run.sink) (sink run.sink_after))
 
   -- how a task ends, and the steps that it counted
@@ -111,9 +111,9 @@ module _ {S K : Type 0} (source : S → State) (sink : K → State) where
     pub unread : run.source_after ≡ run.source
     pub ends : GenerateEnds sink count steps run.sink run.sink_after status
 
-  abbrev pub CommandEnds : Command → StepsTaken → Run S K → Status → Type 0
-  CommandEnds (Rehearse task) steps run status = TaskEnds task steps run status
-  CommandEnds (Generate count) steps run status = RanGenerate count steps run status
+  abbrev pub SubcommandEnds : Subcommand → StepsTaken → Run S K → Status → Type 0
+  SubcommandEnds (Rehearse task) steps run status = TaskEnds task steps run status
+  SubcommandEnds (Generate count) steps run status = RanGenerate count steps run status
 
   -- the words name no command: nothing is read or written
   pub record IsUsage (words : List (List ℕ)) (run : Run S K) : Type 0 where
@@ -123,9 +123,9 @@ module _ {S K : Type 0} (source : S → State) (sink : K → State) where
 
   -- the words name a command that ends so
   pub record RanCommand (words : List (List ℕ)) (steps : StepsTaken) (run : Run S K) (status : Status) : Type 0 where
-    pub command : Command
-    pub named : NamesCommand words command
-    pub ends : CommandEnds command steps run status
+    pub command : Subcommand
+    pub named : NamesSubcommand words command
+    pub ends : SubcommandEnds command steps run status
 
   -- how a run ends
   abbrev pub RunEnds : List (List ℕ) → StepsTaken → Run S K → Status → Type 0
@@ -140,10 +140,10 @@ module _ {S K : Type 0} (source : S → State) (sink : K → State) where
     pub writes : Rose (sink run.sink).write_faults (sink run.sink_after).write_faults → ⊥
 
 -- a task ends as its text asks, and logins that are made are all accepted
-abbrev pub CommandDecides : {S K : Type 0} → (S → State) → (K → State) → Command → Run S K → Status → Type 0
-CommandDecides source sink (Rehearse task) run result = GaveInput (source run.source) (λ input. JudgementDecides ComesOut (judged_as task input) result)
-CommandDecides source sink (Generate count) run result = EndsAs Done result
+abbrev pub SubcommandDecides : {S K : Type 0} → (S → State) → (K → State) → Subcommand → Run S K → Status → Type 0
+SubcommandDecides source sink (Rehearse task) run result = GaveInput (source run.source) (λ input. JudgementDecides ComesOut (judged_as task input) result)
+SubcommandDecides source sink (Generate count) run result = EndsAs Done result
 
 -- Where nothing fails, the words and the text decide; want of memory may stand in its place.
 abbrev pub IsDecided : {S K : Type 0} → (S → State) → (K → State) → List (List ℕ) → Run S K → Status → Type 0
-IsDecided source sink words run result = (command : Command) → NamesCommand words command → Unfailed source sink run → CommandDecides source sink command run result
+IsDecided source sink words run result = (command : Subcommand) → NamesSubcommand words command → Unfailed source sink run → SubcommandDecides source sink command run result

@@ -2,8 +2,8 @@
 use Rattle.std.specs.Prelude.{◌≡◌, ℕ, ◌≤◌, List, [], ◌∷◌, codes, decimal}
 use Rattle.mongo_settings.specs.declared.task.Task.{Task}
 use Rattle.mongo_settings.specs.declared.task.Task.TheVariants as task
-use Rattle.mongo_login.specs.declared.words.Command.{Command}
-use Rattle.mongo_login.specs.declared.words.Command.TheVariants.{Rehearse, Generate}
+use Rattle.mongo_login.specs.declared.words.Subcommand.{Subcommand}
+use Rattle.mongo_login.specs.declared.words.Subcommand.TheVariants.{Rehearse, Generate}
 
 abbrev pub task_name : Task → List ℕ
 task_name task.Rehearse = codes "rehearse"
@@ -20,9 +20,9 @@ pub record IsCountWord (word : List ℕ) (count : ℕ) : Type 0 where
   pub within : count ≤ most_logins
 
 -- a task's name alone, or `generate` and a number
-abbrev pub NamesCommand : List (List ℕ) → Command → Type 0
-NamesCommand words (Rehearse task) = words ≡ task_name task ∷ []
-NamesCommand words (Generate count) = (number : List ℕ) × (words ≡ codes "generate" ∷ number ∷ []) × IsCountWord number count
+abbrev pub NamesSubcommand : List (List ℕ) → Subcommand → Type 0
+NamesSubcommand words (Rehearse task) = words ≡ task_name task ∷ []
+NamesSubcommand words (Generate count) = (number : List ℕ) × (words ≡ codes "generate" ∷ number ∷ []) × IsCountWord number count
 
 abbrev pub NamesNone : List (List ℕ) → Type 0
-NamesNone words = (command : Command) → NamesCommand words command → ⊥
+NamesNone words = (command : Subcommand) → NamesSubcommand words command → ⊥

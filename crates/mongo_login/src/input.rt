@@ -3,19 +3,19 @@ ghost use Rattle.std.specs.Prelude.{◌≡◌, ℕ, List, Some, ◌+◌, ◌≤�
 ghost use Rattle.mongo_settings.specs.declared.task.Task.{Task};
 ghost use Rattle.std.specs.Io.KnownBytes.{Consumes};
 ghost use Rattle.mongo_wire.specs.Outside.{ReadsOn, Rose, ConsumesAtMost};
-ghost use Rattle.mongo_settings.specs.Settings.{maximum_length};
+ghost use Rattle.mongo_settings.specs.Settings.{maximum_settings_length};
 ghost use Rattle.mongo_settings.specs.Task.{judged_as};
 ghost use Rattle.mongo_login.specs.Input.{ReadsInput, NoReadFailed, NoReadEnded};
 
 #[cfg(test)]
 mod tests;
 
-use mongo_settings::{InputError, MAXIMUM_LENGTH};
+use mongo_settings::{InputError, MAXIMUM_SETTINGS_LENGTH};
 use mongo_wire::Source;
 use std::alloc::Global;
 
 // How many bytes are read ahead of the memory for them at most.
-const PIECE: usize = 4096;
+const READ_AHEAD: usize = 4096;
 
 /// Reads a source to its end, or until it has given one byte more than settings may have, 4194305 of them.
 ///
@@ -25,18 +25,18 @@ pub fn read_input<S: Source>(alloc: Global, source: &mut S) -> Result<Vec<u8>, I
     ensures read { (input : List ℕ) → (S.state source.old).left ≡ Some input → IfOk result (λ held. ReadsInput input held.items (S.state source.new).left) }
     ensures judged_alike { (task : Task) (input : List ℕ) → (S.state source.old).left ≡ Some input → IfOk result (λ held. judged_as task held.items ≡ judged_as task input) }
     ensures consumed { IfOk result (λ held. Consumes (S.state source.old).left (S.state source.new).left held.items) }
-    ensures ended { IfOk result (λ held. length held.items ≤ maximum_length → Rose (S.state source.old).ends (S.state source.new).ends) }
+    ensures ended { IfOk result (λ held. length held.items ≤ maximum_settings_length → Rose (S.state source.old).ends (S.state source.new).ends) }
     ensures failed { IsErrOf result InputError.Fault → Rose (S.state source.old).read_faults (S.state source.new).read_faults }
-    ensures at_most { ConsumesAtMost (S.state source.old).left (S.state source.new).left (maximum_length + 1) }
+    ensures at_most { ConsumesAtMost (S.state source.old).left (S.state source.new).left (maximum_settings_length + 1) }
     ensures unfailed { OnOk result (NoReadFailed (S.state source.old) (S.state source.new)) }
     ensures unended { OnErr result (NoReadEnded (S.state source.old) (S.state source.new)) }
     ensures memory { IsErrOf result InputError.OutOfMemory → NoReadFailed (S.state source.old) (S.state source.new) }
     ensures on { ReadsOn (S.state source.old) (S.state source.new) }
 {
     let mut held = Vec::new(alloc);
-    'reading: while held.len() <= MAXIMUM_LENGTH {
-        let mut piece = [0u8; PIECE];
-        let room = (MAXIMUM_LENGTH + 1 - held.len()).min(PIECE);
+    'reading: while held.len() <= MAXIMUM_SETTINGS_LENGTH {
+        let mut piece = [0u8; READ_AHEAD];
+        let room = (MAXIMUM_SETTINGS_LENGTH + 1 - held.len()).min(READ_AHEAD);
         match source.read(&mut piece[..room]) {
             Ok(0) => return Ok(held),
             Ok(count) => held.extend_from_slice(&piece[..count])?,

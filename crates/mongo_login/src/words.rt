@@ -1,6 +1,6 @@
 //! The commands, by the words after the program's name.
 ghost use Rattle.std.specs.Prelude.{◌≡◌, ◌↔◌, ℕ, [], ◌∷◌, map, string_bytes, decimal, IsTrue, MatchOption};
-ghost use Rattle.mongo_login.specs.Words.{IsCountWord, NamesCommand, NamesNone};
+ghost use Rattle.mongo_login.specs.Words.{IsCountWord, NamesSubcommand, NamesNone};
 
 use itoa::Buffer;
 use mongo_settings::Task;
@@ -10,7 +10,7 @@ const MOST_LOGINS: u32 = 1000;
 
 /// What the program is asked to do.
 #[derive(Clone, Copy, Debug, PartialEq, Eq)]
-pub enum Command {
+pub enum Subcommand {
     /// To make the connections that settings ask for.
     Rehearse(Task),
     /// To make so many logins against a server of its own, 1 to 1000.
@@ -18,43 +18,43 @@ pub enum Command {
 }
 
 /// What the words ask for: the name of a task alone, or `generate` and how many logins. None for other words.
-pub fn command_in(words: &[String]) -> Option<Command>
+pub fn subcommand_in(words: &[String]) -> Option<Subcommand>
     ensures { let texts = map string_bytes words.now in
-        MatchOption result (NamesNone texts) (NamesCommand texts) }
+        MatchOption result (NamesNone texts) (NamesSubcommand texts) }
 {
     match words {
-        [word] => command_of_one(word.as_str()),
-        [word, number] => command_of_two(word.as_str(), number.as_str()),
+        [word] => subcommand_of_one(word.as_str()),
+        [word, number] => subcommand_of_two(word.as_str(), number.as_str()),
         _ => None,
     }
 }
 
 // The command of one word: the name of a task.
-fn command_of_one(word: &str) -> Option<Command>
-    ensures { MatchOption result (NamesNone (word.now ∷ [])) (NamesCommand (word.now ∷ [])) }
+fn subcommand_of_one(word: &str) -> Option<Subcommand>
+    ensures { MatchOption result (NamesNone (word.now ∷ [])) (NamesSubcommand (word.now ∷ [])) }
 {
     match word {
-        "rehearse" => Some(Command::Rehearse(Task::Rehearse)),
-        "batch" => Some(Command::Rehearse(Task::Batch)),
+        "rehearse" => Some(Subcommand::Rehearse(Task::Rehearse)),
+        "batch" => Some(Subcommand::Rehearse(Task::Batch)),
         _ => None,
     }
 }
 
 // The command of two words: `generate` and how many logins.
-fn command_of_two(word: &str, number: &str) -> Option<Command>
-    ensures { MatchOption result (NamesNone (word.now ∷ number.now ∷ [])) (NamesCommand (word.now ∷ number.now ∷ [])) }
+fn subcommand_of_two(word: &str, number: &str) -> Option<Subcommand>
+    ensures { MatchOption result (NamesNone (word.now ∷ number.now ∷ [])) (NamesSubcommand (word.now ∷ number.now ∷ [])) }
 {
     if word != "generate" {
         return None;
     }
-    match count_in(number) {
-        Some(count) => Some(Command::Generate(count)),
+    match login_count(number) {
+        Some(count) => Some(Subcommand::Generate(count)),
         None => None,
     }
 }
 
 // The number of logins that a word is.
-fn count_in(word: &str) -> Option<u32>
+fn login_count(word: &str) -> Option<u32>
     ensures { MatchOption result ((count : ℕ) → ¬ (IsCountWord word.now count)) (IsCountWord word.now) }
 {
     match word.parse::<u32>() {

@@ -15,7 +15,10 @@ there given text is = ap is_some is
 -- and for none where it names one
 pub user_named : (credential : Credential) (username password : List ℕ) → credential.username ≡ Some username → credential.password ≡ Some password → HasNone (NoUserRow credential)
 user_named credential username password named known =
-    no_of Authentication _ (none_unmet (user_demands credential no_demand)
-    (there credential.username username named,
-    (there credential.password password known,
-    tt)))
+    no_of Authentication _ (none_unmet (user_demands credential no_demand) (
+      there credential.username username named,
+      (
+        there credential.password password known,
+        tt,
+      ),
+    ))

@@ -12,7 +12,7 @@ use Rattle.mongo_command.proofs.Steps.{stopped_memory, stopped_row, stopped_unle
 use Rattle.mongo_sasl.specs.declared.mechanism.AuthMechanism.TheVariants.{Plain}
 use Rattle.mongo_sasl.specs.Commands.{start_elements, IsNotBuilt}
 use Rattle.mongo_sasl.specs.Login.{EndsByReply}
-use Rattle.mongo_sasl.specs.Plain.{payload_of, PlainUser, IsPlainUser, PlainRow, plain_body, plain_command, PlainHanded, plain_said, UnfinishedRow, FinishedRow, plain_heard, plain_plan, IsFinished}
+use Rattle.mongo_sasl.specs.Plain.{plain_payload, PlainUser, IsPlainUser, PlainRow, plain_body, plain_command, PlainHanded, plain_said, UnfinishedRow, FinishedRow, plain_heard, plain_plan, IsFinished}
 use Rattle.mongo_sasl.specs.Reply.{IsSaslReply, SaslRow}
 use Rattle.mongo_sasl.proofs.LastReply.{ends_by_reply}
 use Rattle.mongo_sasl.proofs.OneReply.{sasl_reply_no_row}
@@ -30,7 +30,7 @@ module _ (handed : PlainHanded) (user : PlainUser) (is_user : IsPlainUser handed
   plain_unbuilt kind old before unbuilt =
       user_stopped kind old old before before
       (unbuilt_stopped (plain_said handed user) plain_heard (plain_command user handed.server_api) kind old before refl
-      (omega (arith, length-enclosed (flat_map spell (start_elements Plain (payload_of user.username user.password))))) unbuilt)
+      (omega (arith, length-enclosed (flat_map spell (start_elements Plain (plain_payload user.username user.password))))) unbuilt)
 
   -- the reply ends the login
   pub plain_replied : {T : Type 0} (r : Result T Error) (reply held : List ℕ) (old new : State) (before after : ℤ) → reply ≡ held → Exchanges handed.maximum (plain_message (plain_said handed user).document) old new before after reply → CountsStay old new → OnOk r (IsFinished reply) → OnOk r (EndsByReply (plain_plan handed) tt held old new before after)

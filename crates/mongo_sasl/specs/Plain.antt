@@ -23,8 +23,8 @@ use Rattle.mongo_sasl.specs.Keys.{sasl_start_key}
 
 -- the message (RFC 4616, section 2): an authorization identity, which is empty here, the user name and the password, each
 -- after a NUL but the first
-abbrev pub payload_of : List ℕ → List ℕ → List ℕ
-payload_of username password = 0 ∷ (username ++ 0 ∷ password)
+abbrev pub plain_payload : List ℕ → List ℕ → List ℕ
+plain_payload username password = 0 ∷ (username ++ 0 ∷ password)
 
 -- who logs in, and the database that the user belongs to
 pub record PlainUser : Type 0 where
@@ -43,7 +43,7 @@ abbrev pub PlainRow : Credential → ErrorKind → Type 0
 PlainRow credential = NoUserRow credential
 
 abbrev pub plain_body : PlainUser → List ℕ
-plain_body user = start_body Plain (payload_of user.username user.password)
+plain_body user = start_body Plain (plain_payload user.username user.password)
 
 -- the `saslStart` that carries the message
 abbrev pub plain_command : PlainUser → Option ServerApi → Command

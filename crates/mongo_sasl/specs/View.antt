@@ -13,8 +13,8 @@ use Rattle.mongo_sasl.specs.declared.sasl_view.SaslView.{SaslView}
 abbrev pub owned_value_of : ℕ × Bor (List ℕ) → OwnedValue
 owned_value_of borrowed = record { kind = borrowed.0; bytes = borrowed.1.now }
 
-abbrev pub response_of : SaslView → SaslResponse
-response_of view = record { conversation_id = record { kind = view.conversation_kind; bytes = view.conversation_bytes.now }; done = view.done; payload = view.payload.now }
+abbrev pub sasl_response_of : SaslView → SaslResponse
+sasl_response_of view = record { conversation_id = record { kind = view.conversation_kind; bytes = view.conversation_bytes.now }; done = view.done; payload = view.payload.now }
 
 -- what a reader of borrowed values answers, as what it says
 abbrev pub read_as : {A B : Type 0} → (A → B) → Result A FieldFault → Result B FieldFault

@@ -5,7 +5,7 @@ ghost use Rattle.mongo_wire.specs.declared.error.ErrorKind.TheVariants.{OutOfMem
 ghost use Rattle.mongo_command.specs.Exchange.{frame_maximum};
 ghost use Rattle.mongo_sasl.specs.Commands.{IsNotBuilt};
 ghost use Rattle.mongo_sasl.specs.EndsByScript.{standing, HoldsItsReply};
-ghost use Rattle.mongo_sasl.specs.Plain.{payload_of, IsPlainUser, PlainRow, plain_body, plain_command, plain_plan, IsFinished, FinishedRow, plain_user_of, plain_handed, EndsByPlain};
+ghost use Rattle.mongo_sasl.specs.Plain.{plain_payload, IsPlainUser, PlainRow, plain_body, plain_command, plain_plan, IsFinished, FinishedRow, plain_user_of, plain_handed, EndsByPlain};
 
 use crate::buffered_reply::held_reply;
 use crate::refusal::refused;
@@ -26,7 +26,7 @@ struct PlainLogin<'a> {
 /// The message of a login (RFC 4616, section 2): a NUL after an authorization identity that is empty, the user name, a
 /// NUL and the password.
 pub fn payload_bytes(alloc: Global, username: &str, password: &str) -> Result<Bytes, Error>
-    ensures payload { IfOk result (λ payload. payload ≡ payload_of username.now password.now) }
+    ensures payload { IfOk result (λ payload. payload ≡ plain_payload username.now password.now) }
     ensures refused { IfErr result (λ e. e.kind ≡ OutOfMemory) }
 {
     let mut payload = Bytes::from_slice(alloc, b"\0")?;

@@ -72,7 +72,7 @@ pub(crate) fn property<'a>(properties: RawDocument<'a>, name: &str) -> Option<Ra
 }
 
 // The text that a property is.
-pub(crate) fn text_of<'a>(value: Option<RawValue<'a>>) -> Option<&'a str>
+pub(crate) fn property_text<'a>(value: Option<RawValue<'a>>) -> Option<&'a str>
     ensures { (found : Option Element) → IsValueOf found value.entry → option_copied result ≡ option_and_then text_in found }
 {
     match value {

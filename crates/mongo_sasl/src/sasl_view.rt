@@ -5,7 +5,7 @@ ghost use Rattle.mongo_command.specs.Field.{field_of, Required};
 ghost use Rattle.mongo_command.specs.Fields.{IsValueOf, Answers, AreFields, HoldsWellFormed};
 ghost use Rattle.mongo_command.specs.Keys.{errmsg_key, ok_key};
 ghost use Rattle.mongo_sasl.specs.Reply.{ReadsValue, ReadsGeneric, IsSaslTable, IsSaslReply, SaslRefused, Succeeded, IsUnsuccessful, IsFailureOf};
-ghost use Rattle.mongo_sasl.specs.View.{owned_value_of, response_of, read_as, kind_of_field_fault};
+ghost use Rattle.mongo_sasl.specs.View.{owned_value_of, sasl_response_of, read_as, kind_of_field_fault};
 ghost use Rattle.mongo_sasl.specs.Keys.{conversation_id_key};
 
 use crate::keys::{CONVERSATION_ID, DONE, PAYLOAD};
@@ -32,7 +32,7 @@ pub struct SaslView<'b> {
 impl<'b> SaslView<'b> {
     ghost use Rattle.std.specs.Prelude.{◌≡◌, IfOk, IfErr};
     ghost use Rattle.mongo_sasl.specs.Reply.{IsSaslReply, SaslRefused};
-    ghost use Rattle.mongo_sasl.specs.View.{response_of};
+    ghost use Rattle.mongo_sasl.specs.View.{sasl_response_of};
 
     /// Reads the reply to a command of a login. It takes memory for the fields alone.
     ///
@@ -43,18 +43,18 @@ impl<'b> SaslView<'b> {
     /// - `Malformed` where `ok` is no whole number; where `conversationId` is absent, `done` is no boolean or
     ///   `payload` is no binary of the generic subtype.
     pub fn parse(alloc: Global, response: RawDocument<'b>) -> Result<SaslView<'b>, Error>
-        ensures read { IfOk result (λ view. IsSaslReply response.entry.bytes.now (response_of view)) }
+        ensures read { IfOk result (λ view. IsSaslReply response.entry.bytes.now (sasl_response_of view)) }
         ensures refused { IfErr result (λ e. SaslRefused response.entry.bytes.now e.kind) }
     {
         match Fields::of_well_formed(alloc, response) {
             Ok(fields) => view_of(alloc, response, &fields),
-            Err(fault) => Err(unread(fault)),
+            Err(fault) => Err(unreadable_fields(fault)),
         }
     }
 
     /// A copy of what the reply says.
     pub fn to_response(&self, alloc: Global) -> Result<SaslResponse, BsonFault>
-        ensures copied { IfOk result (λ response. response ≡ response_of self.now) }
+        ensures copied { IfOk result (λ response. response ≡ sasl_response_of self.now) }
         ensures refused { IfErr result (λ fault. fault ≡ BsonFault.OutOfMemory) }
     {
         Ok(SaslResponse {
@@ -75,13 +75,13 @@ fn view_of<'b>(
     fields: &Fields<'b>,
 ) -> Result<SaslView<'b>, Error>
     requires { HoldsWellFormed response.bytes.now fields.now }
-    ensures read { IfOk result (λ view. IsSaslReply response.entry.bytes.now (response_of view)) }
+    ensures read { IfOk result (λ view. IsSaslReply response.entry.bytes.now (sasl_response_of view)) }
     ensures refused { IfErr result (λ e. SaslRefused response.entry.bytes.now e.kind) }
 {
     match success_of(alloc, fields) {
         Ok(()) => match table_of(response, fields) {
             Ok(view) => Ok(view),
-            Err(fault) => Err(unread(fault)),
+            Err(fault) => Err(unreadable_fields(fault)),
         },
         Err(refused) => Err(refused),
     }
@@ -97,7 +97,7 @@ fn success_of(alloc: Global, fields: &Fields<'_>) -> Result<(), Error>
     match get_int_raw(ok) {
         Some(1) => Ok(()),
         Some(_) => Err(failure_of(alloc, fields)),
-        None => Err(unread(FieldFault::Unreadable)),
+        None => Err(unreadable_fields(FieldFault::Unreadable)),
     }
 }
 
@@ -121,7 +121,7 @@ fn failure_of(alloc: Global, fields: &Fields<'_>) -> Error
 
 // The table of a success.
 fn table_of<'b>(response: RawDocument<'b>, fields: &Fields<'b>) -> Result<SaslView<'b>, FieldFault>
-    ensures { (elements : List Element) → IsDocument response.entry.bytes.now elements → AreFields elements fields.now → Answers IsSaslTable elements (read_as response_of result) }
+    ensures { (elements : List Element) → IsDocument response.entry.bytes.now elements → AreFields elements fields.now → Answers IsSaslTable elements (read_as sasl_response_of result) }
 {
     let (conversation_kind, conversation_bytes) = conversation_id(response)?;
     let done = fields.required(DONE)?;
@@ -164,7 +164,7 @@ fn generic_binary<'b>(value: RawValue<'b>) -> Result<&'b [u8], FieldFault>
 }
 
 // What fields that can't be read are refused as.
-pub(crate) fn unread(fault: FieldFault) -> Error
+pub(crate) fn unreadable_fields(fault: FieldFault) -> Error
     ensures { result.kind ≡ kind_of_field_fault fault }
 {
     let kind = match fault {

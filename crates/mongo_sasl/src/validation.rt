@@ -6,7 +6,7 @@ ghost use Rattle.mongo_sasl.specs.Validation.{scram_rules, x509_rules, plain_rul
 use crate::properties::{
     ALLOWED_HOSTS_PROP_STR, AWS_SESSION_TOKEN, AZURE_ENVIRONMENT_VALUE_STR, ENVIRONMENT_PROP_STR,
     GCP_ENVIRONMENT_VALUE_STR, K8S_ENVIRONMENT_VALUE_STR, TOKEN_RESOURCE_PROP_STR,
-    has_foreign_property, is_other_than_array, properties_of, property, text_of,
+    has_foreign_property, is_other_than_array, properties_of, property, property_text,
 };
 use crate::rules::{Rule, first_broken};
 use crate::{AuthMechanism, Credential, EXTERNAL};
@@ -114,7 +114,7 @@ fn judge_oidc(
 {
     let named = OidcProperties {
         foreign: has_foreign_property(properties),
-        environment: text_of(property(properties, ENVIRONMENT_PROP_STR)),
+        environment: property_text(property(properties, ENVIRONMENT_PROP_STR)),
         resource: property(properties, TOKEN_RESOURCE_PROP_STR).is_some(),
         hosts_other_than_array: is_other_than_array(property(properties, ALLOWED_HOSTS_PROP_STR)),
     };

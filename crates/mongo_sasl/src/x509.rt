@@ -12,7 +12,7 @@ use crate::commands::login_command;
 use crate::documents::document_of;
 use crate::keys::{AUTHENTICATE, MECHANISM};
 use crate::refusal::refused;
-use crate::sasl_view::unread;
+use crate::sasl_view::unreadable_fields;
 use crate::{AuthMechanism, Credential, EXTERNAL};
 use mongo_bson::{BsonFault, RawDocument, RawDocumentBuf, RawValue, Text};
 use mongo_command::{Command, Connection, Fields, ServerApi, is_success};
@@ -95,6 +95,6 @@ fn take(alloc: Global, reply: RawDocument<'_>) -> Result<(), Error>
     match Fields::of_well_formed(alloc, reply) {
         Ok(fields) if is_success(&fields) => Ok(()),
         Ok(_) => Err(refused(AuthFault::X509Failed)),
-        Err(fault) => Err(unread(fault)),
+        Err(fault) => Err(unreadable_fields(fault)),
     }
 }

@@ -22,13 +22,13 @@ fn text(alloc: Global, given: Option<&str>) -> Result<Option<Text>, BsonFault> {
 }
 
 /// A user name, a source and a password.
-type Parts = (
+type CredentialTexts = (
     Option<&'static str>,
     Option<&'static str>,
     Option<&'static str>,
 );
 
-fn credential(alloc: Global, parts: Parts) -> Result<Credential, BsonFault> {
+fn credential(alloc: Global, parts: CredentialTexts) -> Result<Credential, BsonFault> {
     let (username, source, password) = parts;
     let username = text(alloc, username)?;
     let source = text(alloc, source)?;

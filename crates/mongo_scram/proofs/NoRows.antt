@@ -14,7 +14,7 @@ use Rattle.mongo_scram.specs.declared.server_first.ServerFirst.{ServerFirst}
 use Rattle.mongo_scram.specs.declared.server_final.ServerFinal.{ServerFinal}
 use Rattle.mongo_scram.specs.declared.server_final.ServerFinalBody.{ServerFinalBody}
 use Rattle.mongo_scram.specs.declared.server_final.ServerFinalBody.TheVariants.{Error, Verifier}
-use Rattle.mongo_scram.specs.Validity.{BeginsWith, least_count, first_demands, IsValidFirst, ServerFirstRow, IsVerifier, IsReadable, final_demands, IsValidFinal, ServerFinalRow}
+use Rattle.mongo_scram.specs.Validity.{BeginsWith, least_count, first_demands, IsValidFirst, ServerFirstRow, IsVerifier, IsDecodable, final_demands, IsValidFinal, ServerFinalRow}
 
 -- ---- what can be decided, holds where it can't but hold
 
@@ -60,12 +60,19 @@ same_value a b h =
 
 pub valid_first : (first : ServerFirst) (nonce : List ℕ) (max_iterations : ℕ) → HasNone (ServerFirstRow first nonce max_iterations) → IsValidFirst first nonce max_iterations
 valid_first first nonce max_iterations none =
-    all_met (first_demands first nonce max_iterations)
-    (is_false first.done,
-    (begun first.nonce nonce,
-    (is_least least_count first.i,
-    (is_least first.i max_iterations,
-    tt))))
+    all_met (first_demands first nonce max_iterations) (
+      is_false first.done,
+      (
+        begun first.nonce nonce,
+        (
+          is_least least_count first.i,
+          (
+            is_least first.i max_iterations,
+            tt,
+          ),
+        ),
+      ),
+    )
     (of_denied Authentication _ none)
 
 pub valid_first_row : (first : ServerFirst) (nonce : List ℕ) (max_iterations : ℕ) → IsValidFirst first nonce max_iterations → HasNone (ServerFirstRow first nonce max_iterations)
@@ -77,7 +84,7 @@ is_verifier : (body : ServerFinalBody) → ((IsVerifier body → ⊥) → ⊥) �
 is_verifier (Error text) h = h (λ is. is)
 is_verifier (Verifier found) h = tt
 
-is_readable : (body : ServerFinalBody) → ((IsReadable body → ⊥) → ⊥) → IsReadable body
+is_readable : (body : ServerFinalBody) → ((IsDecodable body → ⊥) → ⊥) → IsDecodable body
 is_readable (Error text) h = tt
 is_readable (Verifier None) h = h (λ is. is)
 is_readable (Verifier (Some bytes)) h = tt
@@ -98,12 +105,19 @@ is_owed (Verifier (Some bytes)) owed h = ap (λ b. Verifier (Some b)) (same_byte
 
 pub valid_final : (last : ServerFinal) (conversation : OwnedValue) (owed : List ℕ) → HasNone (ServerFinalRow last conversation owed) → IsValidFinal last conversation owed
 valid_final last conversation owed none =
-    all_met (final_demands last conversation owed)
-    (same_value last.conversation_id conversation,
-    (is_verifier last.body,
-    (is_readable last.body,
-    (is_owed last.body owed,
-    tt))))
+    all_met (final_demands last conversation owed) (
+      same_value last.conversation_id conversation,
+      (
+        is_verifier last.body,
+        (
+          is_readable last.body,
+          (
+            is_owed last.body owed,
+            tt,
+          ),
+        ),
+      ),
+    )
     (of_denied Authentication _ none)
 
 pub valid_final_row : (last : ServerFinal) (conversation : OwnedValue) (owed : List ℕ) → IsValidFinal last conversation owed → HasNone (ServerFinalRow last conversation owed)

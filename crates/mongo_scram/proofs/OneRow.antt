@@ -38,11 +38,16 @@ one_credential_row credential = one_of Authentication _ (one_unmet (credential_d
 -- a credential with a user isn't refused
 pub no_credential_row : (credential : Credential) (user : User) → IsUser credential user → HasNone (CredentialRow credential)
 no_credential_row credential user is =
-    no_of Authentication _ (none_unmet (credential_demands credential)
-    (there credential.username user.username is.username,
-    (there credential.password user.password is.password,
-    (is.properties,
-    tt))))
+    no_of Authentication _ (none_unmet (credential_demands credential) (
+      there credential.username user.username is.username,
+      (
+        there credential.password user.password is.password,
+        (
+          is.properties,
+          tt,
+        ),
+      ),
+    ))
 
 -- ---- passwords
 

@@ -37,9 +37,9 @@ abbrev pub ServerFirstRow : ServerFirst → List ℕ → ℕ → ErrorKind → T
 ServerFirstRow first nonce max_iterations = row_of Authentication (UnmetRow (first_demands first nonce max_iterations))
 
 -- the text of an error
-abbrev pub error_text : ServerFinalBody → List ℕ
-error_text (Error text) = text
-error_text (Verifier found) = []
+abbrev pub server_error_text : ServerFinalBody → List ℕ
+server_error_text (Error text) = text
+server_error_text (Verifier found) = []
 
 -- it is no error
 abbrev pub IsVerifier : ServerFinalBody → Type 0
@@ -47,18 +47,18 @@ IsVerifier (Error text) = ⊥
 IsVerifier (Verifier found) = ⊤
 
 -- it is no verifier in other letters than those of base64
-abbrev pub IsReadable : ServerFinalBody → Type 0
-IsReadable (Error text) = ⊤
-IsReadable (Verifier None) = ⊥
-IsReadable (Verifier (Some bytes)) = ⊤
+abbrev pub IsDecodable : ServerFinalBody → Type 0
+IsDecodable (Error text) = ⊤
+IsDecodable (Verifier None) = ⊥
+IsDecodable (Verifier (Some bytes)) = ⊤
 
 -- What is demanded of the server's last message: it proves that the server knows the key. It answers in this conversation, and
 -- with the verifier that the server owes, all of it. The refusal of an error has the error's text.
 abbrev pub final_demands : ServerFinal → OwnedValue → List ℕ → Demands AuthFault
 final_demands last conversation owed =
     demand Conversation (last.conversation_id ≡ conversation)
-    (demand (ServerError (error_text last.body)) (IsVerifier last.body)
-    (demand Malformed (IsReadable last.body)
+    (demand (ServerError (server_error_text last.body)) (IsVerifier last.body)
+    (demand Malformed (IsDecodable last.body)
     (demand WrongVerifier (last.body ≡ Verifier (Some owed))
     no_demand)))
 

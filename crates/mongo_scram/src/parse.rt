@@ -2,7 +2,7 @@
 
 ghost use Rattle.std.specs.Prelude.{◌≡◌, ◌≢◌, ℕ, ◌++◌, ◌∷◌, List, MatchOption, IfOk, IfErr};
 ghost use Rattle.mongo_bson.specs.declared.fault.BsonFault.TheVariants.{OutOfMemory};
-ghost use Rattle.mongo_sasl.specs.View.{response_of};
+ghost use Rattle.mongo_sasl.specs.View.{sasl_response_of};
 ghost use Rattle.mongo_scram.specs.ServerMessages.{HasNoComma, BeginsWithParts, IsBeforeComma, SaysFinal};
 ghost use Rattle.mongo_scram.specs.Parsed.{HoldsServerFirst, FirstRefused, ServerFinalUnread};
 
@@ -33,19 +33,19 @@ pub fn read_server_first<'a>(alloc: Global, message: &'a str) -> Result<FirstMes
     ensures first { IfOk result (HoldsServerFirst message.now) }
     ensures refused { IfErr result (λ e. FirstRefused message.now e.kind) }
 {
-    let Some(parts) = parts_of(message) else {
+    let Some(parts) = message_parts(message) else {
         return Err(refused(AuthFault::Malformed));
     };
-    let Some(nonce) = value_of(parts.first, "r=") else {
+    let Some(nonce) = attribute_value(parts.first, "r=") else {
         return Err(refused(AuthFault::Malformed));
     };
-    let Some(salt_text) = value_of(parts.second, "s=") else {
+    let Some(salt_text) = attribute_value(parts.second, "s=") else {
         return Err(refused(AuthFault::Malformed));
     };
     let Some(salt) = decoded(alloc, salt_text)? else {
         return Err(refused(AuthFault::Malformed));
     };
-    let Some(count) = value_of(parts.third, "i=") else {
+    let Some(count) = attribute_value(parts.third, "i=") else {
         return Err(refused(AuthFault::Malformed));
     };
     match count.parse::<u32>() {
@@ -62,10 +62,10 @@ pub fn read_server_final(alloc: Global, message: &str) -> Result<ServerFinalBody
     ensures says { IfOk result (SaysFinal message.now) }
     ensures refused { IfErr result (λ e. ServerFinalUnread message.now e.kind) }
 {
-    if let Some(text) = value_of(message, "e=") {
+    if let Some(text) = attribute_value(message, "e=") {
         return Ok(ServerFinalBody::Error(Text::from_slice(alloc, text)?));
     }
-    match value_of(message, "v=") {
+    match attribute_value(message, "v=") {
         Some(verifier) => Ok(ServerFinalBody::Verifier(decoded(alloc, verifier)?)),
         None => Err(refused(AuthFault::Malformed)),
     }
@@ -73,7 +73,7 @@ pub fn read_server_final(alloc: Global, message: &str) -> Result<ServerFinalBody
 
 /// A copy of the id of the conversation that a reply is of.
 pub fn conversation_id_of(alloc: Global, view: &SaslView<'_>) -> Result<OwnedValue, BsonFault>
-    ensures copied { IfOk result (λ id. id ≡ (response_of view.now).conversation_id) }
+    ensures copied { IfOk result (λ id. id ≡ (sasl_response_of view.now).conversation_id) }
     ensures refused { IfErr result (λ fault. fault ≡ OutOfMemory) }
 {
     Ok(OwnedValue {
@@ -83,7 +83,7 @@ pub fn conversation_id_of(alloc: Global, view: &SaslView<'_>) -> Result<OwnedVal
 }
 
 // The value of an attribute with this key, which is a letter and `=`.
-fn value_of<'a>(part: &'a str, key: &str) -> Option<&'a str>
+fn attribute_value<'a>(part: &'a str, key: &str) -> Option<&'a str>
     ensures { MatchOption result ((value : List ℕ) → part.now ≢ key.now ++ value)
         (λ value. part.now ≡ key.now ++ value.now) }
 {
@@ -98,7 +98,7 @@ struct Parts<'a> {
     third: &'a str,
 }
 
-fn parts_of(message: &str) -> Option<Parts<'_>>
+fn message_parts(message: &str) -> Option<Parts<'_>>
     ensures { MatchOption result
         ((first second third : List ℕ) → BeginsWithParts message.now first second third → ⊥)
         (λ parts. BeginsWithParts message.now parts.first.now parts.second.now parts.third.now) }

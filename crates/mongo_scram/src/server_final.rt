@@ -2,7 +2,7 @@ ghost use Rattle.std.specs.Prelude.{◌≡◌, ◌⊎◌, ℕ, List, OnOk, IfOk,
 ghost use Rattle.mongo_bson.specs.declared.fault.BsonFault.TheVariants.{OutOfMemory as NoMemory};
 ghost use Rattle.mongo_wire.specs.declared.error.ErrorKind.TheVariants.{OutOfMemory};
 ghost use Rattle.mongo_sasl.specs.Reply.{IsSaslReply};
-ghost use Rattle.mongo_sasl.specs.View.{response_of};
+ghost use Rattle.mongo_sasl.specs.View.{sasl_response_of};
 ghost use Rattle.mongo_scram.specs.Client.{auth_message_of, final_conversation};
 ghost use Rattle.mongo_scram.specs.Messages.{verifier};
 ghost use Rattle.mongo_scram.specs.Replies.{CarriesFinal, FinalReplyRow};
@@ -149,8 +149,8 @@ impl ServerFinal {
 
 // The server's last message, from what the reply says.
 fn server_final_of(alloc: Global, view: &SaslView<'_>) -> Result<ServerFinal, Error>
-    ensures read { (reply : List ℕ) → IsSaslReply reply (response_of view.now) → IfOk result (CarriesFinal reply) }
-    ensures refused { (reply : List ℕ) → IsSaslReply reply (response_of view.now) → IfErr result (λ e. FinalReplyRow reply e.kind ⊎ (e.kind ≡ OutOfMemory)) }
+    ensures read { (reply : List ℕ) → IsSaslReply reply (sasl_response_of view.now) → IfOk result (CarriesFinal reply) }
+    ensures refused { (reply : List ℕ) → IsSaslReply reply (sasl_response_of view.now) → IfErr result (λ e. FinalReplyRow reply e.kind ⊎ (e.kind ≡ OutOfMemory)) }
 {
     let Ok(message) = str::from_utf8(view.payload) else {
         return Err(refused(AuthFault::Malformed));

@@ -2,7 +2,7 @@ ghost use Rattle.std.specs.Prelude.{◌≡◌, ◌⊎◌, ℕ, List, OnOk, IfOk,
 ghost use Rattle.mongo_bson.specs.declared.fault.BsonFault.TheVariants.{OutOfMemory as NoMemory};
 ghost use Rattle.mongo_wire.specs.declared.error.ErrorKind.TheVariants.{OutOfMemory};
 ghost use Rattle.mongo_sasl.specs.Reply.{IsSaslReply};
-ghost use Rattle.mongo_sasl.specs.View.{response_of};
+ghost use Rattle.mongo_sasl.specs.View.{sasl_response_of};
 ghost use Rattle.mongo_scram.specs.Replies.{CarriesFirst, FirstReplyRow};
 ghost use Rattle.mongo_scram.specs.Validity.{IsValidFirst, ServerFirstRow};
 
@@ -89,8 +89,8 @@ impl ServerFirst {
 
 // The server's first message, from what the reply says.
 fn first_of(alloc: Global, view: &SaslView<'_>) -> Result<ServerFirst, Error>
-    ensures read { (reply : List ℕ) → IsSaslReply reply (response_of view.now) → IfOk result (CarriesFirst reply) }
-    ensures refused { (reply : List ℕ) → IsSaslReply reply (response_of view.now) → IfErr result (λ e. FirstReplyRow reply e.kind ⊎ (e.kind ≡ OutOfMemory)) }
+    ensures read { (reply : List ℕ) → IsSaslReply reply (sasl_response_of view.now) → IfOk result (CarriesFirst reply) }
+    ensures refused { (reply : List ℕ) → IsSaslReply reply (sasl_response_of view.now) → IfErr result (λ e. FirstReplyRow reply e.kind ⊎ (e.kind ≡ OutOfMemory)) }
 {
     let Ok(message) = str::from_utf8(view.payload) else {
         return Err(refused(AuthFault::Malformed));

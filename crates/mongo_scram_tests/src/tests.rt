@@ -14,17 +14,17 @@ fn given<T: Drop, E: Debug + Drop>(answer: Result<T, E>) -> Result<T, Fail> {
 }
 
 // What comes of a call: the name of the fault that it is refused for, or "none".
-trait Outcome {
+trait NamesFault {
     fn fault(&self) -> &'static str;
 }
 
-impl Outcome for () {
+impl NamesFault for () {
     fn fault(&self) -> &'static str {
         "none"
     }
 }
 
-impl Outcome for Error {
+impl NamesFault for Error {
     fn fault(&self) -> &'static str {
         name_of(self)
     }
@@ -36,7 +36,7 @@ struct Answered<T, E> {
     answer: Result<T, E>,
 }
 
-fn fault_of<T: Outcome + Drop, E: Outcome + Drop>(answer: Result<T, E>) -> &'static str {
+fn fault_of<T: NamesFault + Drop, E: NamesFault + Drop>(answer: Result<T, E>) -> &'static str {
     let answered = Answered { answer };
     match &answered.answer {
         Ok(made) => made.fault(),

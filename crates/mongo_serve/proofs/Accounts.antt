@@ -4,7 +4,7 @@ use Rattle.std.specs.List.{AllByRecursion}
 use Rattle.mongo_scram.specs.declared.scram_version.ScramVersion.TheVariants.{Sha1, Sha256}
 use Rattle.mongo_serve.specs.Accounts.{AreOfOneUser, IsFirstAccount, HasAccount, is_listed, ListsAccounts}
 use Rattle.mongo_serve.specs.declared.reply.Mechanisms.{Mechanisms}
-use Rattle.mongo_serve.specs.declared.settings.Account.{Account}
+use Rattle.mongo_serve.specs.declared.serve_settings.Account.{Account}
 
 -- ---- a list at a place
 

@@ -11,10 +11,10 @@ use Rattle.mongo_bson.specs.declared.raw_value.RawValue.TheVariants.{Double, Str
 use Rattle.mongo_bson.proofs.OneAnswer.{found_or_none, one_found, one_key}
 use Rattle.mongo_command.specs.Keys.{speculative_authenticate_key}
 use Rattle.mongo_scram.specs.declared.scram_version.ScramVersion.{ScramVersion}
-use Rattle.mongo_serve.specs.Settings.{version_named}
+use Rattle.mongo_serve.specs.ServeSettings.{version_named}
 use Rattle.mongo_serve.specs.declared.request.StartRequest.{StartRequest}
 use Rattle.mongo_serve.specs.Requests.{CarriesLogin, HasPayload, IsCommandName, IsCommandNamed, SaysStart, SaysVersion, SkipsEmptyExchange}
-use Rattle.mongo_serve.specs.Values.{binary_of, HasInside, HasOne, HasText, HasTrue, HoldsIfAny, inner_of, SaysOne, IsTrueBoolean, StandsAt, string_of}
+use Rattle.mongo_serve.specs.Values.{binary_bytes, HasInside, HasOne, HasText, HasTrue, HoldsIfAny, inner_of, SaysOne, IsTrueBoolean, StandsAt, string_of}
 use Rattle.mongo_sasl.specs.Keys.{mechanism_key, options_key, payload_key, sasl_start_key}
 
 -- ---- one value
@@ -77,7 +77,7 @@ pub string_held : (document key : List ℕ) (v : RawValue) → FindsValue (body_
 string_held document key (Str text) (e, first, is) = record { element = e; first = first; string = is.0; text_is = is.1 }
 string_held document key other finds = λ text has. other_kind document key other 0x02 finds refl refl has.element has.first has.string
 
-pub binary_held : (document : List ℕ) (v : RawValue) → FindsValue (body_of document) payload_key (Some v) → HoldsIfAny (HasPayload document) (binary_of v)
+pub binary_held : (document : List ℕ) (v : RawValue) → FindsValue (body_of document) payload_key (Some v) → HoldsIfAny (HasPayload document) (binary_bytes v)
 binary_held document (Binary subtype bytes) (e, first, is) = record { element = e; first = first; binary = is.0; payload_is = is.2 }
 binary_held document other finds = λ payload has. other_kind document payload_key other 0x05 finds refl refl has.element has.first has.binary
 

@@ -25,8 +25,8 @@ use Rattle.mongo_serve.specs.Sasl.{AsksFor}
 use Rattle.mongo_serve.specs.declared.fault.ServeFault.{ServeFault}
 use Rattle.mongo_serve.specs.declared.open.OpenedLogin.{OpenedLogin}
 use Rattle.mongo_serve.specs.declared.request.StartRequest.{StartRequest}
-use Rattle.mongo_serve.specs.declared.settings.Account.{Account}
-use Rattle.mongo_serve.specs.declared.settings.Settings.{Settings}
+use Rattle.mongo_serve.specs.declared.serve_settings.Account.{Account}
+use Rattle.mongo_serve.specs.declared.serve_settings.ServeSettings.{ServeSettings}
 use Rattle.mongo_serve.proofs.Accounts.{all_weaker, all_split, one_first_account}
 
 -- ---- which user a first message names
@@ -95,13 +95,13 @@ same_version : (v w : ScramVersion) (o : Option ScramVersion) → o ≡ Some v �
 same_version v w o p q = let same : Some v ≡ Some w = sym p ∙ q in cc
 
 -- nothing is asked for without a mechanism, nor without a message
-pub no_version : (settings : Settings) (start : StartRequest) → start.version ≡ None → (x : Exchange) → AsksFor settings start x → ⊥
+pub no_version : (settings : ServeSettings) (start : StartRequest) → start.version ≡ None → (x : Exchange) → AsksFor settings start x → ⊥
 no_version settings start none x asked = let never : None ≡ Some x.version = sym none ∙ asked.version_is in cc
 
-pub no_message : (settings : Settings) (start : StartRequest) → start.payload ≡ None → (x : Exchange) → AsksFor settings start x → ⊥
+pub no_message : (settings : ServeSettings) (start : StartRequest) → start.payload ≡ None → (x : Exchange) → AsksFor settings start x → ⊥
 no_message settings start none x asked = let never : None ≡ Some (open_of x) = sym (ap option_copied none) ∙ asked.said in cc
 
-module _ (settings : Settings) (start : StartRequest) (version : ScramVersion) (message : Bor (List ℕ)) (version_is : start.version ≡ Some version) (message_is : start.payload ≡ Some message) where
+module _ (settings : ServeSettings) (start : StartRequest) (version : ScramVersion) (message : Bor (List ℕ)) (version_is : start.version ≡ Some version) (message_is : start.payload ≡ Some message) where
   -- the account of what is asked for suits
   asked_suits : (x : Exchange) (asked : AsksFor settings start x) → Suits version message.now asked.of_settings.account
   asked_suits x asked =

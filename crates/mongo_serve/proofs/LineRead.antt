@@ -7,7 +7,7 @@ use Rattle.std.specs.Io.KnownBytes.{Consumes}
 use Rattle.mongo_wire.proofs.ReadStopped.{passed_on, stops_after, reads_on}
 use Rattle.mongo_wire.specs.Outside.{State, ReadsOn, Rose, RanOut, ConsumesAtMost}
 use Rattle.mongo_wire.specs.declared.error.ErrorKind.TheVariants.{EndOfInput}
-use Rattle.mongo_serve.specs.Line.{maximum_length, HasNoLineFeed, TakesLine, HasNoLine, StopsWithin}
+use Rattle.mongo_serve.specs.Line.{maximum_line_length, HasNoLineFeed, TakesLine, HasNoLine, StopsWithin}
 
 -- what ran out after bytes without a line feed had none at all
 unended_whole : (old mid new : Option (List ℕ)) (line : List ℕ) → Consumes old mid line → HasNoLineFeed line → RanOut mid new 1 → IfSome old HasNoLineFeed
@@ -18,12 +18,12 @@ unended_whole (Some bytes) (Some (byte ∷ rest)) new line front unended out = a
 
 -- the line so far is what the source gave so far, and has no line feed
 pub record LineSoFar (old new : State) (line : List ℕ) : Type 0 where
-  pub within : length line ≤ maximum_length + 1
+  pub within : length line ≤ maximum_line_length + 1
   pub unended : HasNoLineFeed line
   pub front : Consumes old.left new.left line
   pub on : ReadsOn old new
 
-module _ (old mid new : State) (line : List ℕ) (so_far : LineSoFar old mid line) (short : length line ≤ maximum_length) where
+module _ (old mid new : State) (line : List ℕ) (so_far : LineSoFar old mid line) (short : length line ≤ maximum_line_length) where
   -- the next byte is a line feed
   pub takes_line : (byte : ℕ) → byte ≡ 10 → Consumes mid.left new.left (byte ∷ []) → TakesLine old new line
   takes_line byte is taken = record {
@@ -44,8 +44,8 @@ module _ (old mid new : State) (line : List ℕ) (so_far : LineSoFar old mid lin
   -- there is none
   pub has_no_line : Rose mid.ends new.ends × RanOut mid.left new.left 1 → HasNoLine old new
   has_no_line ended =
-      let most : length line + 1 ≤ maximum_length + 1 = omega (arith, short) in
-      let all = stops_after EndOfInput old mid new line 1 (maximum_length + 1) so_far.front so_far.on most ended in
+      let most : length line + 1 ≤ maximum_line_length + 1 = omega (arith, short) in
+      let all = stops_after EndOfInput old mid new line 1 (maximum_line_length + 1) so_far.front so_far.on most ended in
       inr (record { rose = all.0; ran_out = all.1; unended = unended_whole old.left mid.left new.left line so_far.front so_far.unended ended.1 })
 
   -- reading stopped at it

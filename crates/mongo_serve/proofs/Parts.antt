@@ -11,7 +11,7 @@ use Rattle.mongo_wire.specs.declared.op_code.OpCode.TheVariants.{Message, Query}
 use Rattle.mongo_serve.specs.declared.fault.ServeFault.{ServeFault}
 use Rattle.mongo_serve.specs.declared.reply.Reply.{Reply}
 use Rattle.mongo_serve.specs.declared.session.Session.{Session}
-use Rattle.mongo_serve.specs.declared.settings.Settings.{Settings}
+use Rattle.mongo_serve.specs.declared.serve_settings.ServeSettings.{ServeSettings}
 use Rattle.mongo_serve.specs.Login.{HasLoggedIn, Remembers}
 use Rattle.mongo_serve.specs.Replies.{document_of_served}
 use Rattle.mongo_serve.specs.Requests.{IsGreeting}
@@ -27,7 +27,7 @@ use Rattle.mongo_serve.proofs.Prepended.{put_back_left}
 use Rattle.mongo_serve.proofs.Turns.{turn_taken, turn_cut, none_taken}
 
 -- an OP_MSG was taken and answered, and the answer sent or cut
-pub message_part : (settings : Settings) (requests : List (List ℕ)) (old mid new : State) (before : Session) (id : ℤ) (after : Session) (later : ℤ) (frame : List ℕ) (parts : Frame) (document : List ℕ) → IsFrame frame parts → parts.body ≡ document
+pub message_part : (settings : ServeSettings) (requests : List (List ℕ)) (old mid new : State) (before : Session) (id : ℤ) (after : Session) (later : ℤ) (frame : List ℕ) (parts : Frame) (document : List ℕ) → IsFrame frame parts → parts.body ≡ document
     → Consumes old.left mid.left frame → mid.written ≡ old.written → Lasts old mid → WritesOn mid new → (reply : Reply) → IsDocumentAnswered settings before document after reply → Remembers settings (requests ++ document ∷ []) after
     → (to : ℤ) → to ≡ parts.request_id → (flags : ℕ) → flags ≡ parts.flags → (r : Result ⊤ ServeFault) → OnOk r (IsReplySent mid new to flags reply id later) → OnErr r (IsSentInPart mid new to flags reply id) → IfErr r (λ fault. WriteCause (IsLongMessage (document_of_served reply)) fault mid new)
     → PartEnds settings requests old new before id after later r
@@ -60,7 +60,7 @@ message_part settings requests old mid new before id after later frame parts doc
     consumed unwritten lasts on cut.front.1 cause remembers.user
 
 -- an OP_QUERY was taken and answered, and the answer sent or cut
-pub query_part : (settings : Settings) (requests : List (List ℕ)) (old mid new : State) (before : Session) (id : ℤ) (after : Session) (later : ℤ) (head body command : List ℕ) → IsQuery (head ++ body) command → length head ≡ 16
+pub query_part : (settings : ServeSettings) (requests : List (List ℕ)) (old mid new : State) (before : Session) (id : ℤ) (after : Session) (later : ℤ) (head body command : List ℕ) → IsQuery (head ++ body) command → length head ≡ 16
     → Consumes old.left mid.left (head ++ body) → mid.written ≡ old.written → Lasts old mid → WritesOn mid new → (reply : Reply) → IsDocumentAnswered settings before command after reply → IsGreeting command
     → Remembers settings (requests ++ command ∷ []) after → (to : ℤ) → to ≡ signed_at 4 head → (r : Result ⊤ ServeFault) → OnOk r (IsSentToQuery mid new to reply id later)
     → OnErr r (AppendsFront mid.written new.written (query_reply id to (document_of_served reply))) → IfErr r (λ fault. WriteCause (IsLongReply (document_of_served reply)) fault mid new) → PartEnds settings requests old new before id after later r
@@ -120,7 +120,7 @@ back_at before now back head sixteen code f e = record {
 }
 
 -- more was taken after a header, and nothing answered
-pub none_after : (settings : Settings) (requests : List (List ℕ)) (before now new : State) (session : Session) (id : ℤ) (user : Option (List ℕ)) (fault : ServeFault) (head more : List ℕ) → user ≡ session.user → IsPart (head ++ more)
+pub none_after : (settings : ServeSettings) (requests : List (List ℕ)) (before now new : State) (session : Session) (id : ℤ) (user : Option (List ℕ)) (fault : ServeFault) (head more : List ℕ) → user ≡ session.user → IsPart (head ++ more)
     → FollowsHead before now head → Consumes now.left new.left more → new.written ≡ now.written → IfSome session.user (λ name. HasLoggedIn settings name requests) → HasCause fault before new [] (head ++ more) → Lasts before new
     → IsCut settings requests before new session id user fault
 none_after settings requests before now new session id user fault head more same part f consumed unwritten logged_in cause lasts =

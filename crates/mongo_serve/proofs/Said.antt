@@ -4,13 +4,13 @@ use Rattle.std.proofs.lemmas.List.{append_assoc, map-append}
 use Rattle.serde_json.specs.Data.{Data}
 use Rattle.serde_json.specs.View.{view, items_view}
 use Rattle.serde_json.specs.declared.value.Value.{Value}
-use Rattle.mongo_serve.specs.Settings.{◌>>=◌, SaidAccount, as_said, account_in, accounts_by, accounts_of_user, accounts_of, HaveAtEnd, SaysNothing}
-use Rattle.mongo_serve.specs.declared.settings.Account.{Account}
-use Rattle.mongo_serve.specs.declared.settings.reading.SettingsError.{SettingsError}
-use Rattle.mongo_serve.specs.declared.settings.reading.SettingsError.TheVariants.{BadSettings, OutOfMemory}
+use Rattle.mongo_serve.specs.ServeSettings.{◌>>=◌, SaidAccount, as_said, account_in, accounts_by, accounts_of_user, accounts_of, HaveAtEnd, SaysNothing}
+use Rattle.mongo_serve.specs.declared.serve_settings.Account.{Account}
+use Rattle.mongo_serve.specs.declared.serve_settings.reading.ServeSettingsError.{ServeSettingsError}
+use Rattle.mongo_serve.specs.declared.serve_settings.reading.ServeSettingsError.TheVariants.{BadSettings, OutOfMemory}
 
 -- where a part says nothing, the whole says nothing
-pub without_part : {A B : Type 0} (error : SettingsError) (part : Option A) (rest : A → Option B) → SaysNothing error part → SaysNothing error (part >>= rest)
+pub without_part : {A B : Type 0} (error : ServeSettingsError) (part : Option A) (rest : A → Option B) → SaysNothing error part → SaysNothing error (part >>= rest)
 without_part OutOfMemory part rest nothing = tt
 without_part BadSettings part rest nothing = rw nothing refl
 
@@ -29,7 +29,7 @@ none_said front None is = refl
 none_said front (Some said) is = cc
 
 -- nothing more is said
-pub stopped : (error : SettingsError) (old new : List Account) (all left : Option (List SaidAccount)) → SaidTo old all new left → SaysNothing error left → SaysNothing error all
+pub stopped : (error : ServeSettingsError) (old new : List Account) (all left : Option (List SaidAccount)) → SaidTo old all new left → SaysNothing error left → SaysNothing error all
 stopped OutOfMemory old new all left so_far nothing = tt
 stopped BadSettings old new all left so_far nothing = none_said (map as_said old) all (so_far ∙ ap (with_front (map as_said new)) nothing)
 
@@ -71,7 +71,7 @@ pair_more user mechanisms salts i mechanism salt old new account all within with
     let next = by_next user mechanisms salts i mechanism salt (next_values mechanisms i mechanism within at) (next_values salts i salt within_too at_too) in
     one_more old new account all rest (so_far ∙ ap (with_front (map as_said new)) (next ∙ ap (λ (found : Option SaidAccount). found >>= (λ one. rest >>= (λ others. Some (one ∷ others)))) is))
 
-pub pair_stopped : (error : SettingsError) (user : Data) (mechanisms salts : List Value) (i : ℕ) (mechanism salt : Value) (old new : List Account) (all : Option (List SaidAccount))
+pub pair_stopped : (error : ServeSettingsError) (user : Data) (mechanisms salts : List Value) (i : ℕ) (mechanism salt : Value) (old new : List Account) (all : Option (List SaidAccount))
     → i < length mechanisms → i < length salts → mechanism ≡ get_or mechanisms i mechanism → salt ≡ get_or salts i salt
     → SaidTo old all new (by_from user mechanisms salts i) → SaysNothing error (account_in user (view mechanism) (view salt)) → SaysNothing error all
 pair_stopped error user mechanisms salts i mechanism salt old new all within within_too at at_too so_far nothing =
@@ -120,7 +120,7 @@ user_more users i user new later within at so_far added =
     some_more [] new later (accounts_of (items_view users)) (accounts_of_user (view user)) (accounts_of (items_view (drop (i + 1) users)))
     (so_far ∙ ap (with_front (map as_said new)) (users_next users i user within at)) added
 
-pub user_stopped : (error : SettingsError) (users : List Value) (i : ℕ) (user : Value) (new : List Account) → i < length users → user ≡ get_or users i user
+pub user_stopped : (error : ServeSettingsError) (users : List Value) (i : ℕ) (user : Value) (new : List Account) → i < length users → user ≡ get_or users i user
     → SaidTo [] (accounts_of (items_view users)) new (accounts_of (items_view (drop i users))) → SaysNothing error (accounts_of_user (view user)) → SaysNothing error (accounts_of (items_view users))
 user_stopped error users i user new within at so_far nothing =
     stopped error [] new (accounts_of (items_view users)) _ (so_far ∙ ap (with_front (map as_said new)) (users_next users i user within at))

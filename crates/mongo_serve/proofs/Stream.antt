@@ -6,12 +6,12 @@ use Rattle.mongo_wire.specs.Outside.{State}
 use Rattle.mongo_serve.specs.declared.fault.ServeFault.{ServeFault}
 use Rattle.mongo_serve.specs.declared.fault.ServeFault.TheVariants.{TooManyRequests}
 use Rattle.mongo_serve.specs.declared.session.Session.{Session}
-use Rattle.mongo_serve.specs.declared.settings.Settings.{Settings}
+use Rattle.mongo_serve.specs.declared.serve_settings.ServeSettings.{ServeSettings}
 use Rattle.mongo_serve.specs.Cut.{IsCut}
 use Rattle.mongo_serve.specs.Login.{HasLoggedIn, Remembers}
 use Rattle.mongo_serve.specs.Sent.{HasFlushed}
 use Rattle.mongo_serve.specs.Served.{TakesTurn, NoTurn, HasServed, IsServed}
-use Rattle.mongo_serve.specs.Turns.{joined, documents, sent_for, fresh}
+use Rattle.mongo_serve.specs.Turns.{joined_frames, documents, sent_for, fresh}
 use Rattle.mongo_serve.proofs.Causes.{cause_after}
 use Rattle.mongo_serve.proofs.Lasts.{flushed_on, flushed_still, lasts_all, lasts_on}
 use Rattle.mongo_serve.proofs.Turns.{each_joined, joined_append, documents_append, sent_append, turns_more}
@@ -19,7 +19,7 @@ use Rattle.mongo_serve.proofs.Turns.{each_joined, joined_append, documents_appen
 is_fresh : (session : Session) → session.user ≡ None → session.login ≡ None → fresh ≡ session
 is_fresh session nobody none = ap (λ u. record { user = u; login = None }) (sym nobody) ∙ ap (λ l. record { user = session.user; login = l }) (sym none)
 
-none_served : (settings : Settings) (old : State) → HasServed settings old old fresh (pos 1) 0
+none_served : (settings : ServeSettings) (old : State) → HasServed settings old old fresh (pos 1) 0
 none_served settings old = record {
   turns = [];
   counted = refl;
@@ -32,11 +32,11 @@ none_served settings old = record {
   remembers = record { user = tt; login = tt };
 }
 
-pub begun : (settings : Settings) (old : State) (session : Session) (id : ℤ) → session.user ≡ None → session.login ≡ None → id ≡ pos 1 → HasServed settings old old session id 0
+pub begun : (settings : ServeSettings) (old : State) (session : Session) (id : ℤ) → session.user ≡ None → session.login ≡ None → id ≡ pos 1 → HasServed settings old old session id 0
 begun settings old session id nobody none first =
     subst (λ i. HasServed settings old old session i 0) (sym first) (subst (λ s. HasServed settings old old s (pos 1) 0) (is_fresh session nobody none) (none_served settings old))
 
-pub one_more : (settings : Settings) (old mid new : State) (before : Session) (id : ℤ) (after : Session) (later : ℤ) (count : ℕ) (h : HasServed settings old mid before id count) → TakesTurn settings (documents h.turns) mid new before id after later
+pub one_more : (settings : ServeSettings) (old mid new : State) (before : Session) (id : ℤ) (after : Session) (later : ℤ) (count : ℕ) (h : HasServed settings old mid before id count) → TakesTurn settings (documents h.turns) mid new before id after later
     → HasServed settings old new after later (count + 1)
 one_more settings old mid new before id after later count h t =
     let last = t.turn ∷ [] in
@@ -47,14 +47,14 @@ one_more settings old mid new before id after later count h t =
       answered = turns_more settings fresh (pos 1) before id after later h.turns t.turn h.answered t.is_turn;
       each = each_joined h.turns last h.each (t.is_taken, tt);
       consumed =
-          subst (Consumes old.left new.left) (sym (joined_append h.turns last ∙ ap (λ l. joined h.turns ++ l) (append-nil t.turn.frame))) (Consumes-trans old.left mid.left new.left (joined h.turns) t.turn.frame h.consumed t.consumed);
+          subst (Consumes old.left new.left) (sym (joined_append h.turns last ∙ ap (λ l. joined_frames h.turns ++ l) (append-nil t.turn.frame))) (Consumes-trans old.left mid.left new.left (joined_frames h.turns) t.turn.frame h.consumed t.consumed);
       appended = subst (Appends old.written new.written) (sym sent) (Appends-trans old.written mid.written new.written (sent_for h.turns) t.turn.sent h.appended t.appended);
       flushed = subst (HasFlushed old new) (sym sent) (flushed_on old mid new (sent_for h.turns) t.turn.sent h.appended h.flushed t.lasts.flushed t.flushed);
       lasts = lasts_on old mid new h.lasts t.lasts;
       remembers = subst (λ rs. Remembers settings rs after) (sym (documents_append h.turns last)) t.remembers;
     }
 
-pub has_ended : (settings : Settings) (old mid new : State) (before : Session) (id : ℤ) (after : Session) (count : ℕ) (h : HasServed settings old mid before id count) → NoTurn mid new before after
+pub has_ended : (settings : ServeSettings) (old mid new : State) (before : Session) (id : ℤ) (after : Session) (count : ℕ) (h : HasServed settings old mid before id count) → NoTurn mid new before after
     → IsServed settings old new (record { fault = None; user = after.user })
 has_ended settings old mid new before id after count h n =
     let turns = sym (append-nil h.turns) in
@@ -72,7 +72,7 @@ has_ended settings old mid new before id after count h n =
       more = [];
       part = inl (inl (omega arith));
       consumed =
-          subst (λ l. Consumes old.left new.left (l ++ [])) (ap joined turns) (subst (Consumes old.left new.left) (sym (append-nil (joined h.turns))) (Consumes-kept old.left mid.left new.left (joined h.turns) h.consumed n.ended.keeps));
+          subst (λ l. Consumes old.left new.left (l ++ [])) (ap joined_frames turns) (subst (Consumes old.left new.left) (sym (append-nil (joined_frames h.turns))) (Consumes-kept old.left mid.left new.left (joined_frames h.turns) h.consumed n.ended.keeps));
       appended = subst (λ l. Appends old.written new.written (sent_for l)) turns (subst (Appends old.written new.written) (append-nil (sent_for h.turns)) (Appends-trans old.written mid.written new.written (sent_for h.turns) [] h.appended n.appended));
       logged_in = subst (λ l. IfSome after.user (λ name. HasLoggedIn settings name (documents l))) turns (subst (λ s. IfSome s.user (λ name. HasLoggedIn settings name (documents h.turns))) (sym n.kept) h.remembers.user);
       cause = tt;
@@ -82,7 +82,7 @@ has_ended settings old mid new before id after count h n =
 is_fault : (fault : ServeFault) → Some fault ≡ None → ⊥
 is_fault fault e = cc
 
-pub was_cut : (settings : Settings) (old mid new : State) (before : Session) (id : ℤ) (user : Option (List ℕ)) (fault : ServeFault) (count : ℕ) (h : HasServed settings old mid before id count)
+pub was_cut : (settings : ServeSettings) (old mid new : State) (before : Session) (id : ℤ) (user : Option (List ℕ)) (fault : ServeFault) (count : ℕ) (h : HasServed settings old mid before id count)
     → IsCut settings (documents h.turns) mid new before id user fault → IsServed settings old new (record { fault = Some fault; user = user })
 was_cut settings old mid new before id user fault count h c =
     record {
@@ -99,15 +99,15 @@ was_cut settings old mid new before id user fault count h c =
       more = c.more;
       part = c.part;
       consumed =
-          subst (Consumes old.left new.left) (sym (ap (λ l. l ++ c.more) (joined_append h.turns c.turns) ∙ append_assoc (joined h.turns) (joined c.turns) c.more)) (Consumes-trans old.left mid.left new.left (joined h.turns) (joined c.turns ++ c.more) h.consumed c.consumed);
+          subst (Consumes old.left new.left) (sym (ap (λ l. l ++ c.more) (joined_append h.turns c.turns) ∙ append_assoc (joined_frames h.turns) (joined_frames c.turns) c.more)) (Consumes-trans old.left mid.left new.left (joined_frames h.turns) (joined_frames c.turns ++ c.more) h.consumed c.consumed);
       appended = subst (Appends old.written new.written) (sym (sent_append h.turns c.turns)) (Appends-trans old.written mid.written new.written (sent_for h.turns) (sent_for c.turns) h.appended c.appended);
       logged_in = subst (λ rs. IfSome user (λ name. HasLoggedIn settings name rs)) (sym (documents_append h.turns c.turns)) c.logged_in;
-      cause = cause_after fault (length h.turns) old mid new (joined h.turns) c.turns c.more h.lasts h.consumed c.cause;
+      cause = cause_after fault (length h.turns) old mid new (joined_frames h.turns) c.turns c.more h.lasts h.consumed c.cause;
       whole = λ is. absurd (is_fault fault is);
     }
 
 -- the turns are as many as are counted
-pub went_on : (settings : Settings) (old new : State) (session : Session) (id : ℤ) (count : ℕ) → count ≡ 2 ^ 64 - 1 → HasServed settings old new session id count
+pub went_on : (settings : ServeSettings) (old new : State) (session : Session) (id : ℤ) (count : ℕ) → count ≡ 2 ^ 64 - 1 → HasServed settings old new session id count
     → IsServed settings old new (record { fault = Some TooManyRequests; user = session.user })
 went_on settings old new session id count all h =
     let turns = sym (append-nil h.turns) in
@@ -124,7 +124,7 @@ went_on settings old new session id count all h =
       user_is = λ _. refl;
       more = [];
       part = inl (inl (omega arith));
-      consumed = subst (λ l. Consumes old.left new.left (l ++ [])) (ap joined turns) (subst (Consumes old.left new.left) (sym (append-nil (joined h.turns))) h.consumed);
+      consumed = subst (λ l. Consumes old.left new.left (l ++ [])) (ap joined_frames turns) (subst (Consumes old.left new.left) (sym (append-nil (joined_frames h.turns))) h.consumed);
       appended = subst (λ l. Appends old.written new.written (sent_for l)) turns h.appended;
       logged_in = subst (λ l. IfSome session.user (λ name. HasLoggedIn settings name (documents l))) turns h.remembers.user;
       cause = (h.counted ∙ all, refl, refl);

@@ -8,12 +8,12 @@ use Rattle.std.specs.List.{AllByRecursion}
 use Rattle.mongo_wire.specs.Outside.{State, WritesOn}
 use Rattle.mongo_serve.specs.declared.fault.ServeFault.{ServeFault}
 use Rattle.mongo_serve.specs.declared.session.Session.{Session}
-use Rattle.mongo_serve.specs.declared.settings.Settings.{Settings}
+use Rattle.mongo_serve.specs.declared.serve_settings.ServeSettings.{ServeSettings}
 use Rattle.mongo_serve.specs.Cut.{HasCause, IsCut, IsCutTurn, IsPart}
 use Rattle.mongo_serve.specs.Login.{HasLoggedIn, Remembers}
 use Rattle.mongo_serve.specs.Sent.{HasFlushed, WriteCause}
 use Rattle.mongo_serve.specs.Served.{Lasts, TakesTurn}
-use Rattle.mongo_serve.specs.Turns.{ServerTurn, IsTurnTaken, IsTurn, AreTurns, joined, documents, sent_for}
+use Rattle.mongo_serve.specs.Turns.{ServerTurn, IsTurnTaken, IsTurn, AreTurns, joined_frames, documents, sent_for}
 use Rattle.mongo_serve.proofs.Causes.{write_cause}
 use Rattle.mongo_serve.proofs.Lasts.{flushed_from, lasts_on, lasts_write}
 
@@ -21,7 +21,7 @@ pub each_joined : (xs ys : List ServerTurn) → AllByRecursion IsTurnTaken xs �
 each_joined [] ys all others = others
 each_joined (x ∷ xs) ys all others = (all.0, each_joined xs ys all.1 others)
 
-pub joined_append : (xs ys : List ServerTurn) → joined (xs ++ ys) ≡ joined xs ++ joined ys
+pub joined_append : (xs ys : List ServerTurn) → joined_frames (xs ++ ys) ≡ joined_frames xs ++ joined_frames ys
 joined_append xs ys = flat_map-append (λ t. t.frame) xs ys
 
 pub sent_append : (xs ys : List ServerTurn) → sent_for (xs ++ ys) ≡ sent_for xs ++ sent_for ys
@@ -37,7 +37,7 @@ one_joined : (f : ServerTurn → List ℕ) (turn : ServerTurn) → flat_map f (t
 one_joined f turn = append-nil (f turn)
 
 -- a request was taken, answered, and the answer sent
-pub turn_taken : (settings : Settings) (requests : List (List ℕ)) (old mid new : State) (before : Session) (id : ℤ) (after : Session) (later : ℤ) (turn : ServerTurn) → IsTurnTaken turn → Consumes old.left mid.left turn.frame → mid.written ≡ old.written
+pub turn_taken : (settings : ServeSettings) (requests : List (List ℕ)) (old mid new : State) (before : Session) (id : ℤ) (after : Session) (later : ℤ) (turn : ServerTurn) → IsTurnTaken turn → Consumes old.left mid.left turn.frame → mid.written ≡ old.written
     → Lasts old mid → WritesOn mid new → Appends mid.written new.written turn.sent → HasFlushed mid new turn.sent → IsTurn settings before id turn after later → Remembers settings (requests ++ turn.document ∷ []) after
     → TakesTurn settings requests old new before id after later
 turn_taken settings requests old mid new before id after later turn is_taken consumed unwritten lasts on appended flushed is_turn remembers = record {
@@ -52,7 +52,7 @@ turn_taken settings requests old mid new before id after later turn is_taken con
 }
 
 -- a request was taken, and its answer cut
-pub turn_cut : (too_long : Type 0) (settings : Settings) (requests : List (List ℕ)) (old mid new : State) (before : Session) (id : ℤ) (user : Option (List ℕ)) (fault : ServeFault) (turn : ServerTurn) → IsCutTurn settings before id user (Some fault) turn
+pub turn_cut : (too_long : Type 0) (settings : ServeSettings) (requests : List (List ℕ)) (old mid new : State) (before : Session) (id : ℤ) (user : Option (List ℕ)) (fault : ServeFault) (turn : ServerTurn) → IsCutTurn settings before id user (Some fault) turn
     → Consumes old.left mid.left turn.frame → mid.written ≡ old.written → Lasts old mid → WritesOn mid new → Appends mid.written new.written turn.sent → WriteCause too_long fault mid new
     → IfSome user (λ name. HasLoggedIn settings name (requests ++ turn.document ∷ [])) → IsCut settings requests old new before id user fault
 turn_cut too_long settings requests old mid new before id user fault turn is_cut consumed unwritten lasts on appended cause logged_in = record {
@@ -63,7 +63,7 @@ turn_cut too_long settings requests old mid new before id user fault turn is_cut
   more = [];
   part = inl (inl (omega arith));
   consumed =
-      subst (Consumes old.left new.left) (sym (append-nil (joined (turn ∷ [])) ∙ one_joined (λ t. t.frame) turn)) (subst (λ left. Consumes old.left left turn.frame) (sym on.unread.left) consumed);
+      subst (Consumes old.left new.left) (sym (append-nil (joined_frames (turn ∷ [])) ∙ one_joined (λ t. t.frame) turn)) (subst (λ left. Consumes old.left left turn.frame) (sym on.unread.left) consumed);
   appended = subst (Appends old.written new.written) (sym (one_joined (λ t. t.sent) turn)) (subst (λ written. Appends written new.written turn.sent) unwritten appended);
   logged_in = logged_in;
   stays = (lasts_on old mid new lasts (lasts_write mid new on)).flushed;
@@ -74,7 +74,7 @@ turn_cut too_long settings requests old mid new before id user fault turn is_cut
     filled e = cc
 
 -- no request was answered, but some bytes taken
-pub none_taken : (settings : Settings) (requests : List (List ℕ)) (old new : State) (before : Session) (id : ℤ) (user : Option (List ℕ)) (fault : ServeFault) (more : List ℕ) → user ≡ before.user → IsPart more → Consumes old.left new.left more
+pub none_taken : (settings : ServeSettings) (requests : List (List ℕ)) (old new : State) (before : Session) (id : ℤ) (user : Option (List ℕ)) (fault : ServeFault) (more : List ℕ) → user ≡ before.user → IsPart more → Consumes old.left new.left more
     → new.written ≡ old.written → IfSome before.user (λ name. HasLoggedIn settings name requests) → HasCause fault old new [] more → Lasts old new → IsCut settings requests old new before id user fault
 none_taken settings requests old new before id user fault more same part consumed unwritten logged_in cause lasts = record {
   turns = [];
@@ -92,7 +92,7 @@ none_taken settings requests old new before id user fault more same part consume
 
 -- ---- turns after turns
 
-pub turns_more : (settings : Settings) (before : Session) (id : ℤ) (between : Session) (next : ℤ) (after : Session) (later : ℤ) (turns : List ServerTurn) (turn : ServerTurn)
+pub turns_more : (settings : ServeSettings) (before : Session) (id : ℤ) (between : Session) (next : ℤ) (after : Session) (later : ℤ) (turns : List ServerTurn) (turn : ServerTurn)
     → AreTurns settings before id turns between next → IsTurn settings between next turn after later → AreTurns settings before id (turns ++ turn ∷ []) after later
 turns_more settings before id between next after later [] turn same is_turn =
     (after, later, subst (λ i. IsTurn settings before i turn after later) same.1 (subst (λ s. IsTurn settings s next turn after later) same.0 is_turn), (refl, refl))

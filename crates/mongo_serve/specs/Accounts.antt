@@ -6,7 +6,7 @@ use Rattle.mongo_scram.specs.declared.scram_version.ScramVersion.{ScramVersion}
 use Rattle.mongo_scram.specs.declared.scram_version.ScramVersion.TheVariants as version
 use Rattle.mongo_serve.specs.declared.reply.Mechanisms.{Mechanisms}
 use Rattle.mongo_serve.specs.declared.reply.Mechanisms.TheVariants.{Sha1, Sha256, Both}
-use Rattle.mongo_serve.specs.declared.settings.Account.{Account}
+use Rattle.mongo_serve.specs.declared.serve_settings.Account.{Account}
 
 -- two accounts of one user by one mechanism
 abbrev pub AreOfOneUser : Account → Account → Type 0

@@ -10,7 +10,7 @@ use Rattle.mongo_serve.specs.declared.request.Request.{Request}
 use Rattle.mongo_serve.specs.declared.request.Request.TheVariants.{Hello, SaslStart, SaslContinue, Ping, BuildInfo, EndSessions, Other}
 use Rattle.mongo_serve.specs.declared.request.StartRequest.{StartRequest as Start}
 use Rattle.mongo_serve.specs.declared.session.Session.{Session}
-use Rattle.mongo_serve.specs.declared.settings.Settings.{Settings}
+use Rattle.mongo_serve.specs.declared.serve_settings.ServeSettings.{ServeSettings}
 use Rattle.mongo_serve.specs.Accounts.{AreMechanismsOf}
 use Rattle.mongo_serve.specs.Sasl.{AnswersStart, AnswersContinue}
 
@@ -25,23 +25,23 @@ login_reply None = Refused AuthenticationFailed
 login_reply (Some message) = Sasl message
 
 -- the login that a hello carries is answered as if it came alone
-abbrev pub AnswersCarried : Settings → Session → Option Start → Session → Option SaslReply → Type 0
+abbrev pub AnswersCarried : ServeSettings → Session → Option Start → Session → Option SaslReply → Type 0
 AnswersCarried settings old None new answer = (answer ≡ None) × (new ≡ old)
 AnswersCarried settings old (Some start) new answer = AnswersStart settings start new answer
 
 -- A hello is answered by the mechanisms of the user that it asks for, and by what the login comes to that it carries.
-pub record AnswersHello (settings : Settings) (old : Session) (hello : Greeting) (new : Session) (reply : HelloAnswer) : Type 0 where
+pub record AnswersHello (settings : ServeSettings) (old : Session) (hello : Greeting) (new : Session) (reply : HelloAnswer) : Type 0 where
   pub user : new.user ≡ old.user
   pub legacy : reply.is_legacy ≡ hello.is_legacy
   pub mechanisms : AreMechanismsOf settings.accounts.items hello.mechanisms_of reply.mechanisms
   pub speculation : AnswersCarried settings old hello.speculation new reply.speculation
 
-abbrev pub IsDescription : Settings → Session → Greeting → Session → Reply → Type 0
+abbrev pub IsDescription : ServeSettings → Session → Greeting → Session → Reply → Type 0
 IsDescription settings old hello new (Described reply) = AnswersHello settings old hello new reply
 IsDescription settings old hello new reply = ⊥
 
 -- Only a hello and the commands of a login are answered before somebody is logged in.
-abbrev pub IsAnswer : Settings → Session → Request → Session → Reply → Type 0
+abbrev pub IsAnswer : ServeSettings → Session → Request → Session → Reply → Type 0
 IsAnswer settings old (Hello hello) new reply = IsDescription settings old hello new reply
 IsAnswer settings old (SaslStart start) new reply = (message : Option SaslReply) × (reply ≡ login_reply message) × AnswersStart settings start new message × (new.user ≡ old.user)
 IsAnswer settings old (SaslContinue next) new reply = (message : Option SaslReply) × (reply ≡ login_reply message) × AnswersContinue old next new message

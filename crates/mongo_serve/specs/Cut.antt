@@ -10,13 +10,13 @@ use Rattle.mongo_serve.specs.declared.fault.ServeFault.{ServeFault}
 use Rattle.mongo_serve.specs.declared.fault.ServeFault.TheVariants.{ReadFault, WriteFault, CutFrame, NoFrame, NoHello, ReplyTooLong, TooManyRequests, OutOfMemory}
 use Rattle.mongo_serve.specs.declared.reply.Reply.{Reply}
 use Rattle.mongo_serve.specs.declared.session.Session.{Session}
-use Rattle.mongo_serve.specs.declared.settings.Settings.{Settings}
+use Rattle.mongo_serve.specs.declared.serve_settings.ServeSettings.{ServeSettings}
 use Rattle.mongo_serve.specs.Login.{HasLoggedIn}
 use Rattle.mongo_serve.specs.Replies.{document_of_served, message_maximum}
 use Rattle.mongo_serve.specs.Requests.{IsGreeting}
 use Rattle.mongo_serve.specs.Sent.{CutsMessage, CutsQuery, IsLongMessage, IsLongReply}
 use Rattle.mongo_serve.specs.Taken.{CarriesRequest, IsMessage, IsQuery}
-use Rattle.mongo_serve.specs.Turns.{ServerTurn, IsTurnTaken, IsDocumentAnswered, joined, documents, sent_for}
+use Rattle.mongo_serve.specs.Turns.{ServerTurn, IsTurnTaken, IsDocumentAnswered, joined_frames, documents, sent_for}
 
 -- ---- a frame whose answer was cut
 
@@ -31,7 +31,7 @@ IsLong turn reply =
     (IsMessage turn.frame turn.document × IsLongMessage (document_of_served reply)) ⊎ (IsQuery turn.frame turn.document × IsLongReply (document_of_served reply))
 
 -- the request was answered by the session, which has this user then, and the reply sent in part, for this fault
-pub record IsCutTurn (settings : Settings) (before : Session) (id : ℤ) (user : Option (List ℕ)) (fault : Option ServeFault) (turn : ServerTurn) : Type 0 where
+pub record IsCutTurn (settings : ServeSettings) (before : Session) (id : ℤ) (user : Option (List ℕ)) (fault : Option ServeFault) (turn : ServerTurn) : Type 0 where
   pub is_taken : IsTurnTaken turn
   pub after : Session
   pub reply : Reply
@@ -91,14 +91,14 @@ HasCause OutOfMemory old new cut more = ⊤
 
 -- A turn was cut: a frame was taken and its answer cut, or some bytes were taken and nothing answered. Who is logged in has sent what a
 -- login takes.
-pub record IsCut (settings : Settings) (requests : List (List ℕ)) (old new : State) (before : Session) (id : ℤ) (user : Option (List ℕ)) (fault : ServeFault) : Type 0 where
+pub record IsCut (settings : ServeSettings) (requests : List (List ℕ)) (old new : State) (before : Session) (id : ℤ) (user : Option (List ℕ)) (fault : ServeFault) : Type 0 where
   pub turns : List ServerTurn
   pub one : length turns ≤ 1
   pub each : AllByRecursion (IsCutTurn settings before id user (Some fault)) turns
   pub none : turns ≡ [] → user ≡ before.user
   pub more : List ℕ
   pub part : IsPart more
-  pub consumed : Consumes old.left new.left (joined turns ++ more)
+  pub consumed : Consumes old.left new.left (joined_frames turns ++ more)
   pub appended : Appends old.written new.written (sent_for turns)
   pub logged_in : IfSome user (λ name. HasLoggedIn settings name (requests ++ documents turns))
   pub stays : old.flushed ≤ new.flushed

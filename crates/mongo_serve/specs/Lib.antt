@@ -13,8 +13,8 @@ pub mod Requests
 pub mod Run
 pub mod Sasl
 pub mod Sent
+pub mod ServeSettings
 pub mod Served
-pub mod Settings
 pub mod Taken
 pub mod Turns
 pub mod Values

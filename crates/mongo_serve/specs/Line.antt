@@ -4,38 +4,38 @@ use Rattle.std.specs.Io.KnownBytes.{Consumes}
 use Rattle.mongo_wire.specs.Outside.{State, ReadsOn, Rose, RanOut}
 use Rattle.mongo_wire.specs.declared.error.ErrorKind.{ErrorKind}
 use Rattle.mongo_wire.specs.declared.error.ErrorKind.TheVariants as kind
-use Rattle.mongo_serve.specs.Settings.{settings_said, settings_as_said}
-use Rattle.mongo_serve.specs.declared.settings.Settings.{Settings}
+use Rattle.mongo_serve.specs.ServeSettings.{settings_said, settings_as_said}
+use Rattle.mongo_serve.specs.declared.serve_settings.ServeSettings.{ServeSettings}
 use Rattle.mongo_serve.specs.declared.settings_line.LineError.{LineError}
 use Rattle.mongo_serve.specs.declared.settings_line.LineError.TheVariants as line
 
 -- the longest line, in bytes, without its line feed
-abbrev pub maximum_length : ℕ
-maximum_length = 4194304
+abbrev pub maximum_line_length : ℕ
+maximum_line_length = 4194304
 
 -- ---- one line
 
 abbrev pub HasNoLineFeed : List ℕ → Type 0
 HasNoLineFeed bytes = All (λ byte. byte ≢ 10) bytes
 
--- the first line, of at most `maximum_length` bytes, and its line feed were taken
+-- the first line, of at most `maximum_line_length` bytes, and its line feed were taken
 pub record TakesLine (old new : State) (line : List ℕ) : Type 0 where
   pub taken : Consumes old.left new.left (line ++ 10 ∷ [])
   pub first : HasNoLineFeed line
-  pub short : length line ≤ maximum_length
+  pub short : length line ≤ maximum_line_length
 
--- one byte more than `maximum_length` was taken, and no line feed
+-- one byte more than `maximum_line_length` was taken, and no line feed
 pub record HasLongLine (old new : State) : Type 0 where
   pub front : List ℕ
   pub taken : Consumes old.left new.left front
   pub unended : HasNoLineFeed front
-  pub long : length front ≡ maximum_length + 1
+  pub long : length front ≡ maximum_line_length + 1
 
--- The stream ended within the line: where its bytes are told, those that were left are no more than `maximum_length`, without a line
--- feed, and were all taken.
+-- The stream ended within the line: where its bytes are told, those that were left are no more than `maximum_line_length`, without a
+-- line feed, and were all taken.
 pub record EndsWithin (old new : State) : Type 0 where
   pub rose : Rose old.ends new.ends
-  pub ran_out : RanOut old.left new.left (maximum_length + 1)
+  pub ran_out : RanOut old.left new.left (maximum_line_length + 1)
   pub unended : IfSome old.left HasNoLineFeed
 
 -- why there is no line
@@ -54,13 +54,13 @@ pub record StopsWithin (old new : State) : Type 0 where
   pub last : List ℕ
   pub taken : Consumes old.left new.left (front ++ last)
   pub unended : HasNoLineFeed front
-  pub short : length front ≤ maximum_length
+  pub short : length front ≤ maximum_line_length
   pub one : length last ≤ 1
 
 -- ---- what the line says
 
 -- a line and its line feed were taken, nothing was written, and the line says these settings
-pub record IsAfterLine (old new : State) (settings : Settings) : Type 0 where
+pub record IsAfterLine (old new : State) (settings : ServeSettings) : Type 0 where
   pub on : ReadsOn old new
   pub line : List ℕ
   pub is_line : TakesLine old new line

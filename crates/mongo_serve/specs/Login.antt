@@ -8,8 +8,8 @@ use Rattle.mongo_wire.specs.declared.error.ErrorKind.{ErrorKind}
 use Rattle.mongo_serve.specs.Accounts.{IsFirstAccount}
 use Rattle.mongo_serve.specs.declared.session.OpenLogin.{OpenLogin}
 use Rattle.mongo_serve.specs.declared.session.Session.{Session}
-use Rattle.mongo_serve.specs.declared.settings.Account.{Account}
-use Rattle.mongo_serve.specs.declared.settings.Settings.{Settings}
+use Rattle.mongo_serve.specs.declared.serve_settings.Account.{Account}
+use Rattle.mongo_serve.specs.declared.serve_settings.ServeSettings.{ServeSettings}
 use Rattle.mongo_serve.specs.Requests.{OpensLogin, SaysSaslContinue}
 
 -- the exchange of an account (RFC 5802, section 3) with this suffix and the client's nonce
@@ -17,7 +17,7 @@ abbrev pub exchange_of : Account → List ℕ → List ℕ → Exchange
 exchange_of account suffix nonce = record { version = account.version; username = account.name; password = account.password; salt = account.salt; count = account.count; nonce = nonce; suffix = suffix }
 
 -- An exchange of the settings: of an account that counts, whose password its mechanism takes.
-pub record IsExchange (settings : Settings) (x : Exchange) : Type 0 where
+pub record IsExchange (settings : ServeSettings) (x : Exchange) : Type 0 where
   pub account : Account
   pub counts : IsFirstAccount settings.accounts.items account
   pub usable : (kind : ErrorKind) → PasswordRow account.version account.password kind → ⊥
@@ -44,7 +44,7 @@ pub record HasProved (x : Exchange) (requests : List (List ℕ)) : Type 0 where
   pub closes : SaysSaslContinue request (close_of x)
 
 -- the client's messages of an exchange of this user were sent
-pub record HasLoggedIn (settings : Settings) (name : List ℕ) (requests : List (List ℕ)) : Type 0 where
+pub record HasLoggedIn (settings : ServeSettings) (name : List ℕ) (requests : List (List ℕ)) : Type 0 where
   pub x : Exchange
   pub of_settings : IsExchange settings x
   pub name_is : name ≡ x.username
@@ -53,7 +53,7 @@ pub record HasLoggedIn (settings : Settings) (name : List ℕ) (requests : List 
 -- ---- what a session holds after these requests
 
 -- a login that goes on
-pub record IsOpenLogin (settings : Settings) (requests : List (List ℕ)) (login : OpenLogin) : Type 0 where
+pub record IsOpenLogin (settings : ServeSettings) (requests : List (List ℕ)) (login : OpenLogin) : Type 0 where
   pub x : Exchange
   pub of_settings : IsExchange settings x
   pub name_is : login.name ≡ x.username
@@ -61,6 +61,6 @@ pub record IsOpenLogin (settings : Settings) (requests : List (List ℕ)) (login
   pub opened : HasOpened x requests
   pub proved : login.is_proved ≡ true → HasProved x requests
 
-pub record Remembers (settings : Settings) (requests : List (List ℕ)) (session : Session) : Type 0 where
+pub record Remembers (settings : ServeSettings) (requests : List (List ℕ)) (session : Session) : Type 0 where
   pub user : IfSome session.user (λ name. HasLoggedIn settings name requests)
   pub login : IfSome session.login (IsOpenLogin settings requests)

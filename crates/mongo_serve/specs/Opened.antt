@@ -10,8 +10,8 @@ use Rattle.mongo_server.specs.Exchange.{Exchange, first_of}
 use Rattle.mongo_wire.specs.declared.error.ErrorKind.{ErrorKind}
 use Rattle.mongo_serve.specs.declared.open.OpenedLogin.{OpenedLogin}
 use Rattle.mongo_serve.specs.declared.request.StartRequest.{StartRequest}
-use Rattle.mongo_serve.specs.declared.settings.Account.{Account}
-use Rattle.mongo_serve.specs.declared.settings.Settings.{Settings}
+use Rattle.mongo_serve.specs.declared.serve_settings.Account.{Account}
+use Rattle.mongo_serve.specs.declared.serve_settings.ServeSettings.{ServeSettings}
 use Rattle.mongo_serve.specs.Login.{exchange_of}
 use Rattle.mongo_serve.specs.Sasl.{AsksFor, IsBegun}
 
@@ -56,6 +56,6 @@ OpensFor account suffix message skips None = (nonce : List ℕ) → IsOpening ac
 OpensFor account suffix message skips (Some opened) = (nonce : List ℕ) × IsOpening account suffix message nonce × BeginsExchange (exchange_of account suffix nonce) skips opened
 
 -- what a `saslStart` comes to: a login begins exactly where it asks for an exchange of the settings
-abbrev pub OpensBy : Settings → StartRequest → Option OpenedLogin → Type 0
+abbrev pub OpensBy : ServeSettings → StartRequest → Option OpenedLogin → Type 0
 OpensBy settings start None = (x : Exchange) → AsksFor settings start x → ⊥
 OpensBy settings start (Some opened) = (x : Exchange) × AsksFor settings start x × BeginsExchange x start.skips_empty_exchange opened

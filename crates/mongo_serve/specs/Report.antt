@@ -14,19 +14,19 @@ abbrev pub no_memory : List ℕ
 no_memory = codes "out of memory\n"
 
 -- how the stream ended
-abbrev pub end_line : Option ServeFault → List ℕ
-end_line None = codes "the client ended its stream\n"
-end_line (Some ReadFault) = codes "the link failed to give bytes\n"
-end_line (Some WriteFault) = codes "the link failed to take bytes\n"
-end_line (Some CutFrame) = codes "the stream ended within a frame\n"
-end_line (Some NoFrame) = codes "what came is no frame of this protocol\n"
-end_line (Some NoHello) = codes "an OP_QUERY asked for another command than hello\n"
-end_line (Some ReplyTooLong) = codes "a reply is too long\n"
-end_line (Some TooManyRequests) = codes "too many requests came\n"
-end_line (Some OutOfMemory) = no_memory
+abbrev pub ending_line : Option ServeFault → List ℕ
+ending_line None = codes "the client ended its stream\n"
+ending_line (Some ReadFault) = codes "the link failed to give bytes\n"
+ending_line (Some WriteFault) = codes "the link failed to take bytes\n"
+ending_line (Some CutFrame) = codes "the stream ended within a frame\n"
+ending_line (Some NoFrame) = codes "what came is no frame of this protocol\n"
+ending_line (Some NoHello) = codes "an OP_QUERY asked for another command than hello\n"
+ending_line (Some ReplyTooLong) = codes "a reply is too long\n"
+ending_line (Some TooManyRequests) = codes "too many requests came\n"
+ending_line (Some OutOfMemory) = no_memory
 
 abbrev pub report_text : Served → List ℕ
-report_text served = user_line served.user ++ end_line served.fault
+report_text served = user_line served.user ++ ending_line served.fault
 
 -- the first line was no settings
 abbrev pub no_settings : List ℕ

@@ -6,7 +6,7 @@ use Rattle.mongo_bson.specs.Document.{Element}
 use Rattle.mongo_bson.specs.Find.{IsFirstOf, BeginsWithKey}
 use Rattle.mongo_command.specs.Keys.{sasl_supported_mechs_key, speculative_authenticate_key}
 use Rattle.mongo_scram.specs.declared.scram_version.ScramVersion.{ScramVersion}
-use Rattle.mongo_serve.specs.Settings.{version_named}
+use Rattle.mongo_serve.specs.ServeSettings.{version_named}
 use Rattle.mongo_serve.specs.Values.{HasInside, HasText, HasTrue, HasOne, HoldsIfAny}
 use Rattle.mongo_serve.specs.declared.request.Request.{Request}
 use Rattle.mongo_serve.specs.declared.request.Request.TheVariants.{Hello as Greeting, SaslStart as Starting, SaslContinue as Continuing, Ping, BuildInfo, EndSessions, Other}

@@ -4,15 +4,15 @@ use Rattle.mongo_wire.specs.Outside.{State, Rose, AppendsFront}
 use Rattle.mongo_serve.specs.declared.fault.ServeFault.{ServeFault}
 use Rattle.mongo_serve.specs.declared.fault.ServeFault.TheVariants as fault
 use Rattle.mongo_serve.specs.declared.serve.Served.{Served}
-use Rattle.mongo_serve.specs.declared.settings.Settings.{Settings}
-use Rattle.mongo_serve.specs.declared.status.Status.{Status}
-use Rattle.mongo_serve.specs.declared.status.Status.TheVariants.{Ended, Broken, BadSettings, Usage, NoMemory}
+use Rattle.mongo_serve.specs.declared.serve_settings.ServeSettings.{ServeSettings}
+use Rattle.mongo_serve.specs.declared.status.ServeStatus.{ServeStatus}
+use Rattle.mongo_serve.specs.declared.status.ServeStatus.TheVariants.{Ended, Broken, BadSettings, Usage, NoMemory}
 use Rattle.mongo_serve.specs.Line.{IsAfterLine, HasNoSettings, StopsWithin}
 use Rattle.mongo_serve.specs.Report.{report_text, line_failed, no_memory, no_settings}
 use Rattle.mongo_serve.specs.Served.{IsServed}
 
 -- the number that the process ends with
-abbrev pub serve_code : Status → ℕ
+abbrev pub serve_code : ServeStatus → ℕ
 serve_code Ended = 0
 serve_code Broken = 1
 serve_code BadSettings = 2
@@ -20,7 +20,7 @@ serve_code Usage = 3
 serve_code NoMemory = 6
 
 -- the status by how the stream was left
-abbrev pub status_of_fault : Option ServeFault → Status
+abbrev pub status_of_fault : Option ServeFault → ServeStatus
 status_of_fault None = Ended
 status_of_fault (Some fault.OutOfMemory) = NoMemory
 status_of_fault (Some other) = Broken
@@ -37,8 +37,8 @@ abbrev pub WritesReport : ServeRun → List ℕ → Type 0
 WritesReport run text = AppendsFront run.report_old.written run.report_new.written text
 
 -- The first line was read as these settings, what follows it was served, and status and report say how that ended.
-pub record Ran (run : ServeRun) (status : Status) : Type 0 where
-  pub settings : Settings
+pub record Ran (run : ServeRun) (status : ServeStatus) : Type 0 where
+  pub settings : ServeSettings
   pub between : State
   pub after_line : IsAfterLine run.old between settings
   pub served : Served
@@ -51,7 +51,7 @@ abbrev pub SendsNothing : ServeRun → Type 0
 SendsNothing run = run.new.written ≡ run.old.written
 
 -- How a run ends. The link may fail, and memory run out, before there are settings: then no more than the first line was taken.
-abbrev pub RunEnds : ServeRun → Status → Type 0
+abbrev pub RunEnds : ServeRun → ServeStatus → Type 0
 RunEnds run Ended = Ran run Ended
 RunEnds run Broken = Ran run Broken ⊎ (Rose run.old.read_faults run.new.read_faults × StopsWithin run.old run.new × SendsNothing run × WritesReport run line_failed)
 RunEnds run BadSettings = HasNoSettings run.old run.new × SendsNothing run × WritesReport run no_settings

@@ -8,13 +8,13 @@ use Rattle.mongo_serve.specs.declared.request.ContinueRequest.{ContinueRequest}
 use Rattle.mongo_serve.specs.declared.request.StartRequest.{StartRequest}
 use Rattle.mongo_serve.specs.declared.session.OpenLogin.{OpenLogin}
 use Rattle.mongo_serve.specs.declared.session.Session.{Session}
-use Rattle.mongo_serve.specs.declared.settings.Settings.{Settings}
+use Rattle.mongo_serve.specs.declared.serve_settings.ServeSettings.{ServeSettings}
 use Rattle.mongo_serve.specs.Login.{IsExchange}
 
 -- ---- a login begins
 
 -- A `saslStart` asks for an exchange of the settings: by its mechanism, and by the client's first message.
-pub record AsksFor (settings : Settings) (start : StartRequest) (x : Exchange) : Type 0 where
+pub record AsksFor (settings : ServeSettings) (start : StartRequest) (x : Exchange) : Type 0 where
   pub of_settings : IsExchange settings x
   pub version_is : start.version ≡ Some x.version
   pub said : option_copied start.payload ≡ Some (open_of x)
@@ -27,14 +27,14 @@ pub record IsBegun (x : Exchange) (skips : Bool) (login : OpenLogin) : Type 0 wh
   pub unproved : login.is_proved ≡ false
 
 -- The login that was asked for has begun, and the message is the server's first.
-pub record BeginsLogin (settings : Settings) (start : StartRequest) (new : Session) (message : SaslReply) : Type 0 where
+pub record BeginsLogin (settings : ServeSettings) (start : StartRequest) (new : Session) (message : SaslReply) : Type 0 where
   pub x : Exchange
   pub asked : AsksFor settings start x
   pub begun : IsSomeAnd new.login (IsBegun x start.skips_empty_exchange)
   pub message_is : message ≡ record { is_done = false; payload = first_of x }
 
 -- What a `saslStart` comes to. It is refused exactly where it asks for no exchange of the settings; then no login goes on.
-abbrev pub AnswersStart : Settings → StartRequest → Session → Option SaslReply → Type 0
+abbrev pub AnswersStart : ServeSettings → StartRequest → Session → Option SaslReply → Type 0
 AnswersStart settings start new (Some message) = BeginsLogin settings start new message
 AnswersStart settings start new None = ((x : Exchange) → AsksFor settings start x → ⊥) × (new.login ≡ None)
 

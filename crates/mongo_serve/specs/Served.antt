@@ -9,11 +9,11 @@ use Rattle.mongo_serve.specs.declared.fault.ServeFault.{ServeFault}
 use Rattle.mongo_serve.specs.declared.fault.ServeFault.TheVariants.{TooManyRequests}
 use Rattle.mongo_serve.specs.declared.serve.Served.{Served}
 use Rattle.mongo_serve.specs.declared.session.Session.{Session}
-use Rattle.mongo_serve.specs.declared.settings.Settings.{Settings}
+use Rattle.mongo_serve.specs.declared.serve_settings.ServeSettings.{ServeSettings}
 use Rattle.mongo_serve.specs.Cut.{HasCause, IsCut, IsCutTurn, IsPart}
 use Rattle.mongo_serve.specs.Login.{HasLoggedIn, Remembers}
 use Rattle.mongo_serve.specs.Sent.{HasFlushed}
-use Rattle.mongo_serve.specs.Turns.{ServerTurn, IsTurnTaken, IsTurn, AreTurns, fresh, joined, documents, sent_for}
+use Rattle.mongo_serve.specs.Turns.{ServerTurn, IsTurnTaken, IsTurn, AreTurns, fresh, joined_frames, documents, sent_for}
 
 -- the counts of faults and ends, and what is flushed, don't fall
 pub record Lasts (old new : State) : Type 0 where
@@ -24,7 +24,7 @@ pub record Lasts (old new : State) : Type 0 where
 
 -- ---- one turn
 
-pub record TakesTurn (settings : Settings) (requests : List (List ℕ)) (old new : State) (before : Session) (id : ℤ) (after : Session) (later : ℤ) : Type 0 where
+pub record TakesTurn (settings : ServeSettings) (requests : List (List ℕ)) (old new : State) (before : Session) (id : ℤ) (after : Session) (later : ℤ) : Type 0 where
   pub turn : ServerTurn
   pub is_taken : IsTurnTaken turn
   pub is_turn : IsTurn settings before id turn after later
@@ -42,13 +42,13 @@ pub record NoTurn (old new : State) (before after : Session) : Type 0 where
   pub kept : after ≡ before
 
 -- what a turn comes to
-abbrev pub TurnEnds : Settings → List (List ℕ) → State → State → Session → ℤ → Session → ℤ → Result Bool ServeFault → Type 0
+abbrev pub TurnEnds : ServeSettings → List (List ℕ) → State → State → Session → ℤ → Session → ℤ → Result Bool ServeFault → Type 0
 TurnEnds settings requests old new before id after later (Ok true) = TakesTurn settings requests old new before id after later
 TurnEnds settings requests old new before id after later (Ok false) = NoTurn old new before after
 TurnEnds settings requests old new before id after later (Err fault) = IsCut settings requests old new before id after.user fault
 
 -- the same, where there was a header
-abbrev pub PartEnds : Settings → List (List ℕ) → State → State → Session → ℤ → Session → ℤ → Result ⊤ ServeFault → Type 0
+abbrev pub PartEnds : ServeSettings → List (List ℕ) → State → State → Session → ℤ → Session → ℤ → Result ⊤ ServeFault → Type 0
 PartEnds settings requests old new before id after later (Ok done) = TakesTurn settings requests old new before id after later
 PartEnds settings requests old new before id after later (Err fault) = IsCut settings requests old new before id after.user fault
 
@@ -72,12 +72,12 @@ pub record IsBackAt (before now : State) : Type 0 where
 -- ---- the stream
 
 -- so many turns so far, each answered, and what the session remembers of them
-pub record HasServed (settings : Settings) (old new : State) (session : Session) (id : ℤ) (count : ℕ) : Type 0 where
+pub record HasServed (settings : ServeSettings) (old new : State) (session : Session) (id : ℤ) (count : ℕ) : Type 0 where
   pub turns : List ServerTurn
   pub counted : length turns ≡ count
   pub answered : AreTurns settings fresh (pos 1) turns session id
   pub each : AllByRecursion IsTurnTaken turns
-  pub consumed : Consumes old.left new.left (joined turns)
+  pub consumed : Consumes old.left new.left (joined_frames turns)
   pub appended : Appends old.written new.written (sent_for turns)
   pub flushed : HasFlushed old new (sent_for turns)
   pub lasts : Lasts old new
@@ -91,7 +91,7 @@ HasCauseAfter fault count old new cut more = HasCause fault old new cut more
 -- The frames that were taken carry requests, one after another, and what was sent are the replies to them, numbered from 1 and flushed;
 -- the last may have been cut, and so the answer to it. Where the client ended its stream, nothing was cut, and nothing was taken after
 -- the last frame. Who is logged in has sent, among just these requests, the messages of a login.
-pub record IsServed (settings : Settings) (old new : State) (served : Served) : Type 0 where
+pub record IsServed (settings : ServeSettings) (old new : State) (served : Served) : Type 0 where
   pub turns : List ServerTurn
   pub session : Session
   pub id : ℤ
@@ -104,7 +104,7 @@ pub record IsServed (settings : Settings) (old new : State) (served : Served) : 
   pub user_is : cut ≡ [] → served.user ≡ session.user
   pub more : List ℕ
   pub part : IsPart more
-  pub consumed : Consumes old.left new.left (joined (turns ++ cut) ++ more)
+  pub consumed : Consumes old.left new.left (joined_frames (turns ++ cut) ++ more)
   pub appended : Appends old.written new.written (sent_for (turns ++ cut))
   pub logged_in : IfSome served.user (λ name. HasLoggedIn settings name (documents (turns ++ cut)))
   pub cause : IfSome served.fault (λ fault. HasCauseAfter fault (length turns) old new cut more)

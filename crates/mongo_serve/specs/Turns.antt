@@ -3,7 +3,7 @@ use Rattle.std.specs.Prelude.{◌≡◌, ℕ, ℤ, ◌⊎◌, None, List, [], �
 use Rattle.mongo_serve.specs.declared.reply.Reply.{Reply}
 use Rattle.mongo_serve.specs.declared.request.Request.{Request}
 use Rattle.mongo_serve.specs.declared.session.Session.{Session}
-use Rattle.mongo_serve.specs.declared.settings.Settings.{Settings}
+use Rattle.mongo_serve.specs.declared.serve_settings.ServeSettings.{ServeSettings}
 use Rattle.mongo_serve.specs.Answers.{IsAnswer}
 use Rattle.mongo_serve.specs.Requests.{SaysRequest, IsGreeting}
 use Rattle.mongo_serve.specs.Sent.{AnswersMessage, AnswersQuery}
@@ -21,8 +21,8 @@ IsTurnTaken turn = CarriesRequest turn.frame turn.document
 -- ---- turns, one after another
 
 -- the bytes of their frames, joined
-abbrev pub joined : List ServerTurn → List ℕ
-joined turns = flat_map (λ t. t.frame) turns
+abbrev pub joined_frames : List ServerTurn → List ℕ
+joined_frames turns = flat_map (λ t. t.frame) turns
 
 -- what they ask with, in their order
 abbrev pub documents : List ServerTurn → List (List ℕ)
@@ -39,19 +39,19 @@ AnswersIn turn reply id later =
     AnswersMessage turn.frame turn.document reply id later turn.sent ⊎ (IsQuery turn.frame turn.document × IsGreeting turn.document × AnswersQuery turn.frame reply id later turn.sent)
 
 -- what a session answers to a document
-pub record IsDocumentAnswered (settings : Settings) (before : Session) (document : List ℕ) (after : Session) (reply : Reply) : Type 0 where
+pub record IsDocumentAnswered (settings : ServeSettings) (before : Session) (document : List ℕ) (after : Session) (reply : Reply) : Type 0 where
   pub request : Request
   pub says : SaysRequest document request
   pub is_answer : IsAnswer settings before request after reply
 
 -- a turn: the request was answered by the session, and the reply sent
-pub record IsTurn (settings : Settings) (before : Session) (id : ℤ) (turn : ServerTurn) (after : Session) (later : ℤ) : Type 0 where
+pub record IsTurn (settings : ServeSettings) (before : Session) (id : ℤ) (turn : ServerTurn) (after : Session) (later : ℤ) : Type 0 where
   pub reply : Reply
   pub answered : IsDocumentAnswered settings before turn.document after reply
   pub sent : AnswersIn turn reply id later
 
 -- Each turn begins with the session that the one before it left, and the ids of the replies are counted on.
-abbrev pub AreTurns : Settings → Session → ℤ → List ServerTurn → Session → ℤ → Type 0
+abbrev pub AreTurns : ServeSettings → Session → ℤ → List ServerTurn → Session → ℤ → Type 0
 AreTurns settings before id [] after later = (after ≡ before) × (later ≡ id)
 AreTurns settings before id (turn ∷ turns) after later =
     (between : Session) × (next : ℤ) × IsTurn settings before id turn between next × AreTurns settings between next turns after later

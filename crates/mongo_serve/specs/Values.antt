@@ -55,9 +55,9 @@ string_of (Str text) = Some text
 string_of other = None
 
 -- the bytes of a binary
-abbrev pub binary_of : RawValue → Option (Bor (List ℕ))
-binary_of (Binary subtype bytes) = Some bytes
-binary_of other = None
+abbrev pub binary_bytes : RawValue → Option (Bor (List ℕ))
+binary_bytes (Binary subtype bytes) = Some bytes
+binary_bytes other = None
 
 abbrev pub inner_of : RawValue → Option RawDocument
 inner_of (Document inner) = Some inner

@@ -10,8 +10,8 @@ ghost use Rattle.mongo_serve.specs.declared.fault.ServeFault.TheVariants.{OutOfM
 use crate::fault::ServeFault;
 use crate::reply::{HelloAnswer, Mechanisms, RefusedCommand, Reply, SaslReply};
 use crate::request::{Hello, Request, StartRequest};
+use crate::serve_settings::{Account, ServeSettings};
 use crate::session::Session;
-use crate::settings::{Account, Settings};
 use mongo_bson::Text;
 use mongo_mac::Steps;
 use mongo_scram::ScramVersion;
@@ -19,9 +19,9 @@ use std::alloc::Global;
 use std::sync::ledger::Ledger;
 
 /// Answers a request.
-pub fn answer<G: Ledger>(
+pub fn answer_request<G: Ledger>(
     alloc: Global,
-    settings: &Settings,
+    settings: &ServeSettings,
     session: &mut Session,
     request: Request<'_>,
     steps: &mut Steps<G>,
@@ -54,7 +54,7 @@ pub fn answer<G: Ledger>(
 /// Answers a hello, and begins the login that it carries.
 pub fn greet<G: Ledger>(
     alloc: Global,
-    settings: &Settings,
+    settings: &ServeSettings,
     session: &mut Session,
     hello: Hello<'_>,
     steps: &mut Steps<G>,
@@ -76,7 +76,7 @@ pub fn greet<G: Ledger>(
 // Begins the login that a hello carries, where it carries one.
 fn begin<G: Ledger>(
     alloc: Global,
-    settings: &Settings,
+    settings: &ServeSettings,
     session: &mut Session,
     speculation: Option<StartRequest<'_>>,
     steps: &mut Steps<G>,

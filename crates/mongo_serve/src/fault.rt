@@ -73,12 +73,12 @@ impl From<Error> for ServeFault {
     ghost from_gives = { λ given fault. fault ≡ fault_of_kind given.kind };
 
     fn from(error: Error) -> ServeFault {
-        fault_of(&error.kind)
+        serve_fault_of(&error.kind)
     }
 }
 
 // By reference: behind each arm of a `match` on an error that is owned all of its parts would be let go.
-fn fault_of(kind: &ErrorKind) -> ServeFault
+fn serve_fault_of(kind: &ErrorKind) -> ServeFault
     ensures { result ≡ fault_of_kind kind.now }
 {
     match kind {

@@ -19,15 +19,15 @@ mod request;
 mod respond;
 mod run;
 mod serve;
+mod serve_settings;
 mod session;
-mod settings;
 mod settings_line;
 mod status;
 
 use mongo_wire::{StdLink, StdSink};
 use put_back::PutBack;
 use run::run_counted;
-use status::Status;
+use status::ServeStatus;
 use std::alloc::AllocGlobal;
 use std::marker::Brand;
 use std::process::ExitCode;
@@ -39,14 +39,14 @@ use std::{env, io};
 /// name, and 6 where these can't be had.
 fn main(rt: HostRuntime) -> ExitCode {
     let status = match has_words(&rt) {
-        Ok(true) => Status::Usage,
+        Ok(true) => ServeStatus::Usage,
         Ok(false) => run_counted::<_, _, Brand>(
             rt.alloc(),
             &mut PutBack::new(rt.alloc(), StdLink::new(rt.stdin(), rt.stdout())),
             &mut StdSink::new(rt.stderr()),
             Blank::new(1),
         ),
-        Err(_) => Status::NoMemory,
+        Err(_) => ServeStatus::NoMemory,
     };
     ExitCode::from(status)
 }

@@ -7,8 +7,8 @@ ghost use Rattle.mongo_serve.specs.declared.fault.ServeFault.TheVariants.{OutOfM
 
 use crate::fault::ServeFault;
 use crate::request::StartRequest;
+use crate::serve_settings::{Account, ServeSettings};
 use crate::session::OpenLogin;
-use crate::settings::{Account, Settings};
 use mongo_bson::Text;
 use mongo_mac::Steps;
 use mongo_scram::{ScramVersion, push_user_name};
@@ -29,7 +29,7 @@ pub struct OpenedLogin {
 /// names. None where there is no such account, where its mechanism doesn't take its password, and where the message's nonce isn't one.
 pub fn open_login<G: Ledger>(
     alloc: Global,
-    settings: &Settings,
+    settings: &ServeSettings,
     start: StartRequest<'_>,
     steps: &mut Steps<G>,
 ) -> Result<Option<OpenedLogin>, ServeFault>

@@ -5,7 +5,7 @@ ghost use Rattle.mongo_bson.specs.Framed.{IsFramed};
 ghost use Rattle.mongo_bson.specs.Reading.{NoneAtFront};
 ghost use Rattle.mongo_serve.specs.Taken.{HasNoQuery, IsCommandOf, IsQueryBody, IsQueryOf};
 
-use crate::request::{command_name, document_in};
+use crate::request::{command_name, inner_document};
 use mongo_bson::{RawDocument, take_cstring};
 
 /// The command that what follows the header of an OP_QUERY asks for: `int32` flags, the collection's name as a cstring, two `int32`, a
@@ -16,17 +16,17 @@ pub fn command_of_query<'a>(body: &'a [u8]) -> Option<RawDocument<'a>>
     ensures { MatchOption result ((command : List ℕ) → IsQueryBody body.now command → ⊥) (λ command. IsQueryBody body.now command.bytes.now) }
 {
     match document_of_query(body) {
-        Some(document) => command_of(document),
+        Some(document) => query_command(document),
         None => None,
     }
 }
 
 // The command of a query's document.
-fn command_of<'a>(document: RawDocument<'a>) -> Option<RawDocument<'a>>
+fn query_command<'a>(document: RawDocument<'a>) -> Option<RawDocument<'a>>
     ensures { MatchOption result ((command : List ℕ) → IsCommandOf document.entry.bytes.now command → ⊥) (λ command. IsCommandOf document.entry.bytes.now command.bytes.now) }
 {
     match command_name(document) {
-        "$query" => document_in(document, "$query"),
+        "$query" => inner_document(document, "$query"),
         _ => Some(document),
     }
 }
@@ -35,16 +35,16 @@ fn command_of<'a>(document: RawDocument<'a>) -> Option<RawDocument<'a>>
 fn document_of_query<'a>(body: &'a [u8]) -> Option<RawDocument<'a>>
     ensures { MatchOption result (HasNoQuery body.now) (λ document. IsQueryOf body.now document.bytes.now) }
 {
-    let after_flags = after(body, 4)?;
+    let after_flags = bytes_after(body, 4)?;
     let (collection, after_name) = take_cstring(after_flags)?;
     match collection {
-        "admin.$cmd" => document_at_front(after(after_name, 8)?),
+        "admin.$cmd" => document_at_front(bytes_after(after_name, 8)?),
         _ => None,
     }
 }
 
 // What follows so many bytes.
-fn after(bytes: &[u8], count: usize) -> Option<&[u8]>
+fn bytes_after(bytes: &[u8], count: usize) -> Option<&[u8]>
     ensures { MatchOption result (length bytes.now < count) (λ rest. (front : List ℕ) × (length front ≡ count) × (bytes.now ≡ front ++ rest.now)) }
 {
     if bytes.len() < count {

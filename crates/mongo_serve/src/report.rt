@@ -1,7 +1,7 @@
 //! What is said of a stream's end, for people.
 
 ghost use Rattle.std.specs.Prelude.{◌≡◌, IfOk};
-ghost use Rattle.mongo_serve.specs.Report.{report_text, user_line, end_line};
+ghost use Rattle.mongo_serve.specs.Report.{report_text, user_line, ending_line};
 
 use crate::fault::ServeFault;
 use crate::serve::Served;
@@ -9,7 +9,7 @@ use mongo_bson::{BsonFault, Text};
 use std::alloc::Global;
 
 /// Two lines: who was logged in, and how the stream ended.
-pub fn report_of(alloc: Global, served: &Served) -> Result<Text, BsonFault>
+pub fn report_text(alloc: Global, served: &Served) -> Result<Text, BsonFault>
     ensures { IfOk result (λ text. text ≡ report_text served.now) }
 {
     let mut text = user_line(alloc, &served.user)?;
@@ -34,7 +34,7 @@ fn user_line(alloc: Global, user: &Option<Text>) -> Result<Text, BsonFault>
 
 // How the stream ended.
 fn end_of(fault: Option<ServeFault>) -> &'static str
-    ensures { result.now ≡ end_line fault }
+    ensures { result.now ≡ ending_line fault }
 {
     match fault {
         None => "the client ended its stream\n",

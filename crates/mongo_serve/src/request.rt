@@ -2,9 +2,9 @@
 
 ghost use Rattle.std.specs.Prelude.{◌≡◌, ◌↔◌, ℕ, List, MatchOption, IsTrue};
 ghost use Rattle.mongo_sasl.specs.Keys.{conversation_id_key, sasl_start_key};
-ghost use Rattle.mongo_serve.specs.Settings.{version_named};
+ghost use Rattle.mongo_serve.specs.ServeSettings.{version_named};
 ghost use Rattle.mongo_serve.specs.Requests.{AsksMechanismsOf, CarriesLogin, HasPayload, IsCommandName, IsCommandNamed, name_without_database, SaysRequest, SaysStart, SaysVersion, SkipsEmptyExchange};
-ghost use Rattle.mongo_serve.specs.Values.{binary_of, HasInside, HasOne, HasText, HasTrue, HoldsIfAny, inner_of, SaysOne, IsTrueBoolean, StandsAt, string_of};
+ghost use Rattle.mongo_serve.specs.Values.{binary_bytes, HasInside, HasOne, HasText, HasTrue, HoldsIfAny, inner_of, SaysOne, IsTrueBoolean, StandsAt, string_of};
 
 use mongo_bson::{RawDocument, RawValue, first_key};
 use mongo_command::keys::{SASL_SUPPORTED_MECHS, SPECULATIVE_AUTHENTICATE};
@@ -67,11 +67,11 @@ pub fn request_of<'a>(document: RawDocument<'a>) -> Request<'a>
     ensures { SaysRequest document.entry.bytes.now result }
 {
     match command_name(document) {
-        "hello" => Request::Hello(hello_of(document, false)),
-        LEGACY_HELLO_COMMAND_NAME => Request::Hello(hello_of(document, true)),
-        LEGACY_HELLO_COMMAND_NAME_LOWERCASE => Request::Hello(hello_of(document, true)),
-        SASL_START => Request::SaslStart(start_of(document)),
-        SASL_CONTINUE => Request::SaslContinue(continue_of(document)),
+        "hello" => Request::Hello(hello_request_of(document, false)),
+        LEGACY_HELLO_COMMAND_NAME => Request::Hello(hello_request_of(document, true)),
+        LEGACY_HELLO_COMMAND_NAME_LOWERCASE => Request::Hello(hello_request_of(document, true)),
+        SASL_START => Request::SaslStart(start_request_of(document)),
+        SASL_CONTINUE => Request::SaslContinue(continue_request_of(document)),
         "ping" => Request::Ping,
         "buildInfo" => Request::BuildInfo,
         "buildinfo" => Request::BuildInfo,
@@ -90,7 +90,7 @@ pub fn command_name<'a>(document: RawDocument<'a>) -> &'a str
     }
 }
 
-fn hello_of<'a>(document: RawDocument<'a>, is_legacy: bool) -> Hello<'a>
+fn hello_request_of<'a>(document: RawDocument<'a>, is_legacy: bool) -> Hello<'a>
     ensures legacy { result.is_legacy ≡ is_legacy }
     ensures mechanisms { HoldsIfAny (AsksMechanismsOf document.entry.bytes.now) result.mechanisms_of }
     ensures speculation { CarriesLogin document.entry.bytes.now result.speculation }
@@ -106,7 +106,7 @@ fn hello_of<'a>(document: RawDocument<'a>, is_legacy: bool) -> Hello<'a>
 fn user_asked_of<'a>(document: RawDocument<'a>) -> Option<&'a str>
     ensures { HoldsIfAny (AsksMechanismsOf document.entry.bytes.now) result }
 {
-    match text_in(document, SASL_SUPPORTED_MECHS) {
+    match text_value(document, SASL_SUPPORTED_MECHS) {
         Some(user) => Some(name_without_database(user)),
         None => None,
     }
@@ -116,7 +116,7 @@ fn user_asked_of<'a>(document: RawDocument<'a>) -> Option<&'a str>
 fn carried_start<'a>(document: RawDocument<'a>) -> Option<StartRequest<'a>>
     ensures { CarriesLogin document.entry.bytes.now result }
 {
-    match document_in(document, SPECULATIVE_AUTHENTICATE) {
+    match inner_document(document, SPECULATIVE_AUTHENTICATE) {
         Some(inner) => speculation_of(inner),
         None => None,
     }
@@ -127,7 +127,7 @@ fn speculation_of<'a>(document: RawDocument<'a>) -> Option<StartRequest<'a>>
     ensures { MatchOption result (IsCommandNamed document.entry.bytes.now sasl_start_key → ⊥) (SaysStart document.entry.bytes.now) }
 {
     match command_name(document) {
-        SASL_START => Some(start_of(document)),
+        SASL_START => Some(start_request_of(document)),
         _ => None,
     }
 }
@@ -142,23 +142,23 @@ fn name_without_database(user: &str) -> &str
     }
 }
 
-fn start_of<'a>(document: RawDocument<'a>) -> StartRequest<'a>
+fn start_request_of<'a>(document: RawDocument<'a>) -> StartRequest<'a>
     ensures version { SaysVersion document.entry.bytes.now result.version }
     ensures message { HoldsIfAny (HasPayload document.entry.bytes.now) result.payload }
     ensures skips { IsTrue result.skips_empty_exchange ↔ SkipsEmptyExchange document.entry.bytes.now }
 {
     StartRequest {
-        version: version_in(document),
+        version: requested_version(document),
         payload: payload_of(document),
         skips_empty_exchange: skips_empty_exchange(document),
     }
 }
 
 // The version of SCRAM that the mechanism names.
-fn version_in(document: RawDocument<'_>) -> Option<ScramVersion>
+fn requested_version(document: RawDocument<'_>) -> Option<ScramVersion>
     ensures { SaysVersion document.entry.bytes.now result }
 {
-    match text_in(document, MECHANISM) {
+    match text_value(document, MECHANISM) {
         Some(name) => version_named(name),
         None => None,
     }
@@ -168,13 +168,13 @@ fn version_in(document: RawDocument<'_>) -> Option<ScramVersion>
 fn skips_empty_exchange(document: RawDocument<'_>) -> bool
     ensures { IsTrue result ↔ SkipsEmptyExchange document.entry.bytes.now }
 {
-    match document_in(document, OPTIONS) {
+    match inner_document(document, OPTIONS) {
         Some(options) => is_true_in(options, "skipEmptyExchange"),
         None => false,
     }
 }
 
-fn continue_of<'a>(document: RawDocument<'a>) -> ContinueRequest<'a>
+fn continue_request_of<'a>(document: RawDocument<'a>) -> ContinueRequest<'a>
     ensures conversation { IsTrue result.is_of_conversation ↔ HasOne document.entry.bytes.now conversation_id_key }
     ensures message { HoldsIfAny (HasPayload document.entry.bytes.now) result.payload }
 {
@@ -200,13 +200,13 @@ fn payload_of<'a>(document: RawDocument<'a>) -> Option<&'a [u8]>
     ensures { HoldsIfAny (HasPayload document.entry.bytes.now) result }
 {
     match value_in(document, PAYLOAD) {
-        Some(value) => binary_of(value),
+        Some(value) => binary_bytes(value),
         None => None,
     }
 }
 
 /// The document of a key.
-pub fn document_in<'a>(document: RawDocument<'a>, key: &str) -> Option<RawDocument<'a>>
+pub fn inner_document<'a>(document: RawDocument<'a>, key: &str) -> Option<RawDocument<'a>>
     ensures { MatchOption result ((inner : List ℕ) → HasInside document.entry.bytes.now key.now inner → ⊥) (λ inner. HasInside document.entry.bytes.now key.now inner.bytes.now) }
 {
     match value_in(document, key) {
@@ -215,7 +215,7 @@ pub fn document_in<'a>(document: RawDocument<'a>, key: &str) -> Option<RawDocume
     }
 }
 
-fn text_in<'a>(document: RawDocument<'a>, key: &str) -> Option<&'a str>
+fn text_value<'a>(document: RawDocument<'a>, key: &str) -> Option<&'a str>
     ensures { HoldsIfAny (HasText document.entry.bytes.now key.now) result }
 {
     match value_in(document, key) {
@@ -262,8 +262,8 @@ fn string_of<'a>(value: RawValue<'a>) -> Option<&'a str>
     }
 }
 
-fn binary_of<'a>(value: RawValue<'a>) -> Option<&'a [u8]>
-    ensures { result ≡ binary_of value.entry }
+fn binary_bytes<'a>(value: RawValue<'a>) -> Option<&'a [u8]>
+    ensures { result ≡ binary_bytes value.entry }
 {
     match value {
         RawValue::Binary(_subtype, bytes) => Some(bytes),

@@ -34,13 +34,13 @@ pub fn respond<K: Sink>(
         return Ok(());
     }
     match document_of_reply(alloc, reply) {
-        Ok(document) => send_message(alloc, sink, request_id, document, ids),
+        Ok(document) => send_document(alloc, sink, request_id, document, ids),
         Err(fault) => Err(fault),
     }
 }
 
 // Writes a document as an OP_MSG, and flushes it.
-fn send_message<K: Sink>(
+fn send_document<K: Sink>(
     alloc: Global,
     sink: &mut K,
     request_id: i32,
@@ -94,7 +94,7 @@ pub fn respond_to_query<K: Sink>(
         Ok(frame) => frame,
         Err(fault) => return Err(fault),
     };
-    send(sink, frame.as_slice())
+    send_bytes(sink, frame.as_slice())
 }
 
 // The frame of an OP_REPLY.
@@ -124,7 +124,7 @@ fn header_of_reply(id: i32, to: i32, length: usize) -> Header
 }
 
 // Writes bytes and flushes them.
-fn send<K: Sink>(sink: &mut K, bytes: &[u8]) -> Result<(), ServeFault>
+fn send_bytes<K: Sink>(sink: &mut K, bytes: &[u8]) -> Result<(), ServeFault>
     ensures written { OnOk result (Appends (K.state sink.old).written (K.state sink.new).written bytes.now) }
     ensures flushed { OnOk result (IsFlushed (K.state sink.new)) }
     ensures front { OnErr result (AppendsFront (K.state sink.old).written (K.state sink.new).written bytes.now) }

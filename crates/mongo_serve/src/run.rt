@@ -11,10 +11,10 @@ mod tests;
 
 use crate::fault::ServeFault;
 use crate::put_back::PutBack;
-use crate::report::report_of;
+use crate::report::report_text;
 use crate::serve::{Served, serve};
-use crate::settings_line::{LineError, read_settings};
-use crate::status::Status;
+use crate::settings_line::{LineError, read_serve_settings};
+use crate::status::ServeStatus;
 use mongo_mac::Steps;
 use mongo_wire::{Link, Sink, write_all};
 use std::alloc::Global;
@@ -27,28 +27,28 @@ pub fn run<L: Link, K: Sink, G: Ledger>(
     link: &mut PutBack<L>,
     report: &mut K,
     steps: &mut Steps<G>,
-) -> Status
+) -> ServeStatus
     ensures ends { RunEnds (record { old = put_back_state L.state link.old; new = put_back_state L.state link.new; report_old = K.state report.old; report_new = K.state report.new }) result }
     ensures rises { steps.old ≤ steps.new }
 {
-    let settings = match read_settings(alloc, link) {
+    let settings = match read_serve_settings(alloc, link) {
         Ok(settings) => settings,
         Err(LineError::BadSettings) => {
             say(report, b"the first line is no settings\n");
-            return Status::BadSettings;
+            return ServeStatus::BadSettings;
         }
         Err(LineError::Fault) => {
             say(report, b"the link failed within the first line\n");
-            return Status::Broken;
+            return ServeStatus::Broken;
         }
         Err(LineError::OutOfMemory) => {
             say(report, b"out of memory\n");
-            return Status::NoMemory;
+            return ServeStatus::NoMemory;
         }
     };
     let served = serve(alloc, &settings, link, steps);
     tell(alloc, report, &served);
-    status_of(served.fault)
+    status_of_fault(served.fault)
 }
 
 /// [`run`] with a counter of its own, of the ledger that `blank` opens.
@@ -57,7 +57,7 @@ pub fn run_counted<L: Link, K: Sink, G: Ledger>(
     link: &mut PutBack<L>,
     report: &mut K,
     blank: Blank,
-) -> Status
+) -> ServeStatus
     requires name { blank.name ≡ G.name }
     requires parts { blank.parts ≡ G.parts }
     requires has_a_part { 0 < G.parts }
@@ -67,13 +67,13 @@ pub fn run_counted<L: Link, K: Sink, G: Ledger>(
     run(alloc, link, report, &mut steps)
 }
 
-fn status_of(fault: Option<ServeFault>) -> Status
+fn status_of_fault(fault: Option<ServeFault>) -> ServeStatus
     ensures { result ≡ status_of_fault fault }
 {
     match fault {
-        None => Status::Ended,
-        Some(ServeFault::OutOfMemory) => Status::NoMemory,
-        Some(_) => Status::Broken,
+        None => ServeStatus::Ended,
+        Some(ServeFault::OutOfMemory) => ServeStatus::NoMemory,
+        Some(_) => ServeStatus::Broken,
     }
 }
 
@@ -81,7 +81,7 @@ fn status_of(fault: Option<ServeFault>) -> Status
 fn tell<K: Sink>(alloc: Global, report: &mut K, served: &Served)
     ensures { AppendsFront (K.state report.old).written (K.state report.new).written (report_text served.now) }
 {
-    match report_of(alloc, served) {
+    match report_text(alloc, served) {
         Ok(text) => say(report, text.as_bytes()),
         Err(_) => {}
     }

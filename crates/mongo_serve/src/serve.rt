@@ -12,7 +12,7 @@ ghost use Rattle.mongo_serve.specs.Turns.{IsDocumentAnswered};
 ghost use Rattle.mongo_serve.specs.declared.fault.ServeFault.TheVariants.{NoHello, OutOfMemory};
 ghost use Rattle.mongo_wire.specs.declared.op_code.OpCode.TheVariants.{Query};
 
-use crate::answer::{answer, greet};
+use crate::answer::{answer_request, greet};
 use crate::fault::ServeFault;
 use crate::put_back::PutBack;
 use crate::query::command_of_query;
@@ -21,8 +21,8 @@ use crate::reply::Reply;
 use crate::reply_document::FRAME_MAXIMUM;
 use crate::request::{Request, request_of};
 use crate::respond::{respond, respond_to_query};
+use crate::serve_settings::ServeSettings;
 use crate::session::Session;
-use crate::settings::Settings;
 use mongo_bson::{RawDocument, Text};
 use mongo_mac::Steps;
 use mongo_wire::{FrameBuffer, Header, Link, OpCode, RequestIds, fill_or_end};
@@ -49,7 +49,7 @@ pub struct Serving {
 /// Answers the requests of a client until it ends its stream or a fault comes. It reads nothing past the last frame.
 pub fn serve<L: Link, G: Ledger>(
     alloc: Global,
-    settings: &Settings,
+    settings: &ServeSettings,
     link: &mut PutBack<L>,
     steps: &mut Steps<G>,
 ) -> Served
@@ -87,7 +87,7 @@ pub fn serve<L: Link, G: Ledger>(
 // Takes a request and answers it; says whether there was one.
 fn take_turn<L: Link, G: Ledger>(
     alloc: Global,
-    settings: &Settings,
+    settings: &ServeSettings,
     link: &mut PutBack<L>,
     serving: &mut Serving,
     steps: &mut Steps<G>,
@@ -110,7 +110,7 @@ fn take_turn<L: Link, G: Ledger>(
 // Takes what follows a header, and answers it.
 fn take_after<L: Link, G: Ledger>(
     alloc: Global,
-    settings: &Settings,
+    settings: &ServeSettings,
     link: &mut PutBack<L>,
     serving: &mut Serving,
     head: &[u8; 16],
@@ -136,7 +136,7 @@ fn take_after<L: Link, G: Ledger>(
 // Takes an OP_MSG and answers it.
 fn take_message<L: Link, G: Ledger>(
     alloc: Global,
-    settings: &Settings,
+    settings: &ServeSettings,
     link: &mut PutBack<L>,
     serving: &mut Serving,
     steps: &mut Steps<G>,
@@ -165,7 +165,7 @@ fn take_message<L: Link, G: Ledger>(
 // Answers what a document asks for.
 fn answer_document<G: Ledger>(
     alloc: Global,
-    settings: &Settings,
+    settings: &ServeSettings,
     session: &mut Session,
     document: RawDocument<'_>,
     steps: &mut Steps<G>,
@@ -176,13 +176,13 @@ fn answer_document<G: Ledger>(
     ensures refused { IfErr result (λ fault. fault ≡ OutOfMemory) }
     ensures rises { steps.old ≤ steps.new }
 {
-    answer(alloc, settings, session, request_of(document), steps)
+    answer_request(alloc, settings, session, request_of(document), steps)
 }
 
 // Takes the rest of an OP_QUERY, and answers it.
 fn take_query<L: Link, G: Ledger>(
     alloc: Global,
-    settings: &Settings,
+    settings: &ServeSettings,
     link: &mut PutBack<L>,
     serving: &mut Serving,
     head: &[u8; 16],
@@ -227,7 +227,7 @@ fn length_after(length: i32) -> Option<usize>
 // Answers a query's document, which has to ask for a hello.
 fn greet_query<G: Ledger>(
     alloc: Global,
-    settings: &Settings,
+    settings: &ServeSettings,
     session: &mut Session,
     document: RawDocument<'_>,
     steps: &mut Steps<G>,

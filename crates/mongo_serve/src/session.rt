@@ -4,7 +4,7 @@ use crate::fault::ServeFault;
 use crate::open::open_login;
 use crate::reply::SaslReply;
 use crate::request::{ContinueRequest, StartRequest};
-use crate::settings::Settings;
+use crate::serve_settings::ServeSettings;
 use mongo_bson::Text;
 use mongo_mac::Steps;
 use mongo_server::{ServerCore, ServerFault};
@@ -39,7 +39,7 @@ impl Session {
     ghost use Rattle.mongo_serve.specs.Login.{HasLoggedIn, IsOpenLogin, Remembers};
     ghost use Rattle.mongo_serve.specs.Requests.{OpensLogin, SaysSaslContinue};
     ghost use Rattle.mongo_serve.specs.Sasl.{AnswersStart, AnswersContinue};
-    ghost use Rattle.mongo_serve.specs.declared.settings.Settings.{Settings as SettingsValue};
+    ghost use Rattle.mongo_serve.specs.declared.serve_settings.ServeSettings.{ServeSettings as SettingsValue};
     ghost use Rattle.mongo_serve.specs.declared.fault.ServeFault.TheVariants.{OutOfMemory};
 
     /// Nobody is logged in, and no login goes on.
@@ -58,7 +58,7 @@ impl Session {
     pub fn start<G: Ledger>(
         &mut self,
         alloc: Global,
-        settings: &Settings,
+        settings: &ServeSettings,
         start: StartRequest<'_>,
         steps: &mut Steps<G>,
     ) -> Result<Option<SaslReply>, ServeFault>

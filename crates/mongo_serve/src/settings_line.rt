@@ -5,12 +5,12 @@ ghost use Rattle.std.specs.Io.KnownBytes.{Consumes};
 ghost use Rattle.mongo_wire.specs.Outside.{ConsumesAtMost, ReadsOn, Rose, RanOut};
 ghost use Rattle.mongo_serve.specs.Line.{IsAfterLine, HasNoLine, HasNoSettings, StopsWithin, TakesLine, line_error_of};
 
-use crate::settings::{Settings, SettingsError, settings_of};
+use crate::serve_settings::{ServeSettings, ServeSettingsError, serve_settings_of};
 use mongo_wire::{Error, ErrorKind, Source, SyncLittleEndianRead};
 use std::alloc::{AllocError, Global};
 
 /// The longest line of settings, in bytes, without its end.
-pub const MAXIMUM_LENGTH: usize = 4_194_304;
+pub const MAXIMUM_LINE_LENGTH: usize = 4_194_304;
 
 /// Why no settings were read.
 #[derive(Clone, Copy, Debug, PartialEq, Eq)]
@@ -35,7 +35,10 @@ impl From<AllocError> for LineError {
 }
 
 /// Reads the settings that the stream's first line is. Nothing after the line's end is read.
-pub fn read_settings<S: Source>(alloc: Global, source: &mut S) -> Result<Settings, LineError>
+pub fn read_serve_settings<S: Source>(
+    alloc: Global,
+    source: &mut S,
+) -> Result<ServeSettings, LineError>
     ensures line { IfOk result (IsAfterLine (S.state source.old) (S.state source.new)) }
     ensures none { IsErrOf result LineError.BadSettings → HasNoSettings (S.state source.old) (S.state source.new) }
     ensures failed { IsErrOf result LineError.Fault → Rose (S.state source.old).read_faults (S.state source.new).read_faults }
@@ -44,10 +47,10 @@ pub fn read_settings<S: Source>(alloc: Global, source: &mut S) -> Result<Setting
     ensures on { ReadsOn (S.state source.old) (S.state source.new) }
 {
     let line = read_line(alloc, source)?;
-    match settings_of(alloc, line.as_slice()) {
+    match serve_settings_of(alloc, line.as_slice()) {
         Ok(settings) => Ok(settings),
-        Err(SettingsError::BadSettings) => Err(LineError::BadSettings),
-        Err(SettingsError::OutOfMemory) => Err(LineError::OutOfMemory),
+        Err(ServeSettingsError::BadSettings) => Err(LineError::BadSettings),
+        Err(ServeSettingsError::OutOfMemory) => Err(LineError::OutOfMemory),
     }
 }
 
@@ -61,7 +64,7 @@ fn read_line<S: Source>(alloc: Global, source: &mut S) -> Result<Vec<u8>, LineEr
     ensures on { ReadsOn (S.state source.old) (S.state source.new) }
 {
     let mut line = Vec::new(alloc);
-    'reading: while line.len() <= MAXIMUM_LENGTH {
+    'reading: while line.len() <= MAXIMUM_LINE_LENGTH {
         let byte = next_byte(source)?;
         if byte == b'\n' {
             return Ok(line);

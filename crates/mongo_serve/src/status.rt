@@ -2,7 +2,7 @@ use std::process::ExitCode;
 
 /// How the program ended.
 #[derive(Clone, Copy, Debug, PartialEq, Eq)]
-pub enum Status {
+pub enum ServeStatus {
     /// 0: the client ended its stream between two frames.
     Ended = 0,
     /// 1: the client broke the protocol, or the link failed.
@@ -16,14 +16,14 @@ pub enum Status {
 }
 
 /// The number that the process ends with.
-impl From<Status> for ExitCode {
+impl From<ServeStatus> for ExitCode {
     ghost use Rattle.std.specs.Prelude.{◌≡◌};
     ghost use Rattle.std.specs.Process.{exit_status};
     ghost use Rattle.mongo_serve.specs.Run.{serve_code};
 
     ghost from_gives = { λ status code. exit_status code ≡ serve_code status };
 
-    fn from(status: Status) -> ExitCode {
+    fn from(status: ServeStatus) -> ExitCode {
         ExitCode::from(status as u8)
     }
 }

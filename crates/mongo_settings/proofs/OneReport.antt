@@ -10,7 +10,7 @@ use Rattle.mongo_establish.proofs.Establishment.{one_script, one_refusal, script
 use Rattle.mongo_settings.specs.declared.settings.Settings.{Settings}
 use Rattle.mongo_settings.specs.declared.rehearsal.Rehearsal.{Rehearsal}
 use Rattle.mongo_settings.specs.declared.rehearsal.RehearsalStatus.TheVariants.{Accepted, Refused}
-use Rattle.mongo_settings.specs.Report.{CountsItself, front_length, sent_lines, read_line, accepted_lines, refused_lines}
+use Rattle.mongo_settings.specs.Report.{CountsItself, front_length, sent_lines, read_count_line, accepted_lines, refused_lines}
 use Rattle.mongo_settings.specs.Outcome.{asked_of, AcceptedConnection, IsAcceptance, Outcome, accepted, refused, IsOutcome, WritesOutcome, taken_by, status_of, LeadsToAcceptance, IsRefused}
 use Rattle.mongo_settings.specs.Rehearsal.{outcome_lines, IsReport, IsRehearsal}
 use Rattle.mongo_settings.proofs.Frames.{no_frames, next_frame, front_length-front}
@@ -57,9 +57,9 @@ one_report settings text other r s =
     let same = same_outcome settings r.outcome s.outcome (concat r.frames) (concat s.frames) r.is_outcome s.is_outcome r.sent s.sent in
     let frames = one_framing r.frames s.frames r.each_frame s.each_frame same.sent in
     r.text_is
-    ∙ ap (λ f. sent_lines f ++ (read_line (length (taken_by r.outcome)) ++ outcome_lines settings r.outcome)) frames
-    ∙ ap (λ n. sent_lines s.frames ++ (read_line n ++ outcome_lines settings r.outcome)) same.count
-    ∙ ap (λ lines. sent_lines s.frames ++ (read_line (length (taken_by s.outcome)) ++ lines)) same.lines
+    ∙ ap (λ f. sent_lines f ++ (read_count_line (length (taken_by r.outcome)) ++ outcome_lines settings r.outcome)) frames
+    ∙ ap (λ n. sent_lines s.frames ++ (read_count_line n ++ outcome_lines settings r.outcome)) same.count
+    ∙ ap (λ lines. sent_lines s.frames ++ (read_count_line (length (taken_by s.outcome)) ++ lines)) same.lines
     ∙ sym s.text_is
 
 pub only_report : {E : Type 0} (settings : Settings) (r : Result Rehearsal E) → IfOk r (IsRehearsal settings) → IfOk r (λ x. (text : List ℕ) → IsReport settings text → text ≡ x.report.items)

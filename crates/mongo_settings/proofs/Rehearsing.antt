@@ -18,7 +18,7 @@ use Rattle.mongo_establish.proofs.Establishment.{RefusedBy, stopped_refusal}
 use Rattle.mongo_settings.proofs.Sent.{Framed-from_sent, Framed-from_said}
 use Rattle.mongo_settings.specs.declared.settings.Settings.{Settings}
 use Rattle.mongo_settings.specs.declared.rehearsal.Rehearsal.{Rehearsal}
-use Rattle.mongo_settings.specs.Report.{sent_lines, read_line, accepted_lines, refused_lines}
+use Rattle.mongo_settings.specs.Report.{sent_lines, read_count_line, accepted_lines, refused_lines}
 use Rattle.mongo_settings.specs.Outcome.{asked_of, accepted, refused}
 use Rattle.mongo_settings.specs.Telling.{TellsMade, IsReported, TellsRefused, Tells}
 use Rattle.mongo_settings.specs.Rehearsal.{LeftAs}
@@ -99,9 +99,9 @@ made settings old new after pooled output left taken x e p taken_is tells =
             each_frame = f.each;
             sent = subst (IsWritten (asked_of settings) e.script) f.joined e.is_written;
             text_is = (tells.text g.description e.connection.description_is).told f.frames [] f.each refl (whole_frames output f.frames (sent ∙ f.joined))
-                ∙ ap (λ n. sent_lines f.frames ++ (read_line n ++ accepted_lines g.description pooled.generation pooled.connection.server_id)) count
-                ∙ ap (λ generation. sent_lines f.frames ++ (read_line (length t.taken) ++ accepted_lines g.description generation pooled.connection.server_id)) e.generation
-                ∙ ap (λ i. sent_lines f.frames ++ (read_line (length t.taken) ++ accepted_lines g.description (generation_of (asked_of settings).pending.generation g.description) i)) e.connection.server_id;
+                ∙ ap (λ n. sent_lines f.frames ++ (read_count_line n ++ accepted_lines g.description pooled.generation pooled.connection.server_id)) count
+                ∙ ap (λ generation. sent_lines f.frames ++ (read_count_line (length t.taken) ++ accepted_lines g.description generation pooled.connection.server_id)) e.generation
+                ∙ ap (λ i. sent_lines f.frames ++ (read_count_line (length t.taken) ++ accepted_lines g.description (generation_of (asked_of settings).pending.generation g.description) i)) e.connection.server_id;
           };
           status_is = tells.status;
         };
@@ -136,9 +136,9 @@ told_refusal settings kind phase old new after output left taken refusal x kind_
             each_frame = f.each;
             sent = subst (IsSaid first.commands (asked_of settings).first_id) f.joined l.sent_is;
             text_is = tells.text.told f.frames [] f.each refl (whole_frames output f.frames (sent ∙ f.joined))
-                ∙ ap (λ n. sent_lines f.frames ++ (read_line n ++ refused_lines refusal.handshake_phase refusal.cause.kind)) count
-                ∙ ap (λ p. sent_lines f.frames ++ (read_line (length first.taken) ++ refused_lines p refusal.cause.kind)) (phase_is ∙ sym r.phase_is)
-                ∙ ap (λ k. sent_lines f.frames ++ (read_line (length first.taken) ++ refused_lines first.phase k)) (kind_is ∙ sym r.kind_is);
+                ∙ ap (λ n. sent_lines f.frames ++ (read_count_line n ++ refused_lines refusal.handshake_phase refusal.cause.kind)) count
+                ∙ ap (λ p. sent_lines f.frames ++ (read_count_line (length first.taken) ++ refused_lines p refusal.cause.kind)) (phase_is ∙ sym r.phase_is)
+                ∙ ap (λ k. sent_lines f.frames ++ (read_count_line (length first.taken) ++ refused_lines first.phase k)) (kind_is ∙ sym r.kind_is);
           };
           status_is = tells.status;
         };

@@ -6,7 +6,7 @@ use Rattle.mongo_wire.specs.Outside.{State, IsFlushed}
 use Rattle.mongo_establish.specs.Generation.{generation_of}
 use Rattle.mongo_settings.specs.declared.settings.Settings.{Settings}
 use Rattle.mongo_settings.specs.declared.rehearsal.Rehearsal.{Rehearsal}
-use Rattle.mongo_settings.specs.Report.{CountsItself, sent_lines, read_line, accepted_lines, refused_lines}
+use Rattle.mongo_settings.specs.Report.{CountsItself, sent_lines, read_count_line, accepted_lines, refused_lines}
 use Rattle.mongo_settings.specs.Outcome.{asked_of, Outcome, accepted, refused, IsOutcome, WritesOutcome, taken_by, status_of}
 
 -- the lines that say how it came out
@@ -18,7 +18,7 @@ outcome_lines settings (refused refusal) = refused_lines refusal.phase refusal.k
 
 -- the frames that were written, how many reply bytes were taken, and how it came out
 abbrev pub report_of : Settings → Outcome → List (List ℕ) → List ℕ
-report_of settings outcome frames = sent_lines frames ++ (read_line (length (taken_by outcome)) ++ outcome_lines settings outcome)
+report_of settings outcome frames = sent_lines frames ++ (read_count_line (length (taken_by outcome)) ++ outcome_lines settings outcome)
 
 -- The text is the report of settings: of their outcome, with the frames of its commands.
 pub record IsReport (settings : Settings) (text : List ℕ) : Type 0 where

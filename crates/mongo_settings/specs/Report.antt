@@ -35,8 +35,8 @@ abbrev pub front_length : List ℕ → Option ℕ
 front_length bytes = fitting_length (length bytes) (from_le_bytes w32 bytes)
 
 -- `read` and how many bytes of the replies were taken
-unfoldable pub read_line : ℕ → List ℕ
-read_line count = line (codes "read") (decimal count ∷ [])
+unfoldable pub read_count_line : ℕ → List ℕ
+read_count_line count = line (codes "read") (decimal count ∷ [])
 
 -- the cause of a refusal: its name, the name of the fault inside, the server's number and the text that it carries
 unfoldable pub kind_line : ErrorKind → List ℕ

@@ -16,8 +16,8 @@ use Rattle.mongo_settings.specs.declared.settings.SettingsError.{SettingsError}
 use Rattle.mongo_settings.specs.declared.settings.SettingsError.TheVariants.{BadSettings, NotBuilt, OutOfMemory}
 
 -- the longest text of settings, in bytes
-abbrev pub maximum_length : ℕ
-maximum_length = 4194304
+abbrev pub maximum_settings_length : ℕ
+maximum_settings_length = 4194304
 
 -- one step after another: the first refusal is the answer
 infixl 10 ◌>>=◌
@@ -62,7 +62,7 @@ settings_of d = do
 -- The value of a text that isn't too long and holds no float.
 unfoldable pub value_judged : List ℕ → Result Data SettingsError
 value_judged text = do
-  short ← holds_or_bad (nat_le (length text) maximum_length)
+  short ← holds_or_bad (nat_le (length text) maximum_settings_length)
   d ← json_of text
   whole ← holds_or_bad (not (has_float d))
   Ok d

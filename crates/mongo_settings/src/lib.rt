@@ -24,6 +24,6 @@ pub use rehearsal::{
     Login, Rehearsal, RehearsalStatus, connect, new_state, prepare, report_outcome,
 };
 pub use report::line::{begin_line, end_line, push_hex, push_number, push_word};
-pub use settings::{MAXIMUM_LENGTH, Settings, SettingsError, read, settings_of};
+pub use settings::{MAXIMUM_SETTINGS_LENGTH, Settings, SettingsError, read, settings_of};
 pub use status::Status;
 pub use task::{Logins, Task};

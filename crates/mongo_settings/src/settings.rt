@@ -30,7 +30,7 @@ use serde_json::{Category, Value};
 use std::alloc::{AllocError, Global};
 
 /// The longest text of settings, in bytes.
-pub const MAXIMUM_LENGTH: usize = 4_194_304;
+pub const MAXIMUM_SETTINGS_LENGTH: usize = 4_194_304;
 
 /// What a rehearsal is told.
 #[derive(Debug, Drop)]
@@ -95,16 +95,16 @@ pub fn read(alloc: Global, text: &[u8]) -> Result<Settings, SettingsError>
     ensures settings { Gives (λ s. s) result (judged text.now) }
     ensures spoken { IfOk result (λ s. SpeaksFor s.credential) }
 {
-    let value = value_of(alloc, text)?;
+    let value = value_judged(alloc, text)?;
     settings_of(alloc, &value)
 }
 
 // The value of a text that isn't too long and holds no float.
 #[tactic(auto, unfolding(crate::specs::Settings::value_judged))]
-fn value_of(alloc: Global, text: &[u8]) -> Result<Value, SettingsError>
+fn value_judged(alloc: Global, text: &[u8]) -> Result<Value, SettingsError>
     ensures { Gives view result (value_judged text.now) }
 {
-    check(text.len() <= MAXIMUM_LENGTH)?;
+    check(text.len() <= MAXIMUM_SETTINGS_LENGTH)?;
     let value = json_of(alloc, text)?;
     check(!holds_float(&value))?;
     Ok(value)

@@ -132,36 +132,36 @@ fn told_of(document: &[u8]) -> Told {
 }
 
 // What a call gives that takes a reply, or the error that refuses it: how the call ended by it.
-trait Outcome {
+trait TellsEnd {
     fn told(&self) -> Told;
 }
 
-impl Outcome for Error {
+impl TellsEnd for Error {
     fn told(&self) -> Told {
         told_by(&self.kind)
     }
 }
 
-impl Outcome for RawCommandResponse {
+impl TellsEnd for RawCommandResponse {
     fn told(&self) -> Told {
         told_of(self.as_bytes())
     }
 }
 
-impl Outcome for RawDocument<'_> {
+impl TellsEnd for RawDocument<'_> {
     fn told(&self) -> Told {
         told_of(self.as_bytes())
     }
 }
 
-impl Outcome for HelloReply {
+impl TellsEnd for HelloReply {
     fn told(&self) -> Told {
         told_of(self.raw_command_response.as_bytes())
     }
 }
 
 // How a call ended.
-fn ended<R: Outcome + Drop, E: Outcome + Drop>(answer: Result<R, E>) -> Told {
+fn ended<R: TellsEnd + Drop, E: TellsEnd + Drop>(answer: Result<R, E>) -> Told {
     let call = Answered { answer };
     match &call.answer {
         Ok(reply) => reply.told(),
@@ -170,7 +170,7 @@ fn ended<R: Outcome + Drop, E: Outcome + Drop>(answer: Result<R, E>) -> Told {
 }
 
 // How a call ended that puts its reply into a buffer.
-fn ended_into<E: Outcome + Drop>(answer: Result<(), E>, buffer: &FrameBuffer) -> Told {
+fn ended_into<E: TellsEnd + Drop>(answer: Result<(), E>, buffer: &FrameBuffer) -> Told {
     let call = Answered { answer };
     match &call.answer {
         Ok(()) => told_message(buffer),

@@ -171,11 +171,11 @@ fn refusing(alloc: Global, errors: &RawArrayBuf) -> Result<RawDocumentBuf, Fail>
 }
 
 // What is asked of an error: how many write errors an insert has, and the place of the last of them.
-trait Refusal {
+trait CountsErrors {
     fn count_and_last(&self) -> Option<(usize, u32)>;
 }
 
-impl Refusal for Error {
+impl CountsErrors for Error {
     fn count_and_last(&self) -> Option<(usize, u32)> {
         match &self.kind {
             ErrorKind::InsertMany(failure) => last_of(failure.write_errors.as_ref()?),
@@ -185,7 +185,7 @@ impl Refusal for Error {
 }
 
 // The same of an insert, or none where it wasn't refused.
-fn count_and_last<E: Refusal + Drop>(answer: Result<(), E>) -> Option<(usize, u32)> {
+fn count_and_last<E: CountsErrors + Drop>(answer: Result<(), E>) -> Option<(usize, u32)> {
     let inserted = Answered { answer };
     match &inserted.answer {
         Ok(()) => None,

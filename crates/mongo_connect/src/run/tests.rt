@@ -3,7 +3,7 @@ ghost use Rattle.std.specs.Prelude.{◌<◌};
 mod logins;
 
 use super::run_counted;
-use logins::{Login, PLAIN, SCRAM, fault_at};
+use logins::{PLAIN, RecordedLogin, SCRAM, fault_at};
 use mongo_bson::Bytes;
 use mongo_settings::Status;
 use mongo_wire::FailingLink;
@@ -81,7 +81,7 @@ struct Ended {
 // parts.
 fn log_in(
     alloc: Global,
-    login: Login,
+    login: RecordedLogin,
     most: usize,
     link_fails: usize,
     report: [&'static str; 3],

@@ -1,5 +1,5 @@
 use super::failing::{exchanges_of, talk_of, who_of};
-use super::{End, Pool, SEVENTH, end_of, is_same_end, link_of, made_in_memory, new_state};
+use super::{End, PoolKind, SEVENTH, end_of, is_same_end, link_of, made_in_memory, new_state};
 use mongo_establish::{LoginState, RequestIds};
 use std::alloc::Global;
 use std::test::Fail;
@@ -34,7 +34,7 @@ fn cut_end_at(login: u8, heard: usize) -> End {
 fn ends_so(alloc: Global, login: u8, heard: &[u8], state: &mut LoginState) -> Result<bool, Fail> {
     let mut link = link_of(alloc, heard)?;
     state.ids = RequestIds::new(0);
-    let made = made_in_memory(alloc, who_of(login), Pool::Normal, &mut link, state)?;
+    let made = made_in_memory(alloc, who_of(login), PoolKind::Normal, &mut link, state)?;
     let taken = heard.len().saturating_sub(link.left().len());
     let end = end_of(made.told, state, link.written().len(), taken);
     Ok(is_same_end(&end, &cut_end_at(login, heard.len())))

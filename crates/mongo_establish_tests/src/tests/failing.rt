@@ -1,5 +1,5 @@
 use super::frames::{HELLO, STANDALONE};
-use super::{End, Pool, SEVENTH, Who, end_of, is_same_end, made_over_failing, new_state};
+use super::{End, PoolKind, SEVENTH, Who, end_of, is_same_end, made_over_failing, new_state};
 use mongo_bson::Bytes;
 use mongo_establish::{LoginState, RequestIds};
 use mongo_wire::{FailingLink, Sink, Source};
@@ -128,7 +128,7 @@ fn ends_so(
 ) -> Result<bool, Fail> {
     let mut link = failing_at(alloc, talk.heard.as_slice(), call)?;
     state.ids = RequestIds::new(0);
-    let made = made_over_failing(alloc, who_of(login), Pool::Normal, &mut link, state)?;
+    let made = made_over_failing(alloc, who_of(login), PoolKind::Normal, &mut link, state)?;
     let told = made.told;
     let taken = talk.heard.len().saturating_sub(link.left().len());
     let end = end_of(told, state, link.written().len(), taken);

@@ -1,7 +1,7 @@
 ghost use Rattle.std.specs.Prelude.{◌≤◌};
 
 use super::failing::{ACCEPTED, CHALLENGE, NEGOTIATED};
-use super::{End, Pool, SEVENTH, Who, end_of, is_same_end, made_in_memory, new_state};
+use super::{End, PoolKind, SEVENTH, Who, end_of, is_same_end, made_in_memory, new_state};
 use mongo_establish::{Bytes, MemoryLink};
 use std::alloc::Global;
 use std::test::Fail;
@@ -103,7 +103,13 @@ fn ends_so(alloc: Global, heard: Vec<u8>, wanted: &End) -> Result<bool, Fail> {
     let length = heard.len();
     let mut link = MemoryLink::new(alloc, Bytes::from_vec(heard));
     let mut state = new_state(alloc);
-    let made = made_in_memory(alloc, Who::Negotiated, Pool::Normal, &mut link, &mut state)?;
+    let made = made_in_memory(
+        alloc,
+        Who::Negotiated,
+        PoolKind::Normal,
+        &mut link,
+        &mut state,
+    )?;
     let taken = length.saturating_sub(link.left().len());
     Ok(is_same_end(
         &end_of(made.told, &state, link.written().len(), taken),

@@ -2,7 +2,7 @@ use super::frames::{
     COMMAND_ERROR, DONE, FAILED, HELLO, NUMBERED, OK_TWICE, SERVED, SPECULATED, STANDALONE, SUMMED,
     TAKEN, TIMEOUT_GREATEST, TIMEOUT_TOO_GREAT, UNDONE,
 };
-use super::{Pool, SEVENTH, Told, Who, link_of, made_in_memory, new_state};
+use super::{PoolKind, SEVENTH, Told, Who, link_of, made_in_memory, new_state};
 use mongo_establish::{ConnectionGeneration, MemoryLink, ObjectId, RequestIds};
 use mongo_wire::{Sink, Source};
 use std::alloc::Global;
@@ -14,10 +14,10 @@ const MESSAGE: [u8; 2] = [0xdd, 0x07];
 
 /// The standalone server's reply with its length, the low bytes of its op code and its section's kind changed, and cut off
 /// at a length; how an establishment ends by it, and how many bytes of it are taken.
-type Frame = ([u8; 4], [u8; 2], u8, usize, Told, usize);
+type FrameCase = ([u8; 4], [u8; 2], u8, usize, Told, usize);
 
 // A frame is refused by the first of its faults.
-fn frame_at(place: u8) -> Frame {
+fn frame_at(place: u8) -> FrameCase {
     match place {
         0 => (WHOLE, [0, 0], 0, 86, ("OpCode", 0, None), 16),
         1 => (WHOLE, [7, 0], 0, 86, ("OpCode", 7, None), 16),
@@ -64,7 +64,7 @@ fn frame_at(place: u8) -> Frame {
     }
 }
 
-fn reply_of(alloc: Global, frame: &Frame) -> Result<Vec<u8>, Fail> {
+fn reply_of(alloc: Global, frame: &FrameCase) -> Result<Vec<u8>, Fail> {
     let (length, op_code, kind, cut, ..) = *frame;
     let mut reply = Vec::new(alloc);
     reply.extend_from_slice(&length)?;
@@ -80,11 +80,11 @@ fn reply_of(alloc: Global, frame: &Frame) -> Result<Vec<u8>, Fail> {
 // Whether an establishment for nobody ends so over the link, having said just the hello.
 fn tells(alloc: Global, link: &mut MemoryLink, wanted: Told) -> Result<bool, Fail> {
     let mut state = new_state(alloc);
-    let made = made_in_memory(alloc, Who::Nobody, Pool::Normal, link, &mut state)?;
+    let made = made_in_memory(alloc, Who::Nobody, PoolKind::Normal, link, &mut state)?;
     Ok(made.told == wanted && state.ids.next() == 1 && link.written() == HELLO.as_slice())
 }
 
-fn is_refused_so(alloc: Global, frame: &Frame) -> Result<bool, Fail> {
+fn is_refused_so(alloc: Global, frame: &FrameCase) -> Result<bool, Fail> {
     let (.., told, taken) = *frame;
     let reply = reply_of(alloc, frame)?;
     let mut link = link_of(alloc, reply.as_slice())?;
@@ -101,7 +101,7 @@ fn a_frame_is_refused_by_its_first_fault(rt: HostRuntime) -> Result<(), Fail> {
 }
 
 // The same with a length that is at least a header's and less than its own: so much is taken, and cuts the document.
-fn shortened(length: u8) -> Frame {
+fn shortened(length: u8) -> FrameCase {
     let taken = usize::from(length);
     (
         [length, 0, 0, 0],
@@ -126,7 +126,7 @@ fn a_length_that_cuts_the_document_is_refused(rt: HostRuntime) -> Result<(), Fai
 #[derive(Clone, Copy)]
 struct Row {
     who: Who,
-    pool: Pool,
+    pool: PoolKind,
     first_id: i32,
     heard: [&'static [u8]; 2],
     told: Told,
@@ -137,7 +137,7 @@ struct Row {
 
 fn row_of(
     who: Who,
-    pool: Pool,
+    pool: PoolKind,
     first_id: i32,
     heard: [&'static [u8]; 2],
     told: Told,
@@ -172,7 +172,7 @@ fn row_at(place: u8) -> Row {
         // documents that are refused
         0 => row_of(
             Who::Nobody,
-            Pool::Normal,
+            PoolKind::Normal,
             0,
             [&COMMAND_ERROR, b""],
             ("Command", 18, None),
@@ -182,7 +182,7 @@ fn row_at(place: u8) -> Row {
         ),
         1 => row_of(
             Who::Nobody,
-            Pool::Normal,
+            PoolKind::Normal,
             0,
             [&OK_TWICE, b""],
             ("Hello", 0, None),
@@ -192,7 +192,7 @@ fn row_at(place: u8) -> Row {
         ),
         2 => row_of(
             Who::Nobody,
-            Pool::Normal,
+            PoolKind::Normal,
             0,
             [&TIMEOUT_TOO_GREAT, b""],
             ("SessionTimeout", 0, None),
@@ -203,7 +203,7 @@ fn row_at(place: u8) -> Row {
         // what follows a reply is unread
         3 => row_of(
             Who::Nobody,
-            Pool::Normal,
+            PoolKind::Normal,
             0,
             [&STANDALONE, &NUMBERED],
             ("none", 0, SEVENTH),
@@ -214,7 +214,7 @@ fn row_at(place: u8) -> Row {
         // after the greatest id comes the least
         4 => row_of(
             Who::Nobody,
-            Pool::Normal,
+            PoolKind::Normal,
             i32::MAX,
             [&STANDALONE, b""],
             ("none", 0, SEVENTH),
@@ -226,7 +226,7 @@ fn row_at(place: u8) -> Row {
         // body, 70 bytes
         5 => row_of(
             Who::Plain,
-            Pool::Normal,
+            PoolKind::Normal,
             0,
             [&STANDALONE, DONE],
             ("none", 0, SEVENTH),
@@ -236,7 +236,7 @@ fn row_at(place: u8) -> Row {
         ),
         6 => row_of(
             Who::Plain,
-            Pool::Normal,
+            PoolKind::Normal,
             0,
             [&STANDALONE, UNDONE],
             ("Malformed", 0, SEVENTH),
@@ -246,7 +246,7 @@ fn row_at(place: u8) -> Row {
         ),
         7 => row_of(
             Who::Plain,
-            Pool::Normal,
+            PoolKind::Normal,
             0,
             [SPECULATED, DONE],
             ("none", 0, SEVENTH),
@@ -256,7 +256,7 @@ fn row_at(place: u8) -> Row {
         ),
         8 => row_of(
             Who::X509,
-            Pool::Normal,
+            PoolKind::Normal,
             0,
             [SPECULATED, b""],
             ("none", 0, SEVENTH),
@@ -266,7 +266,7 @@ fn row_at(place: u8) -> Row {
         ),
         9 => row_of(
             Who::X509WithPassword,
-            Pool::Normal,
+            PoolKind::Normal,
             0,
             [SPECULATED, b""],
             ("none", 0, SEVENTH),
@@ -276,7 +276,7 @@ fn row_at(place: u8) -> Row {
         ),
         10 => row_of(
             Who::X509WithPassword,
-            Pool::Normal,
+            PoolKind::Normal,
             0,
             [&STANDALONE, b""],
             ("X509Password", 0, SEVENTH),
@@ -286,7 +286,7 @@ fn row_at(place: u8) -> Row {
         ),
         11 => row_of(
             Who::X509,
-            Pool::Normal,
+            PoolKind::Normal,
             0,
             [&STANDALONE, TAKEN],
             ("none", 0, SEVENTH),
@@ -296,7 +296,7 @@ fn row_at(place: u8) -> Row {
         ),
         12 => row_of(
             Who::X509,
-            Pool::Normal,
+            PoolKind::Normal,
             0,
             [&STANDALONE, FAILED],
             ("X509Failed", 0, SEVENTH),
@@ -307,7 +307,7 @@ fn row_at(place: u8) -> Row {
         // a service is looked for after the login
         13 => row_of(
             Who::Plain,
-            Pool::Balanced(Some(8)),
+            PoolKind::Balanced(Some(8)),
             0,
             [SERVED, DONE],
             ("none", 0, service(8)),
@@ -317,7 +317,7 @@ fn row_at(place: u8) -> Row {
         ),
         14 => row_of(
             Who::Plain,
-            Pool::Balanced(None),
+            PoolKind::Balanced(None),
             0,
             [SERVED, DONE],
             ("none", 0, service(0)),
@@ -327,7 +327,7 @@ fn row_at(place: u8) -> Row {
         ),
         _ => row_of(
             Who::Plain,
-            Pool::Balanced(Some(8)),
+            PoolKind::Balanced(Some(8)),
             0,
             [&STANDALONE, DONE],
             ("IncompatibleServer", 0, NO_SERVICE),
@@ -374,7 +374,7 @@ fn describes(
 ) -> Result<bool, Fail> {
     let mut state = new_state(alloc);
     let mut link = link_of(alloc, reply)?;
-    let made = made_in_memory(alloc, Who::Nobody, Pool::Normal, &mut link, &mut state)?;
+    let made = made_in_memory(alloc, Who::Nobody, PoolKind::Normal, &mut link, &mut state)?;
     Ok(made.described == Some((timeout, server_id)))
 }
 

@@ -1,11 +1,11 @@
-use super::{Parts, bytes, credential, given};
+use super::{CredentialTexts, bytes, credential, given};
 use mongo_bson::{BsonFault, RawDocumentBuf};
 use mongo_sasl::{AuthMechanism, Credential, Moment};
 use mongo_wire::ArgumentFault;
 use std::alloc::Global;
 use std::test::Fail;
 
-const ANN: Parts = (Some("ann"), Some("orders"), Some("pencil"));
+const ANN: CredentialTexts = (Some("ann"), Some("orders"), Some("pencil"));
 
 fn is_shown_as(alloc: Global, user: &Credential, text: &str) -> bool {
     match format!(in alloc; "{user:?}") {
@@ -60,7 +60,7 @@ fn asking(alloc: Global, user: &Credential) -> Result<RawDocumentBuf, Fail> {
 // Whether a credential of these parts and this mechanism makes a hello of an empty document this.
 fn asks(
     alloc: Global,
-    parts: Parts,
+    parts: CredentialTexts,
     mechanism: Option<AuthMechanism>,
     wanted: &[u8],
 ) -> Result<bool, Fail> {

@@ -1,4 +1,4 @@
-use super::{Answered, Parts, bytes, credential, fault_of, given};
+use super::{Answered, CredentialTexts, bytes, credential, fault_of, given};
 use mongo_bson::{BsonFault, Text};
 use mongo_command::{Connection, ServerAddress};
 use mongo_sasl::{Credential, plain, x509};
@@ -25,7 +25,7 @@ enum By {
 #[derive(Clone, Copy)]
 struct Row {
     by: By,
-    user: Parts,
+    user: CredentialTexts,
     heard: &'static [u8],
     fault: &'static str,
     said: &'static [u8],
@@ -209,18 +209,18 @@ fn x509_answer(
 }
 
 // How a call ended that was refused.
-trait Refusal {
+trait NamesFault {
     fn fault(&self) -> &str;
 }
 
-impl Refusal for Error {
+impl NamesFault for Error {
     fn fault(&self) -> &str {
         fault_of(self)
     }
 }
 
 // Whether a call ended with this fault.
-fn is_fault<E: Refusal + Drop>(answer: Result<(), E>, fault: &str) -> bool {
+fn is_fault<E: NamesFault + Drop>(answer: Result<(), E>, fault: &str) -> bool {
     let answered = Answered { answer };
     match &answered.answer {
         Ok(()) => fault == "none",

@@ -1,4 +1,4 @@
-use super::{Parts, bytes, credential};
+use super::{CredentialTexts, bytes, credential};
 use mongo_bson::{BsonFault, RawDocumentBuf};
 use mongo_sasl::{AuthMechanism, Credential};
 use mongo_wire::ArgumentFault;
@@ -15,14 +15,14 @@ fn answer_of(mechanism: AuthMechanism, given: &Credential, callback_given: bool)
 fn parts_judged(
     alloc: Global,
     mechanism: AuthMechanism,
-    parts: Parts,
+    parts: CredentialTexts,
 ) -> Result<Judged, BsonFault> {
     let given = credential(alloc, parts)?;
     Ok(answer_of(mechanism, &given, true))
 }
 
 // A mechanism, a user name, a source and a password, and the first rule that they break.
-fn parts_at(place: u8) -> (AuthMechanism, Parts, Judged) {
+fn parts_at(place: u8) -> (AuthMechanism, CredentialTexts, Judged) {
     match place {
         0 => (AuthMechanism::MongoDbCr, (None, None, None), Ok(())),
         1 => (

@@ -248,7 +248,7 @@ fn kept_by(connection: &Connection) -> &'static str {
 
 // What a login was refused for, and the fault that its connection keeps after it.
 #[derive(Clone, Copy)]
-struct Refusal {
+struct RefusedLogin {
     fault: &'static str,
     kept: &'static str,
 }
@@ -278,7 +278,7 @@ fn fault_over<L: Link, G: Ledger>(
     login: &Login,
     link: &mut L,
     cache: &mut SaltedCache,
-) -> Result<Refusal, Fail>
+) -> Result<RefusedLogin, Fail>
     requires name { blank.name ≡ G.name }
     requires parts { blank.parts ≡ G.parts }
     requires has_a_part { 0 < G.parts }
@@ -286,7 +286,7 @@ fn fault_over<L: Link, G: Ledger>(
     let mut session = new_session(alloc, login)?;
     let fault = fault_with::<L, G>(blank, alloc, login.version, &mut session, link, cache);
     let fault = fault_beside(fault, login, &session.buffer);
-    Ok(Refusal {
+    Ok(RefusedLogin {
         fault,
         kept: kept_by(&session.connection),
     })
@@ -297,7 +297,7 @@ fn fault_in_memory(
     login: &Login,
     link: &mut MemoryLink,
     cache: &mut SaltedCache,
-) -> Result<Refusal, Fail> {
+) -> Result<RefusedLogin, Fail> {
     fault_over::<MemoryLink, Brand>(Blank::new(1), alloc, login, link, cache)
 }
 
@@ -306,7 +306,7 @@ fn fault_over_failing(
     login: &Login,
     link: &mut FailingLink,
     cache: &mut SaltedCache,
-) -> Result<Refusal, Fail> {
+) -> Result<RefusedLogin, Fail> {
     fault_over::<FailingLink, Brand>(Blank::new(1), alloc, login, link, cache)
 }
 

@@ -1,6 +1,6 @@
 ghost use Rattle.std.specs.Prelude.{◌≡◌, ◌<◌, ◌≤◌};
 
-use super::{Outcome, fault_of, given, reply};
+use super::{NamesFault, fault_of, given, reply};
 use base64::engine::general_purpose::STANDARD;
 use mongo_command::{Command, ServerApi, ServerApiVersion};
 use mongo_mac::{Sha1Fn, Steps, Tag, hi};
@@ -166,7 +166,7 @@ fn first_message(place: u8) -> (&'static [u8], i32, bool, &'static str) {
 }
 
 // What a client with that nonce and that ceiling answers the message.
-impl Outcome for ServerFirst {
+impl NamesFault for ServerFirst {
     fn fault(&self) -> &'static str {
         fault_of(self.validate("nonce", 10_000_000))
     }
@@ -212,7 +212,7 @@ fn a_server_first_message_is_read(rt: HostRuntime) -> Result<(), Fail> {
 
 /// What a client has when it has said all.
 #[derive(Drop)]
-struct Conversation {
+struct ClientSide {
     open: ClientFirst,
     close: ClientFinal,
 }
@@ -252,13 +252,13 @@ fn closed(
     salted: &Tag,
     open: ClientFirst,
     first: &ServerFirst,
-) -> Result<Conversation, Error> {
+) -> Result<ClientSide, Error> {
     let close = ClientFinal::new(alloc, "admin", salted, &open, first, &row.version, None)?;
-    Ok(Conversation { open, close })
+    Ok(ClientSide { open, close })
 }
 
 /// What a client has, and the salted password.
-type Held = (Tag, Conversation);
+type Held = (Tag, ClientSide);
 
 // A row's conversation up to the client's last message.
 fn conversation_of(alloc: Global, row: &Exchange) -> Result<Held, Fail> {

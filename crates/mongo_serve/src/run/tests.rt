@@ -5,7 +5,7 @@ mod second;
 
 use super::run_counted;
 use crate::put_back::PutBack;
-use crate::status::Status;
+use crate::status::ServeStatus;
 use login::{EMPTY, FIRST, LAST, PING_AFTER, REPLIES, USERS, Wanted, fault_at, whole};
 use mongo_bson::{BsonFault, Bytes};
 use mongo_wire::{FailingLink, MemoryLink};
@@ -28,7 +28,7 @@ fn ends(
     settings: &[u8],
     frames: &[u8],
     line: &str,
-) -> Result<(Status, bool), BsonFault> {
+) -> Result<(ServeStatus, bool), BsonFault> {
     let mut input = Bytes::from_slice(alloc, settings)?;
     input.extend_from_slice(frames)?;
     let mut link = PutBack::new(alloc, MemoryLink::new(alloc, input));
@@ -42,39 +42,43 @@ fn bytes_decide_how_it_ends(rt: HostRuntime) -> Result<(), Fail> {
     let ended = "the client ended its stream\n";
     let no_frame = "what came is no frame of this protocol\n";
     for (frames, status, line) in [
-        (b"".as_slice(), Status::Ended, ended),
-        (PING, Status::Ended, ended),
+        (b"".as_slice(), ServeStatus::Ended, ended),
+        (PING, ServeStatus::Ended, ended),
         (
             b"3\0\0\0\x07".as_slice(),
-            Status::Broken,
+            ServeStatus::Broken,
             "the stream ended within a frame\n",
         ),
-        (b"GET / HTTP/1.1\r\n".as_slice(), Status::Broken, no_frame),
+        (
+            b"GET / HTTP/1.1\r\n".as_slice(),
+            ServeStatus::Broken,
+            no_frame,
+        ),
         // an OP_COMPRESSED, an OP_MSG of 48000001 bytes, and an OP_QUERY of 15
         (
             b"\x10\0\0\0\x01\0\0\0\0\0\0\0\xdc\x07\0\0".as_slice(),
-            Status::Broken,
+            ServeStatus::Broken,
             no_frame,
         ),
         (
             b"\x01l\xdc\x02\x01\0\0\0\0\0\0\0\xdd\x07\0\0".as_slice(),
-            Status::Broken,
+            ServeStatus::Broken,
             no_frame,
         ),
         (
             b"\x0f\0\0\0\x01\0\0\0\0\0\0\0\xd4\x07\0\0".as_slice(),
-            Status::Broken,
+            ServeStatus::Broken,
             no_frame,
         ),
         // an OP_QUERY of ping, and one of hello on another database
         (
             b"6\0\0\0\x01\0\0\0\0\0\0\0\xd4\x07\0\0\x04\0\0\0admin.$cmd\0\0\0\0\0\xff\xff\xff\xff\x0f\0\0\0\x10ping\0\x01\0\0\0\0".as_slice(),
-            Status::Broken,
+            ServeStatus::Broken,
             "an OP_QUERY asked for another command than hello\n",
         ),
         (
             b"6\0\0\0\x01\0\0\0\0\0\0\0\xd4\x07\0\0\x04\0\0\0test.$cmd\0\0\0\0\0\xff\xff\xff\xff\x10\0\0\0\x10hello\0\x01\0\0\0\0".as_slice(),
-            Status::Broken,
+            ServeStatus::Broken,
             no_frame,
         ),
     ] {
@@ -101,7 +105,7 @@ fn lines_that_are_no_settings(rt: HostRuntime) -> Result<(), Fail> {
         "{\"users\":[{\"name\":\"u\",\"password\":\"p\",\"mechanisms\":[\"SCRAM-SHA-1\"],\"salts\":[\"00\"],\"count\":4294967296}],\"nonce\":\"s\"}\n",
     ] {
         let (status, says) = ends(rt.alloc(), line.as_bytes(), PING, none)?;
-        assert_eq!(rt; status, Status::BadSettings, "at {line}");
+        assert_eq!(rt; status, ServeStatus::BadSettings, "at {line}");
         assert!(rt; says, "at {line}");
     }
     Ok(())
@@ -113,7 +117,7 @@ fn ends_failing(
     failing: &[u8],
     most: usize,
     line: &str,
-) -> Result<(Status, bool), BsonFault>
+) -> Result<(ServeStatus, bool), BsonFault>
     requires { 0 < most }
 {
     let mut input = Bytes::from_slice(alloc, SETTINGS)?;
@@ -131,15 +135,15 @@ fn links_that_fail(rt: HostRuntime) -> Result<(), Fail> {
     let gives = "the link failed to give bytes\n";
     let takes = "the link failed to take bytes\n";
     for (failing, most, status, line) in [
-        ([1, 0, 0, 0].as_slice(), 4096, Status::Broken, gives),
-        ([0, 1, 0, 0].as_slice(), 4096, Status::Broken, gives),
-        ([0, 0, 1, 0].as_slice(), 4096, Status::Broken, takes),
-        ([0, 0, 0, 1].as_slice(), 4096, Status::Broken, takes),
+        ([1, 0, 0, 0].as_slice(), 4096, ServeStatus::Broken, gives),
+        ([0, 1, 0, 0].as_slice(), 4096, ServeStatus::Broken, gives),
+        ([0, 0, 1, 0].as_slice(), 4096, ServeStatus::Broken, takes),
+        ([0, 0, 0, 1].as_slice(), 4096, ServeStatus::Broken, takes),
         // a byte at a time
         (
             [0].as_slice(),
             1,
-            Status::Ended,
+            ServeStatus::Ended,
             "the client ended its stream\n",
         ),
     ] {
@@ -166,7 +170,7 @@ fn greatest_frame_is_answered(rt: HostRuntime) -> Result<(), Fail> {
     let frame = greatest_frame(rt.alloc())?;
     let line = "the client ended its stream\n";
     let (status, says) = ends(rt.alloc(), SETTINGS, frame.as_bytes(), line)?;
-    assert_eq!(rt; status, Status::Ended);
+    assert_eq!(rt; status, ServeStatus::Ended);
     assert!(rt; says);
     Ok(())
 }
@@ -174,7 +178,7 @@ fn greatest_frame_is_answered(rt: HostRuntime) -> Result<(), Fail> {
 // How a run over a link ended.
 #[derive(Clone, Copy, Debug, PartialEq, Eq)]
 struct Ended {
-    status: Status,
+    status: ServeStatus,
     // Whether the report is just the wanted one.
     is_told: bool,
     // Whether just the wanted bytes of the replies were written.
@@ -269,7 +273,7 @@ fn the_next_client_is_served_whole(rt: HostRuntime) -> Result<(), Fail> {
             b"".as_slice(),
             b"".as_slice(),
             b"".as_slice(),
-            Status::Ended,
+            ServeStatus::Ended,
             NOBODY_ENDED,
             157,
         ),
@@ -278,7 +282,7 @@ fn the_next_client_is_served_whole(rt: HostRuntime) -> Result<(), Fail> {
             b"\xaf\0\0\0l".as_slice(),
             b"",
             b"",
-            Status::Broken,
+            ServeStatus::Broken,
             NOBODY_CUT,
             157,
         ),
@@ -286,18 +290,18 @@ fn the_next_client_is_served_whole(rt: HostRuntime) -> Result<(), Fail> {
             b"\xaf\0\0\0l\0\0\0\0\0\0\0\xdd\x07\0\0\0\0\0\0\0\x9a\0\0\0\x10saslContinue\0",
             b"",
             b"",
-            Status::Broken,
+            ServeStatus::Broken,
             NOBODY_CUT,
             157,
         ),
         // after its key is proved
-        (LAST, b"", b"", Status::Ended, NOBODY_ENDED, 266),
+        (LAST, b"", b"", ServeStatus::Ended, NOBODY_ENDED, 266),
         // it speaks another protocol after the login
         (
             LAST,
             EMPTY,
             b"GET / HTTP/1.1\r\n",
-            Status::Broken,
+            ServeStatus::Broken,
             USER_NO_FRAME,
             345,
         ),
@@ -331,7 +335,7 @@ fn answers_two(
     alloc: Global,
     pieces: usize,
     report: &[&str],
-) -> Result<(Status, bool, bool), BsonFault> {
+) -> Result<(ServeStatus, bool, bool), BsonFault> {
     let mut input = Bytes::from_slice(alloc, TWO)?;
     for piece in ASKED.iter().take(pieces) {
         input.extend_from_slice(piece)?;
@@ -365,7 +369,7 @@ fn each_user_has_its_own_mechanisms_and_login(rt: HostRuntime) -> Result<(), Fai
         (6, second),
     ] {
         let (status, is_answered, is_told) = answers_two(rt.alloc(), pieces, &report)?;
-        assert_eq!(rt; status, Status::Ended, "at {pieces}");
+        assert_eq!(rt; status, ServeStatus::Ended, "at {pieces}");
         assert!(rt; is_answered, "at {pieces}");
         assert!(rt; is_told, "at {pieces}");
     }

@@ -1,6 +1,6 @@
 //! The report of an establishment over a link.
 ghost use Rattle.std.specs.Prelude.{IsSome, IfOk};
-ghost use Rattle.mongo_settings.specs.Telling.{IsTranscript, TellsMade, TellsRefused, Tells};
+ghost use Rattle.mongo_settings.specs.Telling.{AreTrafficLines, TellsMade, TellsRefused, Tells};
 
 use crate::rehearsal::{Rehearsal, RehearsalStatus};
 use crate::report::outcome::{push_accepted, push_refused};
@@ -20,14 +20,14 @@ pub fn report_outcome(
     ensures told { IfOk result (Tells written.now taken ended.now) }
 {
     match ended {
-        Ok(pooled) => accepted(alloc, written, taken, pooled),
-        Err(refusal) => refused(alloc, written, taken, refusal),
+        Ok(pooled) => accepted_report(alloc, written, taken, pooled),
+        Err(refusal) => refused_report(alloc, written, taken, refusal),
     }
 }
 
 // The lines of what was written and how many bytes were taken.
-fn transcript(alloc: Global, written: &[u8], taken: usize) -> Result<Vec<u8>, AllocError>
-    ensures { IfOk result (λ out. IsTranscript written.now taken out.items) }
+fn traffic_lines(alloc: Global, written: &[u8], taken: usize) -> Result<Vec<u8>, AllocError>
+    ensures { IfOk result (λ out. AreTrafficLines written.now taken out.items) }
 {
     let mut out = Vec::new(alloc);
     push_sent(&mut out, written)?;
@@ -36,7 +36,7 @@ fn transcript(alloc: Global, written: &[u8], taken: usize) -> Result<Vec<u8>, Al
 }
 
 // The report of a connection that was made.
-fn accepted(
+fn accepted_report(
     alloc: Global,
     written: &[u8],
     taken: usize,
@@ -48,7 +48,7 @@ fn accepted(
     let Some(description) = &pooled.connection.stream_description else {
         unreachable!()
     };
-    let mut report = transcript(alloc, written, taken)?;
+    let mut report = traffic_lines(alloc, written, taken)?;
     push_accepted(
         &mut report,
         description,
@@ -62,7 +62,7 @@ fn accepted(
 }
 
 // The report of a refusal, where there is one.
-fn refused(
+fn refused_report(
     alloc: Global,
     written: &[u8],
     taken: usize,
@@ -73,7 +73,7 @@ fn refused(
     if matches!(refusal.cause.kind, ErrorKind::OutOfMemory) {
         return Err(AllocError);
     }
-    let mut report = transcript(alloc, written, taken)?;
+    let mut report = traffic_lines(alloc, written, taken)?;
     push_refused(&mut report, &refusal.handshake_phase, &refusal.cause.kind)?;
     Ok(Rehearsal {
         status: RehearsalStatus::Refused,

@@ -48,7 +48,7 @@ pub fn code_of(kind: &ErrorKind) -> Option<i32>
 }
 
 /// The text that a cause carries.
-pub fn text_of(kind: &ErrorKind) -> Option<&[u8]>
+pub fn error_text(kind: &ErrorKind) -> Option<&[u8]>
     ensures { option_map (λ text. text.now) result ≡ error_text kind.now }
 {
     match kind {

@@ -5,7 +5,7 @@ ghost use Rattle.mongo_settings.specs.Report.{kind_line, reason_line, code_line,
 use crate::report::line::{
     begin_line, end_line, push_optional_number, push_optional_text, push_optional_word, push_word,
 };
-use crate::report::names::{code_of, kind_name, reason_name, text_of};
+use crate::report::names::{code_of, error_text, kind_name, reason_name};
 use mongo_wire::ErrorKind;
 use std::alloc::AllocError;
 
@@ -52,6 +52,6 @@ fn push_carried_text(out: &mut Vec<u8>, kind: &ErrorKind) -> Result<(), AllocErr
     ensures { OnOk result (out.new.items ≡ out.old.items ++ text_line kind.now) }
 {
     begin_line(out, "text")?;
-    push_optional_text(out, text_of(kind))?;
+    push_optional_text(out, error_text(kind))?;
     end_line(out)
 }

@@ -1,7 +1,7 @@
 //! The lines of the bytes that went over the link.
 ghost use Rattle.std.specs.Prelude.{◌≡◌, ◌++◌, ℕ, None, List, OnOk};
 ghost use Rattle.std.specs.List.{AllByRecursion, concat};
-ghost use Rattle.mongo_settings.specs.Report.{CountsItself, front_length, sent_line, sent_lines, read_line};
+ghost use Rattle.mongo_settings.specs.Report.{CountsItself, front_length, sent_line, sent_lines, read_count_line};
 
 use crate::report::line::{begin_line, end_line, push_hex, push_number};
 use std::alloc::AllocError;
@@ -46,9 +46,9 @@ fn push_frame(out: &mut Vec<u8>, frame: &[u8]) -> Result<(), AllocError>
 }
 
 /// Appends the line of how many bytes of the replies were taken.
-#[tactic(auto, unfolding(crate::specs::Report::read_line))]
+#[tactic(auto, unfolding(crate::specs::Report::read_count_line))]
 pub fn push_read(out: &mut Vec<u8>, count: usize) -> Result<(), AllocError>
-    ensures { OnOk result (out.new.items ≡ out.old.items ++ read_line count) }
+    ensures { OnOk result (out.new.items ≡ out.old.items ++ read_count_line count) }
 {
     begin_line(out, "read")?;
     push_number(out, count)?;

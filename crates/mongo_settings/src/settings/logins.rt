@@ -7,7 +7,7 @@ ghost use Rattle.mongo_settings.specs.Batch.{IsLoginSpoken};
 ghost use Rattle.mongo_settings.specs.declared.settings.SettingsError.TheVariants.{OutOfMemory};
 
 use crate::settings::reading::judge_object;
-use crate::settings::{Settings, SettingsError, keys, settings_of, value_of};
+use crate::settings::{Settings, SettingsError, keys, settings_of, value_judged};
 use serde_json::Value;
 use std::alloc::Global;
 
@@ -20,7 +20,7 @@ pub fn read_logins(alloc: Global, text: &[u8]) -> Result<Vec<Settings>, Settings
     ensures logins { Gives (λ logins. logins.items) result (logins_judged text.now) }
     ensures spoken { IfOk result (λ logins. All IsLoginSpoken logins.items) }
 {
-    let value = value_of(alloc, text)?;
+    let value = value_judged(alloc, text)?;
     judge_object(&value, &keys::BATCH_KEYS)?;
     match value.get(keys::LOGINS) {
         Some(logins) => match logins.as_array() {

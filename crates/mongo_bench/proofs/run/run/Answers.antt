@@ -1,5 +1,5 @@
 use Rattle.std.proofs.Common.{◌≡◌, ◌∙◌}
-use Rattle.mongo_bench.specs.declared.task.Task.TheVariants.{Derive, Walk, Frames, Insert, Login}
+use Rattle.mongo_bench.specs.declared.task.BenchTask.TheVariants.{Derive, Walk, Frames, Insert, Login}
 use Rattle.mongo_bench.proofs.OneTask.{one_task}
 use Rattle.mongo_bench.proofs.run.run.Goals as goal
 

@@ -1,5 +1,5 @@
 use Rattle.std.proofs.Common.{arith, ◌≡◌, ◌+◌, length}
-use Rattle.mongo_settings.specs.Settings.{maximum_length}
+use Rattle.mongo_settings.specs.Settings.{maximum_settings_length}
 use Rattle.mongo_connect.proofs.FirstLine.{gave_line_feed, gave_end, gave_cut, stops_held, stops_kept, takes_stopped, takes_next, one_more, one_pushed}
 use Rattle.mongo_wire.proofs.ReadStopped.{reads_on, rose_after}
 use Rattle.mongo_connect.proofs.input.read_line.Goals as goal
@@ -27,13 +27,13 @@ returns-in-Ok-None-clause-left g c =
 pub returns-clause-line : goal.returns-clause-line
 returns-clause-line g c =
     let held = c.reading.held.items in
-    let past : length held ≡ maximum_length + 1 = omega arith in
+    let past : length held ≡ maximum_settings_length + 1 = omega arith in
     (gave_cut _ _ held c.reading.invariant.front c.reading.invariant.unbroken past).line_is
 
 pub returns-clause-left : goal.returns-clause-left
 returns-clause-left g c =
     let held = c.reading.held.items in
-    let past : length held ≡ maximum_length + 1 = omega arith in
+    let past : length held ≡ maximum_settings_length + 1 = omega arith in
     (gave_cut _ _ held c.reading.invariant.front c.reading.invariant.unbroken past).left
 
 -- ---- what was taken

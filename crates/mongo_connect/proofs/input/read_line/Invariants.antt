@@ -1,5 +1,5 @@
 use Rattle.std.proofs.Common.{◌+◌, ◌-◌, length}
-use Rattle.mongo_settings.specs.Settings.{maximum_length}
+use Rattle.mongo_settings.specs.Settings.{maximum_settings_length}
 use Rattle.mongo_connect.proofs.FirstLine.{LineSoFar}
 use Rattle.mongo_connect.proofs.input.read_line.Given as goal
 
@@ -7,4 +7,4 @@ abbrev pub invariant-reading : goal.invariant-reading
 invariant-reading g l = LineSoFar (g.S.Outside.state l.fn.source) (g.S.Outside.state l.source) l.held.items
 
 abbrev pub decreases-reading : goal.decreases-reading
-decreases-reading g l = maximum_length + 1 - length l.held.items
+decreases-reading g l = maximum_settings_length + 1 - length l.held.items

@@ -4,7 +4,7 @@ use mongo_settings::Status;
 
 // A login: the line of its settings, the replies that follow it, and the report of it in three parts. An independent model made them.
 #[derive(Clone, Copy)]
-pub(super) struct Login {
+pub(super) struct RecordedLogin {
     pub(super) line: &'static str,
     pub(super) replies: &'static [u8],
     // The report's lines of the frame of hello and of the frame of the login, and the rest of it.
@@ -22,7 +22,7 @@ pub(super) struct Login {
 }
 
 // By PLAIN.
-pub(super) const PLAIN: Login = Login {
+pub(super) const PLAIN: RecordedLogin = RecordedLogin {
     line: PLAIN_LINE,
     replies: PLAIN_REPLIES,
     sent_hello: PLAIN_SENT_HELLO,
@@ -52,7 +52,7 @@ const PLAIN_TOLD: &str =
     "read 165\nok\ntype Standalone\nwire - -\nmechs -\nsession -\nsizes 16777216 100000 48000000\nhello-ok false\nservice -\ngeneration normal 0\nserver-id -\n";
 
 // By SCRAM-SHA-256, begun with hello, and done with the server's last message.
-pub(super) const SCRAM: Login = Login {
+pub(super) const SCRAM: RecordedLogin = RecordedLogin {
     line: SCRAM_LINE,
     replies: SCRAM_REPLIES,
     sent_hello: SCRAM_SENT_HELLO,
@@ -83,7 +83,7 @@ const SCRAM_TOLD: &str =
 
 // What a login comes to: the status, the report's parts, and how many bytes are unread.
 #[derive(Clone, Copy)]
-pub(super) struct Outcome {
+pub(super) struct WantedEnd {
     pub(super) status: Status,
     pub(super) report: [&'static str; 3],
     pub(super) unread: usize,
@@ -92,11 +92,11 @@ pub(super) struct Outcome {
 // What a fault at the call of this number comes to. Calls are a read for each byte of the line and its end, and then for each of two
 // exchanges three writes of a frame's pieces (its header, its flags and section kind, its document), a flush, and a read of the
 // reply's header and one of its rest. After these there is none that could fail.
-pub(super) fn fault_at(login: Login, call: usize) -> Outcome {
+pub(super) fn fault_at(login: RecordedLogin, call: usize) -> WantedEnd {
     let reads = login.line.len() + 1;
     let replies = login.replies.len();
     if call < reads {
-        return Outcome {
+        return WantedEnd {
             status: Status::SourceFault,
             report: ["", "", ""],
             unread: reads - call + replies,
@@ -113,7 +113,7 @@ pub(super) fn fault_at(login: Login, call: usize) -> Outcome {
         9 => refused([hello, last, login.unwritten], login.after_hello),
         10 => refused([hello, last, login.unread], login.after_hello),
         11 => refused([hello, last, login.cut], login.after_last_header),
-        _ => Outcome {
+        _ => WantedEnd {
             status: Status::Done,
             report: [hello, last, login.told],
             unread: 0,
@@ -121,8 +121,8 @@ pub(super) fn fault_at(login: Login, call: usize) -> Outcome {
     }
 }
 
-fn refused(report: [&'static str; 3], unread: usize) -> Outcome {
-    Outcome {
+fn refused(report: [&'static str; 3], unread: usize) -> WantedEnd {
+    WantedEnd {
         status: Status::Refused,
         report,
         unread,

@@ -9,7 +9,7 @@ pub returns-in-Ok-Some : goal.returns-in-Ok-Some
 returns-in-Ok-Some c =
     let document = c.args.document.bytes.now in
     let found : FindsValue (body_of document) payload_key (Some c.in-Ok-Some.value) = rw c.in-Ok-Some.field-0-is at c.in-Ok-Some.ensures.found in
-    record { found = λ payload carries. c.content_of.ensures.found payload (payload_found document payload c.in-Ok-Some.value carries found) }
+    record { found = λ payload carries. c.binary_content.ensures.found payload (payload_found document payload c.in-Ok-Some.value carries found) }
 
 pub returns-in-Ok-None : goal.returns-in-Ok-None
 returns-in-Ok-None c =

@@ -2,14 +2,14 @@ use Rattle.std.proofs.Common.{arith, ◌≡◌, ◌∙◌, ◌+◌, ◌<◌, ◌
 use Rattle.std.proofs.lemmas.Grind.{common_steps}
 use Rattle.std.proofs.KnownBytes.{Consumes-trans, Consumes-kept}
 use Rattle.mongo_wire.proofs.ReadStopped.{reads_on, rose_after}
-use Rattle.mongo_settings.specs.Settings.{maximum_length}
+use Rattle.mongo_settings.specs.Settings.{maximum_settings_length}
 use Rattle.mongo_login.proofs.Front.{reads_whole, reads_front, nothing_more, no_value, of_error, judged-front}
 use Rattle.mongo_login.proofs.input.read_input.Goals as goal
 
 pub returns-in-Ok-eq0-clause-read : goal.returns-in-Ok-eq0-clause-read
 returns-in-Ok-eq0-clause-read g c =
     let held = c.reading.held.items in
-    let short : length held ≤ maximum_length = omega arith in
+    let short : length held ≤ maximum_settings_length = omega arith in
     let room : 0 < length c.read.new.buf = grind (arith, common_steps, c.read.auto.buf) in
     let all = nothing_more _ _ _ held c.read.new.buf c.in-Ok-eq0.field-0 c.reading.invariant.front c.in-Ok-eq0.ensures.bytes.0 c.in-Ok-eq0.field-0-test in
     let end = c.in-Ok-eq0.ensures.bytes.1 c.in-Ok-eq0.field-0-test room in
@@ -20,17 +20,17 @@ pub returns-in_err-extend_from_slice-in-Ok-clause-at_most :
 returns-in_err-extend_from_slice-in-Ok-clause-at_most g c =
     let piece = take c.in-Ok.count c.read.new.buf in
     let room : length c.read.new.buf ≡ c.min-room.result = grind (arith, common_steps, c.read.auto.buf) in
-    let short : length (c.reading.held.items ++ piece) ≤ maximum_length + 1 = grind (arith, common_steps) in
+    let short : length (c.reading.held.items ++ piece) ≤ maximum_settings_length + 1 = grind (arith, common_steps) in
     (c.reading.held.items ++ piece, short, Consumes-trans _ _ _ _ piece c.reading.invariant.front c.in-Ok.ensures.bytes.0)
 
 pub returns-clause-read : goal.returns-clause-read
 returns-clause-read g c =
-    let past : length c.reading.held.items ≡ maximum_length + 1 = omega arith in
+    let past : length c.reading.held.items ≡ maximum_settings_length + 1 = omega arith in
     λ input told. reads_front _ _ _ input told c.reading.invariant.front past
 
 pub returns-clause-judged_alike : goal.returns-clause-judged_alike
 returns-clause-judged_alike g c =
-    let past : length c.reading.held.items ≡ maximum_length + 1 = omega arith in
+    let past : length c.reading.held.items ≡ maximum_settings_length + 1 = omega arith in
     λ task input told. judged-front task _ _ _ input told c.reading.invariant.front past
 
 pub returns-in-Err-clause-ended : goal.returns-in-Err-clause-ended

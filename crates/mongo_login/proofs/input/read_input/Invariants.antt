@@ -1,7 +1,7 @@
 use Rattle.std.proofs.Common.{◌≤◌, ◌+◌, ◌-◌, length}
 use Rattle.std.specs.Io.KnownBytes.{Consumes}
 use Rattle.mongo_wire.specs.Outside.{ReadsOn}
-use Rattle.mongo_settings.specs.Settings.{maximum_length}
+use Rattle.mongo_settings.specs.Settings.{maximum_settings_length}
 use Rattle.mongo_login.specs.Input.{NoReadFailed, NoReadEnded}
 use Rattle.mongo_login.proofs.input.read_input.Given as goal
 
@@ -10,7 +10,7 @@ abbrev pub invariant-reading : goal.invariant-reading
 invariant-reading g l =
     let state = g.S.Outside.state in
     record {
-      within : length l.held.items ≤ maximum_length + 1;
+      within : length l.held.items ≤ maximum_settings_length + 1;
       front : Consumes (state l.fn.source).left (state l.source).left l.held.items;
       unfailed : NoReadFailed (state l.fn.source) (state l.source);
       unended : NoReadEnded (state l.fn.source) (state l.source);
@@ -18,4 +18,4 @@ invariant-reading g l =
     }
 
 abbrev pub decreases-reading : goal.decreases-reading
-decreases-reading g l = maximum_length + 1 - length l.held.items
+decreases-reading g l = maximum_settings_length + 1 - length l.held.items

@@ -6,7 +6,7 @@ use Rattle.mongo_sasl.proofs.sasl_view.view_of.Goals as goal
 pub returns-in-Err-table_of-clause-refused : goal.returns-in-Err-table_of-clause-refused
 returns-in-Err-table_of-clause-refused c =
     let holds = c.requires in
-    subst (SaslRefused c.args.response.bytes.now) (sym c.unread.ensures)
+    subst (SaslRefused c.args.response.bytes.now) (sym c.unreadable_fields.ensures)
     (no_table c.args.response.bytes.now holds.elements c.in-Err-table_of.fault holds.well_formed (c.in-Ok.ensures holds.elements holds.are) (c.in-Err-table_of.ensures holds.elements holds.well_formed.document holds.are))
 
 pub returns-in-Err-clause-refused : goal.returns-in-Err-clause-refused

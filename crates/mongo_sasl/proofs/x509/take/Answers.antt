@@ -16,4 +16,4 @@ returns-in-Ok-2-clause-refused c =
     failed_by c.args.reply.bytes.now c.in-Ok.fields held c.is_success.result (c.is_success.ensures held.elements held.are) _ c.if-is_success.false (search rules)
 
 pub returns-in-Err-clause-refused : goal.returns-in-Err-clause-refused
-returns-in-Err-clause-refused c = unread_by c.args.reply.bytes.now c.in-Err.fault _ c.in-Err.ensures.refused c.unread.ensures
+returns-in-Err-clause-refused c = unread_by c.args.reply.bytes.now c.in-Err.fault _ c.in-Err.ensures.refused c.unreadable_fields.ensures

@@ -1,7 +1,7 @@
 use Rattle.std.proofs.Common.{rules, Option, None, Some, subst}
 use Rattle.std.specs.Borrow.{Bor}
 use Rattle.mongo_serve.specs.Opened.{FindsAccount}
-use Rattle.mongo_serve.specs.declared.settings.Account.{Account}
+use Rattle.mongo_serve.specs.declared.serve_settings.Account.{Account}
 use Rattle.mongo_serve.proofs.Begun.{none_suits, opens_all}
 use Rattle.mongo_serve.proofs.open.open_login.Goals as goal
 

@@ -11,18 +11,18 @@ returns-in-Ok-clause-sent g c =
     let to = c.args.request_id in
     let fits : FitsSigned w32 to = search rules in
     let old = g.K.Outside.state c.args.sink.now in
-    let new = g.K.Outside.state c.send_message.new.sink in
+    let new = g.K.Outside.state c.send_document.new.sink in
     let id = c.args.ids.now in
-    let later = c.send_message.new.ids in
-    reply_sent old new to c.args.flags.0 c.args.reply.now id later c.in-Ok.document c.send_message.result c.in-Ok.ensures.document (search rules)
-    (subst (λ t. OnOk c.send_message.result (SendsReply old new id later t c.in-Ok.document)) (to_z-of_z w32 to fits) c.send_message.ensures.sent)
+    let later = c.send_document.new.ids in
+    reply_sent old new to c.args.flags.0 c.args.reply.now id later c.in-Ok.document c.send_document.result c.in-Ok.ensures.document (search rules)
+    (subst (λ t. OnOk c.send_document.result (SendsReply old new id later t c.in-Ok.document)) (to_z-of_z w32 to fits) c.send_document.ensures.sent)
 
 pub returns-in-Ok-clause-cut : goal.returns-in-Ok-clause-cut
 returns-in-Ok-clause-cut g c =
     let to = c.args.request_id in
     let fits : FitsSigned w32 to = search rules in
     let old = g.K.Outside.state c.args.sink.now in
-    let new = g.K.Outside.state c.send_message.new.sink in
+    let new = g.K.Outside.state c.send_document.new.sink in
     let id = c.args.ids.now in
-    reply_cut old new to c.args.flags.0 c.args.reply.now id c.in-Ok.document c.send_message.result c.in-Ok.ensures.document (search rules)
-    (subst (λ t. OnErr c.send_message.result (AppendsFront old.written new.written (message_reply id t c.in-Ok.document))) (to_z-of_z w32 to fits) c.send_message.ensures.front)
+    reply_cut old new to c.args.flags.0 c.args.reply.now id c.in-Ok.document c.send_document.result c.in-Ok.ensures.document (search rules)
+    (subst (λ t. OnErr c.send_document.result (AppendsFront old.written new.written (message_reply id t c.in-Ok.document))) (to_z-of_z w32 to fits) c.send_document.ensures.front)

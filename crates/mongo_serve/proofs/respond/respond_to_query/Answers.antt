@@ -9,7 +9,7 @@ use Rattle.mongo_serve.proofs.respond.respond_to_query.Goals as goal
 pub returns-clause-sent : goal.returns-clause-sent
 returns-clause-sent g c =
     let old = g.K.Outside.state c.args.sink.now in
-    let new = g.K.Outside.state c.send.new.sink in
+    let new = g.K.Outside.state c.send_bytes.new.sink in
     let id = c.args.ids.now in
     let drawn = c.draw.result in
     let to = c.args.request_id in
@@ -18,13 +18,13 @@ returns-clause-sent g c =
     let to_fits : FitsSigned w32 to = search rules in
     let frame : c.in-Ok-frame_of_reply.frame.items ≡ query_reply id to document =
     query_numbered c.in-Ok-frame_of_reply.frame.items document (to_z w32 (of_z w32 drawn)) id (to_z w32 (of_z w32 to)) to c.in-Ok-frame_of_reply.ensures.frame (to_z-of_z w32 drawn drawn_fits ∙ c.draw.ensures.drawn) (to_z-of_z w32 to to_fits) in
-    query_sent old new to id c.draw.new.self c.args.reply.now document c.in-Ok-frame_of_reply.frame.items c.as_slice.result.now c.send.result (c.as_bytes-2.ensures.bytes ∙ c.in-Ok.ensures.document) frame c.as_slice.ensures.value
-    c.draw.ensures.next c.send.ensures.written c.send.ensures.flushed
+    query_sent old new to id c.draw.new.self c.args.reply.now document c.in-Ok-frame_of_reply.frame.items c.as_slice.result.now c.send_bytes.result (c.as_bytes-2.ensures.bytes ∙ c.in-Ok.ensures.document) frame c.as_slice.ensures.value
+    c.draw.ensures.next c.send_bytes.ensures.written c.send_bytes.ensures.flushed
 
 pub returns-clause-front : goal.returns-clause-front
 returns-clause-front g c =
     let old = g.K.Outside.state c.args.sink.now in
-    let new = g.K.Outside.state c.send.new.sink in
+    let new = g.K.Outside.state c.send_bytes.new.sink in
     let id = c.args.ids.now in
     let drawn = c.draw.result in
     let to = c.args.request_id in
@@ -33,4 +33,4 @@ returns-clause-front g c =
     let to_fits : FitsSigned w32 to = search rules in
     let frame : c.in-Ok-frame_of_reply.frame.items ≡ query_reply id to document =
     query_numbered c.in-Ok-frame_of_reply.frame.items document (to_z w32 (of_z w32 drawn)) id (to_z w32 (of_z w32 to)) to c.in-Ok-frame_of_reply.ensures.frame (to_z-of_z w32 drawn drawn_fits ∙ c.draw.ensures.drawn) (to_z-of_z w32 to to_fits) in
-    query_front old new to id c.args.reply.now document c.in-Ok-frame_of_reply.frame.items c.as_slice.result.now c.send.result (c.as_bytes-2.ensures.bytes ∙ c.in-Ok.ensures.document) frame c.as_slice.ensures.value c.send.ensures.front
+    query_front old new to id c.args.reply.now document c.in-Ok-frame_of_reply.frame.items c.as_slice.result.now c.send_bytes.result (c.as_bytes-2.ensures.bytes ∙ c.in-Ok.ensures.document) frame c.as_slice.ensures.value c.send_bytes.ensures.front

@@ -15,11 +15,11 @@ returns-clause-ends g c =
     let fault = c.serve-served.result.fault in
     let ran : Ran run (status_of_fault fault) = record {
       settings = c.in-Ok.settings;
-      between = put_back_state g.L.Outside.state c.read_settings.new.source;
+      between = put_back_state g.L.Outside.state c.read_serve_settings.new.source;
       after_line = c.in-Ok.ensures.line;
       served = c.serve-served.result;
       is_served = c.serve-served.ensures.served;
       status_is = refl;
       said = c.tell.ensures;
     } in
-    subst (RunEnds run) (sym c.status_of.ensures) (ran_ends run fault ran)
+    subst (RunEnds run) (sym c.status_of_fault.ensures) (ran_ends run fault ran)

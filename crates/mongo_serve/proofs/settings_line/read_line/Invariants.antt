@@ -1,5 +1,5 @@
 use Rattle.std.proofs.Common.{◌+◌, ◌-◌, length}
-use Rattle.mongo_serve.specs.Line.{maximum_length}
+use Rattle.mongo_serve.specs.Line.{maximum_line_length}
 use Rattle.mongo_serve.proofs.LineRead.{LineSoFar}
 use Rattle.mongo_serve.proofs.settings_line.read_line.Given as goal
 
@@ -7,4 +7,4 @@ abbrev pub invariant-reading : goal.invariant-reading
 invariant-reading g l = LineSoFar (g.S.Outside.state l.fn.source) (g.S.Outside.state l.source) l.line.items
 
 abbrev pub decreases-reading : goal.decreases-reading
-decreases-reading g l = maximum_length + 1 - length l.line.items
+decreases-reading g l = maximum_line_length + 1 - length l.line.items

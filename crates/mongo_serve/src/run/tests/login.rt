@@ -2,7 +2,7 @@
 
 ghost use Rattle.std.specs.Prelude.{◌+◌, ◌≤◌};
 
-use crate::status::Status;
+use crate::status::ServeStatus;
 
 // The line of settings, with its end.
 pub(super) const USERS: &[u8] =
@@ -37,7 +37,7 @@ const TAKES: &str = "the link failed to take bytes\n";
 // How a run is to end.
 #[derive(Clone, Copy)]
 pub(super) struct Wanted {
-    pub(super) status: Status,
+    pub(super) status: ServeStatus,
     // The report's lines: who is logged in, and how the stream ended.
     pub(super) report: [&'static str; 2],
     // How many bytes of the replies are written.
@@ -80,7 +80,7 @@ fn written_at(call: usize, start: usize, end: usize) -> usize
 
 fn broken(user: &'static str, end: &'static str, written: usize) -> Wanted {
     Wanted {
-        status: Status::Broken,
+        status: ServeStatus::Broken,
         report: [user, end],
         written,
     }
@@ -89,7 +89,7 @@ fn broken(user: &'static str, end: &'static str, written: usize) -> Wanted {
 // Nothing fails: the whole login and the ping are answered.
 pub(super) fn whole() -> Wanted {
     Wanted {
-        status: Status::Ended,
+        status: ServeStatus::Ended,
         report: [USER, "the client ended its stream\n"],
         written: 383,
     }

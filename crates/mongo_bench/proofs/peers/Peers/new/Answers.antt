@@ -6,6 +6,6 @@ use Rattle.mongo_bench.proofs.peers.Peers.new.Goals as goal
 
 pub returns-clause-ready : goal.returns-clause-ready
 returns-clause-ready g c = record {
-  logs_in = subst (λ n. IsExchangeClient (exchange_at n) c.in_ok-login.login) c.number_of-number.ensures c.in_ok-login.ensures.login;
-  serves = subst (λ n. Serves c.in_ok-server.server (exchange_at n)) c.number_of-number.ensures c.in_ok-server.ensures.serves;
+  logs_in = subst (λ n. IsExchangeClient (exchange_at n) c.in_ok-login.login) c.number_of_hash-number.ensures c.in_ok-login.ensures.login;
+  serves = subst (λ n. Serves c.in_ok-server.server (exchange_at n)) c.number_of_hash-number.ensures c.in_ok-server.ensures.serves;
 }

@@ -8,4 +8,4 @@ invariant_of-self-clause-counted g c =
     let fits : c.args.self.now.taken ≤ 2 ^ 64 - 1 = search rules in
     counted_read g.O.Origin.origin.left (g.L.Outside.state c.args.self.now.link).left (g.L.Outside.state c.read-read.new.self).left c.read-read.new.buf c.read-read.result c.args.self.now.taken c.saturating_add-self.result
     c.args.self.now.counted c.read-read.ensures.on.tells c.read-read.ensures.bytes c.read-read.ensures.most
-    (c.saturating_add-self.ensures ∙ ap (λ n. min (c.args.self.now.taken + n) (2 ^ 64 - 1)) c.count_of.ensures) fits
+    (c.saturating_add-self.ensures ∙ ap (λ n. min (c.args.self.now.taken + n) (2 ^ 64 - 1)) c.given_count.ensures) fits

@@ -1,5 +1,0 @@
-use Rattle.std.proofs.Common.{rules}
-use Rattle.mongo_bench.proofs.run.Status.code.Goals as goal
-
-pub returns-in-Done : goal.returns-in-Done
-returns-in-Done c = search rules

@@ -1,5 +1,0 @@
-use Rattle.std.proofs.Common.{rules}
-use Rattle.mongo_bench.proofs.run.derive.Goals as goal
-
-pub returns-in-Sha1-clause-value : goal.returns-in-Sha1-clause-value
-returns-in-Sha1-clause-value g c = search rules

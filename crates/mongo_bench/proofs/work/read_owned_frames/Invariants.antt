@@ -1,0 +1,9 @@
+use Rattle.std.proofs.Common.{◌≡◌, ◌≤◌, ◌-◌}
+use Rattle.mongo_bench.specs.Work.{only_read_owned}
+use Rattle.mongo_bench.proofs.work.read_owned_frames.Given as goal
+
+abbrev pub invariant-passes : goal.invariant-passes
+invariant-passes l = (l.work ≡ only_read_owned l.work.read_owned) × (l.work.read_owned ≤ l.count)
+
+abbrev pub decreases-passes : goal.decreases-passes
+decreases-passes l = l.count - l.work.read_owned
