@@ -13,9 +13,7 @@ use Rattle.mongo_command.specs.Exchange.{SendRefused, ExchangeRefused}
 use Rattle.mongo_command.specs.Fault.{is_kept}
 use Rattle.mongo_command.proofs.Kept.{received_kept}
 use Rattle.mongo_command.proofs.Plans.{all_of}
-use Rattle.mongo_sasl.specs.declared.credential.Credential.{Credential}
 use Rattle.mongo_sasl.specs.Commands.{IsNotBuilt}
-use Rattle.mongo_sasl.specs.Credential.{NoUserRow}
 use Rattle.mongo_sasl.specs.Kept.{KeepsAfter}
 use Rattle.mongo_sasl.specs.Plain.{FinishedRow}
 use Rattle.mongo_sasl.specs.Reply.{SaslRow}
