@@ -11,6 +11,7 @@ use Rattle.mongo_command.specs.Exchange.{CountsStay, Exchanges}
 use Rattle.mongo_command.proofs.Steps.{stopped_memory, stopped_row, stopped_unless, stopped_reading, stopped_later}
 use Rattle.mongo_sasl.specs.declared.mechanism.AuthMechanism.TheVariants.{Plain}
 use Rattle.mongo_sasl.specs.Commands.{start_elements, IsNotBuilt}
+use Rattle.mongo_sasl.specs.EndsByScript.{BeginsWithCommand}
 use Rattle.mongo_sasl.specs.Login.{EndsByReply}
 use Rattle.mongo_sasl.specs.Plain.{plain_payload, PlainUser, IsPlainUser, PlainRow, plain_body, plain_command, PlainHanded, plain_said, UnfinishedRow, FinishedRow, plain_heard, plain_plan, IsFinished}
 use Rattle.mongo_sasl.specs.Reply.{IsSaslReply, SaslRow}
@@ -20,6 +21,10 @@ use Rattle.mongo_sasl.proofs.PlainPlan.{no_plain_row, finished_no_row}
 use Rattle.mongo_sasl.proofs.Unsent.{unbuilt_stopped}
 
 module _ (handed : PlainHanded) (user : PlainUser) (is_user : IsPlainUser handed.credential user) where
+  -- what is said
+  pub plain_begins : BeginsWithCommand (plain_plan handed)
+  plain_begins = (plain_said handed user, inr (no_plain_row handed.credential user is_user, (user, is_user, refl)))
+
   -- a stop after the credential's tests
   pub user_stopped : (kind : ErrorKind) (old new : State) (before after : ℤ) → Stopped (saying (plain_said handed user) plain_heard) kind old new before after → Stopped (plain_plan handed) kind old new before after
   user_stopped kind old new before after r =

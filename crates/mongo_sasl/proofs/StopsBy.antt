@@ -8,7 +8,7 @@ use Rattle.mongo_wire.specs.Outside.{State}
 use Rattle.mongo_command.specs.Connection.{kept_fault, KeepsRest}
 use Rattle.mongo_command.specs.Conversation.{Plan, Stopped}
 use Rattle.mongo_command.specs.Exchange.{CountsStay, ExchangeRefused}
-use Rattle.mongo_sasl.specs.EndsByScript.{Standing, StopsBy}
+use Rattle.mongo_sasl.specs.EndsByScript.{Standing, BeginsWithCommand, StopsBy}
 use Rattle.mongo_sasl.proofs.Handed.{handed_on, rest_same, counts_same}
 use Rattle.mongo_sasl.proofs.KeptAfter.{IsOwn, kept_after, row_keeps}
 use Rattle.mongo_sasl.proofs.Unsent.{answered_fault, not_replied}
@@ -30,7 +30,7 @@ pub was_faultless : {U : Type 0} (x : U) (fault : Option ErrorKind) → ((kind :
 was_faultless x fault kept = none_kept fault (λ kind is. not_replied x kind ⊥ (kept kind is))
 
 module _ {L T A : Type 0} (state : L → State) (plan : Plan A) where
-  stopped_answers : (r : Result T Error) (kind : ErrorKind) (old : Standing L) → IfErr r (λ e. Stopped plan e.kind (state old.link) (state old.link) old.id old.id) → IfErr r (λ e. (e.kind ≡ kind) ⊎ Stopped plan e.kind (state old.link) (state old.link) old.id old.id)
+  stopped_answers : (r : Result T Error) (kind : ErrorKind) (old : Standing L) → IfErr r (λ e. Stopped plan e.kind (state old.link) (state old.link) old.id old.id) → IfErr r (λ e. ((e.kind ≡ kind) × BeginsWithCommand plan) ⊎ Stopped plan e.kind (state old.link) (state old.link) old.id old.id)
   stopped_answers (Ok x) kind old stopped = tt
   stopped_answers (Err e) kind old stopped = inr stopped
 
@@ -53,16 +53,16 @@ module _ {L T A : Type 0} (state : L → State) (plan : Plan A) where
   pub nothing_done : (old : Standing L) (x : T) → StopsBy state plan (Ok x) old old
   nothing_done old x = no_exchange IsOwn old (Ok x) (λ kind is. is) tt tt
 
-  -- the command wasn't sent, or no reply was received
-  pub at_exchange : {U : Type 0} (maximum : ℤ) (message : Message) (old new : Standing L) (e : Error) → AnswersFault {U = U} (Err e) old new
+  -- the plan's first command wasn't sent, or no reply was received
+  pub at_exchange : {U : Type 0} (maximum : ℤ) (message : Message) (old new : Standing L) (e : Error) → BeginsWithCommand plan → AnswersFault {U = U} (Err e) old new
       → (kept_fault old.connection ≡ None → ExchangeRefused e.kind maximum message (state old.link) (state new.link) old.id new.id (kept_fault new.connection))
       → (ExchangeRefused e.kind maximum message (state old.link) (state new.link) old.id new.id (kept_fault new.connection) → Stopped plan e.kind (state old.link) (state new.link) old.id new.id)
       → KeepsRest old.connection new.connection → CountsStay (state old.link) (state new.link) → StopsBy {T = T} state plan (Err e) old new
-  at_exchange maximum message old new e kept refused stops rest counts = record {
+  at_exchange maximum message old new e begins kept refused stops rest counts = record {
     refused = λ faultless. stops (refused faultless);
     keeps = λ faultless. kept_after e.kind maximum message (state old.link) (state new.link) old.id new.id (kept_fault new.connection) (refused faultless);
     untouched = λ kind is. let same = kept kind is in (same.1, same.2, same.4, same.3);
-    answers = λ kind is. inl (answered_fault e kind (kept kind is).0);
+    answers = λ kind is. inl (answered_fault e kind (kept kind is).0, begins);
     rest = rest;
     counts = counts;
   }

@@ -13,6 +13,7 @@ use Rattle.mongo_command.specs.Exchange.{CountsStay, Exchanges}
 use Rattle.mongo_command.specs.Literal.{text_element, int32_element}
 use Rattle.mongo_command.proofs.Steps.{reached_ending, stopped_memory, stopped_row, stopped_later}
 use Rattle.mongo_sasl.specs.Commands.{IsNotBuilt}
+use Rattle.mongo_sasl.specs.EndsByScript.{BeginsWithCommand}
 use Rattle.mongo_sasl.specs.Login.{EndsByReply}
 use Rattle.mongo_sasl.specs.X509.{Takes, IsCertificateTaken, X509Row, x509_body, x509_command, X509Handed, x509_said, x509_heard, x509_plan_from, x509_plan}
 use Rattle.mongo_sasl.specs.Keys.{authenticate_key, mechanism_key}
@@ -21,6 +22,10 @@ use Rattle.mongo_sasl.proofs.Unsent.{unbuilt_stopped}
 use Rattle.mongo_sasl.proofs.X509Plan.{taken_no_row}
 
 module _ (handed : X509Handed) (later : handed.speculated ≡ false) where
+  -- what is said
+  pub x509_begins : BeginsWithCommand (x509_plan handed)
+  x509_begins = subst (λ s. BeginsWithCommand (x509_plan_from s handed)) (sym later) (x509_said handed, refl)
+
   -- a login that isn't answered yet
   pub x509_stopped : (kind : ErrorKind) (old new : State) (before after : ℤ) → Stopped (saying (x509_said handed) x509_heard) kind old new before after → Stopped (x509_plan handed) kind old new before after
   x509_stopped kind old new before after r = subst (λ s. Stopped (x509_plan_from s handed) kind old new before after) (sym later) r

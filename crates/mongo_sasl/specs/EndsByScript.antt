@@ -8,7 +8,7 @@ use Rattle.mongo_wire.specs.Buffer.{frames_taken, held_document, IsFrameTaken}
 use Rattle.mongo_wire.specs.Outside.{State, Rose, risen}
 use Rattle.mongo_command.specs.declared.connection.Connection.{Connection}
 use Rattle.mongo_command.specs.Connection.{kept_fault, KeepsRest}
-use Rattle.mongo_command.specs.Conversation.{Said, Turn, ends, Plan, Reached, Stopped, Leads}
+use Rattle.mongo_command.specs.Conversation.{Said, Turn, says, ends, Plan, Reached, Stopped, Leads}
 use Rattle.mongo_command.specs.Exchange.{CountsStay}
 use Rattle.mongo_sasl.specs.Kept.{KeepsAfter}
 use Rattle.mongo_sasl.specs.Login.{HasLogin, AnswersLed, EndsByReply}
@@ -23,6 +23,10 @@ pub record Standing (L : Type 0) : Type 0 where
 abbrev pub standing : {L : Type 0} → Connection → L → ℤ → FrameBuffer → Standing L
 standing connection link id buffer = record { connection = connection; link = link; id = id; buffer = buffer }
 
+-- the plan's first turn is a command
+abbrev pub BeginsWithCommand : {A : Type 0} → Plan A → Type 0
+BeginsWithCommand plan = (said : Said) × plan [] (says said)
+
 -- Why a call that goes by a plan is refused, and what it leaves however it ends.
 pub record StopsBy {L T A : Type 0} (state : L → State) (plan : Plan A) (result : Result T Error) (old new : Standing L) : Type 0 where
   -- a refusal says why it comes and what it left
@@ -32,8 +36,8 @@ pub record StopsBy {L T A : Type 0} (state : L → State) (plan : Plan A) (resul
   pub keeps : kept_fault old.connection ≡ None → IfErr result (λ e. KeepsAfter e.kind (kept_fault new.connection))
   -- over a connection that keeps a fault nothing is done
   pub untouched : (kind : ErrorKind) → kept_fault old.connection ≡ Some kind → (new.link ≡ old.link) × (new.id ≡ old.id) × (new.buffer ≡ old.buffer) × (kept_fault new.connection ≡ Some kind)
-  -- and a refusal answers that fault, or stops the plan before any exchange
-  pub answers : (kind : ErrorKind) → kept_fault old.connection ≡ Some kind → IfErr result (λ e. (e.kind ≡ kind) ⊎ Stopped plan e.kind (state old.link) (state old.link) old.id old.id)
+  -- and a refusal answers that fault in place of the plan's first command, or stops the plan before any exchange
+  pub answers : (kind : ErrorKind) → kept_fault old.connection ≡ Some kind → IfErr result (λ e. ((e.kind ≡ kind) × BeginsWithCommand plan) ⊎ Stopped plan e.kind (state old.link) (state old.link) old.id old.id)
   -- nothing else of the connection changes
   pub rest : KeepsRest old.connection new.connection
   -- what the link tells stays told, and no count falls

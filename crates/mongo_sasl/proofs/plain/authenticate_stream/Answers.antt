@@ -8,7 +8,7 @@ use Rattle.mongo_sasl.proofs.Handed.{no_answer_on}
 use Rattle.mongo_sasl.proofs.KeptAfter.{refused_own, unbuilt_own, finished_own}
 use Rattle.mongo_sasl.proofs.OneExchange.{exchanged_as, unanswered_as}
 use Rattle.mongo_sasl.proofs.PlainJoins.{plain_joins}
-use Rattle.mongo_sasl.proofs.PlainSteps.{credential_stopped, user_stopped, plain_unbuilt, plain_replied, plain_refused}
+use Rattle.mongo_sasl.proofs.PlainSteps.{credential_stopped, plain_begins, user_stopped, plain_unbuilt, plain_replied, plain_refused}
 use Rattle.mongo_sasl.proofs.StopsBy.{was_faultless, before_exchange, at_exchange, after_exchange}
 use Rattle.mongo_sasl.proofs.plain.authenticate_stream.Goals as goal
 
@@ -52,7 +52,7 @@ returns-in_err-exchange_into-clause-login g c =
     let r = c.from_residual-in_err-exchange_into.result in
     let passed = c.from_residual-in_err-exchange_into.ensures.1 in
     refused_by_script _ (plain_plan handed) (IsPlainLogin handed) handed.maximum (plain_joins handed) _ _ r e passed
-    (at_exchange _ (plain_plan handed) _ _ _ _ e exchange.kept exchange.refused
+    (at_exchange _ (plain_plan handed) _ _ _ _ e (plain_begins handed user c.in_ok-login.ensures.user) exchange.kept exchange.refused
     (λ refused. user_stopped handed user c.in_ok-login.ensures.user e.kind _ _ _ _ (unanswered_as sasl_start_key user.source (plain_body user) handed.server_api handed.maximum c.in_ok-command.command plain_heard e.kind _ _ _ _ _ c.in_ok-command.ensures.command exchange.counts refused))
     exchange.connection exchange.counts)
 

@@ -9,7 +9,7 @@ use Rattle.mongo_sasl.proofs.KeptAfter.{unbuilt_own, x509_own}
 use Rattle.mongo_sasl.proofs.OneExchange.{exchanged_as, unanswered_as}
 use Rattle.mongo_sasl.proofs.StopsBy.{was_faultless, before_exchange, at_exchange, after_exchange, nothing_done}
 use Rattle.mongo_sasl.proofs.X509Joins.{x509_joins}
-use Rattle.mongo_sasl.proofs.X509Steps.{x509_at_once, ends_at_once, not_both_ways, x509_stopped, x509_unbuilt, x509_replied, x509_refused}
+use Rattle.mongo_sasl.proofs.X509Steps.{x509_at_once, ends_at_once, not_both_ways, x509_begins, x509_stopped, x509_unbuilt, x509_replied, x509_refused}
 use Rattle.mongo_sasl.proofs.x509.authenticate_stream.Goals as goal
 
 -- ---- after an answer in the hello
@@ -53,7 +53,7 @@ returns-in_err-exchange_into-clause-login g c =
     let r = c.from_residual-in_err-exchange_into.result in
     let passed = c.from_residual-in_err-exchange_into.ensures.1 in
     refused_by_script _ (x509_plan handed) (IsX509Login handed) handed.maximum (x509_joins handed) _ _ r e passed
-    (at_exchange _ (x509_plan handed) _ _ _ _ e exchange.kept exchange.refused
+    (at_exchange _ (x509_plan handed) _ _ _ _ e (x509_begins handed c.if-speculated.false) exchange.kept exchange.refused
     (λ refused. x509_stopped handed c.if-speculated.false e.kind _ _ _ _ (unanswered_as authenticate_key (codes "$external") (x509_body handed.credential.username) handed.server_api handed.maximum c.in_ok-command.command x509_heard e.kind _ _ _ _ _ c.in_ok-command.ensures.command exchange.counts refused))
     exchange.connection exchange.counts)
 
