@@ -19,7 +19,7 @@ use Rattle.mongo_scram.specs.EndsByScram.{EndsByScram}
 use Rattle.mongo_scram.specs.Plan.{Handed, Challenge, scram_plan}
 use Rattle.mongo_scram.specs.Script.{IsScramLogin}
 use Rattle.mongo_scram.proofs.LoginSteps.{stopped_still}
-use Rattle.mongo_scram.proofs.ScramCosts.{accepted_reached, stopped_whole}
+use Rattle.mongo_scram.proofs.ScramCosts.{accepted_reached, stopped_whole, fault_begins}
 use Rattle.mongo_scram.proofs.ScramJoins.{scram_joins}
 
 module _ {L : Type 0} (state : L → State) (handed : Handed) (document : List ℕ) (old new : Standing L) (first last : Ledgers) where
@@ -28,7 +28,7 @@ module _ {L : Type 0} (state : L → State) (handed : Handed) (document : List �
   Untouched = (kind : ErrorKind) → kept_fault old.connection ≡ Some kind → (new.link ≡ old.link) × (new.id ≡ old.id) × (new.buffer ≡ old.buffer) × (kept_fault new.connection ≡ Some kind)
 
   abbrev AnswersFault : ErrorKind → ErrorKind → Type 0
-  AnswersFault reason kind = ((reason ≡ kind) × FaultCosts handed (state old.link) old.id first last) ⊎ StoppedScram handed reason (state old.link) (state old.link) old.id old.id first last
+  AnswersFault reason kind = ((reason ≡ kind) × FaultCosts handed first last) ⊎ StoppedScram handed reason (state old.link) (state old.link) old.id old.id first last
 
   -- a refusal is handed on
   pub refused_scram : (r : Result (Unit {0}) Error) (e : Error) → IsErrAnd r (λ x. x ≡ e) → (kept_fault old.connection ≡ None → StoppedScram handed e.kind (state old.link) (state new.link) old.id new.id first last) → ((kind : ErrorKind) → kept_fault old.connection ≡ Some kind → AnswersFault e.kind kind) → SameEntries first last
@@ -38,7 +38,7 @@ module _ {L : Type 0} (state : L → State) (handed : Handed) (document : List �
         refused = λ faultless. stopped_whole handed e.kind (state old.link) (state new.link) old.id new.id first last (refused faultless);
         keeps = keeps;
         untouched = untouched;
-        answers = λ kind is. elim (answers kind is) [ inl same ↦ inl same.0 | inr stopped ↦ inr (stopped_whole handed e.kind (state old.link) (state old.link) old.id old.id first last stopped) ];
+        answers = λ kind is. elim (answers kind is) [ inl same ↦ inl (same.0, fault_begins handed first last same.1) | inr stopped ↦ inr (stopped_whole handed e.kind (state old.link) (state old.link) old.id old.id first last stopped) ];
         rest = rest;
         counts = counts;
       } in

@@ -1,5 +1,5 @@
 -- The first round of a login is a step of its plan.
-use Rattle.std.proofs.Common.{◌≡◌, ◌⊎◌, ℕ, ℤ, false, refl, ap, sym, ◌∙◌, subst, inl, inr, arith, Option, None, Some, Result, Ok, Err, List, [], ◌++◌, IfErr, OnOk, flat_map}
+use Rattle.std.proofs.Common.{◌≡◌, ◌⊎◌, ℕ, ℤ, false, refl, ap, sym, ◌∙◌, subst, inl, inr, arith, Option, None, Some, IsSome, is_some, Result, Ok, Err, List, [], ◌++◌, IfErr, OnOk, flat_map}
 use Rattle.mongo_bson.specs.Document.{spell}
 use Rattle.mongo_bson.proofs.Enclosed.{length-enclosed}
 use Rattle.mongo_wire.specs.declared.error.Error.{Error}
@@ -16,7 +16,8 @@ use Rattle.mongo_command.specs.Conversation.{Plan, plain_message, saying, Stoppe
 use Rattle.mongo_command.proofs.Steps.{stopped_memory, stopped_row, stopped_saying, stopped_later}
 use Rattle.mongo_sasl.specs.Commands.{start_elements, IsNotBuilt}
 use Rattle.mongo_sasl.specs.EndsByScript.{Standing, StopsBy}
-use Rattle.mongo_sasl.proofs.StopsBy.{no_exchange}
+use Rattle.mongo_sasl.proofs.Handed.{on_answer}
+use Rattle.mongo_sasl.proofs.StopsBy.{not_both, no_exchange}
 use Rattle.mongo_scram.specs.declared.messages.ClientFirst.{ClientFirst}
 use Rattle.mongo_scram.specs.declared.conversation.FirstRound.{FirstRound}
 use Rattle.mongo_scram.specs.declared.rounds.ScramLogin.{ScramLogin}
@@ -116,15 +117,13 @@ module _ {T : Type 0} (login : ScramLogin) (found : Option FirstRound) (maximum 
   pub start_stops : {L : Type 0} (state : L → State) (r : Result T Error) (old new : Standing L) → found ≡ None → StopsBy state (opened_by login maximum user None) r old new → StopsBy state (opened_by login maximum user found) r old new
   start_stops state r old new is stops = subst (λ f. StopsBy state (opened_by login maximum user f) r old new) (sym is) stops
 
-  -- and answers no fault that is kept
-  pub round_aside : (r : Result T Error) (round : FirstRound) (new : State) (after : ℤ) → found ≡ Some round → IfErr r (λ e. FirstReplyRow round.server_first e.kind ⊎ (e.kind ≡ OutOfMemory))
-      → IfErr r (λ e. (speculated_of found ≡ None) ⊎ Stopped (opened_by login maximum user found) e.kind new new after after)
-  round_aside (Ok x) round new after is h = tt
-  round_aside (Err x) round new after is h = inr (round_stopped (Err x) round new after is h)
+  -- over a fault, only that opens
+  pub round_alone : (r : Result T Error) (round : FirstRound) → found ≡ Some round → OnOk r (IsSome (speculated_of found))
+  round_alone r round is = on_answer r _ (ap (λ f. is_some (speculated_of f)) is)
 
-  pub start_aside : (r : Result T Error) (new : State) (after : ℤ) → found ≡ None → IfErr r (λ e. (speculated_of found ≡ None) ⊎ Stopped (opened_by login maximum user found) e.kind new new after after)
-  start_aside (Ok x) new after is = tt
-  start_aside (Err x) new after is = inl (ap speculated_of is)
+  pub start_alone : (r : Result T Error) (old new : Connection) (before after : FrameBuffer) (kind : ErrorKind) → kept_fault old ≡ Some kind → OnOk r (LeavesOneExchange old new before after) → OnOk r (IsSome (speculated_of found))
+  start_alone (Ok x) old new before after kind is once = absurd (not_both (kept_fault old) kind once.was is)
+  start_alone (Err e) old new before after kind is once = tt
 
   -- what its one exchange leaves
   pub once_faultless : (r : Result T Error) (old new : Connection) (before after : FrameBuffer) → OnOk r (LeavesOneExchange old new before after) → OnOk r (kept_fault new ≡ None)

@@ -1,5 +1,5 @@
 -- A login, by its opening, its derivation and its closing: where it was accepted, and where it was stopped.
-use Rattle.std.proofs.Common.{◌≡◌, ◌⊎◌, ℕ, ℤ, refl, ap, ◌∙◌, subst, inl, inr, Option, None, Some, Result, Ok, Err, List, Contains, IfErr, OnOk, OnErr}
+use Rattle.std.proofs.Common.{◌≡◌, ◌⊎◌, ℕ, ℤ, refl, ap, ◌∙◌, subst, inl, inr, Option, None, Some, IsSome, Result, Ok, Err, List, Contains, IfErr, OnOk, OnErr}
 use Rattle.mongo_wire.specs.declared.error.Error.{Error}
 use Rattle.mongo_wire.specs.declared.error.ErrorKind.{ErrorKind}
 use Rattle.mongo_wire.specs.declared.error.ErrorKind.TheVariants.{OutOfMemory}
@@ -18,7 +18,7 @@ use Rattle.mongo_scram.specs.Entry.{salted_of, IsUsable}
 use Rattle.mongo_scram.specs.Plan.{Handed, salted_by, opening, closing}
 use Rattle.mongo_scram.specs.Rounds.{frames_opened, Opens, key_for, IsAnswered}
 use Rattle.mongo_scram.specs.User.{User, IsUser}
-use Rattle.mongo_scram.proofs.OpeningSteps.{opening_reached}
+use Rattle.mongo_scram.proofs.OpeningSteps.{opening_reached, opening_at_once}
 use Rattle.mongo_scram.proofs.ScramPlan.{challenge_of}
 
 -- ---- between the rounds
@@ -38,10 +38,12 @@ between_by handed user o key tag nonce old middle before between first last is_u
 pub between_tag : (handed : Handed) (user : User) (o : Opened) (key : SaltedKey) (tag : List ℕ) (old middle : State) (before between : ℤ) (first last : Ledgers) → IsBetween handed user o key tag old middle before between first last → tag ≡ salted_by handed (challenge_of user o.server_first)
 between_tag handed user o key tag old middle before between first last is = is.answered.tag_is ∙ ap salted_of is.key_is
 
+between_usable : (handed : Handed) (user : User) (o : Opened) (key : SaltedKey) (tag : List ℕ) (old middle : State) (before between : ℤ) (first last : Ledgers) → IsBetween handed user o key tag old middle before between first last → IsUsable (key_for handed.version user o.server_first)
+between_usable handed user o key tag old middle before between first last is = subst IsUsable is.key_is is.answered.usable
+
 between_reached : (handed : Handed) (user : User) (o : Opened) (key : SaltedKey) (tag : List ℕ) (old middle : State) (before between : ℤ) (first last : Ledgers) → IsBetween handed user o key tag old middle before between first last → Reached (opening handed) (challenge_of user o.server_first) old middle before between
 between_reached handed user o key tag old middle before between first last is =
-    let usable : IsUsable (key_for handed.version user o.server_first) = subst IsUsable is.key_is is.answered.usable in
-    opening_reached handed user o old middle before between is.is_user is.opens is.answered.valid usable.password
+    opening_reached handed user o old middle before between is.is_user is.opens is.answered.valid (between_usable handed user o key tag old middle before between first last is).password
 
 between_derived : (handed : Handed) (user : User) (o : Opened) (key : SaltedKey) (tag : List ℕ) (old middle : State) (before between : ℤ) (first last : Ledgers) → IsBetween handed user o key tag old middle before between first last → Derives (key_by handed (challenge_of user o.server_first)) first last
 between_derived handed user o key tag old middle before between first last is = subst (λ k. Derives k first last) is.key_is is.answered.derived
@@ -130,12 +132,11 @@ pub stopped_still : (handed : Handed) (kind : ErrorKind) (old new : State) (befo
 stopped_still handed kind old new before after first last link ids s = subst (λ state. StoppedScram handed kind old state before before first last) link (subst (λ id. StoppedScram handed kind old new before id first last) ids s)
 
 -- what was derived by a first round that went with the hello, before the fault is answered
-pub fault_costs : (handed : Handed) (user : User) (o : Opened) (key : SaltedKey) (tag : List ℕ) (old middle : State) (before between : ℤ) (first last : Ledgers) → middle ≡ old → between ≡ before → IsBetween handed user o key tag old middle before between first last → FaultCosts handed old before first last
-fault_costs handed user o key tag old middle before between first last link ids is =
-    let c = challenge_of user o.server_first in
+pub close_unsaid : (handed : Handed) (user : User) (o : Opened) (key : SaltedKey) (tag : List ℕ) (old middle : State) (before between : ℤ) (first last : Ledgers) → IsSome handed.speculated → IsBetween handed user o key tag old middle before between first last → FaultCosts handed first last
+close_unsaid handed user o key tag old middle before between first last some is =
     inr (record {
-      challenge = c;
-      opened = subst (λ state. Reached (opening handed) c old state before before) link (subst (λ id. Reached (opening handed) c old middle before id) ids (between_reached handed user o key tag old middle before between first last is));
+      challenge = challenge_of user o.server_first;
+      opened = opening_at_once handed user o old middle before between some is.is_user is.opens is.answered.valid (between_usable handed user o key tag old middle before between first last is).password;
       derived = between_derived handed user o key tag old middle before between first last is;
       entries = is.answered.entries;
     })

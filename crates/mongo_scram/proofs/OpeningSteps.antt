@@ -1,13 +1,16 @@
 -- What a login's first round and its derivation show of its opening.
-use Rattle.std.proofs.Common.{◌≡◌, ◌⊎◌, ℕ, ℤ, ◌∙◌, subst, inl, inr, Option, None, Some, List}
+use Rattle.std.proofs.Common.{◌≡◌, ◌⊎◌, ℕ, ℤ, refl, ◌∙◌, subst, inl, inr, Option, None, Some, IsSome, List, []}
+use Rattle.std.proofs.lemmas.Bool.{false≢true}
 use Rattle.mongo_wire.specs.declared.error.ErrorKind.{ErrorKind}
 use Rattle.mongo_wire.specs.declared.error.ErrorKind.TheVariants.{OutOfMemory}
 use Rattle.mongo_wire.specs.Outside.{State}
-use Rattle.mongo_command.specs.Conversation.{HasNone, ending, reading, unless, Reached, Stopped}
+use Rattle.mongo_command.specs.Conversation.{Said, Turn, says, ends, HasNone, ending, reading, unless, Reached, Stopped}
 use Rattle.mongo_command.proofs.Steps.{reached_ending, reached_unless, reached_reading, reached_saying, stopped_memory, stopped_row, stopped_unless, stopped_reading, stopped_later}
+use Rattle.mongo_sasl.specs.EndsByScript.{BeginsWithCommand}
 use Rattle.mongo_scram.specs.declared.rounds.Opened.{Opened}
 use Rattle.mongo_scram.specs.declared.server_first.ServerFirst.{ServerFirst}
 use Rattle.mongo_scram.specs.Client.{nonce_of}
+use Rattle.mongo_scram.specs.Costs.{Ledgers, CostsNothing, FaultCosts}
 use Rattle.mongo_scram.specs.Key.{PasswordRow}
 use Rattle.mongo_scram.specs.Plan.{Speculated, Handed, Challenge, nonce_by, start_said, ChallengeRow, challenged, opened, opening}
 use Rattle.mongo_scram.specs.Replies.{CarriesFirst, FirstReplyRow}
@@ -57,6 +60,31 @@ opening_reached handed user o old new before after is opens valid usable =
     (reached_unless (FirstReplyRow opens.reply) _ c new new after after (no_first_row opens.reply o.server_first opens.carries)
     (reached_reading (CarriesFirst opens.reply) _ o.server_first c new new after after opens.carries
     (reached_unless (ChallengeRow handed c) (ending c) c new new after after none (reached_ending c new after))))))
+
+-- with a first round that went with the hello, it ends at once
+opened_at_once : (speculated : Option Speculated) (handed : Handed) (user : User) (reply : List ℕ) (c : Challenge) (old new : State) (before after : ℤ) → IsSome speculated → Replies speculated (start_said handed user) reply old new before after → challenged handed user reply [] (ends c) → opened speculated handed user [] (ends c)
+opened_at_once None handed user reply c old new before after some replied turn = absurd (false≢true some)
+opened_at_once (Some speculated) handed user reply c old new before after some replied turn = subst (λ x. challenged handed user x [] (ends c)) replied.0 turn
+
+pub opening_at_once : (handed : Handed) (user : User) (o : Opened) (old new : State) (before after : ℤ) → IsSome handed.speculated → IsUser handed.credential user → Opens handed user o old new before after → IsValidFirst o.server_first (nonce_of o.client_first) handed.max_iterations → HasNone (PasswordRow handed.version user.password) → opening handed [] (ends (challenge_of user o.server_first))
+opening_at_once handed user o old new before after some is opens valid usable =
+    let c = challenge_of user o.server_first in
+    let none = challenge_none handed user o.server_first (subst (λ nonce. IsValidFirst o.server_first nonce handed.max_iterations) opens.nonce valid) usable in
+    let turn : challenged handed user opens.reply [] (ends c) = inr (no_first_row opens.reply o.server_first opens.carries, (o.server_first, opens.carries, inr (none, refl))) in
+    inr (no_credential_row handed.credential user is, (user, is, opened_at_once handed.speculated handed user opens.reply c old new before after some opens.replied turn))
+
+-- it begins with a command only without one
+heard_unsaid : (handed : Handed) (user : User) (reply : List ℕ) (said : Said) → challenged handed user reply [] (says said) → ⊥
+heard_unsaid handed user reply said (inl row) = row
+heard_unsaid handed user reply said (inr heard) = elim heard.1.2 [ inl row ↦ row | inr ended ↦ let same : ◌≡◌ {A = Turn Challenge} (says said) (ends (challenge_of user heard.1.0)) = ended.1 in let no : ⊥ = cc in no ]
+
+opened_anew : (speculated : Option Speculated) (handed : Handed) (user : User) (said : Said) → opened speculated handed user [] (says said) → speculated ≡ None
+opened_anew None handed user said turn = refl
+opened_anew (Some speculated) handed user said turn = absurd (heard_unsaid handed user speculated.reply said turn)
+
+-- its command wasn't said
+pub start_unsaid : (handed : Handed) (user : User) (first last : Ledgers) → IsUser handed.credential user → BeginsWithCommand (opened handed.speculated handed user) → CostsNothing first last → FaultCosts handed first last
+start_unsaid handed user first last is begins nothing = inl (record { user = user; is_user = is; anew = opened_anew handed.speculated handed user begins.0 begins.1; costs = nothing })
 
 answer_row : (handed : Handed) (user : User) (first : ServerFirst) (kind : ErrorKind) (new : State) (after : ℤ) → AnswerRow first (nonce_by handed) handed.max_iterations handed.version user.password kind ⊎ (kind ≡ OutOfMemory)
     → let c = challenge_of user first in Stopped {A = Challenge} (unless (ChallengeRow handed c) (ending c)) kind new new after after

@@ -1,12 +1,14 @@
 -- What a login that was accepted or stopped shows of its whole plan.
-use Rattle.std.proofs.Common.{ℕ, ℤ, inl, inr, List}
+use Rattle.std.proofs.Common.{ℕ, ℤ, refl, sym, subst, inl, inr, List, []}
 use Rattle.mongo_wire.specs.declared.error.ErrorKind.{ErrorKind}
 use Rattle.mongo_wire.specs.Outside.{State}
-use Rattle.mongo_command.specs.Conversation.{Reached, Stopped}
+use Rattle.mongo_command.specs.Conversation.{says, ends, Reached, Stopped}
 use Rattle.mongo_command.proofs.FollowedBy.{reached_both, stopped_first, stopped_second}
+use Rattle.mongo_sasl.specs.EndsByScript.{BeginsWithCommand}
 use Rattle.mongo_sasl.proofs.LastReply.{ends_reached}
-use Rattle.mongo_scram.specs.Plan.{Handed, opening, closing, scram_plan}
-use Rattle.mongo_scram.specs.Costs.{Ledgers, Accepted, StoppedScram}
+use Rattle.mongo_scram.specs.Plan.{Handed, start_said, close_said, opened, opening, closing, scram_plan}
+use Rattle.mongo_scram.specs.Costs.{Ledgers, Accepted, StoppedScram, StartUnsaid, FaultCosts}
+use Rattle.mongo_scram.proofs.OneRow.{no_credential_row}
 
 pub accepted_reached : (handed : Handed) (document : List ℕ) (old new : State) (before after : ℤ) (first last : Ledgers) → (is : Accepted handed document old new before after first last) → Reached (scram_plan handed) is.challenge old new before after
 accepted_reached handed document old new before after first last is =
@@ -19,3 +21,16 @@ stopped_whole handed kind old new before after first last is =
       | inl early ↦ stopped_first (opening handed) (closing handed) kind old new before after early.0
       | inr late ↦ stopped_second (opening handed) (closing handed) late.challenge kind old late.middle new before late.between after late.opened late.stopped
     ]
+
+-- ---- over a connection that keeps a fault
+
+start_turn : (handed : Handed) (first last : Ledgers) → (unsaid : StartUnsaid handed first last) → opening handed [] (says (start_said handed unsaid.user))
+start_turn handed first last unsaid =
+    let said = start_said handed unsaid.user in
+    let turn : opened handed.speculated handed unsaid.user [] (says said) = subst (λ s. opened s handed unsaid.user [] (says said)) (sym unsaid.anew) refl in
+    inr (no_credential_row handed.credential unsaid.user unsaid.is_user, (unsaid.user, unsaid.is_user, turn))
+
+-- where the fault is answered, a command is next
+pub fault_begins : (handed : Handed) (first last : Ledgers) → FaultCosts handed first last → BeginsWithCommand (scram_plan handed)
+fault_begins handed first last (inl unsaid) = let said = start_said handed unsaid.user in (said, (says said, start_turn handed first last unsaid, refl))
+fault_begins handed first last (inr unsaid) = (close_said handed unsaid.challenge, (ends unsaid.challenge, unsaid.opened, refl))

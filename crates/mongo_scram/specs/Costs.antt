@@ -1,10 +1,10 @@
 -- What a login takes of the counter and of the cache: it derives where its key has no entry, and its key is put in once
 -- it was accepted.
-use Rattle.std.specs.Prelude.{◌≡◌, ℕ, ℤ, ◌+◌, ◌-◌, ◌^◌, ◌⊎◌, min, None, List, Contains}
+use Rattle.std.specs.Prelude.{◌≡◌, ℕ, ℤ, ◌+◌, ◌-◌, ◌^◌, ◌⊎◌, min, None, List, [], Contains}
 use Rattle.mongo_wire.specs.declared.error.ErrorKind.{ErrorKind}
 use Rattle.mongo_wire.specs.declared.error.ErrorKind.TheVariants.{OutOfMemory}
 use Rattle.mongo_wire.specs.Outside.{State}
-use Rattle.mongo_command.specs.Conversation.{HasNone, Reached, Stopped}
+use Rattle.mongo_command.specs.Conversation.{ends, HasNone, Reached, Stopped}
 use Rattle.mongo_sasl.specs.Login.{EndsByReply}
 use Rattle.mongo_scram.specs.declared.cache.SaltedCache.{SaltedCache}
 use Rattle.mongo_scram.specs.declared.cache.SaltedKey.{SaltedKey}
@@ -13,6 +13,7 @@ use Rattle.mongo_scram.specs.Entry.{salted_of}
 use Rattle.mongo_scram.specs.declared.server_final.ServerFinal.{ServerFinal}
 use Rattle.mongo_scram.specs.Replies.{CarriesFinal}
 use Rattle.mongo_scram.specs.Plan.{Handed, Challenge, LastRow, opening, closing}
+use Rattle.mongo_scram.specs.User.{User, IsUser}
 
 -- the key that a challenge asks for
 abbrev pub key_by : Handed → Challenge → SaltedKey
@@ -83,14 +84,21 @@ StoppedScram handed kind old new before after first last =
 
 -- ---- over a connection that keeps a fault
 
--- the opening was followed to its end without an exchange, and the key was derived where it had no entry
-pub record OpensUnsaid (handed : Handed) (state : State) (id : ℤ) (first last : Ledgers) : Type 0 where
+-- the credential names a user, whose first message wasn't said yet, and nothing was derived
+pub record StartUnsaid (handed : Handed) (first last : Ledgers) : Type 0 where
+  pub user : User
+  pub is_user : IsUser handed.credential user
+  pub anew : handed.speculated ≡ None
+  pub costs : CostsNothing first last
+
+-- the opening ended without an exchange, and the key was derived where it had no entry
+pub record CloseUnsaid (handed : Handed) (first last : Ledgers) : Type 0 where
   pub challenge : Challenge
-  pub opened : Reached (opening handed) challenge state state id id
+  pub opened : opening handed [] (ends challenge)
   pub derived : Derives (key_by handed challenge) first last
   pub entries : SameEntries first last
 
 -- What a login takes before it answers the fault in place of an exchange: nothing, where that is its first message's; with
 -- a first round that went with the hello, what it takes up to its last message.
-abbrev pub FaultCosts : Handed → State → ℤ → Ledgers → Ledgers → Type 0
-FaultCosts handed state id first last = ((handed.speculated ≡ None) × CostsNothing first last) ⊎ OpensUnsaid handed state id first last
+abbrev pub FaultCosts : Handed → Ledgers → Ledgers → Type 0
+FaultCosts handed first last = StartUnsaid handed first last ⊎ CloseUnsaid handed first last

@@ -18,6 +18,6 @@ pub record EndsByScram {L : Type 0} (state : L → State) (handed : Handed) (doc
   pub refused : kept_fault old.connection ≡ None → IfErr result (λ e. StoppedScram handed e.kind (state old.link) (state new.link) old.id new.id first last)
   -- A fault that the connection keeps is answered in place of the first exchange, unless the login is stopped before that.
   -- Where that is its first message's, nothing was derived, counted or put in.
-  pub answers : (kind : ErrorKind) → kept_fault old.connection ≡ Some kind → IfErr result (λ e. ((e.kind ≡ kind) × FaultCosts handed (state old.link) old.id first last) ⊎ StoppedScram handed e.kind (state old.link) (state old.link) old.id old.id first last)
+  pub answers : (kind : ErrorKind) → kept_fault old.connection ≡ Some kind → IfErr result (λ e. ((e.kind ≡ kind) × FaultCosts handed first last) ⊎ StoppedScram handed e.kind (state old.link) (state old.link) old.id old.id first last)
   -- a refusal leaves the entries as they were
   pub entries : OnErr result (SameEntries first last)

@@ -58,11 +58,10 @@ impl Drop for Opened {
 }
 
 impl<'a> ScramLogin<'a> {
-    ghost use Rattle.std.specs.Prelude.{◌≡◌, ◌⊎◌, None, Some, IfOk, IfErr, OnOk};
+    ghost use Rattle.std.specs.Prelude.{◌≡◌, None, Some, IsSome, IfOk, OnOk};
     ghost use Rattle.mongo_wire.specs.declared.error.ErrorKind.{ErrorKind};
     ghost use Rattle.mongo_wire.specs.Buffer.{frames_taken};
     ghost use Rattle.mongo_command.specs.Connection.{kept_fault};
-    ghost use Rattle.mongo_command.specs.Conversation.{Stopped};
     ghost use Rattle.mongo_command.specs.Exchange.{frame_maximum};
     ghost use Rattle.mongo_sasl.specs.EndsByScript.{standing, StopsBy};
     ghost use Rattle.mongo_scram.specs.Client.{speculated_of, user_of};
@@ -84,9 +83,8 @@ impl<'a> ScramLogin<'a> {
             (L.state link.old) (L.state link.new) ids.old ids.new) }
         ensures stops { StopsBy L.state (opened (speculated_of first_round) (handed_by self.entry first_round (frame_maximum connection.old.stream_description)) (user_of user.now)) result
             (standing connection.old link.old ids.old buffer.old) (standing connection.new link.new ids.new buffer.new) }
-        // A round that went with the hello is no exchange, and never answers a fault that is kept.
-        ensures aside { (kind : ErrorKind) → kept_fault connection.old ≡ Some kind → IfErr result (λ e. (speculated_of first_round ≡ None) ⊎ Stopped (opened (speculated_of first_round) (handed_by self.entry first_round (frame_maximum connection.old.stream_description)) (user_of user.now)) e.kind
-            (L.state link.old) (L.state link.old) ids.old ids.old) }
+        // Over a connection that keeps a fault, only a round that went with the hello opens.
+        ensures alone { (kind : ErrorKind) → kept_fault connection.old ≡ Some kind → OnOk result (IsSome (speculated_of first_round)) }
         ensures frames { OnOk result (frames_taken buffer.new ≡ frames_opened first_round (frames_taken buffer.old)) }
         ensures faultless { kept_fault connection.old ≡ None → OnOk result (kept_fault connection.new ≡ None) }
     {

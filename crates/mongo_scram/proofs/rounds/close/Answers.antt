@@ -1,4 +1,4 @@
-use Rattle.std.proofs.Common.{◌≡◌, ◌⊎◌}
+use Rattle.std.proofs.Common.{◌≡◌, ◌⊎◌, refl}
 use Rattle.mongo_wire.specs.declared.error.ErrorKind.TheVariants.{OutOfMemory}
 use Rattle.mongo_command.specs.Exchange.{frame_maximum}
 use Rattle.mongo_sasl.specs.Commands.{continue_body}
@@ -41,7 +41,7 @@ returns-in_err-exchange_into-clause-stops g c challenge =
     let e = c.in_err-exchange_into.field-0.0 in
     let exchange = c.in_err-exchange_into.ensures in
     handed_stops _ _ _ _ c.from_residual-in_err-exchange_into.result e c.from_residual-in_err-exchange_into.ensures.1
-    (at_exchange _ _ _ _ _ _ e exchange.kept exchange.refused (final_unanswered c.args.client_final.now c.in_ok-command.command _ _ _ challenge e.kind _ _ _ _ _ c.in_ok-command.ensures.command exchange.counts) exchange.connection exchange.counts)
+    (at_exchange _ _ _ _ _ _ e (final_said c.args.client_final.now (frame_maximum c.args.connection.now.stream_description), refl) exchange.kept exchange.refused (final_unanswered c.args.client_final.now c.in_ok-command.command _ _ _ challenge e.kind _ _ _ _ _ c.in_ok-command.ensures.command exchange.counts) exchange.connection exchange.counts)
 
 -- ---- after the reply
 

@@ -1,6 +1,6 @@
 use Rattle.mongo_command.specs.Exchange.{frame_maximum}
 use Rattle.mongo_scram.specs.Client.{user_of}
-use Rattle.mongo_scram.proofs.FirstRounds.{round_stops, start_stops, round_aside, start_aside, once_faultless, once_frames}
+use Rattle.mongo_scram.proofs.FirstRounds.{round_stops, start_stops, round_alone, start_alone, once_faultless, once_frames}
 use Rattle.mongo_scram.proofs.rounds.ScramLogin.open.Goals as goal
 
 pub returns-in-Some-clause-stops : goal.returns-in-Some-clause-stops
@@ -9,11 +9,11 @@ returns-in-Some-clause-stops g c = round_stops c.args.self c.args.first_round (f
 pub returns-in-None-clause-stops : goal.returns-in-None-clause-stops
 returns-in-None-clause-stops g c = start_stops c.args.self c.args.first_round (frame_maximum c.args.connection.now.stream_description) (user_of c.args.user.now) _ c.say_first.result _ _ c.in-None.is c.say_first.ensures.stops
 
-pub returns-in-Some-clause-aside : goal.returns-in-Some-clause-aside
-returns-in-Some-clause-aside g c kind kept = round_aside c.args.self c.args.first_round (frame_maximum c.args.connection.now.stream_description) (user_of c.args.user.now) c.go_on.result c.in-Some.round _ _ c.in-Some.is c.go_on.ensures.refused
+pub returns-in-Some-clause-alone : goal.returns-in-Some-clause-alone
+returns-in-Some-clause-alone g c kind kept = round_alone c.args.self c.args.first_round (frame_maximum c.args.connection.now.stream_description) (user_of c.args.user.now) c.go_on.result c.in-Some.round c.in-Some.is
 
-pub returns-in-None-clause-aside : goal.returns-in-None-clause-aside
-returns-in-None-clause-aside g c kind kept = start_aside c.args.self c.args.first_round (frame_maximum c.args.connection.now.stream_description) (user_of c.args.user.now) c.say_first.result _ _ c.in-None.is
+pub returns-in-None-clause-alone : goal.returns-in-None-clause-alone
+returns-in-None-clause-alone g c kind kept = start_alone c.args.self c.args.first_round (frame_maximum c.args.connection.now.stream_description) (user_of c.args.user.now) c.say_first.result _ _ _ _ kind kept c.say_first.ensures.once
 
 pub returns-in-None-clause-frames : goal.returns-in-None-clause-frames
 returns-in-None-clause-frames g c = once_frames c.args.self c.args.first_round (frame_maximum c.args.connection.now.stream_description) (user_of c.args.user.now) c.say_first.result _ _ _ _ c.in-None.is c.say_first.ensures.once

@@ -3,6 +3,7 @@ use Rattle.mongo_command.specs.Exchange.{frame_maximum}
 use Rattle.mongo_command.proofs.Steps.{stopped_memory}
 use Rattle.mongo_scram.specs.Client.{message_of, first_source, includes_db, user_of}
 use Rattle.mongo_scram.specs.Commands.{first_body}
+use Rattle.mongo_scram.specs.Plan.{start_said}
 use Rattle.mongo_scram.specs.Rounds.{handed_by}
 use Rattle.mongo_scram.proofs.FirstRounds.{IsStart, start_unbuilt, start_unanswered, start_exchanged, start_refused, start_opens}
 use Rattle.mongo_sasl.proofs.Handed.{no_answer_on, no_answer_by}
@@ -61,7 +62,7 @@ returns-in_err-exchange_into-clause-stops g c =
     let e = c.in_err-exchange_into.field-0.0 in
     let exchange = c.in_err-exchange_into.ensures in
     handed_stops _ _ _ _ c.from_residual-in_err-exchange_into.result e c.from_residual-in_err-exchange_into.ensures.1
-    (at_exchange _ _ _ _ _ _ e exchange.kept exchange.refused (start_unanswered handed user first c.in_ok-command.command e.kind _ _ _ _ _ start c.in_ok-command.ensures.command exchange.counts) exchange.connection exchange.counts)
+    (at_exchange _ _ _ _ _ _ e (start_said handed user, refl) exchange.kept exchange.refused (start_unanswered handed user first c.in_ok-command.command e.kind _ _ _ _ _ start c.in_ok-command.ensures.command exchange.counts) exchange.connection exchange.counts)
 
 -- ---- where the reply is refused
 

@@ -12,9 +12,9 @@ use Rattle.mongo_scram.proofs.OwnRows.{credential_own, answer_own}
 use Rattle.mongo_scram.proofs.ScramPlan.{challenge_of}
 use Rattle.mongo_scram.proofs.Derived.{costs_nothing}
 use Rattle.mongo_scram.proofs.EndsByScram.{refused_scram, stopped_scram, accepted_scram}
-use Rattle.mongo_scram.proofs.OpeningSteps.{credential_stopped, user_stopped, answer_stopped}
+use Rattle.mongo_scram.proofs.OpeningSteps.{credential_stopped, user_stopped, start_unsaid, answer_stopped}
 use Rattle.mongo_scram.proofs.ClosingSteps.{final_by, closing_ends, closing_stopped, ends_login}
-use Rattle.mongo_scram.proofs.LoginSteps.{between_by, between_tag, stopped_late, stopped_last, accepted_by, frames_holds, unchanged_on, stopped_still, fault_costs}
+use Rattle.mongo_scram.proofs.LoginSteps.{between_by, between_tag, stopped_late, stopped_last, accepted_by, frames_holds, unchanged_on, stopped_still, close_unsaid}
 use Rattle.mongo_scram.proofs.scram_version.ScramVersion.authenticate_stream.Goals as goal
 
 -- ---- where the credential has no login
@@ -40,11 +40,8 @@ returns-in_err-opened-clause-login g c =
     let nothing = costs_nothing c.args.steps.now c.args.salted.now in
     refused_scram _ handed _ _ _ _ _ c.from_residual-in_err-opened.result e c.from_residual-in_err-opened.ensures.1
     (λ none. inl (user_stopped handed user e.kind _ _ _ _ c.in_ok-user.ensures.user (stops.refused none), nothing))
-    (λ kind is. elim (c.in_err-opened.ensures.aside kind is) [
-      | inl none ↦ elim (stops.answers kind is) [
-        | inl same ↦ inl (same, inl (none, nothing))
-        | inr stopped ↦ inr (inl (user_stopped handed user e.kind _ _ _ _ c.in_ok-user.ensures.user stopped, nothing))
-      ]
+    (λ kind is. elim (stops.answers kind is) [
+      | inl same ↦ inl (same.0, start_unsaid handed user _ _ c.in_ok-user.ensures.user same.1 nothing)
       | inr stopped ↦ inr (inl (user_stopped handed user e.kind _ _ _ _ c.in_ok-user.ensures.user stopped, nothing))
     ]) refl stops.keeps stops.untouched stops.rest stops.counts
 
@@ -108,7 +105,7 @@ returns-in_err-close-clause-login g c =
     (λ kind kept.
     let still = opening.stops.untouched kind kept in
     elim (stops.answers kind still.3) [
-      | inl fault ↦ inl (fault, fault_costs handed user o derived.key derived.salted _ _ _ _ _ _ (ap g.L.Outside.state still.0) still.1 between)
+      | inl fault ↦ inl (fault.0, close_unsaid handed user o derived.key derived.salted _ _ _ _ _ _ (opening.alone kind kept) between)
       | inr stopped ↦ inr (stopped_still handed e.kind _ _ _ _ _ _ (ap g.L.Outside.state still.0) still.1 (stopped_late handed user o derived.key derived.salted e.kind _ _ _ _ _ _ _ _ between (closing_stopped handed challenge derived.salted final _ e.kind _ _ _ _ same is stopped)))
     ])
     c.in_ok-derived.ensures.answered.entries (λ none. stops.keeps (opening.faultless none))
