@@ -12,7 +12,7 @@ use Rattle.mongo_sasl.proofs.OtherRows.{IsOther, other, other_row}
 use Rattle.mongo_scram.specs.declared.server_first.ServerFirst.{ServerFirst}
 use Rattle.mongo_scram.specs.declared.server_final.ServerFinal.{ServerFinal}
 use Rattle.mongo_scram.specs.User.{User, IsUser, CredentialRow}
-use Rattle.mongo_scram.specs.Plan.{Speculated, Handed, Challenge, nonce_by, verifier_by, start_said, close_said, ChallengeRow, challenged, opened, opening, LastRow, closed, closing, scram_plan}
+use Rattle.mongo_scram.specs.Plan.{Speculated, Handed, Challenge, start_said, close_said, ChallengeRow, challenged, opened, opening, LastRow, closed, closing, scram_plan}
 use Rattle.mongo_scram.specs.Replies.{CarriesFirst, FirstReplyRow, CarriesFinal, FinalReplyRow}
 use Rattle.mongo_scram.proofs.OwnRows.{each_password_row}
 use Rattle.mongo_scram.proofs.ScramPlan.{challenge_of}
