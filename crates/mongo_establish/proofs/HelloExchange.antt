@@ -19,7 +19,7 @@ use Rattle.mongo_command.specs.declared.server_address.ServerAddress.{ServerAddr
 use Rattle.mongo_command.specs.declared.stream_description.StreamDescription.{StreamDescription}
 use Rattle.mongo_command.specs.Command.{argument_elements, command_document}
 use Rattle.mongo_command.specs.Connection.{kept_fault, KeepsRest}
-use Rattle.mongo_command.specs.Conversation.{Plan, AreMet, HasNone, Stopped, Reached, plain_message}
+use Rattle.mongo_command.specs.Conversation.{Plan, AreMet, Stopped, Reached, plain_message}
 use Rattle.mongo_command.specs.Exchange.{command_message, frame_maximum, CountsStay}
 use Rattle.mongo_command.specs.Hello.{IsHelloResponse, HelloRefused, description_demands, DescriptionRefused, description_of}
 use Rattle.mongo_command.specs.HelloExchange.{RunsHello, RunHelloRefused}
