@@ -1,4 +1,4 @@
--- Words name one command.
+-- Words name one subcommand.
 use Rattle.std.proofs.Common.{◌≡◌, ℕ, ◌∙◌, refl, sym, List, [], ◌∷◌, Bool, false, Result, Ok, Err, IsTrue, ◌↔◌, codes, subst, arith}
 use Rattle.std.specs.Str.Parse.{ParsesUnsigned}
 use Rattle.std.proofs.lemmas.Fmt.{parse-decimal}

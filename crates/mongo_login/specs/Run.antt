@@ -115,14 +115,14 @@ module _ {S K : Type 0} (source : S → State) (sink : K → State) where
   SubcommandEnds (Rehearse task) steps run status = TaskEnds task steps run status
   SubcommandEnds (Generate count) steps run status = RanGenerate count steps run status
 
-  -- the words name no command: nothing is read or written
+  -- the words name no subcommand: nothing is read or written
   pub record IsUsage (words : List (List ℕ)) (run : Run S K) : Type 0 where
-    pub no_command : NamesNone words
+    pub no_subcommand : NamesNone words
     pub unread : run.source_after ≡ run.source
     pub unwritten : run.sink_after ≡ run.sink
 
-  -- the words name a command that ends so
-  pub record RanCommand (words : List (List ℕ)) (steps : StepsTaken) (run : Run S K) (status : Status) : Type 0 where
+  -- the words name a subcommand that ends so
+  pub record RanSubcommand (words : List (List ℕ)) (steps : StepsTaken) (run : Run S K) (status : Status) : Type 0 where
     pub command : Subcommand
     pub named : NamesSubcommand words command
     pub ends : SubcommandEnds command steps run status
@@ -130,7 +130,7 @@ module _ {S K : Type 0} (source : S → State) (sink : K → State) where
   -- how a run ends
   abbrev pub RunEnds : List (List ℕ) → StepsTaken → Run S K → Status → Type 0
   RunEnds words steps run Usage = IsUsage words run
-  RunEnds words steps run status = RanCommand words steps run status
+  RunEnds words steps run status = RanSubcommand words steps run status
 
   -- ---- what decides
 

@@ -1,4 +1,4 @@
--- The commands, by the words after the program's name.
+-- The subcommands, by the words after the program's name.
 use Rattle.std.specs.Prelude.{◌≡◌, ℕ, ◌≤◌, List, [], ◌∷◌, codes, decimal}
 use Rattle.mongo_settings.specs.declared.task.Task.{Task}
 use Rattle.mongo_settings.specs.declared.task.Task.TheVariants as task

@@ -1,4 +1,4 @@
-//! The commands, by the words after the program's name.
+//! The subcommands, by the words after the program's name.
 ghost use Rattle.std.specs.Prelude.{◌≡◌, ◌↔◌, ℕ, [], ◌∷◌, map, string_bytes, decimal, IsTrue, MatchOption};
 ghost use Rattle.mongo_login.specs.Words.{IsCountWord, NamesSubcommand, NamesNone};
 
@@ -29,7 +29,7 @@ pub fn subcommand_in(words: &[String]) -> Option<Subcommand>
     }
 }
 
-// The command of one word: the name of a task.
+// The subcommand of one word: the name of a task.
 fn subcommand_of_one(word: &str) -> Option<Subcommand>
     ensures { MatchOption result (NamesNone (word.now ∷ [])) (NamesSubcommand (word.now ∷ [])) }
 {
@@ -40,7 +40,7 @@ fn subcommand_of_one(word: &str) -> Option<Subcommand>
     }
 }
 
-// The command of two words: `generate` and how many logins.
+// The subcommand of two words: `generate` and how many logins.
 fn subcommand_of_two(word: &str, number: &str) -> Option<Subcommand>
     ensures { MatchOption result (NamesNone (word.now ∷ number.now ∷ [])) (NamesSubcommand (word.now ∷ number.now ∷ [])) }
 {

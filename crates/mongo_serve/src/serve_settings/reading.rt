@@ -1,4 +1,4 @@
-//! ServeSettings as text: one JSON object.
+//! Settings as text: one JSON object.
 //!
 //! ```text
 //! {"users": [{"name": "user", "password": "pencil", "mechanisms": ["SCRAM-SHA-1", "SCRAM-SHA-256"],
