@@ -35,9 +35,9 @@ pub use login_state::{LoginInputs, LoginState, Nonces};
 pub use memory::want_of_memory;
 pub use mongo_bson::{BsonFault, Bytes, Items, ObjectId, RawDocumentBuf, Text, Texts};
 pub use mongo_command::{
-    Connection, DEFAULT_PORT, HelloCommandResponse, HelloReply, LastWrite, MemberTag,
-    ServerAddress, ServerApi, ServerApiVersion, ServerType, StreamDescription, Tags,
-    TopologyVersion,
+    Command, Connection, DEFAULT_PORT, HelloCommandResponse, HelloReply, LastWrite, MemberTag,
+    RawCommandResponse, ServerAddress, ServerApi, ServerApiVersion, ServerType, StreamDescription,
+    Tags, TopologyVersion,
 };
 pub use mongo_mac::Steps;
 pub use mongo_meta::{
@@ -47,7 +47,7 @@ pub use mongo_meta::{
 pub use mongo_sasl::{AuthMechanism, AuthOptions, Credential, Moment};
 pub use mongo_scram::{SaltedCache, ScramVersion};
 pub use mongo_wire::{
-    ArgumentFault, AuthFault, CommandError, Error, ErrorKind, Failed, FailingLink,
+    ArgumentFault, AuthFault, CommandError, Error, ErrorKind, Failed, FailingLink, FrameBuffer,
     IndexedWriteError, InsertManyError, Link, MemoryLink, RequestIds, ResponseFault, Sink,
     SinkError, Source, StdLink, StdSink, StdSource, WriteConcernError, WriteError, WriteErrors,
     WriteFailure, WriteFailureCause,

@@ -1,5 +1,5 @@
--- Where no row applies, the message or the credential is one that a client takes, and the other way round.
-use Rattle.std.proofs.Common.{◌≡◌, ◌≢◌, ℕ, ◌<◌, ◌≤◌, Bool, true, false, None, Some, List, length, drop, refl, sym, ap, ◌∙◌, arith, Decides, nat_eq}
+-- Where no row applies, the message is one that a client takes, and the other way round.
+use Rattle.std.proofs.Common.{◌≡◌, ◌≢◌, ℕ, ◌<◌, ◌≤◌, Bool, true, false, None, Some, List, length, drop, refl, sym, ap, subst, ◌∙◌, arith, Decides, nat_eq}
 use Rattle.std.specs.List.{starts_with}
 use Rattle.std.proofs.lemmas.Bool.{false≢true}
 use Rattle.std.proofs.lemmas.Slice.Eq.{starts_is, bytes_eq-Decides}
@@ -16,7 +16,7 @@ use Rattle.mongo_scram.specs.declared.server_final.ServerFinalBody.{ServerFinalB
 use Rattle.mongo_scram.specs.declared.server_final.ServerFinalBody.TheVariants.{Error, Verifier}
 use Rattle.mongo_scram.specs.Validity.{BeginsWith, least_count, first_demands, IsValidFirst, ServerFirstRow, IsVerifier, IsDecodable, final_demands, IsValidFinal, ServerFinalRow}
 
--- ---- what can be decided, holds where it can't but hold
+-- ---- what can be decided holds where its denial is refuted
 
 not_true : (b : Bool) → (b ≡ true → ⊥) → b ≡ false
 not_true true h = absurd (h refl)
@@ -84,10 +84,10 @@ is_verifier : (body : ServerFinalBody) → ((IsVerifier body → ⊥) → ⊥) �
 is_verifier (Error text) h = h (λ is. is)
 is_verifier (Verifier found) h = tt
 
-is_readable : (body : ServerFinalBody) → ((IsDecodable body → ⊥) → ⊥) → IsDecodable body
-is_readable (Error text) h = tt
-is_readable (Verifier None) h = h (λ is. is)
-is_readable (Verifier (Some bytes)) h = tt
+is_decodable : (body : ServerFinalBody) → ((IsDecodable body → ⊥) → ⊥) → IsDecodable body
+is_decodable (Error text) h = tt
+is_decodable (Verifier None) h = h (λ is. is)
+is_decodable (Verifier (Some bytes)) h = tt
 
 no_error : (text owed : List ℕ) → Error text ≡ Verifier (Some owed) → ⊥
 no_error text owed is = cc
@@ -110,7 +110,7 @@ valid_final last conversation owed none =
       (
         is_verifier last.body,
         (
-          is_readable last.body,
+          is_decodable last.body,
           (
             is_owed last.body owed,
             tt,
@@ -119,6 +119,25 @@ valid_final last conversation owed none =
       ),
     )
     (of_denied Authentication _ none)
+
+-- the verifier that the server owes
+pub verifier_in : (last : ServerFinal) (conversation : OwnedValue) (owed : List ℕ) → IsValidFinal last conversation owed → last.body ≡ Verifier (Some owed)
+verifier_in last conversation owed valid = valid.1.1.1.0
+
+pub valid_final_by : (last : ServerFinal) (conversation : OwnedValue) (owed : List ℕ) → last.conversation_id ≡ conversation → last.body ≡ Verifier (Some owed) → IsValidFinal last conversation owed
+valid_final_by last conversation owed same is = (
+  same,
+  (
+    subst IsVerifier (sym is) tt,
+    (
+      subst IsDecodable (sym is) tt,
+      (
+        is,
+        tt,
+      ),
+    ),
+  ),
+)
 
 pub valid_final_row : (last : ServerFinal) (conversation : OwnedValue) (owed : List ℕ) → IsValidFinal last conversation owed → HasNone (ServerFinalRow last conversation owed)
 valid_final_row last conversation owed valid = no_of Authentication _ (none_unmet (final_demands last conversation owed) valid)

@@ -12,6 +12,7 @@ use Rattle.mongo_scram.specs.ServerMessages.{IsServerFirst, SaysFinal}
 use Rattle.mongo_scram.specs.User.{User, IsUser}
 use Rattle.mongo_scram.specs.Plan.{Speculated, Handed, Challenge, salted_by, auth_message_by, verifier_by, start_said, close_said}
 use Rattle.mongo_scram.specs.Script.{IsConversation, IsLoginFrom, IsScramLogin}
+use Rattle.mongo_scram.proofs.NoRows.{verifier_in, valid_final_by}
 use Rattle.mongo_scram.proofs.Octets.{verifier_bytes, verifier_text}
 use Rattle.mongo_scram.proofs.OpeningEnds.{IsChallenged}
 use Rattle.mongo_scram.proofs.ClosingEnds.{IsProved}
@@ -37,7 +38,7 @@ first_said handed c reply is =
 
 last_payload : (handed : Handed) (c : Challenge) (reply : List ℕ) (is : IsProved handed c reply) → is.carries.sasl.payload ≡ owed_by handed c
 last_payload handed c reply is =
-    let says : SaysFinal is.carries.sasl.payload (Verifier (Some (verifier_by handed c))) = subst (SaysFinal is.carries.sasl.payload) is.valid.1.1.1.0 is.carries.says in
+    let says : SaysFinal is.carries.sasl.payload (Verifier (Some (verifier_by handed c))) = subst (SaysFinal is.carries.sasl.payload) (verifier_in is.last c.first.conversation_id (verifier_by handed c) is.valid) is.carries.says in
     says.1.1 ∙ ap (λ text. codes "v=" ++ text) says.1.2.1
 
 last_said : (handed : Handed) (c : Challenge) (reply : List ℕ) → IsProved handed c reply → IsSaslReply reply (said_by c.first.conversation_id true (owed_by handed c))
@@ -83,7 +84,7 @@ proved_by handed user first close last is =
         done = refl;
         says = (verifier_text owed, (base64_of owed, refl, (verifier_bytes handed.version (salted_by handed c) (auth_message_by handed c), refl)));
       };
-      valid = (refl, (tt, (tt, (refl, tt))));
+      valid = valid_final_by final c.first.conversation_id owed refl refl;
       done = refl;
     }
 

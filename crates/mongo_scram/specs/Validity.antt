@@ -46,14 +46,15 @@ abbrev pub IsVerifier : ServerFinalBody → Type 0
 IsVerifier (Error text) = ⊥
 IsVerifier (Verifier found) = ⊤
 
--- it is no verifier in other letters than those of base64
+-- a verifier's text is base64
 abbrev pub IsDecodable : ServerFinalBody → Type 0
 IsDecodable (Error text) = ⊤
 IsDecodable (Verifier None) = ⊥
 IsDecodable (Verifier (Some bytes)) = ⊤
 
 -- What is demanded of the server's last message: it proves that the server knows the key. It answers in this conversation, and
--- with the verifier that the server owes, all of it. The refusal of an error has the error's text.
+-- with the verifier that the server owes, all of it. What that comes to for an error, and for a verifier that is no base64, are
+-- demands of their own, for the sake of their refusals; that of an error has the error's text.
 abbrev pub final_demands : ServerFinal → OwnedValue → List ℕ → Demands AuthFault
 final_demands last conversation owed =
     demand Conversation (last.conversation_id ≡ conversation)
