@@ -18,7 +18,7 @@ ghost use Rattle.mongo_serve.specs.declared.serve_settings.reading.ServeSettings
 use super::{Account, ServeSettings};
 use crate::request::version_named;
 use hex::FromHexError;
-use mongo_bson::{BsonFault, Bytes, Text};
+use mongo_bson::{Bytes, Text};
 use mongo_scram::ScramVersion;
 use mongo_server::is_nonce;
 use serde_json::{Category, Value};
@@ -52,15 +52,6 @@ impl<T: Drop> From<AllocFailed<T>> for ServeSettingsError {
     }
 }
 
-// Texts and bytes are copied here, which is refused for want of memory alone.
-impl From<BsonFault> for ServeSettingsError {
-    ghost from_gives = { λ _ error. error ≡ OutOfMemory };
-
-    fn from(_fault: BsonFault) -> ServeSettingsError {
-        ServeSettingsError::OutOfMemory
-    }
-}
-
 /// The settings that a text is.
 ///
 /// `BadSettings` exactly where it is none, want of memory aside: it isn't JSON in UTF-8, a key is absent or has a value of another
@@ -77,7 +68,7 @@ pub fn serve_settings_of(alloc: Global, text: &[u8]) -> Result<ServeSettings, Se
     let accounts = accounts_of(alloc, users)?;
     Ok(ServeSettings {
         accounts,
-        suffix: Text::from_slice(alloc, suffix)?,
+        suffix: text_copy(alloc, suffix)?,
     })
 }
 
@@ -159,12 +150,22 @@ fn account_of(
         return Err(ServeSettingsError::BadSettings);
     };
     Ok(Account {
-        name: Text::from_slice(alloc, name)?,
-        password: Text::from_slice(alloc, password)?,
+        name: text_copy(alloc, name)?,
+        password: text_copy(alloc, password)?,
         version: version_of(mechanism)?,
         salt: salt_of(alloc, salt)?,
         count,
     })
+}
+
+// A copy of a text.
+fn text_copy(alloc: Global, text: &str) -> Result<Text, ServeSettingsError>
+    ensures copied { IfOk result (λ copy. copy ≡ text.now) }
+    ensures refused { IfErr result (λ error. error ≡ OutOfMemory) }
+{
+    let mut copy = String::with_capacity(alloc, text.len())?;
+    copy.push_str(text)?;
+    Ok(Text::from_string(copy))
 }
 
 fn json_of(alloc: Global, text: &[u8]) -> Result<Value, ServeSettingsError>
