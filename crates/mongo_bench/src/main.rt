@@ -32,6 +32,7 @@ use std::rt::Env;
 use std::sync::ledger::Blank;
 use std::{env, io};
 
+/// Runs the task that the words name, prints its result on standard output, and ends with its status.
 fn main(rt: HostRuntime) -> ExitCode {
     let status = match words_of(&rt) {
         Ok(words) => {

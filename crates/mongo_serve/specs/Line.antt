@@ -9,7 +9,7 @@ use Rattle.mongo_serve.specs.declared.serve_settings.ServeSettings.{ServeSetting
 use Rattle.mongo_serve.specs.declared.settings_line.LineError.{LineError}
 use Rattle.mongo_serve.specs.declared.settings_line.LineError.TheVariants as line
 
--- the longest line, in bytes, without its line feed
+-- the greatest length of a line, in bytes, without its line feed
 abbrev pub maximum_line_length : ℕ
 maximum_line_length = 4194304
 
@@ -48,7 +48,7 @@ line_error_of kind.EndOfInput = line.BadSettings
 line_error_of kind.OutOfMemory = line.OutOfMemory
 line_error_of other = line.Fault
 
--- Reading stopped within the line: no line feed was taken before the last byte, and no more bytes than the longest line has with its own.
+-- Reading stopped within the line: no line feed was taken before the last byte, and no more bytes than a line of the greatest length has with its own.
 pub record StopsWithin (old new : State) : Type 0 where
   pub front : List ℕ
   pub last : List ℕ

@@ -9,7 +9,7 @@ ghost use Rattle.mongo_serve.specs.Replies.{description, hello_reply_elements, m
 
 use crate::fault::ServeFault;
 use crate::reply::{HelloAnswer, Mechanisms, SaslReply};
-use crate::reply_document::{DOCUMENT_MAXIMUM, FRAME_MAXIMUM, ONE, sasl_document};
+use crate::reply_document::{DOCUMENT_MAXIMUM, MESSAGE_MAXIMUM, ONE, sasl_document};
 use mongo_bson::{RawDocument, RawDocumentBuf, RawValue};
 use mongo_command::keys::{
     CONNECTION_ID, HELLO_OK, IS_MASTER, IS_WRITABLE_PRIMARY, LOGICAL_SESSION_TIMEOUT_MINUTES,
@@ -51,7 +51,7 @@ fn description(alloc: Global) -> Result<RawDocumentBuf, ServeFault>
         &[
             (HELLO_OK, RawValue::Bool(true)),
             (MAX_BSON_OBJECT_SIZE, RawValue::Int32(DOCUMENT_MAXIMUM)),
-            (MAX_MESSAGE_SIZE_BYTES, RawValue::Int32(FRAME_MAXIMUM)),
+            (MAX_MESSAGE_SIZE_BYTES, RawValue::Int32(MESSAGE_MAXIMUM)),
             (MAX_WRITE_BATCH_SIZE, RawValue::Int32(100_000)),
             ("localTime", RawValue::DateTime(0)),
             (LOGICAL_SESSION_TIMEOUT_MINUTES, RawValue::Int32(30)),

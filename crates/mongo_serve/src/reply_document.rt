@@ -29,7 +29,7 @@ const GENERIC: u8 = 0;
 pub const DOCUMENT_MAXIMUM: i32 = 16_777_216;
 
 /// The greatest frame that is read, in bytes, and the greatest document of an OP_REPLY.
-pub const FRAME_MAXIMUM: i32 = 48_000_000;
+pub const MESSAGE_MAXIMUM: i32 = 48_000_000;
 
 /// The document that says a reply.
 ///

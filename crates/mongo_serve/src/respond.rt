@@ -9,7 +9,7 @@ ghost use Rattle.mongo_serve.specs.declared.fault.ServeFault.TheVariants.{OutOfM
 
 use crate::fault::ServeFault;
 use crate::reply::Reply;
-use crate::reply_document::{FRAME_MAXIMUM, document_of_reply};
+use crate::reply_document::{MESSAGE_MAXIMUM, document_of_reply};
 use bitflags::Flags;
 use mongo_bson::RawDocumentBuf;
 use mongo_wire::{Header, Message, MessageFlags, OpCode, RequestIds, Sequences, Sink, write_all};
@@ -87,7 +87,7 @@ pub fn respond_to_query<K: Sink>(
         Ok(document) => document,
         Err(fault) => return Err(fault),
     };
-    if document.as_bytes().len() > FRAME_MAXIMUM as usize {
+    if document.as_bytes().len() > MESSAGE_MAXIMUM as usize {
         return Err(ServeFault::ReplyTooLong);
     }
     let frame = match frame_of_reply(alloc, ids.draw(), request_id, document.as_bytes()) {

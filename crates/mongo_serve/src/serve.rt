@@ -18,7 +18,7 @@ use crate::put_back::PutBack;
 use crate::query::command_of_query;
 use crate::reading::take_bytes;
 use crate::reply::Reply;
-use crate::reply_document::FRAME_MAXIMUM;
+use crate::reply_document::MESSAGE_MAXIMUM;
 use crate::request::{Request, request_of};
 use crate::respond::{respond, respond_to_query};
 use crate::serve_settings::ServeSettings;
@@ -145,7 +145,7 @@ fn take_message<L: Link, G: Ledger>(
         PartEnds settings.now requests before (put_back_state L.state link.new) serving.old.session serving.old.ids serving.new.session serving.new.ids result }
     ensures rises { steps.old ≤ steps.new }
 {
-    match serving.buffer.take_frame(link, Some(FRAME_MAXIMUM)) {
+    match serving.buffer.take_frame(link, Some(MESSAGE_MAXIMUM)) {
         Ok(()) => {}
         Err(fault) => return Err(fault.into()),
     }
@@ -217,7 +217,7 @@ fn length_after(length: i32) -> Option<usize>
     ensures within { IfSome result (λ rest. pos (16 + rest) ≤ℤ message_maximum) }
     ensures outside { IsNone result → (length <ℤ pos 16) ⊎ (message_maximum <ℤ length) }
 {
-    if length < 16 || length > FRAME_MAXIMUM {
+    if length < 16 || length > MESSAGE_MAXIMUM {
         None
     } else {
         Some(length as usize - 16)

@@ -9,7 +9,7 @@ use crate::serve_settings::{ServeSettings, ServeSettingsError, serve_settings_of
 use mongo_wire::{Error, ErrorKind, Source, SyncLittleEndianRead};
 use std::alloc::{AllocError, Global};
 
-/// The longest line of settings, in bytes, without its end.
+/// The greatest length of a line of settings, in bytes, without its end.
 pub const MAXIMUM_LINE_LENGTH: usize = 4_194_304;
 
 /// Why no settings were read.

@@ -15,7 +15,7 @@ use Rattle.mongo_settings.specs.declared.settings.Settings.{Settings}
 use Rattle.mongo_settings.specs.declared.settings.SettingsError.{SettingsError}
 use Rattle.mongo_settings.specs.declared.settings.SettingsError.TheVariants.{BadSettings, NotBuilt, OutOfMemory}
 
--- the longest text of settings, in bytes
+-- the greatest length of a text of settings, in bytes
 abbrev pub maximum_settings_length : ℕ
 maximum_settings_length = 4194304
 

@@ -29,7 +29,7 @@ use reading::SettingValue;
 use serde_json::{Category, Value};
 use std::alloc::{AllocError, Global};
 
-/// The longest text of settings, in bytes.
+/// The greatest length of a text of settings, in bytes.
 pub const MAXIMUM_SETTINGS_LENGTH: usize = 4_194_304;
 
 /// What a rehearsal is told.
