@@ -199,7 +199,7 @@ pub fn version_named(name: &str) -> Option<ScramVersion>
 fn payload_of<'a>(document: RawDocument<'a>) -> Option<&'a [u8]>
     ensures { HoldsIfAny (HasPayload document.entry.bytes.now) result }
 {
-    match value_in(document, PAYLOAD) {
+    match value_at(document, PAYLOAD) {
         Some(value) => binary_bytes(value),
         None => None,
     }
@@ -209,7 +209,7 @@ fn payload_of<'a>(document: RawDocument<'a>) -> Option<&'a [u8]>
 pub fn inner_document<'a>(document: RawDocument<'a>, key: &str) -> Option<RawDocument<'a>>
     ensures { MatchOption result ((inner : List ℕ) → HasInside document.entry.bytes.now key.now inner → ⊥) (λ inner. HasInside document.entry.bytes.now key.now inner.bytes.now) }
 {
-    match value_in(document, key) {
+    match value_at(document, key) {
         Some(value) => inner_of(value),
         None => None,
     }
@@ -218,7 +218,7 @@ pub fn inner_document<'a>(document: RawDocument<'a>, key: &str) -> Option<RawDoc
 fn text_value<'a>(document: RawDocument<'a>, key: &str) -> Option<&'a str>
     ensures { HoldsIfAny (HasText document.entry.bytes.now key.now) result }
 {
-    match value_in(document, key) {
+    match value_at(document, key) {
         Some(value) => string_of(value),
         None => None,
     }
@@ -227,7 +227,7 @@ fn text_value<'a>(document: RawDocument<'a>, key: &str) -> Option<&'a str>
 fn is_true_in(document: RawDocument<'_>, key: &str) -> bool
     ensures { IsTrue result ↔ HasTrue document.entry.bytes.now key.now }
 {
-    match value_in(document, key) {
+    match value_at(document, key) {
         Some(value) => is_true_boolean(value),
         None => false,
     }
@@ -237,14 +237,14 @@ fn is_true_in(document: RawDocument<'_>, key: &str) -> bool
 fn is_one_in(document: RawDocument<'_>, key: &str) -> bool
     ensures { IsTrue result ↔ HasOne document.entry.bytes.now key.now }
 {
-    match value_in(document, key) {
+    match value_at(document, key) {
         Some(value) => is_one(value),
         None => false,
     }
 }
 
 // The value of a key; none where the document has none, or breaks off before it.
-fn value_in<'a>(document: RawDocument<'a>, key: &str) -> Option<RawValue<'a>>
+fn value_at<'a>(document: RawDocument<'a>, key: &str) -> Option<RawValue<'a>>
     ensures { StandsAt document.entry.bytes.now key.now result }
 {
     match document.get(key) {

@@ -46,7 +46,7 @@ pub fn read_serve_settings<S: Source>(
     ensures memory { IsErrOf result LineError.OutOfMemory → StopsWithin (S.state source.old) (S.state source.new) }
     ensures on { ReadsOn (S.state source.old) (S.state source.new) }
 {
-    let line = read_line(alloc, source)?;
+    let line = read_settings_line(alloc, source)?;
     match serve_settings_of(alloc, line.as_slice()) {
         Ok(settings) => Ok(settings),
         Err(ServeSettingsError::BadSettings) => Err(LineError::BadSettings),
@@ -55,7 +55,7 @@ pub fn read_serve_settings<S: Source>(
 }
 
 // The bytes before the first line feed, which is taken too. It reads byte by byte, so that nothing after it is taken.
-fn read_line<S: Source>(alloc: Global, source: &mut S) -> Result<Vec<u8>, LineError>
+fn read_settings_line<S: Source>(alloc: Global, source: &mut S) -> Result<Vec<u8>, LineError>
     ensures line { IfOk result (λ line. TakesLine (S.state source.old) (S.state source.new) line.items) }
     ensures none { IsErrOf result LineError.BadSettings → HasNoLine (S.state source.old) (S.state source.new) }
     ensures failed { IsErrOf result LineError.Fault → Rose (S.state source.old).read_faults (S.state source.new).read_faults }

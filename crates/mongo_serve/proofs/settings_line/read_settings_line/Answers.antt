@@ -2,7 +2,7 @@ use Rattle.std.proofs.Common.{[], ◌∷◌, ◌≤◌, length, inl, arith}
 use Rattle.mongo_wire.proofs.ReadStopped.{reads_on, rose_after}
 use Rattle.mongo_serve.specs.declared.settings_line.LineError.TheVariants.{BadSettings, Fault, OutOfMemory}
 use Rattle.mongo_serve.proofs.LineRead.{takes_line, one_more, has_no_line, stops_within, same_error, no_value}
-use Rattle.mongo_serve.proofs.settings_line.read_line.Goals as goal
+use Rattle.mongo_serve.proofs.settings_line.read_settings_line.Goals as goal
 
 -- ---- no next byte
 

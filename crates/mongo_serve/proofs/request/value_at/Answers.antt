@@ -1,7 +1,7 @@
 use Rattle.mongo_bson.specs.Framed.{body_of}
 use Rattle.mongo_bson.proofs.OneAnswer.{found_or_broken}
 use Rattle.mongo_serve.proofs.Asked.{stands}
-use Rattle.mongo_serve.proofs.request.value_in.Goals as goal
+use Rattle.mongo_serve.proofs.request.value_at.Goals as goal
 
 pub returns-in-Ok : goal.returns-in-Ok
 returns-in-Ok c = stands c.args.document.bytes.now c.args.key.now c.in-Ok.found c.in-Ok.ensures.found

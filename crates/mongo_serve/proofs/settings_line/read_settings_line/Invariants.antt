@@ -1,7 +1,7 @@
 use Rattle.std.proofs.Common.{◌+◌, ◌-◌, length}
 use Rattle.mongo_serve.specs.Line.{maximum_line_length}
 use Rattle.mongo_serve.proofs.LineRead.{LineSoFar}
-use Rattle.mongo_serve.proofs.settings_line.read_line.Given as goal
+use Rattle.mongo_serve.proofs.settings_line.read_settings_line.Given as goal
 
 abbrev pub invariant-reading : goal.invariant-reading
 invariant-reading g l = LineSoFar (g.S.Outside.state l.fn.source) (g.S.Outside.state l.source) l.line.items
