@@ -1,5 +1,4 @@
 pub mod Login
-pub mod Peers
 pub mod Status
 pub mod Task
 pub mod Work

@@ -2,9 +2,11 @@
 use Rattle.std.specs.Prelude.{ℕ}
 use Rattle.mongo_scram.specs.declared.cache.SaltedKey.{SaltedKey}
 use Rattle.mongo_generate.specs.Generated.{exchange_at}
-use Rattle.mongo_generate.specs.Login.{key_of}
+use Rattle.mongo_generate.specs.Login.{key_of, IsExchangeClient}
 use Rattle.mongo_bench.specs.declared.task.Hash.{Hash}
 use Rattle.mongo_bench.specs.declared.task.Hash.TheVariants.{Sha1, Sha256}
+use Rattle.mongo_server.specs.Server.{Serves}
+use Rattle.mongo_bench.specs.declared.peers.Peers.{Peers}
 
 -- the first generated login over the hash: the even ones are by SCRAM-SHA-1
 abbrev pub number_of_hash : Hash → ℕ
@@ -14,3 +16,8 @@ number_of_hash Sha256 = 1
 -- the key from which it derives
 abbrev pub bench_key : Hash → SaltedKey
 bench_key hash = key_of (exchange_at (number_of_hash hash))
+
+-- a client and a server are the two sides of the first generated login over their hash
+pub record AreReady (peers : Peers) : Type 0 where
+  pub logs_in : IsExchangeClient (exchange_at (number_of_hash peers.hash)) peers.login
+  pub serves : Serves peers.server (exchange_at (number_of_hash peers.hash))

@@ -36,8 +36,7 @@ impl Peers {
     ghost use Rattle.mongo_scram.specs.Cache.{entries_of};
     ghost use Rattle.mongo_scram.specs.Costs.{ledgers};
     ghost use Rattle.mongo_establish.specs.KeyCosts.{TakesKey};
-    ghost use Rattle.mongo_bench.specs.Login.{bench_key};
-    ghost use Rattle.mongo_bench.specs.Peers.{AreReady};
+    ghost use Rattle.mongo_bench.specs.Login.{bench_key, AreReady};
 
     /// The user of the first generated login over this hash, whose server derives its keys by 4096 steps. Nothing is kept from
     /// one login to the next yet.

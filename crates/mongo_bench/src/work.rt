@@ -3,8 +3,7 @@ ghost use Rattle.mongo_bson.specs.Document.{IsReadable, maximum_depth};
 ghost use Rattle.mongo_scram.specs.Cache.{entries_of};
 ghost use Rattle.mongo_scram.specs.Costs.{ledgers};
 ghost use Rattle.mongo_establish.specs.KeyCosts.{TakesKey};
-ghost use Rattle.mongo_bench.specs.Login.{bench_key};
-ghost use Rattle.mongo_bench.specs.Peers.{AreReady};
+ghost use Rattle.mongo_bench.specs.Login.{bench_key, AreReady};
 ghost use Rattle.mongo_bench.specs.Work.{nothing_done, only_built, only_iterated, only_judged, only_logged_in, only_read, only_read_owned, only_written};
 
 use crate::insert::insert_document;

@@ -17,7 +17,7 @@ pub(crate) fn value_of<'a>(kind: u8, bytes: &'a [u8]) -> RawValue<'a>
         0x03 => RawValue::Document(RawDocument { bytes }),
         0x04 => RawValue::Array(RawDocument { bytes }),
         0x05 => binary_of(bytes),
-        0x07 => RawValue::ObjectId(id_of(bytes)),
+        0x07 => RawValue::ObjectId(object_id_of(bytes)),
         0x08 => RawValue::Bool(boolean_of(bytes)),
         0x09 => RawValue::DateTime(word_of(bytes).cast_signed()),
         0x0A => RawValue::Null,
@@ -72,7 +72,7 @@ fn binary_of<'a>(bytes: &'a [u8]) -> RawValue<'a>
 }
 
 // The twelve bytes of an object id.
-fn id_of(bytes: &[u8]) -> ObjectId
+fn object_id_of(bytes: &[u8]) -> ObjectId
     requires { length bytes.now ≡ 12 }
     ensures { result.0 ≡ bytes.now }
 {

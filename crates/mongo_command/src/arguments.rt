@@ -3,8 +3,7 @@ ghost use Rattle.std.specs.List.{AllByRecursion};
 ghost use Rattle.mongo_bson.specs.Framed.{IsFramed, body_of, enclosed};
 ghost use Rattle.mongo_bson.specs.Document.{spell};
 ghost use Rattle.mongo_command.specs.Literal.{text_element, document_element, int64_element, boolean_element};
-ghost use Rattle.mongo_command.specs.ServerApi.{version_text};
-ghost use Rattle.mongo_command.specs.Command.{given, timestamp_element, sent_concern};
+ghost use Rattle.mongo_command.specs.Command.{version_text, given, timestamp_element, sent_concern};
 ghost use Rattle.mongo_command.specs.Arguments.{field_elements, IsNamed, TooLongFor};
 ghost use Rattle.mongo_command.specs.Keys.{api_version_key, db_key, write_concern_key};
 

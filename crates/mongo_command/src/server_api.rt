@@ -7,7 +7,7 @@ pub enum ServerApiVersion {
 
 impl ServerApiVersion {
     ghost use Rattle.std.specs.Prelude.{◌≡◌};
-    ghost use Rattle.mongo_command.specs.ServerApi.{version_text};
+    ghost use Rattle.mongo_command.specs.Command.{version_text};
 
     /// The version's text, as commands carry it.
     pub fn as_str(&self) -> &'static str

@@ -16,7 +16,7 @@ use Rattle.mongo_command.proofs.Plans.{all_else, all_of, all_row}
 use Rattle.mongo_sasl.specs.declared.credential.Credential.{Credential}
 use Rattle.mongo_sasl.specs.declared.mechanism.AuthMechanism.{AuthMechanism}
 use Rattle.mongo_sasl.specs.declared.mechanism.AuthMechanism.TheVariants.{MongoDbCr}
-use Rattle.mongo_sasl.specs.Kept.{KeepsAfter}
+use Rattle.mongo_sasl.specs.EndsByScript.{KeepsAfter}
 use Rattle.mongo_sasl.proofs.CredentialAnswers.{fault_ends_none}
 use Rattle.mongo_sasl.proofs.KeptAfter.{IsOwn, own_keeps, unbuilt_own, kept_after}
 use Rattle.mongo_scram.proofs.OwnRows.{credential_own}

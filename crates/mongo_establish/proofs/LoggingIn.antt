@@ -8,7 +8,7 @@ use Rattle.mongo_command.specs.declared.stream_description.StreamDescription.{St
 use Rattle.mongo_command.specs.Conversation.{HasNone}
 use Rattle.mongo_sasl.specs.declared.credential.Credential.{Credential}
 use Rattle.mongo_sasl.specs.declared.mechanism.AuthMechanism.{AuthMechanism}
-use Rattle.mongo_sasl.specs.Kept.{KeepsAfter}
+use Rattle.mongo_sasl.specs.EndsByScript.{KeepsAfter}
 use Rattle.mongo_sasl.proofs.KeptAfter.{own_keeps}
 use Rattle.mongo_scram.specs.Costs.{Ledgers, CostsNothing}
 use Rattle.mongo_establish.specs.declared.conversation.Conversation.{Conversation}

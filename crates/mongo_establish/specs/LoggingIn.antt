@@ -10,7 +10,7 @@ use Rattle.mongo_command.specs.Conversation.{Reached, Stopped}
 use Rattle.mongo_command.specs.Exchange.{CountsStay}
 use Rattle.mongo_sasl.specs.declared.credential.Credential.{Credential}
 use Rattle.mongo_sasl.specs.declared.mechanism.AuthMechanism.{AuthMechanism}
-use Rattle.mongo_sasl.specs.Kept.{KeepsAfter}
+use Rattle.mongo_sasl.specs.EndsByScript.{KeepsAfter}
 use Rattle.mongo_sasl.specs.Validation.{IsValidated}
 use Rattle.mongo_scram.specs.Costs.{Ledgers, SameEntries}
 use Rattle.mongo_establish.specs.declared.conversation.Conversation.{Conversation}

@@ -46,7 +46,7 @@ impl Handshaker {
     ghost use Rattle.mongo_wire.specs.declared.error.ErrorKind.TheVariants.{OutOfMemory};
     ghost use Rattle.mongo_command.specs.Connection.{kept_fault};
     ghost use Rattle.mongo_command.specs.Exchange.{CountsStay};
-    ghost use Rattle.mongo_sasl.specs.Kept.{KeepsAfter};
+    ghost use Rattle.mongo_sasl.specs.EndsByScript.{KeepsAfter};
     ghost use Rattle.mongo_scram.specs.Cache.{entries_of};
     ghost use Rattle.mongo_scram.specs.Costs.{ledgers};
     ghost use Rattle.mongo_establish.specs.Asked.{asked_over};

@@ -4,7 +4,7 @@ ghost use Rattle.std.specs.Prelude.{◌≡◌, true, false, Option, None, Some, 
 ghost use Rattle.mongo_wire.specs.declared.error.ErrorKind.{ErrorKind};
 ghost use Rattle.mongo_command.specs.Connection.{kept_fault, KeepsRest};
 ghost use Rattle.mongo_command.specs.Exchange.{CountsStay};
-ghost use Rattle.mongo_sasl.specs.Kept.{KeepsAfter};
+ghost use Rattle.mongo_sasl.specs.EndsByScript.{KeepsAfter};
 ghost use Rattle.mongo_scram.specs.Cache.{entries_of};
 ghost use Rattle.mongo_scram.specs.Costs.{ledgers};
 ghost use Rattle.mongo_establish.specs.declared.conversation.Conversation.TheVariants.{Scram};

@@ -5,8 +5,7 @@ use Rattle.std.proofs.Math.Nat.{mul-div-mul_right, mod-eq-sub-mul-div, div-add-m
 use Rattle.std.proofs.lemmas.Nat.{pow-add, pow_pos}
 use Rattle.std.proofs.Math.Pow.{pow_mono}
 use Rattle.std.specs.Bool.{Decides}
-use Rattle.mongo_num.specs.DoubleBits.{whole_of}
-use Rattle.mongo_num.specs.Ratio.{ReadAlike}
+use Rattle.mongo_num.specs.DoubleBits.{whole_of, ReadAlike}
 
 -- ---- a common factor changes nothing
 

@@ -1,7 +1,7 @@
 -- Whole numbers read from the 64 bits of a double: a sign, 11 bits of exponent and 52 of fraction (binary64
 -- of IEEE 754-2019, section 3.4). A finite double is plus or minus m * 2 ^ k / 2 ^ 1075 for whole numbers m
 -- and k, so that only whole numbers are spoken of here.
-use Rattle.std.specs.Prelude.{Option, None, Some, Bool, ℕ, ◌+◌, ◌-◌, ◌*◌, ◌/◌, ◌%◌, ◌^◌, min, nat_le, ◌==◌, ◌&&◌, not, if◌then◌else◌, ℤ, pos, neg_ℤ, option_and_then}
+use Rattle.std.specs.Prelude.{Option, None, Some, Bool, ℕ, ◌+◌, ◌-◌, ◌*◌, ◌/◌, ◌%◌, ◌^◌, min, nat_le, ◌==◌, ◌&&◌, not, if◌then◌else◌, ℤ, pos, neg_ℤ, option_and_then, ◌≡◌, option_map}
 
 abbrev pub is_negative : ℕ → Bool
 is_negative bits = nat_le (2 ^ 63) bits
@@ -73,3 +73,10 @@ round_clamped greatest bits =
     else if is_not_a_number bits then 0
     else if is_finite bits then min (units_of bits / units_of_one) greatest
     else greatest
+
+-- ---- fractions that are read alike
+
+-- m / d and n / e are near the same whole number, and have the same whole part, as far as 2 ^ 65
+pub record ReadAlike (m d n e : ℕ) : Type 0 where
+  pub whole : option_map (min (2 ^ 65)) (whole_of m d) ≡ option_map (min (2 ^ 65)) (whole_of n e)
+  pub part : min (2 ^ 65) (m / d) ≡ min (2 ^ 65) (n / e)

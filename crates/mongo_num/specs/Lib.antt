@@ -1,5 +1,3 @@
-pub mod CheckedOrder
-pub mod CheckedText
+pub mod Checked
 pub mod DoubleBits
 pub mod Exact
-pub mod Ratio

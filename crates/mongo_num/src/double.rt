@@ -1,8 +1,7 @@
 // Whole numbers read from the bits of a double (binary64 of IEEE 754-2019, section 3.4). No floating-point
 // number is made on the way.
 ghost use Rattle.std.specs.Prelude.{◌≡◌, ◌↔◌, ◌+◌, ◌*◌, ◌/◌, ◌%◌, ◌^◌, ◌<◌, ◌≤◌, min, option_map, IsTrue};
-ghost use Rattle.mongo_num.specs.DoubleBits.{is_negative, exponent_of, fraction_of, significand_of, scale_of, units_of, units_of_one, whole_of, magnitude_of, int_of, u64_of};
-ghost use Rattle.mongo_num.specs.Ratio.{ReadAlike};
+ghost use Rattle.mongo_num.specs.DoubleBits.{is_negative, exponent_of, fraction_of, significand_of, scale_of, units_of, units_of_one, whole_of, magnitude_of, int_of, u64_of, ReadAlike};
 
 mod clamp;
 

@@ -14,7 +14,7 @@ use Rattle.mongo_command.specs.Fault.{is_kept}
 use Rattle.mongo_command.proofs.Kept.{received_kept}
 use Rattle.mongo_command.proofs.Plans.{all_of}
 use Rattle.mongo_sasl.specs.Commands.{IsNotBuilt}
-use Rattle.mongo_sasl.specs.Kept.{KeepsAfter}
+use Rattle.mongo_sasl.specs.EndsByScript.{KeepsAfter}
 use Rattle.mongo_sasl.specs.Plain.{FinishedRow}
 use Rattle.mongo_sasl.specs.Reply.{SaslRow}
 use Rattle.mongo_sasl.specs.X509.{X509Row}

@@ -17,6 +17,10 @@ use Rattle.mongo_sasl.specs.declared.mechanism.AuthMechanism.{AuthMechanism}
 use Rattle.mongo_sasl.specs.declared.mechanism.AuthMechanism.TheVariants.{ScramSha1, ScramSha256}
 use Rattle.mongo_sasl.specs.Mechanism.{name_of}
 use Rattle.mongo_sasl.specs.Keys.{conversation_id_key, mechanism_key, options_key, payload_key, sasl_continue_key, sasl_start_key}
+use Rattle.mongo_command.specs.declared.command.Command.{Command}
+use Rattle.mongo_command.specs.Command.{command_of}
+use Rattle.mongo_sasl.specs.declared.sasl_start.SaslStart.{SaslStart}
+use Rattle.mongo_sasl.specs.declared.sasl_continue.SaslContinue.{SaslContinue}
 
 -- ---- the bodies
 
@@ -87,3 +91,11 @@ abbrev pub IsTooLong : BsonFault → List ℕ → Type 0
 IsTooLong TooLong document = 2 ^ 31 - 1 < length document
 IsTooLong NoMemory document = ⊤
 IsTooLong other document = ⊥
+
+-- ---- the commands, on the source, with the server API
+
+abbrev pub start_command : SaslStart → Command
+start_command s = command_of sasl_start_key s.source (start_body s.mechanism s.payload) s.server_api
+
+abbrev pub continue_command : SaslContinue → Command
+continue_command s = command_of sasl_continue_key s.source (continue_body s.conversation_id s.payload) s.server_api

@@ -1,5 +1,5 @@
 -- What a login answers, and what it leaves of its connection, its link, its ids and its buffer: the same for every mechanism.
-use Rattle.std.specs.Prelude.{◌≡◌, ℕ, ℤ, ◌⊎◌, Result, None, Some, List, [], IfErr, OnOk}
+use Rattle.std.specs.Prelude.{◌≡◌, ℕ, ℤ, ◌⊎◌, Result, Option, None, Some, List, [], IfErr, OnOk, if◌then◌else◌}
 use Rattle.mongo_wire.specs.declared.error.Error.{Error}
 use Rattle.mongo_wire.specs.declared.error.ErrorKind.{ErrorKind}
 use Rattle.mongo_wire.specs.declared.error.ErrorKind.TheVariants.{OutOfMemory}
@@ -10,7 +10,7 @@ use Rattle.mongo_command.specs.declared.connection.Connection.{Connection}
 use Rattle.mongo_command.specs.Connection.{kept_fault, KeepsRest}
 use Rattle.mongo_command.specs.Conversation.{Said, Turn, says, ends, Plan, Reached, Stopped, Leads}
 use Rattle.mongo_command.specs.Exchange.{CountsStay}
-use Rattle.mongo_sasl.specs.Kept.{KeepsAfter}
+use Rattle.mongo_command.specs.Fault.{is_kept}
 use Rattle.mongo_sasl.specs.Login.{HasLogin, AnswersLed, EndsByReply}
 
 -- what a call stands on: its connection, its link, the next id, and the buffer that its replies pass through
@@ -22,6 +22,12 @@ pub record Standing (L : Type 0) : Type 0 where
 
 abbrev pub standing : {L : Type 0} → Connection → L → ℤ → FrameBuffer → Standing L
 standing connection link id buffer = record { connection = connection; link = link; id = id; buffer = buffer }
+
+-- what a refusal leaves a connection to keep: the fault where it is one that ends a connection, else none; want of memory may
+-- be, where it cut an exchange
+abbrev pub KeepsAfter : ErrorKind → Option ErrorKind → Type 0
+KeepsAfter OutOfMemory kept = (kept ≡ None) ⊎ (kept ≡ Some OutOfMemory)
+KeepsAfter kind kept = kept ≡ (if is_kept kind then Some kind else None)
 
 -- the plan's first turn is a command
 abbrev pub BeginsWithCommand : {A : Type 0} → Plan A → Type 0

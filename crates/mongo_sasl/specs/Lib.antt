@@ -8,9 +8,7 @@ pub mod Validation
 pub mod Reply
 pub mod View
 pub mod Commands
-pub mod Sent
 pub mod Login
-pub mod Kept
 pub mod EndsByScript
 pub mod Plain
 pub mod X509

@@ -17,8 +17,7 @@ pub struct SaslContinue {
 
 impl SaslContinue {
     ghost use Rattle.std.specs.Prelude.{◌≡◌, IfOk, IfErr};
-    ghost use Rattle.mongo_sasl.specs.Commands.{continue_body, IsNotBuilt};
-    ghost use Rattle.mongo_sasl.specs.Sent.{continue_command};
+    ghost use Rattle.mongo_sasl.specs.Commands.{continue_body, continue_command, IsNotBuilt};
 
     /// The next step of a login on a database, the source of the user.
     pub fn new(

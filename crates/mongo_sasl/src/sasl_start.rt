@@ -18,8 +18,7 @@ pub struct SaslStart {
 
 impl SaslStart {
     ghost use Rattle.std.specs.Prelude.{◌≡◌, IfOk, IfErr};
-    ghost use Rattle.mongo_sasl.specs.Commands.{start_body, IsNotBuilt};
-    ghost use Rattle.mongo_sasl.specs.Sent.{start_command};
+    ghost use Rattle.mongo_sasl.specs.Commands.{start_body, start_command, IsNotBuilt};
 
     /// The start of a login on a database, the source of the user.
     pub fn new(

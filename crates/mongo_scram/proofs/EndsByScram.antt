@@ -8,8 +8,7 @@ use Rattle.mongo_wire.specs.Outside.{State}
 use Rattle.mongo_command.specs.Connection.{kept_fault, KeepsRest}
 use Rattle.mongo_command.specs.Conversation.{Reached, Stopped}
 use Rattle.mongo_command.specs.Exchange.{CountsStay}
-use Rattle.mongo_sasl.specs.EndsByScript.{Standing, StopsBy}
-use Rattle.mongo_sasl.specs.Kept.{KeepsAfter}
+use Rattle.mongo_sasl.specs.EndsByScript.{Standing, StopsBy, KeepsAfter}
 use Rattle.mongo_sasl.proofs.EndsByScript.{ends_by_script}
 use Rattle.mongo_sasl.proofs.Handed.{handed_on, on_answer}
 use Rattle.mongo_sasl.proofs.KeptAfter.{IsOwn, own_keeps, row_keeps}

@@ -15,8 +15,7 @@ use Rattle.mongo_command.specs.Command.{command_of}
 use Rattle.mongo_command.specs.Literal.{text_element, document_of}
 use Rattle.mongo_sasl.specs.declared.mechanism.AuthMechanism.{AuthMechanism}
 use Rattle.mongo_sasl.specs.declared.sasl_start.SaslStart.{SaslStart}
-use Rattle.mongo_sasl.specs.Commands.{start_elements, start_body, IsNotBuilt}
-use Rattle.mongo_sasl.specs.Sent.{start_command}
+use Rattle.mongo_sasl.specs.Commands.{start_elements, start_body, IsNotBuilt, start_command}
 use Rattle.mongo_sasl.specs.Keys.{sasl_start_key}
 use Rattle.mongo_scram.specs.declared.scram_version.ScramVersion.{ScramVersion}
 use Rattle.mongo_scram.specs.Commands.{mechanism_of, db_elements, first_body, first_command}

@@ -6,7 +6,6 @@ pub mod Last
 pub mod Line
 pub mod Login
 pub mod Opened
-pub mod PutBack
 pub mod Replies
 pub mod Report
 pub mod Requests

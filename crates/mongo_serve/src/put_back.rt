@@ -20,7 +20,7 @@ impl<L: Link> PutBack<L> {
     ghost use Rattle.std.specs.Prelude.{◌≡◌, OnOk, OnErr, IfErr};
     ghost use Rattle.std.specs.Io.KnownBytes.{prepend_known};
     ghost use Rattle.mongo_serve.specs.declared.fault.ServeFault.TheVariants.{OutOfMemory};
-    ghost use Rattle.mongo_serve.specs.PutBack.{put_back_state};
+    ghost use Rattle.mongo_serve.specs.Taken.{put_back_state};
 
     /// The link, with nothing put back.
     pub fn new(alloc: Global, link: L) -> PutBack<L>
@@ -56,7 +56,7 @@ impl<L: Link> PutBack<L> {
 }
 
 impl<L: Link> Outside for PutBack<L> {
-    ghost use Rattle.mongo_serve.specs.PutBack.{put_back_state};
+    ghost use Rattle.mongo_serve.specs.Taken.{put_back_state};
 
     ghost state = { λ s. put_back_state L.state s };
 }

@@ -1,7 +1,7 @@
 //! The top call.
 
 ghost use Rattle.std.specs.Prelude.{◌≡◌, ◌<◌, ◌≤◌};
-ghost use Rattle.mongo_serve.specs.PutBack.{put_back_state};
+ghost use Rattle.mongo_serve.specs.Taken.{put_back_state};
 ghost use Rattle.mongo_serve.specs.Report.{report_text};
 ghost use Rattle.mongo_serve.specs.Run.{status_of_fault, RunEnds};
 ghost use Rattle.mongo_wire.specs.Outside.{AppendsFront};

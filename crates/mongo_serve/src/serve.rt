@@ -4,7 +4,7 @@ ghost use Rattle.std.specs.Prelude.{◌≡◌, ℕ, pos, ◌+◌, ◌≤◌, ◌
 ghost use Rattle.mongo_wire.specs.Header.{code_number, header_with, signed_at};
 ghost use Rattle.mongo_wire.specs.Outside.{State};
 ghost use Rattle.mongo_serve.specs.Login.{Remembers};
-ghost use Rattle.mongo_serve.specs.PutBack.{put_back_state};
+ghost use Rattle.mongo_serve.specs.Taken.{put_back_state};
 ghost use Rattle.mongo_serve.specs.Replies.{message_maximum};
 ghost use Rattle.mongo_serve.specs.Requests.{IsGreeting};
 ghost use Rattle.mongo_serve.specs.Served.{FollowsHead, IsBackAt, TurnEnds, PartEnds, IsServed};

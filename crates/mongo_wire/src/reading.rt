@@ -75,7 +75,7 @@ pub fn take_into<S: Source>(
 {
     let mut at = before;
     'taking: while at < wanted {
-        match make_room(store, at, wanted) {
+        match make_longer(store, at, wanted) {
             Ok(()) => {}
             Err(fault) => return Err(fault),
         }
@@ -124,7 +124,7 @@ fn fill_part<S: Source>(
 
 // Makes the store longer where what came fills it: by as much as came so far, at least one piece, and to no more than is
 // wanted. The memory for it is reserved exactly.
-fn make_room(store: &mut Vec<u8>, came: usize, wanted: usize) -> Result<(), FrameFault>
+fn make_longer(store: &mut Vec<u8>, came: usize, wanted: usize) -> Result<(), FrameFault>
     requires { (came ≤ length store.old.items) × (came < wanted) }
     ensures kept { take came store.new.items ≡ take came store.old.items }
     ensures longer { OnOk result (came < length store.new.items) }

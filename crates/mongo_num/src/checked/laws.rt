@@ -7,7 +7,7 @@ ghost use Rattle.std.specs.declared.cmp.Ordering.TheVariants.{Equal};
 ghost use Rattle.std.specs.Cmp.{on_po};
 ghost use Rattle.std.proofs.Common.{rules};
 ghost use Rattle.mongo_num.specs.declared.checked.Checked.{Checked};
-ghost use Rattle.mongo_num.specs.CheckedOrder.{checked_cmp, checked_order};
+ghost use Rattle.mongo_num.specs.Checked.{checked_cmp, checked_order};
 
 use crate::checked::Checked;
 use std::cmp::Ordering;

@@ -1,6 +1,6 @@
 // What a checked number prints.
 ghost use Rattle.std.specs.Prelude.{Some, codes};
-ghost use Rattle.mongo_num.specs.CheckedText.{shown_text};
+ghost use Rattle.mongo_num.specs.Checked.{shown_text};
 
 use crate::checked::Checked;
 use std::fmt;

@@ -1,7 +1,6 @@
 use Rattle.std.proofs.Common.{◌≡◌, ◌≤◌, ◌-◌}
 use Rattle.mongo_scram.specs.Costs.{ledgers}
-use Rattle.mongo_bench.specs.Login.{bench_key}
-use Rattle.mongo_bench.specs.Peers.{AreReady}
+use Rattle.mongo_bench.specs.Login.{bench_key, AreReady}
 use Rattle.mongo_bench.specs.Work.{only_logged_in}
 use Rattle.mongo_bench.proofs.LoggingIn.{Made}
 use Rattle.mongo_bench.proofs.work.log_in_repeatedly.Given as goal

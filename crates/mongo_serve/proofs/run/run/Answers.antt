@@ -1,5 +1,5 @@
 use Rattle.std.proofs.Common.{refl, sym, subst}
-use Rattle.mongo_serve.specs.PutBack.{put_back_state}
+use Rattle.mongo_serve.specs.Taken.{put_back_state}
 use Rattle.mongo_serve.specs.Run.{ServeRun, status_of_fault, Ran, RunEnds}
 use Rattle.mongo_serve.proofs.Ran.{ran_ends}
 use Rattle.mongo_serve.proofs.run.run.Goals as goal

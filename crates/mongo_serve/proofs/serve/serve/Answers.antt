@@ -1,5 +1,5 @@
 use Rattle.std.proofs.Common.{◌≡◌, true, false, Ok, ap, ◌∙◌, subst, ◌-◌, ◌^◌, arith}
-use Rattle.mongo_serve.specs.PutBack.{put_back_state}
+use Rattle.mongo_serve.specs.Taken.{put_back_state}
 use Rattle.mongo_serve.specs.Served.{TurnEnds}
 use Rattle.mongo_serve.specs.Turns.{documents}
 use Rattle.mongo_serve.proofs.Stream.{begun, one_more, has_ended, was_cut, went_on}

@@ -3,7 +3,7 @@ use Rattle.std.specs.Io.KnownBytes.{Consumes}
 use Rattle.mongo_wire.specs.Header.{code_number, signed_at}
 use Rattle.mongo_wire.specs.declared.op_code.OpCode.TheVariants.{Message, Query}
 use Rattle.mongo_serve.specs.Cut.{HasCause}
-use Rattle.mongo_serve.specs.PutBack.{put_back_state}
+use Rattle.mongo_serve.specs.Taken.{put_back_state}
 use Rattle.mongo_serve.specs.Served.{Lasts}
 use Rattle.mongo_serve.proofs.Causes.{header_part}
 use Rattle.mongo_serve.proofs.NoRequest.{message_coded, other_code, unknown, unlike}

@@ -4,7 +4,7 @@ use Rattle.std.proofs.lemmas.Bool.{false≢true}
 use Rattle.std.proofs.lemmas.Int.{to_z-of_z}
 use Rattle.std.specs.Io.KnownBytes.{Consumes}
 use Rattle.mongo_serve.specs.Cut.{HasCause, IsCut}
-use Rattle.mongo_serve.specs.PutBack.{put_back_state}
+use Rattle.mongo_serve.specs.Taken.{put_back_state}
 use Rattle.mongo_serve.proofs.Causes.{refused}
 use Rattle.mongo_serve.proofs.Lasts.{lasts_on, lasts_read}
 use Rattle.mongo_serve.proofs.Turns.{none_taken}

@@ -4,8 +4,7 @@ use Rattle.std.proofs.KnownBytes.{Consumes-trans}
 use Rattle.std.proofs.lemmas.Int.{to_z-of_z}
 use Rattle.mongo_wire.specs.Header.{signed_at}
 use Rattle.mongo_serve.specs.Cut.{IsCut}
-use Rattle.mongo_serve.specs.PutBack.{put_back_state}
-use Rattle.mongo_serve.specs.Taken.{IsQueryBody}
+use Rattle.mongo_serve.specs.Taken.{put_back_state, IsQueryBody}
 use Rattle.mongo_serve.specs.declared.fault.ServeFault.TheVariants.{NoFrame}
 use Rattle.mongo_serve.specs.Replies.{message_maximum}
 use Rattle.mongo_serve.proofs.NoRequest.{bad_length, cut_after, no_body}

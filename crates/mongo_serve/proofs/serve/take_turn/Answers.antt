@@ -1,7 +1,7 @@
 use Rattle.std.proofs.Common.{[], refl, sym, subst}
 use Rattle.std.proofs.KnownBytes.{Consumes-nil}
 use Rattle.mongo_serve.specs.Cut.{IsCut}
-use Rattle.mongo_serve.specs.PutBack.{put_back_state}
+use Rattle.mongo_serve.specs.Taken.{put_back_state}
 use Rattle.mongo_serve.proofs.Causes.{header_part, stopped}
 use Rattle.mongo_serve.proofs.NoRequest.{within_header}
 use Rattle.mongo_serve.proofs.Lasts.{lasts_all, lasts_read}

@@ -2,8 +2,7 @@ use Rattle.std.proofs.Common.{◌≡◌, ℕ, Option, List, IfOk, IfErr, ◌∙�
 use Rattle.mongo_bson.specs.declared.owned_value.OwnedValue.{OwnedValue}
 use Rattle.mongo_command.specs.declared.server_api.ServerApi.{ServerApi}
 use Rattle.mongo_sasl.specs.declared.sasl_continue.SaslContinue.{SaslContinue}
-use Rattle.mongo_sasl.specs.Commands.{continue_body, IsNotBuilt}
-use Rattle.mongo_sasl.specs.Sent.{continue_command}
+use Rattle.mongo_sasl.specs.Commands.{continue_body, IsNotBuilt, continue_command}
 use Rattle.mongo_scram.specs.Client.{final_of, final_conversation, final_source_of, final_api_of}
 use Rattle.mongo_scram.proofs.messages.ClientFinal.to_command.Goals as goal
 

@@ -1,11 +1,14 @@
--- The order of checked numbers: two failed ones are equal, a failed one and a held one are not ordered.
-use Rattle.std.specs.Prelude.{Option, None, Some, Bool, true, ◌≡◌, refl, option_map, Decides}
+-- Checked numbers: their order, and what they print.
+use Rattle.std.specs.Prelude.{Option, None, Some, Bool, true, ◌≡◌, refl, option_map, Decides, List, ℕ}
 use Rattle.std.specs.Option.{option_eq}
 use Rattle.std.specs.Ordering.{ordering_reverse}
 use Rattle.std.specs.declared.cmp.Ordering.{Ordering}
 use Rattle.std.specs.declared.cmp.Ordering.TheVariants.{Less, Equal}
 use Rattle.std.specs.Cmp.{IsPartialOrder}
 
+-- ---- the order
+
+-- two failed ones are equal, a failed one and a held one are not ordered
 abbrev pub checked_cmp : {T : Type 0} → (T → T → Option Ordering) → Option T → Option T → Option Ordering
 checked_cmp C None None = Some Equal
 checked_cmp C None (Some y) = None
@@ -44,3 +47,10 @@ module _ {T : Type 0} {E : T → T → Bool} {C : T → T → Option Ordering} (
   -- theirs
   pub checked_order : IsPartialOrder (option_eq E) (checked_cmp C)
   checked_order = record { antisymm = antisymm; trans = trans; matches_eq = matches_eq; congr = congr }
+
+-- ---- what they print
+
+-- the text that `shown` writes of a value, which is `None` where that says nothing
+abbrev pub shown_text : {T : Type 0} → (T → Option (List ℕ)) → List ℕ → Option T → Option (List ℕ)
+shown_text shown failed None = Some failed
+shown_text shown failed (Some x) = shown x
