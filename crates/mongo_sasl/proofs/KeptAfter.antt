@@ -63,8 +63,7 @@ unbuilt_own body OutOfMemory row = inr refl
 unbuilt_own body kind row = absurd row
 
 pub sasl_own : (reply : List ℕ) (kind : ErrorKind) → SaslRow reply kind → IsOwn kind
-sasl_own reply (Authentication fault) row = inl refl
-sasl_own reply kind row = absurd row
+sasl_own reply = refused_own _
 
 pub finished_own : (reply : List ℕ) (kind : ErrorKind) → FinishedRow reply kind ⊎ (kind ≡ OutOfMemory) → IsOwn kind
 finished_own reply kind (inl (inl row)) = sasl_own reply kind row
@@ -72,9 +71,7 @@ finished_own reply kind (inl (inr is)) = inl (ap is_kept is.2.0)
 finished_own reply kind (inr memory) = inr memory
 
 pub x509_own : (reply : List ℕ) (kind : ErrorKind) → X509Row reply kind ⊎ (kind ≡ OutOfMemory) → IsOwn kind
-x509_own reply (Authentication fault) row = inl refl
-x509_own reply OutOfMemory row = inr refl
-x509_own reply kind (inl row) = absurd row
+x509_own reply kind (inl row) = refused_own _ kind row
 x509_own reply kind (inr memory) = inr memory
 
 -- ---- what a call answers

@@ -3,16 +3,15 @@ use Rattle.std.proofs.Common.{◌≡◌, ℕ, pos, Bool, Option, None, Some, Lis
 use Rattle.mongo_bson.specs.Document.{Element, IsWellFormed}
 use Rattle.mongo_bson.specs.declared.owned_value.OwnedValue.{OwnedValue}
 use Rattle.mongo_bson.proofs.OneElement.{one_document}
-use Rattle.mongo_wire.specs.declared.auth_fault.AuthFault.{AuthFault}
 use Rattle.mongo_wire.specs.declared.auth_fault.AuthFault.TheVariants.{Malformed, Refused}
-use Rattle.mongo_wire.specs.declared.error.ErrorKind.{ErrorKind}
 use Rattle.mongo_wire.specs.declared.error.ErrorKind.TheVariants.{Authentication}
 use Rattle.mongo_command.specs.Field.{field_of, Required, ReadsBoolean}
 use Rattle.mongo_command.specs.Conversation.{IsOne, HasNone}
 use Rattle.mongo_command.specs.Keys.{errmsg_key, ok_key}
 use Rattle.mongo_command.proofs.OneField.{boolean_one}
+use Rattle.mongo_command.proofs.Plans.{no_of, no_row, none_else, one_else, one_of, one_row}
 use Rattle.mongo_sasl.specs.declared.sasl_response.SaslResponse.{SaslResponse}
-use Rattle.mongo_sasl.specs.Reply.{Succeeded, SaysFailure, failure_text, ReadsValue, ReadsGeneric, IsSaslTable, IsSaslReply, IsSaslFailure, AuthRow, SaslRow}
+use Rattle.mongo_sasl.specs.Reply.{Succeeded, SaysFailure, failure_text, ReadsValue, ReadsGeneric, IsSaslTable, IsSaslReply, IsSaslFailure, SaslRow}
 use Rattle.mongo_sasl.specs.Keys.{conversation_id_key, done_key, payload_key}
 
 one_required : {A : Type 0} (Reads : Element → A → Type 0) → ((e : Element) (a b : A) → Reads e a → Reads e b → a ≡ b) → (found : Option Element) (a b : A) → Required Reads found a → Required Reads found b → a ≡ b
@@ -60,30 +59,13 @@ success_no_failure : (reply text : List ℕ) (sasl : SaslResponse) → IsSaslRep
 success_no_failure reply text sasl p q =
     not_both (field_of ok_key q.elements) (subst (λ es. Succeeded (field_of ok_key es)) (same_elements reply p.elements q.elements p.well_formed q.well_formed) p.succeeded) q.failed
 
-one_auth_row : (reply : List ℕ) (a b : AuthFault) → AuthRow reply a → AuthRow reply b → a ≡ b
-one_auth_row reply Malformed Malformed p q = refl
-one_auth_row reply Malformed (Refused text) p q = absurd (p.no_failure text q)
-one_auth_row reply (Refused text) Malformed p q = absurd (q.no_failure text p)
-one_auth_row reply (Refused text) (Refused other) p q = ap Refused (one_failure reply text other p q)
-one_auth_row reply Malformed b p q = absurd q
-one_auth_row reply (Refused text) b p q = absurd q
-one_auth_row reply a b p q = absurd p
-
-one_row : (reply : List ℕ) (a b : ErrorKind) → SaslRow reply a → SaslRow reply b → a ≡ b
-one_row reply (Authentication a) (Authentication b) p q = ap Authentication (one_auth_row reply a b p q)
-one_row reply (Authentication a) b p q = absurd q
-one_row reply a b p q = absurd p
-
 -- a reply is refused for one reason
 pub one_sasl_row : (reply : List ℕ) → IsOne (SaslRow reply)
-one_sasl_row reply = λ a b p q. one_row reply a b p q
-
-no_auth_row : (reply : List ℕ) (sasl : SaslResponse) (fault : AuthFault) → IsSaslReply reply sasl → AuthRow reply fault → ⊥
-no_auth_row reply sasl Malformed is row = row.no_reply sasl is
-no_auth_row reply sasl (Refused text) is row = success_no_failure reply text sasl is row
-no_auth_row reply sasl fault is row = row
+one_sasl_row reply = one_of Authentication _ (one_else _ _ (one_of Refused (IsSaslFailure reply) (λ a b p q. one_failure reply a b p q)) (one_row Malformed _))
 
 -- a reply that says something isn't refused
 pub sasl_reply_no_row : (reply : List ℕ) (sasl : SaslResponse) → IsSaslReply reply sasl → HasNone (SaslRow reply)
-sasl_reply_no_row reply sasl is (Authentication fault) row = no_auth_row reply sasl fault is row
-sasl_reply_no_row reply sasl is kind row = row
+sasl_reply_no_row reply sasl is =
+    no_of Authentication _
+    (none_else _ _ (no_of Refused (IsSaslFailure reply) (λ text fails. success_no_failure reply text sasl is fails))
+    (no_row Malformed _ (λ none. none sasl is)))

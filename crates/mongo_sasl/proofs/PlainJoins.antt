@@ -12,7 +12,7 @@ use Rattle.mongo_sasl.proofs.PlainPlan.{one_plain, plain_ended, plain_ends}
 
 never_heard : (reply : List ℕ) → Never IncompatibleServer (plain_heard reply)
 never_heard reply =
-    never_unless IncompatibleServer (SaslRow reply) (reading (IsSaslReply reply) (λ sasl. unless (UnfinishedRow sasl) (ending tt))) (λ row. row) (never_reading IncompatibleServer (IsSaslReply reply) (λ sasl. unless (UnfinishedRow sasl) (ending tt)) (λ sasl.
+    never_unless IncompatibleServer (SaslRow reply) (reading (IsSaslReply reply) (λ sasl. unless (UnfinishedRow sasl) (ending tt))) (λ row. other_row _ IncompatibleServer row refl) (never_reading IncompatibleServer (IsSaslReply reply) (λ sasl. unless (UnfinishedRow sasl) (ending tt)) (λ sasl.
     never_unless IncompatibleServer (UnfinishedRow sasl) (ending tt) (λ row. other Malformed (sym row.0)) (never_ending IncompatibleServer tt)))
 
 never_plain : (handed : PlainHanded) → Never IncompatibleServer (plain_plan handed)

@@ -12,13 +12,15 @@ use Rattle.mongo_wire.specs.declared.error.ErrorKind.{ErrorKind}
 use Rattle.mongo_wire.specs.declared.error.ErrorKind.TheVariants.{Authentication, OutOfMemory}
 use Rattle.mongo_command.specs.declared.field.FieldFault.{FieldFault}
 use Rattle.mongo_command.specs.declared.field.FieldFault.TheVariants.{Unreadable, OutOfMemory as NoMemory}
+use Rattle.mongo_command.specs.Conversation.{HasNone}
 use Rattle.mongo_command.specs.Field.{field_of, Required}
 use Rattle.mongo_command.specs.Fields.{Answers, IsValueOf}
 use Rattle.mongo_command.specs.Keys.{ok_key}
 use Rattle.mongo_sasl.specs.declared.sasl_response.SaslResponse.{SaslResponse}
-use Rattle.mongo_sasl.specs.Reply.{Succeeded, SaysFailure, ReadsValue, IsSaslTable, IsSaslReply, IsSaslFailure, SaslRefused, IsUnsuccessful}
+use Rattle.mongo_sasl.specs.Reply.{Succeeded, SaysFailure, ReadsValue, IsSaslTable, IsSaslReply, IsSaslFailure, SaslRow, SaslRefused, IsUnsuccessful}
 use Rattle.mongo_sasl.specs.View.{owned_value_of, read_as, kind_of_field_fault}
 use Rattle.mongo_command.proofs.FirstOfKey.{bytes_found, bytes_none}
+use Rattle.mongo_command.proofs.Plans.{no_of}
 use Rattle.mongo_sasl.proofs.OneReply.{same_elements, not_both}
 
 -- ---- the whole reply
@@ -29,11 +31,17 @@ failed_here reply text elements well is = subst (λ es. SaysFailure (field_of ok
 succeeded_here : (reply : List ℕ) (elements : List Element) (sasl : SaslResponse) → IsWellFormed reply elements → IsSaslReply reply sasl → Succeeded (field_of ok_key elements)
 succeeded_here reply elements sasl well is = subst (λ es. Succeeded (field_of ok_key es)) (same_elements reply is.elements elements is.well_formed well) is.succeeded
 
+-- what says neither is malformed
+malformed : (reply : List ℕ) → HasNone (IsSaslReply reply) → HasNone (IsSaslFailure reply) → SaslRow reply (Authentication Malformed)
+malformed reply no_reply no_failure = (Malformed, (refl, inr (no_of Refused (IsSaslFailure reply) no_failure, (refl, no_reply))))
+
 -- what isn't a success isn't a reply
 pub unsuccessful : (reply : List ℕ) (elements : List Element) (kind : ErrorKind) → IsWellFormed reply elements → IsUnsuccessful elements kind → SaslRefused reply kind
 unsuccessful reply elements (Authentication Malformed) well is =
-    inl (record { no_reply = λ sasl reads. is.0 (succeeded_here reply elements sasl well reads); no_failure = λ text fails. is.1 (failed_here reply text elements well fails) })
-unsuccessful reply elements (Authentication (Refused text)) well is = inl (record { elements = elements; well_formed = well; failed = is.0; text_is = is.1 })
+    inl (malformed reply (λ sasl reads. is.0 (succeeded_here reply elements sasl well reads)) (λ text fails. is.1 (failed_here reply text elements well fails)))
+unsuccessful reply elements (Authentication (Refused text)) well is =
+    let fails : IsSaslFailure reply text = record { elements = elements; well_formed = well; failed = is.0; text_is = is.1 } in
+    inl (Refused text, (refl, inl (text, (refl, fails))))
 unsuccessful reply elements OutOfMemory well is = inr refl
 unsuccessful reply elements (Authentication fault) well is = absurd is
 unsuccessful reply elements kind well is = absurd is
@@ -41,10 +49,9 @@ unsuccessful reply elements kind well is = absurd is
 -- nor is a success without its table
 pub no_table : (reply : List ℕ) (elements : List Element) (fault : FieldFault) → IsWellFormed reply elements → Succeeded (field_of ok_key elements) → Answers IsSaslTable elements (Err fault) → SaslRefused reply (kind_of_field_fault fault)
 no_table reply elements Unreadable well succeeded none =
-    inl (record {
-      no_reply = λ sasl is. none sasl (subst (λ es. IsSaslTable es sasl) (same_elements reply is.elements elements is.well_formed well) is.table);
-      no_failure = λ text is. not_both (field_of ok_key elements) succeeded (failed_here reply text elements well is);
-    })
+    inl
+    (malformed reply (λ sasl is. none sasl (subst (λ es. IsSaslTable es sasl) (same_elements reply is.elements elements is.well_formed well) is.table))
+    (λ text is. not_both (field_of ok_key elements) succeeded (failed_here reply text elements well is)))
 no_table reply elements NoMemory well succeeded none = inr refl
 
 -- ---- the fields of the table

@@ -6,7 +6,7 @@ use Rattle.mongo_wire.specs.declared.error.ErrorKind.TheVariants.{Authentication
 use Rattle.mongo_command.specs.Conversation.{Event, exchanged, ends, IsOne, HasNone, HasOneTurn}
 use Rattle.mongo_command.specs.Field.{field_of}
 use Rattle.mongo_command.proofs.Ends.{Ends, ends_ending, ends_unless, ends_reading, ends_saying}
-use Rattle.mongo_command.proofs.Plans.{one_ending, one_unless, one_reading, one_saying}
+use Rattle.mongo_command.proofs.Plans.{no_of, no_row, none_else, one_else, one_of, one_row, one_ending, one_unless, one_reading, one_saying}
 use Rattle.mongo_sasl.specs.X509.{Takes, IsCertificateTaken, IsFailed, X509Row, X509Handed, x509_said, x509_heard, x509_plan_from, x509_plan, IsAnsweredX509, IsX509LoginFrom, IsX509Login}
 use Rattle.mongo_sasl.proofs.LoginEvents.{replies_in, documents_in, AreWithin, LoginEnd, EndsBy}
 use Rattle.mongo_sasl.proofs.OneReply.{same_elements}
@@ -19,18 +19,13 @@ not_failed : (reply : List ℕ) (elements : List Element) → Takes reply elemen
 not_failed reply elements taken failed = failed.failed (subst (λ es. IsSuccess (field_of ok_key es)) (same_elements reply elements failed.elements taken.well_formed failed.well_formed) taken.ok)
 
 pub taken_no_row : (reply : List ℕ) (elements : List Element) → Takes reply elements → HasNone (X509Row reply)
-taken_no_row reply elements taken (Authentication Malformed) row = row elements taken.well_formed
-taken_no_row reply elements taken (Authentication X509Failed) row = not_failed reply elements taken row
-taken_no_row reply elements taken kind row = row
+taken_no_row reply elements taken =
+    no_of Authentication _
+    (none_else _ _ (no_row Malformed _ (λ none. none elements taken.well_formed))
+    (no_row X509Failed _ (not_failed reply elements taken)))
 
 one_x509_row : (reply : List ℕ) → IsOne (X509Row reply)
-one_x509_row reply (Authentication Malformed) (Authentication Malformed) p q = refl
-one_x509_row reply (Authentication Malformed) (Authentication X509Failed) p q = absurd (p q.elements q.well_formed)
-one_x509_row reply (Authentication X509Failed) (Authentication Malformed) p q = absurd (q p.elements p.well_formed)
-one_x509_row reply (Authentication X509Failed) (Authentication X509Failed) p q = refl
-one_x509_row reply (Authentication Malformed) other p q = absurd q
-one_x509_row reply (Authentication X509Failed) other p q = absurd q
-one_x509_row reply kind other p q = absurd p
+one_x509_row reply = one_of Authentication _ (one_else _ _ (one_row Malformed _) (one_row X509Failed _))
 
 one_taken : (reply : List ℕ) → IsOne (Takes reply)
 one_taken reply = λ a b p q. same_elements reply a b p.well_formed q.well_formed

@@ -4,10 +4,10 @@ use Rattle.std.specs.Prelude.{◌≡◌, ◌≢◌, ℕ, ℤ, pos, ◌==◌, ◌
 use Rattle.mongo_bson.specs.Document.{Element, IsWellFormed, text_of}
 use Rattle.mongo_bson.specs.Number.{int_of_kind}
 use Rattle.mongo_bson.specs.declared.owned_value.OwnedValue.{OwnedValue}
-use Rattle.mongo_wire.specs.declared.auth_fault.AuthFault.{AuthFault}
 use Rattle.mongo_wire.specs.declared.auth_fault.AuthFault.TheVariants.{Malformed, Refused}
 use Rattle.mongo_wire.specs.declared.error.ErrorKind.{ErrorKind}
 use Rattle.mongo_wire.specs.declared.error.ErrorKind.TheVariants.{Authentication, OutOfMemory}
+use Rattle.mongo_command.specs.Conversation.{HasNone, or_else, row_for, row_of}
 use Rattle.mongo_command.specs.Field.{field_of, Required, ReadsBoolean}
 use Rattle.mongo_command.specs.Keys.{errmsg_key, ok_key}
 use Rattle.mongo_sasl.specs.declared.sasl_response.SaslResponse.{SaslResponse}
@@ -61,20 +61,13 @@ pub record IsSaslFailure (reply text : List ℕ) : Type 0 where
   pub failed : SaysFailure (field_of ok_key elements)
   pub text_is : text ≡ failure_text (field_of errmsg_key elements)
 
--- neither: it isn't well formed, or `ok` is no number, or it succeeded and a field is absent or of another kind
-pub record IsSaslMalformed (reply : List ℕ) : Type 0 where
-  pub no_reply : (sasl : SaslResponse) → IsSaslReply reply sasl → ⊥
-  pub no_failure : (text : List ℕ) → IsSaslFailure reply text → ⊥
-
--- the rows of a login reply: why it is refused
-abbrev pub AuthRow : List ℕ → AuthFault → Type 0
-AuthRow reply Malformed = IsSaslMalformed reply
-AuthRow reply (Refused text) = IsSaslFailure reply text
-AuthRow reply fault = ⊥
-
+-- why a reply is refused: by what a failure says; else, where it is no reply either, as malformed: it isn't well formed, or `ok`
+-- is no number, or it succeeded and a field is absent or of another kind
 abbrev pub SaslRow : List ℕ → ErrorKind → Type 0
-SaslRow reply (Authentication fault) = AuthRow reply fault
-SaslRow reply kind = ⊥
+SaslRow reply =
+    row_of Authentication
+    (or_else (row_of Refused (IsSaslFailure reply))
+    (row_for Malformed (HasNone (IsSaslReply reply))))
 
 -- why a reply wasn't read: its row, or want of memory
 abbrev pub SaslRefused : List ℕ → ErrorKind → Type 0

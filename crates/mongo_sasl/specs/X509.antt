@@ -10,7 +10,7 @@ use Rattle.mongo_wire.specs.Outside.{State}
 use Rattle.mongo_command.specs.declared.command.Command.{Command}
 use Rattle.mongo_command.specs.declared.server_api.ServerApi.{ServerApi}
 use Rattle.mongo_command.specs.Command.{given, command_of, command_document}
-use Rattle.mongo_command.specs.Conversation.{Said, Plan, ending, unless, reading, saying}
+use Rattle.mongo_command.specs.Conversation.{Said, Plan, HasNone, or_else, row_for, row_of, ending, unless, reading, saying}
 use Rattle.mongo_command.specs.Field.{field_of}
 use Rattle.mongo_command.specs.Hello.{IsSuccess}
 use Rattle.mongo_command.specs.Literal.{text_element, int32_element, document_of}
@@ -52,9 +52,10 @@ IsCertificateTaken reply = (elements : List Element) × Takes reply elements
 
 -- why a reply is refused
 abbrev pub X509Row : List ℕ → ErrorKind → Type 0
-X509Row reply (Authentication Malformed) = (elements : List Element) → IsWellFormed reply elements → ⊥
-X509Row reply (Authentication X509Failed) = IsFailed reply
-X509Row reply kind = ⊥
+X509Row reply =
+    row_of Authentication
+    (or_else (row_for Malformed (HasNone (IsWellFormed reply)))
+    (row_for X509Failed (IsFailed reply)))
 
 -- ---- the plan
 

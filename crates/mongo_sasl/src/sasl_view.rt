@@ -109,9 +109,9 @@ fn failure_of(alloc: Global, fields: &Fields<'_>) -> Error
         Some(RawValue::Str(text)) => text,
         _ => "Authentication failure",
     };
-    match Text::from_slice(alloc, text) {
+    match String::from_str(alloc, text) {
         Ok(text) => Error {
-            kind: ErrorKind::Authentication(AuthFault::Refused(text)),
+            kind: ErrorKind::Authentication(AuthFault::Refused(Text::from_string(text))),
         },
         Err(_) => Error {
             kind: ErrorKind::OutOfMemory,

@@ -12,7 +12,7 @@ use Rattle.mongo_command.specs.Command.{command_document}
 use Rattle.mongo_scram.specs.Costs.{EndsLogin}
 use Rattle.mongo_scram.specs.Messages.{transcript, close_message, verifier}
 use Rattle.mongo_scram.specs.Plan.{Handed, Challenge, message_by, salted_by, auth_message_by, close_by, verifier_by, close_said, LastRow, closing}
-use Rattle.mongo_scram.specs.Rounds.{final_said, RoundRow, last_round, TakesLastMessage}
+use Rattle.mongo_scram.specs.Login.{final_said, LastMessageRow, last_exchange, TakesLastMessage}
 use Rattle.mongo_scram.specs.Version.{digest_of}
 
 -- the client's last message in answer to a challenge, by its salted password
@@ -53,23 +53,23 @@ same_owed handed c tag final is =
     λ i. verifier (digest_of handed.version) (salted i) (auth i)
 
 pub closing_ends : (handed : Handed) (c : Challenge) (tag : List ℕ) (final : ClientFinal) (maximum : ℤ) (document : List ℕ) (old new : State) (before after : ℤ) → maximum ≡ handed.maximum → IsFinal handed c tag final
-    → EndsByReply (last_round (final_said final maximum) (final_conversation final) (verifier (digest_of handed.version) tag (auth_message_of final)) c) c document old new before after → EndsByReply (closing handed c) c document old new before after
+    → EndsByReply (last_exchange (final_said final maximum) (final_conversation final) (verifier (digest_of handed.version) tag (auth_message_of final)) c) c document old new before after → EndsByReply (closing handed c) c document old new before after
 closing_ends handed c tag final maximum document old new before after same is r =
-    subst (λ owed. EndsByReply (last_round (close_said handed c) c.first.conversation_id owed c) c document old new before after) (same_owed handed c tag final is)
-    (subst (λ id. EndsByReply (last_round (close_said handed c) id (verifier (digest_of handed.version) tag (auth_message_of final)) c) c document old new before after) is.conversation
-    (subst (λ said. EndsByReply (last_round said (final_conversation final) (verifier (digest_of handed.version) tag (auth_message_of final)) c) c document old new before after) (same_said handed c tag final maximum same is) r))
+    subst (λ owed. EndsByReply (last_exchange (close_said handed c) c.first.conversation_id owed c) c document old new before after) (same_owed handed c tag final is)
+    (subst (λ id. EndsByReply (last_exchange (close_said handed c) id (verifier (digest_of handed.version) tag (auth_message_of final)) c) c document old new before after) is.conversation
+    (subst (λ said. EndsByReply (last_exchange said (final_conversation final) (verifier (digest_of handed.version) tag (auth_message_of final)) c) c document old new before after) (same_said handed c tag final maximum same is) r))
 
 pub closing_stopped : (handed : Handed) (c : Challenge) (tag : List ℕ) (final : ClientFinal) (maximum : ℤ) (kind : ErrorKind) (old new : State) (before after : ℤ) → maximum ≡ handed.maximum → IsFinal handed c tag final
-    → Stopped (last_round (final_said final maximum) (final_conversation final) (verifier (digest_of handed.version) tag (auth_message_of final)) c) kind old new before after → Stopped (closing handed c) kind old new before after
+    → Stopped (last_exchange (final_said final maximum) (final_conversation final) (verifier (digest_of handed.version) tag (auth_message_of final)) c) kind old new before after → Stopped (closing handed c) kind old new before after
 closing_stopped handed c tag final maximum kind old new before after same is r =
-    subst (λ owed. Stopped (last_round (close_said handed c) c.first.conversation_id owed c) kind old new before after) (same_owed handed c tag final is)
-    (subst (λ id. Stopped (last_round (close_said handed c) id (verifier (digest_of handed.version) tag (auth_message_of final)) c) kind old new before after) is.conversation
-    (subst (λ said. Stopped (last_round said (final_conversation final) (verifier (digest_of handed.version) tag (auth_message_of final)) c) kind old new before after) (same_said handed c tag final maximum same is) r))
+    subst (λ owed. Stopped (last_exchange (close_said handed c) c.first.conversation_id owed c) kind old new before after) (same_owed handed c tag final is)
+    (subst (λ id. Stopped (last_exchange (close_said handed c) id (verifier (digest_of handed.version) tag (auth_message_of final)) c) kind old new before after) is.conversation
+    (subst (λ said. Stopped (last_exchange said (final_conversation final) (verifier (digest_of handed.version) tag (auth_message_of final)) c) kind old new before after) (same_said handed c tag final maximum same is) r))
 
 -- the last reply ends the login
 pub ends_login : (handed : Handed) (c : Challenge) (tag : List ℕ) (final : ClientFinal) (document : List ℕ) → IsFinal handed c tag final → TakesLastMessage (final_conversation final) (verifier (digest_of handed.version) tag (auth_message_of final)) document → EndsLogin handed c document
 ends_login handed c tag final document is taken =
     let row : HasNone (LastRow handed c taken.last) =
-    subst (λ owed. HasNone (RoundRow c.first.conversation_id owed taken.last)) (same_owed handed c tag final is)
-    (subst (λ id. HasNone (RoundRow id (verifier (digest_of handed.version) tag (auth_message_of final)) taken.last)) is.conversation taken.taken) in
+    subst (λ owed. HasNone (LastMessageRow c.first.conversation_id owed taken.last)) (same_owed handed c tag final is)
+    (subst (λ id. HasNone (LastMessageRow id (verifier (digest_of handed.version) tag (auth_message_of final)) taken.last)) is.conversation taken.taken) in
     record { last = taken.last; carries = taken.carries; taken = row }

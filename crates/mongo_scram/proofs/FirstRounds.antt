@@ -20,14 +20,14 @@ use Rattle.mongo_sasl.proofs.Handed.{on_answer}
 use Rattle.mongo_sasl.proofs.StopsBy.{not_both, no_exchange}
 use Rattle.mongo_scram.specs.declared.messages.ClientFirst.{ClientFirst}
 use Rattle.mongo_scram.specs.declared.conversation.FirstRound.{FirstRound}
-use Rattle.mongo_scram.specs.declared.rounds.ScramLogin.{ScramLogin}
-use Rattle.mongo_scram.specs.declared.rounds.Opened.{Opened}
+use Rattle.mongo_scram.specs.declared.login.ScramLogin.{ScramLogin}
+use Rattle.mongo_scram.specs.declared.login.Opened.{Opened}
 use Rattle.mongo_scram.specs.Client.{message_of, nonce_of, first_source, includes_db, server_api_of, speculated_of}
 use Rattle.mongo_scram.specs.Commands.{mechanism_of, first_body, first_command}
 use Rattle.mongo_scram.specs.User.{User}
 use Rattle.mongo_scram.specs.Plan.{Handed, Challenge, message_by, nonce_by, start_said, challenged, opened}
 use Rattle.mongo_scram.specs.Replies.{CarriesFirst, FirstReplyRow}
-use Rattle.mongo_scram.specs.Rounds.{handed_by, LeavesOneExchange, Replies, Opens, frames_opened}
+use Rattle.mongo_scram.specs.Login.{handed_by, LeavesOneExchange, Replies, Opens, frames_opened}
 use Rattle.mongo_sasl.proofs.Unsent.{unbuilt_stopped}
 use Rattle.mongo_scram.proofs.OwnRows.{first_reply_own}
 

@@ -18,7 +18,7 @@ pub mod ScramFits
 pub mod ScramJoins
 pub mod EndsByScram
 pub mod Derived
-pub mod LastRound
+pub mod LastExchange
 pub mod FirstRounds
 pub mod OpeningSteps
 pub mod ClosingSteps

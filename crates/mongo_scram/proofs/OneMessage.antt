@@ -8,7 +8,7 @@ use Rattle.mongo_bson.specs.declared.owned_value.OwnedValue.{OwnedValue}
 use Rattle.mongo_wire.specs.declared.error.ErrorKind.{ErrorKind}
 use Rattle.mongo_wire.specs.declared.error.ErrorKind.TheVariants.{Authentication}
 use Rattle.mongo_command.specs.Conversation.{IsOne, HasNone}
-use Rattle.mongo_command.proofs.Plans.{one_else, one_row, none_else, no_row}
+use Rattle.mongo_command.proofs.Plans.{no_of, no_row, none_else, one_else, one_of, one_row}
 use Rattle.mongo_sasl.specs.declared.sasl_response.SaslResponse.{SaslResponse}
 use Rattle.mongo_sasl.specs.Reply.{SaslRow}
 use Rattle.mongo_sasl.proofs.OneReply.{one_sasl_reply, one_sasl_row, sasl_reply_no_row}
@@ -69,12 +69,10 @@ one_first reply = λ a b p q.
 one_first_message_row : (message : List ℕ) → IsOne (FirstMessageRow message)
 one_first_message_row message = one_else _ _ (one_row _ _) (one_row _ _)
 
-one_first_payload_row : (reply : List ℕ) (a b : ErrorKind) → FirstPayloadRow reply a → FirstPayloadRow reply b → a ≡ b
-one_first_payload_row reply (Authentication a) (Authentication b) p q =
+one_first_payload_row : (reply : List ℕ) → IsOne (FirstPayloadRow reply)
+one_first_payload_row reply = one_of Authentication _ (λ a b p q.
     let same = one_sasl_reply reply p.0 q.0 p.1 q.1 in
-    ap Authentication (one_first_message_row q.0.payload a b (subst (λ (sasl : SaslResponse). FirstMessageRow sasl.payload a) same p.2) q.2)
-one_first_payload_row reply (Authentication a) b p q = absurd q
-one_first_payload_row reply a b p q = absurd p
+    one_first_message_row q.0.payload a b (subst (λ (sasl : SaslResponse). FirstMessageRow sasl.payload a) same p.2) q.2)
 
 pub one_first_row : (reply : List ℕ) → IsOne (FirstReplyRow reply)
 one_first_row reply = one_else (SaslRow reply) (FirstPayloadRow reply) (one_sasl_row reply) (one_first_payload_row reply)
@@ -84,16 +82,14 @@ no_first_message_row message nonce salt count i is counts =
     none_else _ _ (no_row _ _ (λ none. none nonce salt count is))
     (no_row _ _ (λ row. row.4 i (subst (λ text. IsIterationCount text i) (one_server_first message nonce salt count row.0 row.1 row.2 is row.3).third counts)))
 
-no_first_payload_row : (reply : List ℕ) (first : ServerFirst) (kind : ErrorKind) → CarriesFirst reply first → FirstPayloadRow reply kind → ⊥
-no_first_payload_row reply first (Authentication fault) is row =
+no_first_payload_row : (reply : List ℕ) (first : ServerFirst) → CarriesFirst reply first → HasNone (FirstPayloadRow reply)
+no_first_payload_row reply first is = no_of Authentication _ (λ fault row.
     let same = one_sasl_reply reply row.0 is.sasl row.1 is.is_reply in
-    no_first_message_row is.sasl.payload first.nonce first.salt is.count first.i is.is_first is.is_count fault (subst (λ (sasl : SaslResponse). FirstMessageRow sasl.payload fault) same row.2)
-no_first_payload_row reply first kind is row = row
+    no_first_message_row is.sasl.payload first.nonce first.salt is.count first.i is.is_first is.is_count fault (subst (λ (sasl : SaslResponse). FirstMessageRow sasl.payload fault) same row.2))
 
 -- a reply that carries one isn't refused
 pub no_first_row : (reply : List ℕ) (first : ServerFirst) → CarriesFirst reply first → HasNone (FirstReplyRow reply)
-no_first_row reply first is kind (inl row) = sasl_reply_no_row reply is.sasl is.is_reply kind row
-no_first_row reply first is kind (inr row) = no_first_payload_row reply first kind is row.1
+no_first_row reply first is = none_else _ _ (sasl_reply_no_row reply is.sasl is.is_reply) (no_first_payload_row reply first is)
 
 -- ---- the server's last message
 
@@ -125,16 +121,12 @@ one_final reply = λ a b p q.
     (p.done ∙ ap (λ (sasl : SaslResponse). sasl.done) same ∙ sym q.done)
     (one_said q.sasl.payload a.body b.body here.1 q.says.1)
 
-one_final_payload_row : (reply : List ℕ) (a b : ErrorKind) → FinalPayloadRow reply a → FinalPayloadRow reply b → a ≡ b
-one_final_payload_row reply a b p q = p.0 ∙ sym q.0
-
 pub one_final_row : (reply : List ℕ) → IsOne (FinalReplyRow reply)
-one_final_row reply = one_else (SaslRow reply) (FinalPayloadRow reply) (one_sasl_row reply) (one_final_payload_row reply)
+one_final_row reply = one_else (SaslRow reply) (FinalPayloadRow reply) (one_sasl_row reply) (one_row _ _)
 
 -- a reply that carries one isn't refused
 pub no_final_row : (reply : List ℕ) (last : ServerFinal) → CarriesFinal reply last → HasNone (FinalReplyRow reply)
-no_final_row reply last is kind (inl row) = sasl_reply_no_row reply is.sasl is.is_reply kind row
-no_final_row reply last is kind (inr row) =
-    let payload = row.1.1 in
+no_final_row reply last is =
+    none_else _ _ (sasl_reply_no_row reply is.sasl is.is_reply) (no_row _ _ (λ payload.
     let same = one_sasl_reply reply payload.0 is.sasl payload.1 is.is_reply in
-    payload.2 last.body (subst (λ (sasl : SaslResponse). SaysFinal sasl.payload last.body) (sym same) is.says)
+    payload.2 last.body (subst (λ (sasl : SaslResponse). SaysFinal sasl.payload last.body) (sym same) is.says)))

@@ -7,14 +7,14 @@ use Rattle.mongo_wire.specs.Outside.{State}
 use Rattle.mongo_command.specs.Conversation.{Said, Turn, says, ends, HasNone, ending, reading, unless, Reached, Stopped}
 use Rattle.mongo_command.proofs.Steps.{reached_ending, reached_unless, reached_reading, reached_saying, stopped_memory, stopped_row, stopped_unless, stopped_reading, stopped_later}
 use Rattle.mongo_sasl.specs.EndsByScript.{BeginsWithCommand}
-use Rattle.mongo_scram.specs.declared.rounds.Opened.{Opened}
+use Rattle.mongo_scram.specs.declared.login.Opened.{Opened}
 use Rattle.mongo_scram.specs.declared.server_first.ServerFirst.{ServerFirst}
 use Rattle.mongo_scram.specs.Client.{nonce_of}
 use Rattle.mongo_scram.specs.Costs.{Ledgers, CostsNothing, FaultCosts}
 use Rattle.mongo_scram.specs.Key.{PasswordRow}
 use Rattle.mongo_scram.specs.Plan.{Speculated, Handed, Challenge, nonce_by, start_said, ChallengeRow, challenged, opened, opening}
 use Rattle.mongo_scram.specs.Replies.{CarriesFirst, FirstReplyRow}
-use Rattle.mongo_scram.specs.Rounds.{Replies, Opens, AnswerRow}
+use Rattle.mongo_scram.specs.Login.{Replies, Opens, AnswerRow}
 use Rattle.mongo_scram.specs.User.{User, IsUser, CredentialRow}
 use Rattle.mongo_scram.specs.Validity.{IsValidFirst, ServerFirstRow}
 use Rattle.mongo_command.proofs.Plans.{none_else}

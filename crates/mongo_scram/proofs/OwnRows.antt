@@ -13,8 +13,8 @@ use Rattle.mongo_scram.specs.declared.scram_version.ScramVersion.TheVariants.{Sh
 use Rattle.mongo_scram.specs.declared.server_first.ServerFirst.{ServerFirst}
 use Rattle.mongo_scram.specs.declared.server_final.ServerFinal.{ServerFinal}
 use Rattle.mongo_scram.specs.Key.{PasswordRow}
-use Rattle.mongo_scram.specs.Replies.{FirstPayloadRow, FirstReplyRow, FinalReplyRow}
-use Rattle.mongo_scram.specs.Rounds.{AnswerRow, RoundRow, LastRefusal}
+use Rattle.mongo_scram.specs.Replies.{FirstReplyRow, FinalReplyRow}
+use Rattle.mongo_scram.specs.Login.{AnswerRow, LastMessageRow, LastRefusal}
 use Rattle.mongo_scram.specs.User.{CredentialRow}
 
 pub credential_own : (credential : Credential) (kind : ErrorKind) → CredentialRow credential kind → IsOwn kind
@@ -22,13 +22,9 @@ credential_own credential = refused_own _
 
 -- ---- the server's first message
 
-first_payload_own : (reply : List ℕ) (kind : ErrorKind) → FirstPayloadRow reply kind → IsOwn kind
-first_payload_own reply (Authentication fault) row = inl refl
-first_payload_own reply kind row = absurd row
-
 pub first_reply_own : (reply : List ℕ) (kind : ErrorKind) → FirstReplyRow reply kind ⊎ (kind ≡ OutOfMemory) → IsOwn kind
 first_reply_own reply kind (inl (inl row)) = sasl_own reply kind row
-first_reply_own reply kind (inl (inr row)) = first_payload_own reply kind row.1
+first_reply_own reply kind (inl (inr row)) = refused_own _ kind row.1
 first_reply_own reply kind (inr memory) = inr memory
 
 -- ---- the derivation
@@ -49,11 +45,11 @@ final_reply_own : (document : List ℕ) (kind : ErrorKind) → FinalReplyRow doc
 final_reply_own document kind (inl row) = sasl_own document kind row
 final_reply_own document kind (inr row) = inl (ap is_kept row.1.0)
 
-round_own : (conversation : OwnedValue) (owed : List ℕ) (last : ServerFinal) (kind : ErrorKind) → RoundRow conversation owed last kind → IsOwn kind
-round_own conversation owed last kind (inl row) = refused_own _ kind row
-round_own conversation owed last kind (inr row) = inl (ap is_kept row.1.0)
+last_message_own : (conversation : OwnedValue) (owed : List ℕ) (last : ServerFinal) (kind : ErrorKind) → LastMessageRow conversation owed last kind → IsOwn kind
+last_message_own conversation owed last kind (inl row) = refused_own _ kind row
+last_message_own conversation owed last kind (inr row) = inl (ap is_kept row.1.0)
 
 pub last_own : (conversation : OwnedValue) (owed document : List ℕ) (kind : ErrorKind) → LastRefusal conversation owed document kind ⊎ (kind ≡ OutOfMemory) → IsOwn kind
 last_own conversation owed document kind (inl (inl row)) = final_reply_own document kind row
-last_own conversation owed document kind (inl (inr is)) = round_own conversation owed is.0 kind is.2
+last_own conversation owed document kind (inl (inr is)) = last_message_own conversation owed is.0 kind is.2
 last_own conversation owed document kind (inr memory) = inr memory

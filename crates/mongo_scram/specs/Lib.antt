@@ -8,11 +8,11 @@ pub mod Entry
 pub mod Key
 pub mod KeyOrder
 pub mod Keys
+pub mod Login
 pub mod Messages
 pub mod Parsed
 pub mod Plan
 pub mod Replies
-pub mod Rounds
 pub mod Script
 pub mod ServerMessages
 pub mod SigningKey

@@ -3,7 +3,7 @@ use Rattle.std.specs.Prelude.{◌≡◌, ℕ, List}
 use Rattle.mongo_wire.specs.declared.error.ErrorKind.{ErrorKind}
 use Rattle.mongo_wire.specs.declared.error.ErrorKind.TheVariants.{Authentication}
 use Rattle.mongo_wire.specs.declared.auth_fault.AuthFault.TheVariants.{Malformed}
-use Rattle.mongo_command.specs.Conversation.{or_else}
+use Rattle.mongo_command.specs.Conversation.{or_else, row_for, row_of}
 use Rattle.mongo_sasl.specs.declared.sasl_response.SaslResponse.{SaslResponse}
 use Rattle.mongo_sasl.specs.Reply.{IsSaslReply, SaslRow}
 use Rattle.mongo_scram.specs.declared.server_first.ServerFirst.{ServerFirst}
@@ -26,8 +26,7 @@ pub record CarriesFirst (reply : List ℕ) (first : ServerFirst) : Type 0 where
 
 -- the reply reads, and its payload is no server first message
 abbrev pub FirstPayloadRow : List ℕ → ErrorKind → Type 0
-FirstPayloadRow reply (Authentication fault) = (sasl : SaslResponse) × IsSaslReply reply sasl × FirstMessageRow sasl.payload fault
-FirstPayloadRow reply kind = ⊥
+FirstPayloadRow reply = row_of Authentication (λ fault. (sasl : SaslResponse) × IsSaslReply reply sasl × FirstMessageRow sasl.payload fault)
 
 -- why it carries none: the row of the reply, else that of the message
 abbrev pub FirstReplyRow : List ℕ → ErrorKind → Type 0
@@ -45,7 +44,7 @@ pub record CarriesFinal (reply : List ℕ) (last : ServerFinal) : Type 0 where
 
 -- the reply reads, and its payload is no server final message
 abbrev pub FinalPayloadRow : List ℕ → ErrorKind → Type 0
-FinalPayloadRow reply kind = (kind ≡ Authentication Malformed) × ((sasl : SaslResponse) × IsSaslReply reply sasl × ((body : ServerFinalBody) → SaysFinal sasl.payload body → ⊥))
+FinalPayloadRow reply = row_for (Authentication Malformed) ((sasl : SaslResponse) × IsSaslReply reply sasl × ((body : ServerFinalBody) → SaysFinal sasl.payload body → ⊥))
 
 -- why it carries none: the row of the reply, else that of the message
 abbrev pub FinalReplyRow : List ℕ → ErrorKind → Type 0

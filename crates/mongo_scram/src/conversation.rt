@@ -1,5 +1,5 @@
 use crate::derivation::{answer, keep};
-use crate::rounds::{ScramLogin, close};
+use crate::login::{ScramLogin, close};
 use crate::{ClientFinal, ClientFirst, SaltedCache, ScramVersion};
 use mongo_bson::RawDocumentBuf;
 use mongo_command::{Connection, ServerApi};

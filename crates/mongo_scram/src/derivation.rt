@@ -7,7 +7,7 @@ ghost use Rattle.mongo_scram.specs.Client.{user_of};
 ghost use Rattle.mongo_scram.specs.Costs.{ledgers, HasEntry, Counts, Derives, CostsNothing};
 ghost use Rattle.mongo_scram.specs.Entry.{salted_of, IsUsable};
 ghost use Rattle.mongo_scram.specs.Key.{PasswordRow};
-ghost use Rattle.mongo_scram.specs.Rounds.{key_for, IsAnswered, AnswerRow};
+ghost use Rattle.mongo_scram.specs.Login.{key_for, IsAnswered, AnswerRow};
 
 use crate::auth_info::ClientAuthInfo;
 use crate::cache::{SaltedCache, SaltedKey};

@@ -2,11 +2,11 @@ use Rattle.std.proofs.Common.{◌≡◌, ◌⊎◌, inl, inr}
 use Rattle.mongo_wire.specs.declared.error.ErrorKind.TheVariants.{OutOfMemory}
 use Rattle.mongo_scram.specs.Client.{auth_message_of, final_conversation}
 use Rattle.mongo_scram.specs.Messages.{verifier}
-use Rattle.mongo_scram.specs.Rounds.{LastRefusal}
+use Rattle.mongo_scram.specs.Login.{LastRefusal}
 use Rattle.mongo_scram.specs.Version.{digest_of}
 use Rattle.mongo_scram.proofs.NoRows.{valid_final_row}
 use Rattle.mongo_scram.proofs.ReplyRead.{handed_on}
-use Rattle.mongo_scram.proofs.rounds.take_last.Goals as goal
+use Rattle.mongo_scram.proofs.login.take_last.Goals as goal
 
 pub returns-in_err-validate_by-clause-refused : goal.returns-in_err-validate_by-clause-refused
 returns-in_err-validate_by-clause-refused c =

@@ -1,7 +1,7 @@
 use Rattle.mongo_command.specs.Exchange.{frame_maximum}
 use Rattle.mongo_scram.specs.Client.{user_of}
 use Rattle.mongo_scram.proofs.FirstRounds.{round_stops, start_stops, round_alone, start_alone, once_faultless, once_frames}
-use Rattle.mongo_scram.proofs.rounds.ScramLogin.open.Goals as goal
+use Rattle.mongo_scram.proofs.login.ScramLogin.open.Goals as goal
 
 pub returns-in-Some-clause-stops : goal.returns-in-Some-clause-stops
 returns-in-Some-clause-stops g c = round_stops c.args.self c.args.first_round (frame_maximum c.args.connection.now.stream_description) (user_of c.args.user.now) _ c.go_on.result c.in-Some.round _ c.in-Some.is c.go_on.ensures.refused

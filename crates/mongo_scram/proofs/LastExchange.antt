@@ -22,19 +22,19 @@ use Rattle.mongo_scram.specs.Client.{final_of, final_conversation, final_source_
 use Rattle.mongo_scram.specs.Commands.{final_command}
 use Rattle.mongo_scram.specs.Plan.{Challenge}
 use Rattle.mongo_scram.specs.Replies.{FinalReplyRow}
-use Rattle.mongo_scram.specs.Rounds.{final_said, RoundRow, last_heard, last_round, TakesLastMessage, LastRefusal, EndsLastRound}
+use Rattle.mongo_scram.specs.Login.{final_said, LastMessageRow, last_heard, last_exchange, TakesLastMessage, LastRefusal, EndsLastExchange}
 use Rattle.mongo_scram.proofs.OneMessage.{no_final_row}
 use Rattle.mongo_sasl.proofs.Unsent.{unbuilt_stopped}
 
 -- ---- the command
 
-pub final_unbuilt : (final : ClientFinal) (maximum : ℤ) (conversation : OwnedValue) (owed : List ℕ) (c : Challenge) (kind : ErrorKind) (old : State) (before : ℤ) → IsNotBuilt (continue_body (final_conversation final) (final_of final)) kind → Stopped (last_round (final_said final maximum) conversation owed c) kind old old before before
+pub final_unbuilt : (final : ClientFinal) (maximum : ℤ) (conversation : OwnedValue) (owed : List ℕ) (c : Challenge) (kind : ErrorKind) (old : State) (before : ℤ) → IsNotBuilt (continue_body (final_conversation final) (final_of final)) kind → Stopped (last_exchange (final_said final maximum) conversation owed c) kind old old before before
 final_unbuilt final maximum conversation owed c kind old before unbuilt =
     unbuilt_stopped (final_said final maximum) (last_heard conversation owed c) (final_command (final_conversation final) (final_source_of final) (final_of final) (final_api_of final)) kind old before refl
     (omega (arith, length-enclosed (flat_map spell (continue_elements (final_conversation final) (final_of final))))) unbuilt
 
 pub final_unanswered : (final : ClientFinal) (command : Command) (maximum : ℤ) (conversation : OwnedValue) (owed : List ℕ) (c : Challenge) (kind : ErrorKind) (old new : State) (before after : ℤ) (kept : Option ErrorKind) → command ≡ final_command (final_conversation final) (final_source_of final) (final_of final) (final_api_of final) → CountsStay old new
-    → ExchangeRefused kind maximum (command_message command) old new before after kept → Stopped (last_round (final_said final maximum) conversation owed c) kind old new before after
+    → ExchangeRefused kind maximum (command_message command) old new before after kept → Stopped (last_exchange (final_said final maximum) conversation owed c) kind old new before after
 final_unanswered final command maximum conversation owed c kind old new before after kept is counts refused =
     stopped_saying (final_said final maximum) (last_heard conversation owed c) kind old new before after kept (subst (λ x. ExchangeRefused kind maximum (command_message x) old new before after kept) is refused) counts
 
@@ -48,10 +48,10 @@ final_exchanged final command maximum old new before after held reply is same e 
 
 -- the reply is taken, and it is that of the round's one exchange
 taken_ends : {T : Type 0} (r : Result T Error) (said : Said) (conversation : OwnedValue) (owed : List ℕ) (c : Challenge) (reply held : List ℕ) (old new : State) (before after : ℤ) → reply ≡ held → Exchanges said.maximum (plain_message said.document) old new before after reply → CountsStay old new → OnOk r (TakesLastMessage conversation owed reply)
-    → OnOk r (EndsByReply (last_round said conversation owed c) c held old new before after)
+    → OnOk r (EndsByReply (last_exchange said conversation owed c) c held old new before after)
 taken_ends (Ok x) said conversation owed c reply held old new before after same e counts is =
-    subst (λ document. EndsByReply (last_round said conversation owed c) c document old new before after) same
-    (ends_by_reply (last_round said conversation owed c) c said reply old new before after refl
+    subst (λ document. EndsByReply (last_exchange said conversation owed c) c document old new before after) same
+    (ends_by_reply (last_exchange said conversation owed c) c said reply old new before after refl
     (inr (no_final_row reply is.last is.carries, (is.last, is.carries, inr (is.taken, refl)))) e counts)
 taken_ends (Err x) said conversation owed c reply held old new before after same e counts is = tt
 
@@ -59,18 +59,18 @@ heard_stopped : (conversation : OwnedValue) (owed : List ℕ) (c : Challenge) (r
 heard_stopped conversation owed c reply kind new after (inl (inl row)) = stopped_row (FinalReplyRow reply) _ kind new after row
 heard_stopped conversation owed c reply kind new after (inl (inr is)) =
     stopped_unless _ _ kind new new after after (no_final_row reply is.0 is.1)
-    (stopped_reading _ _ is.0 kind new new after after is.1 (stopped_row (RoundRow conversation owed is.0) (ending c) kind new after is.2))
+    (stopped_reading _ _ is.0 kind new new after after is.1 (stopped_row (LastMessageRow conversation owed is.0) (ending c) kind new after is.2))
 heard_stopped conversation owed c reply kind new after (inr memory) = stopped_memory (last_heard conversation owed c reply) kind new after memory
 
 pub refused_stopped : {T : Type 0} (r : Result T Error) (said : Said) (conversation : OwnedValue) (owed : List ℕ) (c : Challenge) (reply : List ℕ) (old new : State) (before after : ℤ) → Exchanges said.maximum (plain_message said.document) old new before after reply → CountsStay old new
-    → IfErr r (λ e. LastRefusal conversation owed reply e.kind ⊎ (e.kind ≡ OutOfMemory)) → IfErr r (λ e. Stopped (last_round said conversation owed c) e.kind old new before after)
+    → IfErr r (λ e. LastRefusal conversation owed reply e.kind ⊎ (e.kind ≡ OutOfMemory)) → IfErr r (λ e. Stopped (last_exchange said conversation owed c) e.kind old new before after)
 refused_stopped (Ok x) said conversation owed c reply old new before after e counts h = tt
 refused_stopped (Err x) said conversation owed c reply old new before after e counts h =
     stopped_later said (last_heard conversation owed c) reply x.kind old new new before after after e counts (heard_stopped conversation owed c reply x.kind new after h)
 
 -- what the round promises where the reply is taken
 pub closes_by : {L T : Type 0} (state : L → State) (r : Result T Error) (said : Said) (conversation : OwnedValue) (owed reply : List ℕ) (buffer : FrameBuffer) (old new : Standing L) → reply ≡ held_document buffer
-    → Exchanges said.maximum (plain_message said.document) (state old.link) (state new.link) old.id new.id reply → CountsStay (state old.link) (state new.link) → HoldsReply buffer → OnOk r (TakesLastMessage conversation owed reply) → OnOk r (EndsLastRound state said conversation owed buffer old new)
+    → Exchanges said.maximum (plain_message said.document) (state old.link) (state new.link) old.id new.id reply → CountsStay (state old.link) (state new.link) → HoldsReply buffer → OnOk r (TakesLastMessage conversation owed reply) → OnOk r (EndsLastExchange state said conversation owed buffer old new)
 closes_by state (Ok x) said conversation owed reply buffer old new same e counts holds is = record {
   ends = λ c. taken_ends (Ok x) said conversation owed c reply (held_document buffer) (state old.link) (state new.link) old.id new.id same e counts is;
   taken = subst (TakesLastMessage conversation owed) same is;

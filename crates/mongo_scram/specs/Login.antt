@@ -1,4 +1,4 @@
--- The two rounds of a login, and the derivation between them.
+-- The two exchanges of a login, and the derivation between them.
 use Rattle.std.specs.Prelude.{◌≡◌, ℕ, ℤ, ◌⊎◌, Option, None, Some, option_copied, List}
 use Rattle.mongo_bson.specs.declared.owned_value.OwnedValue.{OwnedValue}
 use Rattle.mongo_wire.specs.declared.error.ErrorKind.{ErrorKind}
@@ -16,8 +16,8 @@ use Rattle.mongo_scram.specs.declared.scram_version.ScramVersion.{ScramVersion}
 use Rattle.mongo_scram.specs.declared.cache.SaltedKey.{SaltedKey}
 use Rattle.mongo_scram.specs.declared.conversation.FirstRound.{FirstRound}
 use Rattle.mongo_scram.specs.declared.messages.ClientFinal.{ClientFinal}
-use Rattle.mongo_scram.specs.declared.rounds.ScramLogin.{ScramLogin}
-use Rattle.mongo_scram.specs.declared.rounds.Opened.{Opened}
+use Rattle.mongo_scram.specs.declared.login.ScramLogin.{ScramLogin}
+use Rattle.mongo_scram.specs.declared.login.Opened.{Opened}
 use Rattle.mongo_scram.specs.declared.server_first.ServerFirst.{ServerFirst}
 use Rattle.mongo_scram.specs.declared.server_final.ServerFinal.{ServerFinal}
 use Rattle.mongo_scram.specs.Base64.{base64_of}
@@ -35,7 +35,7 @@ use Rattle.mongo_scram.specs.Validity.{IsValidFirst, ServerFirstRow, ServerFinal
 abbrev pub handed_by : ScramLogin → Option FirstRound → ℤ → Handed
 handed_by login round maximum = handed_to login.version login.credential.now (option_copied login.server_api) round (base64_of login.nonce.now) login.max_iterations maximum
 
--- ---- a round
+-- ---- an exchange
 
 -- What one exchange leaves: its connection keeps no fault, and kept none before it, and its reply passed through the buffer.
 pub record LeavesOneExchange (old new : Connection) (before after : FrameBuffer) : Type 0 where
@@ -43,7 +43,7 @@ pub record LeavesOneExchange (old new : Connection) (before after : FrameBuffer)
   pub is : kept_fault new ≡ None
   pub frames : frames_taken after ≡ risen (frames_taken before)
 
--- ---- the first round
+-- ---- the first exchange
 
 -- the reply to the client's first message: that of a first round that went with the hello, or that of an exchange
 abbrev pub Replies : Option Speculated → Said → List ℕ → State → State → ℤ → ℤ → Type 0
@@ -82,37 +82,37 @@ pub record IsAnswered (first : ServerFirst) (nonce : List ℕ) (max_iterations :
 abbrev pub AnswerRow : ServerFirst → List ℕ → ℕ → ScramVersion → List ℕ → ErrorKind → Type 0
 AnswerRow first nonce max_iterations version password = or_else (ServerFirstRow first nonce max_iterations) (PasswordRow version password)
 
--- ---- the last round
+-- ---- the last exchange
 
 -- the command of the client's last message
 abbrev pub final_said : ClientFinal → ℤ → Said
 final_said final maximum = record { maximum = maximum; document = command_document (final_command (final_conversation final) (final_source_of final) (final_of final) (final_api_of final)) }
 
 -- why the server's last message isn't taken in this conversation, by the verifier that is owed
-abbrev pub RoundRow : OwnedValue → List ℕ → ServerFinal → ErrorKind → Type 0
-RoundRow conversation owed last = or_else (ServerFinalRow last conversation owed) (NotCompletedRow last)
+abbrev pub LastMessageRow : OwnedValue → List ℕ → ServerFinal → ErrorKind → Type 0
+LastMessageRow conversation owed last = or_else (ServerFinalRow last conversation owed) (NotCompletedRow last)
 
 -- after the reply with it
 abbrev pub last_heard : OwnedValue → List ℕ → Challenge → List ℕ → Plan Challenge
 last_heard conversation owed c reply =
-    unless (FinalReplyRow reply) (reading (CarriesFinal reply) (λ last. unless (RoundRow conversation owed last) (ending c)))
+    unless (FinalReplyRow reply) (reading (CarriesFinal reply) (λ last. unless (LastMessageRow conversation owed last) (ending c)))
 
 -- what is left of a login by this challenge, once the client's last message is made
-abbrev pub last_round : Said → OwnedValue → List ℕ → Challenge → Plan Challenge
-last_round said conversation owed c = saying said (last_heard conversation owed c)
+abbrev pub last_exchange : Said → OwnedValue → List ℕ → Challenge → Plan Challenge
+last_exchange said conversation owed c = saying said (last_heard conversation owed c)
 
 -- the document carries a last message of the server that is taken
 pub record TakesLastMessage (conversation : OwnedValue) (owed document : List ℕ) : Type 0 where
   pub last : ServerFinal
   pub carries : CarriesFinal document last
-  pub taken : HasNone (RoundRow conversation owed last)
+  pub taken : HasNone (LastMessageRow conversation owed last)
 
--- the last round was made, whatever the challenge: its reply, which the buffer holds, carries such a message
-pub record EndsLastRound {L : Type 0} (state : L → State) (said : Said) (conversation : OwnedValue) (owed : List ℕ) (buffer : FrameBuffer) (old new : Standing L) : Type 0 where
-  pub ends : (c : Challenge) → EndsByReply (last_round said conversation owed c) c (held_document buffer) (state old.link) (state new.link) old.id new.id
+-- the last exchange was made, whatever the challenge: its reply, which the buffer holds, carries such a message
+pub record EndsLastExchange {L : Type 0} (state : L → State) (said : Said) (conversation : OwnedValue) (owed : List ℕ) (buffer : FrameBuffer) (old new : Standing L) : Type 0 where
+  pub ends : (c : Challenge) → EndsByReply (last_exchange said conversation owed c) c (held_document buffer) (state old.link) (state new.link) old.id new.id
   pub taken : TakesLastMessage conversation owed (held_document buffer)
   pub holds : HoldsReply buffer
 
 -- why it carries none that is: the row of the reply, else that of the message
 abbrev pub LastRefusal : OwnedValue → List ℕ → List ℕ → ErrorKind → Type 0
-LastRefusal conversation owed document kind = FinalReplyRow document kind ⊎ ((last : ServerFinal) × CarriesFinal document last × RoundRow conversation owed last kind)
+LastRefusal conversation owed document kind = FinalReplyRow document kind ⊎ ((last : ServerFinal) × CarriesFinal document last × LastMessageRow conversation owed last kind)

@@ -1,4 +1,4 @@
-// The two rounds of a login: each a command of the client and the server's reply to it.
+// The two exchanges of a login: each a command of the client and the server's reply to it.
 
 ghost use Rattle.std.specs.Prelude.{◌≡◌, ◌⊎◌, IfOk, IfErr, OnOk};
 ghost use Rattle.mongo_wire.specs.declared.error.ErrorKind.TheVariants.{OutOfMemory};
@@ -8,7 +8,7 @@ ghost use Rattle.mongo_scram.specs.Client.{auth_message_of, final_conversation};
 ghost use Rattle.mongo_scram.specs.Messages.{verifier};
 ghost use Rattle.mongo_scram.specs.Plan.{Challenge};
 ghost use Rattle.mongo_scram.specs.Replies.{CarriesFirst, FirstReplyRow};
-ghost use Rattle.mongo_scram.specs.Rounds.{final_said, last_round, TakesLastMessage, LastRefusal, LeavesOneExchange, EndsLastRound};
+ghost use Rattle.mongo_scram.specs.Login.{final_said, last_exchange, TakesLastMessage, LastRefusal, LeavesOneExchange, EndsLastExchange};
 ghost use Rattle.mongo_scram.specs.Version.{digest_of};
 
 use crate::auth_info::ClientAuthInfo;
@@ -66,7 +66,7 @@ impl<'a> ScramLogin<'a> {
     ghost use Rattle.mongo_sasl.specs.EndsByScript.{standing, StopsBy};
     ghost use Rattle.mongo_scram.specs.Client.{speculated_of, user_of};
     ghost use Rattle.mongo_scram.specs.Plan.{opened};
-    ghost use Rattle.mongo_scram.specs.Rounds.{handed_by, Opens, frames_opened, LeavesOneExchange};
+    ghost use Rattle.mongo_scram.specs.Login.{handed_by, Opens, frames_opened, LeavesOneExchange};
 
     /// The first round: that which went with the hello, or one of its own, by the nonce.
     pub fn open<L: Link>(
@@ -145,7 +145,7 @@ fn go_on(alloc: Global, round: FirstRound) -> Result<Opened, Error>
     })
 }
 
-/// The last round: says the client's last message, and takes the server's, by the salted password. It ends the login.
+/// The last exchange: says the client's last message, and takes the server's, by the salted password. It ends the login.
 pub fn close<L: Link>(
     alloc: Global,
     connection: &mut Connection,
@@ -157,9 +157,9 @@ pub fn close<L: Link>(
     client_final: &ClientFinal,
 ) -> Result<(), Error>
     // By one exchange, whose reply the buffer holds.
-    ensures closed { OnOk result (EndsLastRound L.state (final_said client_final.now (frame_maximum connection.old.stream_description)) (final_conversation client_final.now) (verifier (digest_of version) salted.now (auth_message_of client_final.now)) buffer.new
+    ensures closed { OnOk result (EndsLastExchange L.state (final_said client_final.now (frame_maximum connection.old.stream_description)) (final_conversation client_final.now) (verifier (digest_of version) salted.now (auth_message_of client_final.now)) buffer.new
         (standing connection.old link.old ids.old buffer.old) (standing connection.new link.new ids.new buffer.new)) }
-    ensures stops { (c : Challenge) → StopsBy L.state (last_round (final_said client_final.now (frame_maximum connection.old.stream_description)) (final_conversation client_final.now) (verifier (digest_of version) salted.now (auth_message_of client_final.now)) c) result
+    ensures stops { (c : Challenge) → StopsBy L.state (last_exchange (final_said client_final.now (frame_maximum connection.old.stream_description)) (final_conversation client_final.now) (verifier (digest_of version) salted.now (auth_message_of client_final.now)) c) result
         (standing connection.old link.old ids.old buffer.old) (standing connection.new link.new ids.new buffer.new) }
     ensures once { OnOk result (LeavesOneExchange connection.old connection.new buffer.old buffer.new) }
 {

@@ -4,14 +4,14 @@ use Rattle.mongo_command.specs.Exchange.{frame_maximum}
 use Rattle.mongo_sasl.specs.Commands.{continue_body}
 use Rattle.mongo_scram.specs.Client.{final_of, auth_message_of, final_conversation}
 use Rattle.mongo_scram.specs.Messages.{verifier}
-use Rattle.mongo_scram.specs.Rounds.{final_said, last_round, LastRefusal}
+use Rattle.mongo_scram.specs.Login.{final_said, last_exchange, LastRefusal}
 use Rattle.mongo_scram.specs.Version.{digest_of}
 use Rattle.mongo_sasl.proofs.Handed.{no_answer_on, on_answer}
 use Rattle.mongo_sasl.proofs.KeptAfter.{unbuilt_own}
 use Rattle.mongo_sasl.proofs.StopsBy.{was_faultless, before_exchange, at_exchange, after_exchange, handed_stops}
-use Rattle.mongo_scram.proofs.LastRound.{final_unbuilt, final_unanswered, final_exchanged, refused_stopped, closes_by}
+use Rattle.mongo_scram.proofs.LastExchange.{final_unbuilt, final_unanswered, final_exchanged, refused_stopped, closes_by}
 use Rattle.mongo_scram.proofs.OwnRows.{last_own}
-use Rattle.mongo_scram.proofs.rounds.close.Goals as goal
+use Rattle.mongo_scram.proofs.login.close.Goals as goal
 
 -- ---- where the command is not built
 
@@ -63,5 +63,5 @@ returns-clause-stops g c challenge =
     let said = final_said final (frame_maximum c.args.connection.now.stream_description) in
     let reply = c.held_reply.result.bytes.now in
     let exchange = c.in_ok-exchange_into.ensures in
-    after_exchange _ (last_round said conversation owed challenge) tt (λ kind. LastRefusal conversation owed reply kind ⊎ (kind ≡ OutOfMemory)) _ _ c.take_last.result exchange.kept exchange.faultless exchange.connection exchange.counts (last_own conversation owed reply) c.take_last.ensures.refused
+    after_exchange _ (last_exchange said conversation owed challenge) tt (λ kind. LastRefusal conversation owed reply kind ⊎ (kind ≡ OutOfMemory)) _ _ c.take_last.result exchange.kept exchange.faultless exchange.connection exchange.counts (last_own conversation owed reply) c.take_last.ensures.refused
     (refused_stopped c.take_last.result said conversation owed challenge reply _ _ _ _ (final_exchanged final c.in_ok-command.command _ _ _ _ _ _ _ c.in_ok-command.ensures.command c.held_reply.ensures exchange.exchanged) exchange.counts c.take_last.ensures.refused)

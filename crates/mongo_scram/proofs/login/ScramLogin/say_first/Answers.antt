@@ -4,13 +4,13 @@ use Rattle.mongo_command.proofs.Steps.{stopped_memory}
 use Rattle.mongo_scram.specs.Client.{message_of, first_source, includes_db, user_of}
 use Rattle.mongo_scram.specs.Commands.{first_body}
 use Rattle.mongo_scram.specs.Plan.{start_said}
-use Rattle.mongo_scram.specs.Rounds.{handed_by}
+use Rattle.mongo_scram.specs.Login.{handed_by}
 use Rattle.mongo_scram.proofs.FirstRounds.{IsStart, start_unbuilt, start_unanswered, start_exchanged, start_refused, start_opens}
 use Rattle.mongo_sasl.proofs.Handed.{no_answer_on, no_answer_by}
 use Rattle.mongo_sasl.proofs.KeptAfter.{IsOwn, unbuilt_own}
 use Rattle.mongo_sasl.proofs.StopsBy.{was_faultless, before_exchange, at_exchange, after_exchange, handed_stops}
 use Rattle.mongo_scram.proofs.OwnRows.{first_reply_own}
-use Rattle.mongo_scram.proofs.rounds.ScramLogin.say_first.Goals as goal
+use Rattle.mongo_scram.proofs.login.ScramLogin.say_first.Goals as goal
 
 -- ---- where the message is not made
 
