@@ -1,16 +1,14 @@
 -- What an establishment took of the counter and of the cache, by the key that its login derives from; told bytes lead to that key.
-use Rattle.std.proofs.Common.{◌≡◌, ◌⊎◌, ◌∙◌, ℕ, ℤ, refl, ap, subst, sym, inl, inr, Bool, true, false, Option, None, Some, Result, Ok, Err, List, Contains, codes, unwrap_or, if◌then◌else◌, IsSome, IfErr}
-use Rattle.std.proofs.lemmas.Bool.{false≢true}
+use Rattle.std.proofs.Common.{◌≡◌, ◌⊎◌, ◌∙◌, ℕ, ℤ, refl, ap, subst, sym, inl, inr, Bool, true, false, Option, None, Some, Result, Ok, Err, List, Contains, if◌then◌else◌, IfErr}
 use Rattle.mongo_wire.specs.declared.error.Error.{Error}
 use Rattle.mongo_wire.specs.declared.error.ErrorKind.{ErrorKind}
-use Rattle.mongo_wire.specs.declared.error.ErrorKind.TheVariants.{IncompatibleServer, Authentication, OutOfMemory}
+use Rattle.mongo_wire.specs.declared.error.ErrorKind.TheVariants.{IncompatibleServer, OutOfMemory}
 use Rattle.mongo_wire.specs.Outside.{State, Rose}
 use Rattle.mongo_command.specs.declared.connection.Connection.{Connection}
 use Rattle.mongo_command.specs.declared.stream_description.StreamDescription.{StreamDescription}
 use Rattle.mongo_command.specs.Conversation.{refuses, ends, HasNone, ending, Reached, Stopped}
 use Rattle.mongo_command.proofs.FollowedBy.{reached_both, stopped_first}
 use Rattle.mongo_command.proofs.Leads.{reached_led, stopped_led}
-use Rattle.mongo_command.proofs.Plans.{none_first, none_second, of_denied, row_denied}
 use Rattle.mongo_command.proofs.Steps.{reached_ending, reached_unless, stopped_unless}
 use Rattle.mongo_sasl.specs.declared.credential.Credential.{Credential}
 use Rattle.mongo_sasl.specs.declared.mechanism.AuthMechanism.{AuthMechanism}
@@ -22,6 +20,7 @@ use Rattle.mongo_scram.specs.Costs.{Ledgers, key_by, HasEntry, SameEntries, Cost
 use Rattle.mongo_scram.specs.Entry.{salted_of}
 use Rattle.mongo_scram.specs.Plan.{Handed, Challenge, opening}
 use Rattle.mongo_scram.specs.User.{User, IsUser, CredentialRow}
+use Rattle.mongo_scram.proofs.OneRow.{user_in}
 use Rattle.mongo_establish.specs.declared.conversation.Conversation.{Conversation}
 use Rattle.mongo_establish.specs.declared.conversation.Conversation.TheVariants.{Scram}
 use Rattle.mongo_establish.specs.declared.establisher.EstablishError.{EstablishError}
@@ -109,26 +108,6 @@ module _ (version : ScramVersion) (mechanism : AuthMechanism) (asked : Asked) (c
       ]
 
 -- ---- a hello that could be made has no row of a SCRAM login
-
--- a value that can't but be there
-there : {X : Type 0} (o : Option X) → ((IsSome o → ⊥) → ⊥) → (x : X) × (o ≡ Some x)
-there None denied = absurd (denied (λ some. false≢true some))
-there (Some x) denied = (x, refl)
-
-absent : {X : Type 0} (o : Option X) → ((o ≡ None → ⊥) → ⊥) → o ≡ None
-absent None denied = refl
-absent (Some x) denied = absurd (denied (λ none. let no : ⊥ = cc in no))
-
--- a credential without a row has a user
-user_in : (credential : Credential) → HasNone (CredentialRow credential) → (user : User) × IsUser credential user
-user_in credential none =
-    let named = of_denied Authentication _ none in
-    let known = none_second _ _ named in
-    let username = there credential.username (row_denied _ _ (none_first _ _ named)) in
-    let password = there credential.password (row_denied _ _ (none_first _ _ known)) in
-    let properties = absent credential.mechanism_properties (row_denied _ _ (none_first _ _ (none_second _ _ known))) in
-    let user : User = record { username = username.0; password = password.0; source = unwrap_or credential.source (codes "admin") } in
-    (user, record { username = username.1; password = password.1; properties = properties; source = refl })
 
 conversation_row : (conversation : Option Conversation) (credential : Credential) → IsScram conversation → HasNone (ConversationRow conversation credential) → HasNone (CredentialRow credential)
 conversation_row (Some (Scram version)) credential scram none = none

@@ -1,9 +1,10 @@
 -- A credential has one user, and each step of a login is refused for one reason at most.
-use Rattle.std.proofs.Common.{◌≡◌, ℕ, Option, Some, List, sym, ◌∙◌}
+use Rattle.std.proofs.Common.{◌≡◌, ℕ, Option, None, Some, IsSome, unwrap_or, List, codes, refl, sym, ◌∙◌}
+use Rattle.std.proofs.lemmas.Bool.{false≢true}
 use Rattle.mongo_bson.specs.declared.owned_value.OwnedValue.{OwnedValue}
 use Rattle.mongo_wire.specs.declared.error.ErrorKind.TheVariants.{Authentication}
 use Rattle.mongo_command.specs.Conversation.{IsOne, HasNone}
-use Rattle.mongo_command.proofs.Plans.{one_else, one_row, one_of, one_unmet, no_of, none_unmet}
+use Rattle.mongo_command.proofs.Plans.{all_met, no_of, none_unmet, of_denied, one_else, one_of, one_row, one_unmet}
 use Rattle.mongo_sasl.specs.declared.credential.Credential.{Credential}
 use Rattle.mongo_sasl.proofs.NoUser.{there}
 use Rattle.mongo_scram.specs.declared.scram_version.ScramVersion.{ScramVersion}
@@ -48,6 +49,38 @@ no_credential_row credential user is =
         ),
       ),
     ))
+
+stable_some : {X : Type 0} (o : Option X) → ((IsSome o → ⊥) → ⊥) → IsSome o
+stable_some None denied = absurd (denied (λ some. false≢true some))
+stable_some (Some x) denied = refl
+
+stable_none : {X : Type 0} (o : Option X) → ((o ≡ None → ⊥) → ⊥) → o ≡ None
+stable_none None denied = refl
+stable_none (Some x) denied = absurd (denied (λ none. let no : ⊥ = cc in no))
+
+value_in : {X : Type 0} (o : Option X) → IsSome o → (x : X) × (o ≡ Some x)
+value_in None some = absurd (false≢true some)
+value_in (Some x) some = (x, refl)
+
+-- and one that isn't has a user
+pub user_in : (credential : Credential) → HasNone (CredentialRow credential) → (user : User) × IsUser credential user
+user_in credential none =
+    let met =
+      all_met (credential_demands credential) (
+        stable_some credential.username,
+        (
+          stable_some credential.password,
+          (
+            stable_none credential.mechanism_properties,
+            tt,
+          ),
+        ),
+      )
+      (of_denied Authentication _ none) in
+    let username = value_in credential.username met.0 in
+    let password = value_in credential.password met.1.0 in
+    let user : User = record { username = username.0; password = password.0; source = unwrap_or credential.source (codes "admin") } in
+    (user, record { username = username.1; password = password.1; properties = met.1.1.0; source = refl })
 
 -- ---- passwords
 
