@@ -1,10 +1,10 @@
 -- What a caller concludes from what an establishment costs.
-use Rattle.std.proofs.Common.{◌≡◌, ◌⊎◌, ◌↔◌, ◌≤◌, ℕ, ℤ, ap, subst, sym, inl, inr, Option, None, Some, Result, Ok, Err, List, Contains, arith}
+use Rattle.std.proofs.Common.{◌≡◌, ◌⊎◌, ◌↔◌, ◌<◌, ◌≤◌, ◌^◌, ℕ, ℤ, ap, subst, sym, inl, inr, Option, None, Some, Result, Ok, Err, List, Contains, arith}
 use Rattle.mongo_wire.specs.declared.error.ErrorKind.{ErrorKind}
 use Rattle.mongo_wire.specs.Outside.{State}
 use Rattle.mongo_command.specs.Conversation.{Plan}
 use Rattle.mongo_scram.specs.declared.cache.SaltedKey.{SaltedKey}
-use Rattle.mongo_scram.specs.Cache.{entries_of}
+use Rattle.mongo_scram.specs.Cache.{entries_of, rounds_of}
 use Rattle.mongo_scram.specs.Costs.{Ledgers, HasEntry, Counts, Derives, SameEntries, CostsNothing}
 use Rattle.mongo_establish.specs.declared.establisher.EstablishError.{EstablishError}
 use Rattle.mongo_establish.specs.Asked.{Asked}
@@ -64,6 +64,13 @@ costs_some (Err e) asked old new after first last costs =
 -- the counter never falls
 pub some_rise : (first last : Ledgers) → CostsSome first last → first.steps ≤ last.steps
 some_rise first last some = let counted = some.counts.steps in omega arith
+
+-- nor does what the cache counts
+pub rounds_rise : (first last : Ledgers) → CostsSome first last → rounds_of first.cache ≤ rounds_of last.cache
+rounds_rise first last some =
+    let counted = some.counts.rounds_are in
+    let short : rounds_of first.cache < 2 ^ 64 = first.cache.within in
+    omega (arith, counted, short)
 
 -- ---- the keys that have an entry
 

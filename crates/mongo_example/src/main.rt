@@ -70,7 +70,7 @@ fn connect<G: Ledger>(
     let before = pool.rounds();
     match pool.establish(alloc, pending, &mut link, &server.inputs, steps) {
         Ok(pooled) => {
-            let derived = pool.rounds().saturating_sub(before);
+            let derived = pool.rounds() - before;
             Ok(connection_line(alloc, &pooled, derived)?)
         }
         Err(refused) => Err(refused.cause),

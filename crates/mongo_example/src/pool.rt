@@ -26,7 +26,7 @@ pub struct Pool {
 }
 
 impl Pool {
-    ghost use Rattle.std.specs.Prelude.{◌≡◌, ◌⊎◌, ◌+◌, ◌-◌, ◌^◌, min, List, ℕ, Some, IfOk, IfErr, OnOk, OnErr};
+    ghost use Rattle.std.specs.Prelude.{◌≡◌, ◌⊎◌, ◌+◌, ◌-◌, ◌^◌, ◌≤◌, min, List, ℕ, Some, IfOk, IfErr, OnOk, OnErr};
     ghost use Rattle.mongo_wire.specs.declared.error.ErrorKind.TheVariants.{IncompatibleServer, OutOfMemory};
     ghost use Rattle.mongo_wire.specs.Outside.{Rose};
     ghost use Rattle.mongo_command.specs.Conversation.{Said, Turn, refuses, Leads, LeftBy};
@@ -122,6 +122,8 @@ impl Pool {
         // A refusal leaves the keys as they were, unless a login had been accepted.
         ensures entries { IfErr result (λ e. (e.cause.kind ≡ IncompatibleServer) ⊎ SameEntries (ledgers steps.old self.old.state.salted) (ledgers steps.new self.new.state.salted)) }
         ensures counts { CountsStay (L.state link.old) (L.state link.new) }
+        // The pool's rounds don't fall.
+        ensures rounds { rounds_of self.old.state.salted ≤ rounds_of self.new.state.salted }
 
         // The rest of the pool is as it was, its next number among it.
         ensures rest { KeepsPool self.old self.new }

@@ -1,5 +1,5 @@
 -- The first line of a stream, whose text is the settings; and why there are none.
-use Rattle.std.specs.Prelude.{◌≡◌, ◌≢◌, ℕ, ◌+◌, ◌≤◌, ◌⊎◌, None, Some, List, [], ◌∷◌, ◌++◌, length, All, IfSome}
+use Rattle.std.specs.Prelude.{◌≡◌, ◌≢◌, ℕ, ◌+◌, ◌≤◌, ◌⊎◌, None, Some, List, [], ◌∷◌, ◌++◌, length, All, IfSome, ⊤}
 use Rattle.std.specs.Io.KnownBytes.{Consumes}
 use Rattle.mongo_wire.specs.Outside.{State, ReadsOn, Rose, RanOut}
 use Rattle.mongo_wire.specs.declared.error.ErrorKind.{ErrorKind}
@@ -42,10 +42,15 @@ pub record EndsWithin (old new : State) : Type 0 where
 abbrev pub HasNoLine : State → State → Type 0
 HasNoLine old new = HasLongLine old new ⊎ EndsWithin old new
 
--- what a fault of reading is to the line
+-- why there is no next byte: the bytes ended, or the link failed
+abbrev pub StopsReading : ErrorKind → Type 0
+StopsReading kind.EndOfInput = ⊤
+StopsReading kind.ReadFault = ⊤
+StopsReading other = ⊥
+
+-- what that is to the line
 abbrev pub line_error_of : ErrorKind → LineError
 line_error_of kind.EndOfInput = line.BadSettings
-line_error_of kind.OutOfMemory = line.OutOfMemory
 line_error_of other = line.Fault
 
 -- Reading stopped within the line: no line feed was taken before the last byte, and no more bytes than a line of the greatest length has with its own.

@@ -13,6 +13,7 @@ use mongo_bson::Text;
 use mongo_mac::Steps;
 use mongo_scram::{ScramVersion, push_user_name};
 use mongo_server::{ServerCore, ServerFault, ServerUser};
+use mongo_wire::ErrorKind;
 use std::alloc::{AllocError, Global};
 use std::sync::ledger::Ledger;
 
@@ -122,8 +123,8 @@ fn open<G: Ledger>(
     ) {
         Ok(user) => user,
         Err(error) => {
-            return match ServeFault::from(error) {
-                ServeFault::OutOfMemory => Err(ServeFault::OutOfMemory),
+            return match &error.kind {
+                ErrorKind::OutOfMemory => Err(ServeFault::OutOfMemory),
                 _ => Ok(None),
             };
         }

@@ -3,7 +3,7 @@
 ghost use Rattle.std.specs.Prelude.{◌≡◌, [], ◌∷◌, IfOk, IsErrOf};
 ghost use Rattle.std.specs.Io.KnownBytes.{Consumes};
 ghost use Rattle.mongo_wire.specs.Outside.{ConsumesAtMost, ReadsOn, Rose, RanOut};
-ghost use Rattle.mongo_serve.specs.Line.{IsAfterLine, HasNoLine, HasNoSettings, StopsWithin, TakesLine, line_error_of};
+ghost use Rattle.mongo_serve.specs.Line.{IsAfterLine, HasNoLine, HasNoSettings, StopsReading, StopsWithin, TakesLine, line_error_of};
 
 use crate::serve_settings::{ServeSettings, ServeSettingsError, serve_settings_of};
 use mongo_wire::{Error, ErrorKind, Source, SyncLittleEndianRead};
@@ -93,12 +93,14 @@ fn next_byte<S: Source>(source: &mut S) -> Result<u8, LineError>
     }
 }
 
+// What it is to the line that the bytes ended or the link failed.
 fn line_error_of(error: &Error) -> LineError
+    requires { StopsReading error.now.kind }
     ensures { result ≡ line_error_of error.now.kind }
 {
     match &error.kind {
         ErrorKind::EndOfInput => LineError::BadSettings,
-        ErrorKind::OutOfMemory => LineError::OutOfMemory,
-        _ => LineError::Fault,
+        ErrorKind::ReadFault => LineError::Fault,
+        _ => unreachable!(),
     }
 }

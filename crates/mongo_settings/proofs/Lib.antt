@@ -16,6 +16,7 @@ mod Ready
 pub mod Rehearsing
 pub mod OneReport
 mod Sharing
+mod Shrinking
 mod LoginsRead
 pub mod Outcomes
 pub mod Taking

@@ -83,6 +83,6 @@ pub(crate) fn rehearse_with<G: Ledger>(
     let mut link = MemoryLink::new(alloc, replies);
     let total = link.left().len();
     let ended = connect(alloc, login, &mut link, state, steps);
-    let taken = total.saturating_sub(link.left().len());
+    let taken = total - link.left().len();
     report_outcome(alloc, link.written(), taken, &ended)
 }

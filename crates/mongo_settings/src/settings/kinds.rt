@@ -25,8 +25,8 @@ impl SettingValue for Text {
         let Some(text) = value.as_str() else {
             return Err(SettingsError::BadSettings);
         };
-        match Text::from_slice(alloc, text) {
-            Ok(text) => Ok(text),
+        match String::from_str(alloc, text) {
+            Ok(text) => Ok(Text::from_string(text)),
             Err(_) => Err(SettingsError::OutOfMemory),
         }
     }

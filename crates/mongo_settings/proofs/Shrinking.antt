@@ -1,0 +1,97 @@
+-- However an establishment ends, no more bytes are left of its link than were left before.
+use Rattle.std.proofs.Common.{◌≡◌, ◌+◌, ◌≤◌, ◌∙◌, ℤ, ℕ, ap, subst, sym, inl, inr, Some, None, Option, Result, Ok, Err, List, [], ◌++◌, length, length-append, IfOk, IfErr, arith}
+use Rattle.std.proofs.KnownBytes.{Consumes-nil, Consumes-trans}
+use Rattle.std.specs.Io.KnownBytes.{Consumes}
+use Rattle.mongo_wire.specs.declared.error.ErrorKind.{ErrorKind}
+use Rattle.mongo_wire.specs.declared.error.ErrorKind.TheVariants.{ReadFault, WriteFault, OutOfMemory, EndOfInput, InvalidArgument, InvalidResponse}
+use Rattle.mongo_wire.specs.declared.fault.ArgumentFault.TheVariants.{Bson}
+use Rattle.mongo_bson.specs.declared.fault.BsonFault.TheVariants.{TooLong}
+use Rattle.mongo_wire.specs.declared.message.Message.{Message}
+use Rattle.mongo_wire.specs.Message.{ReadRefused}
+use Rattle.mongo_wire.specs.Outside.{State}
+use Rattle.mongo_command.specs.Conversation.{Plan, Turn, Halted, ExchangeFailed, Stopped, Reached}
+use Rattle.mongo_command.specs.Exchange.{ExchangeRefused, SendRefused, Unsent, Cut}
+use Rattle.mongo_establish.specs.declared.establisher.EstablishError.{EstablishError}
+use Rattle.mongo_establish.specs.declared.establisher.HandshakePhase.{HandshakePhase}
+use Rattle.mongo_establish.specs.declared.establisher.HandshakePhase.TheVariants.{PreHello, PostHello}
+use Rattle.mongo_establish.specs.declared.establisher.PooledConnection.{PooledConnection}
+use Rattle.mongo_establish.specs.Asked.{Asked}
+use Rattle.mongo_establish.specs.Established.{Established}
+use Rattle.mongo_establish.specs.Stopped.{StoppedIn}
+
+-- a front of the bytes left was taken
+abbrev TakesSome : Option (List ℕ) → Option (List ℕ) → Type 0
+TakesSome old new = (taken : List ℕ) × Consumes old new taken
+
+none_taken : (old new : Option (List ℕ)) → new ≡ old → TakesSome old new
+none_taken old new same = ([], subst (λ left. Consumes old left []) (sym same) (Consumes-nil old))
+
+more_taken : (old middle new : Option (List ℕ)) → TakesSome old middle → TakesSome middle new → TakesSome old new
+more_taken old middle new first second = (first.0 ++ second.0, Consumes-trans old middle new first.0 second.0 first.1 second.1)
+
+-- ---- an exchange that was refused
+
+unsent : {old new : State} {before after : ℤ} {kept : Option ErrorKind} → Unsent old new before after kept → TakesSome old.left new.left
+unsent {old} {new} is = none_taken old.left new.left (ap (λ s. s.left) is.link)
+
+cut : {kind : ErrorKind} {maximum : ℤ} {message : Message} {old new : State} {before after : ℤ} {kept : Option ErrorKind} → Cut kind maximum message old new before after kept → TakesSome old.left new.left
+cut {old = old} {new = new} is = none_taken old.left new.left is.unread
+
+send_refused : (kind : ErrorKind) (maximum : ℤ) (message : Message) (old new : State) (before after : ℤ) (kept : Option ErrorKind) → SendRefused kind maximum message old new before after kept → TakesSome old.left new.left
+send_refused (InvalidArgument (Bson TooLong)) maximum message old new before after kept is = unsent is.1
+send_refused (InvalidArgument fault) maximum message old new before after kept is = unsent is.2
+send_refused WriteFault maximum message old new before after kept is = cut is.1
+send_refused OutOfMemory maximum message old new before after kept (inl is) = unsent is
+send_refused OutOfMemory maximum message old new before after kept (inr is) = cut is
+send_refused kind maximum message old new before after kept is = absurd is
+
+read_refused : (kind : ErrorKind) (maximum : ℤ) (old new : State) → ReadRefused kind maximum old new → TakesSome old.left new.left
+read_refused ReadFault maximum old new is = (is.1.0, is.1.1)
+read_refused OutOfMemory maximum old new is = (is.0, is.1)
+read_refused EndOfInput maximum old new is = (is.1.0, is.1.1)
+read_refused (InvalidResponse fault) maximum old new is = (is.0, is.1)
+read_refused (InvalidArgument fault) maximum old new is = (is.0, is.1)
+read_refused kind maximum old new is = absurd is
+
+exchange_refused : (kind : ErrorKind) (maximum : ℤ) (message : Message) (old new : State) (before after : ℤ) (kept : Option ErrorKind) → ExchangeRefused kind maximum message old new before after kept → TakesSome old.left new.left
+exchange_refused kind maximum message old new before after kept (inl is) = send_refused kind maximum message old new before after kept is
+exchange_refused kind maximum message old new before after kept (inr is) =
+    more_taken old.left is.middle.left new.left (none_taken old.left is.middle.left is.sends.unread) (read_refused kind maximum is.middle new is.refused.refused)
+
+-- ---- a plan
+
+reached : {A : Type 0} (plan : Plan A) (answer : A) (old new : State) (before after : ℤ) → Reached plan answer old new before after → TakesSome old.left new.left
+reached plan answer old new before after is = (is.talked.heard, is.talked.consumed)
+
+stopped : {A : Type 0} (plan : Plan A) (kind : ErrorKind) (old new : State) (before after : ℤ) → Stopped plan kind old new before after → TakesSome old.left new.left
+stopped plan kind old new before after is =
+    more_taken old.left is.middle.left new.left (is.talked.heard, is.talked.consumed)
+    (elim is.stop [
+      | inl halted ↦ none_taken is.middle.left new.left (ap (λ s. s.left) halted.link)
+      | inr failed ↦ exchange_refused _ _ _ is.middle new _ _ _ failed.refused
+    ])
+
+-- ---- an establishment
+
+stopped_in : (phase : HandshakePhase) (asked : Asked) (kind : ErrorKind) (old new : State) (after : ℤ) → StoppedIn phase asked kind old new after → TakesSome old.left new.left
+stopped_in (PreHello generation) asked kind old new after is = stopped _ kind old new _ after is.1
+stopped_in (PostHello generation) asked kind old new after is =
+    more_taken old.left is.middle.left new.left (reached _ is.greeting old is.middle _ _ is.hello)
+    (elim is.stopped [
+      | inl login ↦ stopped _ kind is.middle new _ after login
+      | inr unnamed ↦ reached _ is.greeting is.middle new _ after unnamed.login
+    ])
+
+shorter : (bytes left : List ℕ) → TakesSome (Some bytes) (Some left) → length left ≤ length bytes
+shorter bytes left is = let parts : length bytes ≡ length is.0 + length left = ap length is.1 ∙ length-append is.0 left in omega (arith, parts)
+
+-- what is left isn't longer than what was left before
+pub left_within : (asked : Asked) (old new : State) (after : ℤ) (bytes left : List ℕ) (ended : Result PooledConnection EstablishError) → IfOk ended (Established asked old new after) → IfErr ended (λ e. StoppedIn e.handshake_phase asked e.cause.kind old new after)
+    → old.left ≡ Some bytes → new.left ≡ Some left → length left ≤ length bytes
+left_within asked old new after bytes left (Ok pooled) made refused was is =
+    let replies = made.taken bytes was in
+    shorter bytes left (replies.taken, replies.joined ∙ ap (λ rest. replies.taken ++ rest) (same_some replies.rest left (sym replies.left_is ∙ is))) where
+  same_some : (a b : List ℕ) → Some a ≡ Some b → a ≡ b
+  same_some a b e = cc
+left_within asked old new after bytes left (Err e) made refused was is =
+    shorter bytes left (subst (λ left. TakesSome (Some bytes) left) is (subst (λ o. TakesSome o new.left) was (stopped_in e.handshake_phase asked e.cause.kind old new after refused)))
