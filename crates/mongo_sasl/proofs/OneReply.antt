@@ -1,5 +1,5 @@
 -- A document says one thing as the reply to a login command, and is refused for one reason at most.
-use Rattle.std.proofs.Common.{◌≡◌, ℕ, pos, Bool, Option, None, Some, List, refl, sym, ap, ◌∙◌, subst}
+use Rattle.std.proofs.Common.{◌≡◌, ℕ, pos, Bool, Option, None, Some, List, sym, ap, ◌∙◌, subst}
 use Rattle.mongo_bson.specs.Document.{Element, IsWellFormed}
 use Rattle.mongo_bson.specs.declared.owned_value.OwnedValue.{OwnedValue}
 use Rattle.mongo_bson.proofs.OneElement.{one_document}

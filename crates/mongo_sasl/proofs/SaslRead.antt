@@ -33,7 +33,7 @@ succeeded_here reply elements sasl well is = subst (λ es. Succeeded (field_of o
 
 -- what says neither is malformed
 malformed : (reply : List ℕ) → HasNone (IsSaslReply reply) → HasNone (IsSaslFailure reply) → SaslRow reply (Authentication Malformed)
-malformed reply no_reply no_failure = (Malformed, (refl, inr (no_of Refused (IsSaslFailure reply) no_failure, (refl, no_reply))))
+malformed reply no_reply no_failure = (Malformed, refl, inr (no_of Refused (IsSaslFailure reply) no_failure, (refl, no_reply)))
 
 -- what isn't a success isn't a reply
 pub unsuccessful : (reply : List ℕ) (elements : List Element) (kind : ErrorKind) → IsWellFormed reply elements → IsUnsuccessful elements kind → SaslRefused reply kind
@@ -41,7 +41,7 @@ unsuccessful reply elements (Authentication Malformed) well is =
     inl (malformed reply (λ sasl reads. is.0 (succeeded_here reply elements sasl well reads)) (λ text fails. is.1 (failed_here reply text elements well fails)))
 unsuccessful reply elements (Authentication (Refused text)) well is =
     let fails : IsSaslFailure reply text = record { elements = elements; well_formed = well; failed = is.0; text_is = is.1 } in
-    inl (Refused text, (refl, inl (text, (refl, fails))))
+    inl (Refused text, refl, inl (text, refl, fails))
 unsuccessful reply elements OutOfMemory well is = inr refl
 unsuccessful reply elements (Authentication fault) well is = absurd is
 unsuccessful reply elements kind well is = absurd is

@@ -24,9 +24,9 @@ module _ (reply : List ℕ) (fields : Fields) (held : HoldsWellFormed reply fiel
   pub failed_by : (kind : ErrorKind) → succeeded ≡ false → kind ≡ Authentication X509Failed → X509Row reply kind ⊎ (kind ≡ OutOfMemory)
   failed_by kind is same =
       let failed : IsFailed reply = record { elements = held.elements; well_formed = held.well_formed; failed = λ success. false≢true (sym is ∙ tells.1 success) } in
-      inl (subst (X509Row reply) (sym same) (X509Failed, (refl, inr (no_row Malformed _ (λ none. none held.elements held.well_formed), (refl, failed)))))
+      inl (subst (X509Row reply) (sym same) (X509Failed, refl, inr (no_row Malformed _ (λ none. none held.elements held.well_formed), (refl, failed))))
 
 -- the reply can't be read
 pub unread_by : (reply : List ℕ) (fault : FieldFault) (kind : ErrorKind) → IsNotWellFormed reply fault → kind ≡ kind_of_field_fault fault → X509Row reply kind ⊎ (kind ≡ OutOfMemory)
-unread_by reply Unreadable kind unread same = inl (subst (X509Row reply) (sym same) (Malformed, (refl, inl (refl, unread))))
+unread_by reply Unreadable kind unread same = inl (subst (X509Row reply) (sym same) (Malformed, refl, inl (refl, unread)))
 unread_by reply NoMemory kind unread same = inr same

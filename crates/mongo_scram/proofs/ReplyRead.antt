@@ -30,7 +30,7 @@ reply_refused reply later kind (inl row) = inl (inl row)
 reply_refused reply later kind (inr is) = inr is
 
 pub first_refused : (reply : List ℕ) (sasl : SaslResponse) (kind : ErrorKind) → IsSaslReply reply sasl → FirstRefused sasl.payload kind → FirstReplyRow reply kind ⊎ (kind ≡ OutOfMemory)
-first_refused reply sasl (Authentication fault) is row = inl (inr (sasl_reply_no_row reply sasl is, (fault, (refl, (sasl, is, row)))))
+first_refused reply sasl (Authentication fault) is row = inl (inr (sasl_reply_no_row reply sasl is, (fault, refl, (sasl, is, row))))
 first_refused reply sasl OutOfMemory is row = inr refl
 first_refused reply sasl kind is row = absurd row
 

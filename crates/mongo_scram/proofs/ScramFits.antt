@@ -1,5 +1,5 @@
 -- SCRAM doesn't refuse by `IncompatibleServer`, which is the refusal of whoever establishes the connection.
-use Rattle.std.proofs.Common.{ℕ, refl, sym, inl, inr, Option, None, Some, List}
+use Rattle.std.proofs.Common.{ℕ, refl, Option, None, Some, List}
 use Rattle.mongo_wire.specs.declared.error.ErrorKind.{ErrorKind}
 use Rattle.mongo_wire.specs.declared.error.ErrorKind.TheVariants.{PasswordNotAscii, IncompatibleServer}
 use Rattle.mongo_wire.specs.declared.auth_fault.AuthFault.TheVariants.{Malformed, NotCompleted, PasswordControl}
@@ -28,7 +28,7 @@ no_ascii is = cc
 -- ---- SCRAM
 
 no_first_reply : (reply : List ℕ) → FirstReplyRow reply IncompatibleServer → ⊥
-no_first_reply reply row = elim row [ inl x ↦ x | inr x ↦ x.1 ]
+no_first_reply reply row = all_else IsOther _ _ (other_row _) (other_row _) IncompatibleServer row refl
 
 no_challenge : (handed : Handed) (c : Challenge) → ChallengeRow handed c IncompatibleServer → ⊥
 no_challenge handed c row = all_else IsOther _ _ (other_row _) (each_password_row IsOther no_ascii (other PasswordControl) handed.version c.user.password) IncompatibleServer row refl
@@ -53,7 +53,7 @@ fits_opening : (handed : Handed) → Fits (opening handed)
 fits_opening handed = never_unless IncompatibleServer (CredentialRow handed.credential) (reading (IsUser handed.credential) (opened handed.speculated handed)) (λ row. credential_other handed.credential IncompatibleServer row refl) (never_reading IncompatibleServer (IsUser handed.credential) (opened handed.speculated handed) (fits_opened handed.speculated handed))
 
 no_final_reply : (reply : List ℕ) → FinalReplyRow reply IncompatibleServer → ⊥
-no_final_reply reply row = elim row [ inl x ↦ x | inr x ↦ other Malformed (sym x.1.0) ]
+no_final_reply reply row = all_else IsOther _ _ (other_row _) (all_row IsOther _ _ (other Malformed)) IncompatibleServer row refl
 
 no_last : (handed : Handed) (c : Challenge) (last : ServerFinal) → LastRow handed c last IncompatibleServer → ⊥
 no_last handed c last row = all_else IsOther _ _ (other_row _) (all_row IsOther _ _ (other NotCompleted)) IncompatibleServer row refl
