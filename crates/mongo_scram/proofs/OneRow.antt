@@ -66,17 +66,17 @@ value_in (Some x) some = (x, refl)
 pub user_in : (credential : Credential) → HasNone (CredentialRow credential) → (user : User) × IsUser credential user
 user_in credential none =
     let met =
-      all_met (credential_demands credential) (
-        stable_some credential.username,
+    all_met (credential_demands credential) (
+      stable_some credential.username,
+      (
+        stable_some credential.password,
         (
-          stable_some credential.password,
-          (
-            stable_none credential.mechanism_properties,
-            tt,
-          ),
+          stable_none credential.mechanism_properties,
+          tt,
         ),
-      )
-      (of_denied Authentication _ none) in
+      ),
+    )
+    (of_denied Authentication _ none) in
     let username = value_in credential.username met.0 in
     let password = value_in credential.password met.1.0 in
     let user : User = record { username = username.0; password = password.0; source = unwrap_or credential.source (codes "admin") } in

@@ -91,7 +91,7 @@ pub left_within : (asked : Asked) (old new : State) (after : ℤ) (bytes left : 
 left_within asked old new after bytes left (Ok pooled) made refused was is =
     let replies = made.taken bytes was in
     shorter bytes left (replies.taken, replies.joined ∙ ap (λ rest. replies.taken ++ rest) (same_some replies.rest left (sym replies.left_is ∙ is))) where
-  same_some : (a b : List ℕ) → Some a ≡ Some b → a ≡ b
-  same_some a b e = cc
+      same_some : (a b : List ℕ) → Some a ≡ Some b → a ≡ b
+      same_some a b e = cc
 left_within asked old new after bytes left (Err e) made refused was is =
     shorter bytes left (subst (λ left. TakesSome (Some bytes) left) is (subst (λ o. TakesSome o new.left) was (stopped_in e.handshake_phase asked e.cause.kind old new after refused)))
