@@ -1,5 +1,5 @@
 -- However an establishment ends, no more bytes are left of its link than were left before.
-use Rattle.std.proofs.Common.{◌≡◌, ◌+◌, ◌≤◌, ◌∙◌, ℤ, ℕ, ap, subst, sym, inl, inr, Some, None, Option, Result, Ok, Err, List, [], ◌++◌, length, length-append, IfOk, IfErr, arith}
+use Rattle.std.proofs.Common.{◌≡◌, ◌+◌, ◌≤◌, ◌∙◌, ℤ, ℕ, ap, subst, sym, inl, inr, Some, Option, Result, Ok, Err, List, [], ◌++◌, length, length-append, IfOk, IfErr, arith}
 use Rattle.std.proofs.KnownBytes.{Consumes-nil, Consumes-trans}
 use Rattle.std.specs.Io.KnownBytes.{Consumes}
 use Rattle.mongo_wire.specs.declared.error.ErrorKind.{ErrorKind}
@@ -9,7 +9,7 @@ use Rattle.mongo_bson.specs.declared.fault.BsonFault.TheVariants.{TooLong}
 use Rattle.mongo_wire.specs.declared.message.Message.{Message}
 use Rattle.mongo_wire.specs.Message.{ReadRefused}
 use Rattle.mongo_wire.specs.Outside.{State}
-use Rattle.mongo_command.specs.Conversation.{Plan, Turn, Halted, ExchangeFailed, Stopped, Reached}
+use Rattle.mongo_command.specs.Conversation.{Plan, Stopped, Reached}
 use Rattle.mongo_command.specs.Exchange.{ExchangeRefused, SendRefused, Unsent, Cut}
 use Rattle.mongo_establish.specs.declared.establisher.EstablishError.{EstablishError}
 use Rattle.mongo_establish.specs.declared.establisher.HandshakePhase.{HandshakePhase}
