@@ -31,7 +31,7 @@ impl Client {
     ghost use Rattle.mongo_generate.specs.Written.{CarriesPayloadLast};
 
     /// Establishes a connection over a link in memory whose replies carry the server's messages: hello with the login that
-    /// goes with it, and the last round. The client's last message, as it was written, is then the server's to judge. None
+    /// goes with it, and the last exchange. The client's last message, as it was written, is then the server's to judge. None
     /// where either side refuses, or where a message of the server doesn't fit into a reply of 48000000 bytes. The ids of the
     /// commands begin at 0.
     ///

@@ -1,4 +1,4 @@
--- What a login's last round shows of its closing.
+-- What a login's last exchange shows of its closing.
 use Rattle.std.proofs.Common.{◌≡◌, ℕ, ℤ, ap, ◌∙◌, subst, List, drop}
 use Rattle.mongo_wire.specs.declared.error.ErrorKind.{ErrorKind}
 use Rattle.mongo_wire.specs.Outside.{State}

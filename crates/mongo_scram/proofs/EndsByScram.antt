@@ -65,7 +65,7 @@ module _ {L : Type 0} (state : L → State) (handed : Handed) (document : List �
   stopped (Ok done) s = tt
   stopped (Err e) s = stopped_whole handed e.kind (state old.link) (state new.link) old.id new.id first last s
 
-  -- after the last round it is accepted, or memory runs out
+  -- after the last exchange it is accepted, or memory runs out
   pub accepted_scram : (r : Result (Unit {0}) Error) → OnOk r (Accepted handed document (state old.link) (state new.link) old.id new.id first last) → IfErr r (λ e. StoppedScram handed e.kind (state old.link) (state new.link) old.id new.id first last) → OnErr r (SameEntries first last) → IfErr r (λ e. e.kind ≡ OutOfMemory)
       → kept_fault old.connection ≡ None → kept_fault new.connection ≡ None → KeepsRest old.connection new.connection → CountsStay (state old.link) (state new.link) → EndsByScram state handed document r old new first last
   accepted_scram r accepted refused entries memory was none rest counts =

@@ -1,4 +1,4 @@
--- The first round of a login is a step of its plan.
+-- The first exchange of a login is a step of its plan, and so is a round that went with the hello.
 use Rattle.std.proofs.Common.{◌≡◌, ◌⊎◌, ℕ, ℤ, false, refl, ap, sym, ◌∙◌, subst, inl, inr, arith, Option, None, Some, IsSome, is_some, Result, Ok, Err, List, [], ◌++◌, IfErr, OnOk, flat_map}
 use Rattle.mongo_bson.specs.Document.{spell}
 use Rattle.mongo_bson.proofs.Enclosed.{length-enclosed}

@@ -1,4 +1,4 @@
--- The last round of a login is a step of its plan, and ends it.
+-- The last exchange of a login is a step of its plan, and ends it.
 use Rattle.std.proofs.Common.{◌≡◌, ◌⊎◌, ℕ, ℤ, refl, sym, subst, inl, inr, arith, Option, Result, Ok, Err, List, IfErr, OnOk, flat_map}
 use Rattle.mongo_bson.specs.Document.{spell}
 use Rattle.mongo_bson.specs.declared.owned_value.OwnedValue.{OwnedValue}
@@ -46,7 +46,7 @@ final_exchanged final command maximum old new before after held reply is same e 
 
 -- ---- the reply
 
--- the reply is taken, and it is that of the round's one exchange
+-- the reply is taken, and it is that of the one exchange
 taken_ends : {T : Type 0} (r : Result T Error) (said : Said) (conversation : OwnedValue) (owed : List ℕ) (c : Challenge) (reply held : List ℕ) (old new : State) (before after : ℤ) → reply ≡ held → Exchanges said.maximum (plain_message said.document) old new before after reply → CountsStay old new → OnOk r (TakesLastMessage conversation owed reply)
     → OnOk r (EndsByReply (last_exchange said conversation owed c) c held old new before after)
 taken_ends (Ok x) said conversation owed c reply held old new before after same e counts is =
@@ -68,7 +68,7 @@ refused_stopped (Ok x) said conversation owed c reply old new before after e cou
 refused_stopped (Err x) said conversation owed c reply old new before after e counts h =
     stopped_later said (last_heard conversation owed c) reply x.kind old new new before after after e counts (heard_stopped conversation owed c reply x.kind new after h)
 
--- what the round promises where the reply is taken
+-- what the exchange promises where the reply is taken
 pub closes_by : {L T : Type 0} (state : L → State) (r : Result T Error) (said : Said) (conversation : OwnedValue) (owed reply : List ℕ) (buffer : FrameBuffer) (old new : Standing L) → reply ≡ held_document buffer
     → Exchanges said.maximum (plain_message said.document) (state old.link) (state new.link) old.id new.id reply → CountsStay (state old.link) (state new.link) → HoldsReply buffer → OnOk r (TakesLastMessage conversation owed reply) → OnOk r (EndsLastExchange state said conversation owed buffer old new)
 closes_by state (Ok x) said conversation owed reply buffer old new same e counts holds is = record {

@@ -21,9 +21,9 @@ use Rattle.mongo_scram.specs.User.{User, IsUser}
 use Rattle.mongo_scram.proofs.OpeningSteps.{opening_reached, opening_at_once}
 use Rattle.mongo_scram.proofs.ScramPlan.{challenge_of}
 
--- ---- between the rounds
+-- ---- between the exchanges
 
--- the first round is over, and the key was derived where it has no entry
+-- the first exchange is over, and the key was derived where it has no entry
 pub record IsBetween (handed : Handed) (user : User) (o : Opened) (key : SaltedKey) (tag : List ℕ) (old middle : State) (before between : ℤ) (first last : Ledgers) : Type 0 where
   pub is_user : IsUser handed.credential user
   pub opens : Opens handed user o old middle before between
@@ -62,7 +62,7 @@ stopped_late handed user o key tag kind old middle new before between after firs
       entries = is.answered.entries;
     })
 
--- ---- after the last round
+-- ---- after the last exchange
 
 -- the rounds that were counted are those, whatever was put in
 kept_derives : (key : SaltedKey) (first : Ledgers) (steps : ℕ) (old new : SaltedCache) → rounds_of new ≡ rounds_of old → Derives key first (ledgers steps old) → Derives key first (ledgers steps new)

@@ -1,4 +1,4 @@
--- What a login's first round and its derivation show of its opening.
+-- What a login's first exchange and its derivation show of its opening.
 use Rattle.std.proofs.Common.{◌≡◌, ◌⊎◌, ℕ, ℤ, refl, ◌∙◌, subst, inl, inr, Option, None, Some, IsSome, List, []}
 use Rattle.std.proofs.lemmas.Bool.{false≢true}
 use Rattle.mongo_wire.specs.declared.error.ErrorKind.{ErrorKind}

@@ -1,4 +1,4 @@
--- The two exchanges of a login, and the derivation between them.
+-- The exchanges of a login, and the derivation between them.
 use Rattle.std.specs.Prelude.{◌≡◌, ℕ, ℤ, ◌⊎◌, Option, None, Some, option_copied, List}
 use Rattle.mongo_bson.specs.declared.owned_value.OwnedValue.{OwnedValue}
 use Rattle.mongo_wire.specs.declared.error.ErrorKind.{ErrorKind}

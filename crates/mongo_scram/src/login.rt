@@ -1,4 +1,5 @@
-// The two exchanges of a login: each a command of the client and the server's reply to it.
+// The exchanges of a login, each a command of the client and the server's reply to it: two, or the last alone where the first messages
+// went with the hello.
 
 ghost use Rattle.std.specs.Prelude.{◌≡◌, ◌⊎◌, IfOk, IfErr, OnOk};
 ghost use Rattle.mongo_wire.specs.declared.error.ErrorKind.TheVariants.{OutOfMemory};
@@ -68,7 +69,7 @@ impl<'a> ScramLogin<'a> {
     ghost use Rattle.mongo_scram.specs.Plan.{opened};
     ghost use Rattle.mongo_scram.specs.Login.{handed_by, Opens, frames_opened, LeavesOneExchange};
 
-    /// The first round: that which went with the hello, or one of its own, by the nonce.
+    /// The first messages of both sides: those of a round that went with the hello, or of an exchange, by the nonce.
     pub fn open<L: Link>(
         self,
         alloc: Global,

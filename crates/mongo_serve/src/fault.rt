@@ -68,7 +68,7 @@ impl From<FrameFault> for ServeFault {
     }
 }
 
-// What a write is refused for, or a user's key.
+// What a write is refused for.
 impl From<Error> for ServeFault {
     ghost from_gives = { λ given fault. fault ≡ fault_of_kind given.kind };
 

@@ -84,7 +84,7 @@ fn next_byte<S: Source>(source: &mut S) -> Result<u8, LineError>
         Rose (S.state source.old).ends (S.state source.new).ends × RanOut (S.state source.old).left (S.state source.new).left 1 }
     ensures failed { IsErrOf result LineError.Fault → Rose (S.state source.old).read_faults (S.state source.new).read_faults }
     ensures within { IsErrOf result LineError.Fault → ConsumesAtMost (S.state source.old).left (S.state source.new).left 1 }
-    ensures memory { IsErrOf result LineError.OutOfMemory → ConsumesAtMost (S.state source.old).left (S.state source.new).left 1 }
+    ensures no_memory { IsErrOf result LineError.OutOfMemory → ⊥ }
     ensures on { ReadsOn (S.state source.old) (S.state source.new) }
 {
     match source.read_u8_sync() {

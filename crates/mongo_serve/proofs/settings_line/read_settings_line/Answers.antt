@@ -28,10 +28,7 @@ returns-in_err-byte-clause-within g c = λ is.
     (c.in_err-byte.ensures.within (same_error c.from_residual.result c.in_err-byte.field-0.0 Fault c.from_residual.ensures.1 is))
 
 pub returns-in_err-byte-clause-memory : goal.returns-in_err-byte-clause-memory
-returns-in_err-byte-clause-memory g c = λ is.
-    let state = g.S.Outside.state in
-    stops_within (state c.args.source.now) (state c.reading.source) (state c.next_byte.new.source) c.reading.line.items c.reading.invariant (omega (arith, c.reading-test.true, c.len.ensures))
-    (c.in_err-byte.ensures.memory (same_error c.from_residual.result c.in_err-byte.field-0.0 OutOfMemory c.from_residual.ensures.1 is))
+returns-in_err-byte-clause-memory g c = λ is. absurd (c.in_err-byte.ensures.no_memory (same_error c.from_residual.result c.in_err-byte.field-0.0 OutOfMemory c.from_residual.ensures.1 is))
 
 pub returns-in_err-byte-clause-on : goal.returns-in_err-byte-clause-on
 returns-in_err-byte-clause-on g c = reads_on _ _ _ c.reading.invariant.on c.in_err-byte.ensures.on

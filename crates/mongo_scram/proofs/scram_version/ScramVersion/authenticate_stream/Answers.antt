@@ -29,7 +29,7 @@ returns-in_err-user-clause-login g c =
 pub returns-in_err-user-clause-buffer : goal.returns-in_err-user-clause-buffer
 returns-in_err-user-clause-buffer g c = no_answer_on c.from_residual.result c.in_err-user.field-0.0 _ c.from_residual.ensures.1
 
--- ---- where the first round is refused
+-- ---- where the first exchange is refused
 
 pub returns-in_err-opened-clause-login : goal.returns-in_err-opened-clause-login
 returns-in_err-opened-clause-login g c =
@@ -83,7 +83,7 @@ returns-in_err-client_final-clause-login g c =
 pub returns-in_err-client_final-clause-buffer : goal.returns-in_err-client_final-clause-buffer
 returns-in_err-client_final-clause-buffer g c = no_answer_on c.from_residual-in_err-client_final.result c.in_err-client_final.field-0.0 _ c.from_residual-in_err-client_final.ensures.1
 
--- ---- where the last round is refused
+-- ---- where the last exchange is refused
 
 pub returns-in_err-close-clause-login : goal.returns-in_err-close-clause-login
 returns-in_err-close-clause-login g c =
@@ -118,7 +118,7 @@ returns-in_err-close-clause-login g c =
 pub returns-in_err-close-clause-buffer : goal.returns-in_err-close-clause-buffer
 returns-in_err-close-clause-buffer g c = no_answer_on c.from_residual-in_err-close.result c.in_err-close.field-0.0 _ c.from_residual-in_err-close.ensures.1
 
--- ---- after the last round
+-- ---- after the last exchange
 
 pub returns-clause-login : goal.returns-clause-login
 returns-clause-login g c =
