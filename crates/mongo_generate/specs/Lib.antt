@@ -1,4 +1,5 @@
 pub mod Options
+pub mod Scram
 pub mod Login
 pub mod Replies
 pub mod Acceptance

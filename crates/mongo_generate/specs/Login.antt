@@ -1,5 +1,5 @@
 -- Who logs in.
-use Rattle.std.specs.Prelude.{◌≡◌, ℕ, ◌+◌, ◌^◌, ◌≤◌, ◌⊎◌, None, Some, List, length, Bool, true, false, Option}
+use Rattle.std.specs.Prelude.{◌≡◌, ℕ, ◌+◌, ◌^◌, ◌≤◌, ◌⊎◌, None, Some, List, length}
 use Rattle.mongo_wire.specs.declared.error.ErrorKind.{ErrorKind}
 use Rattle.mongo_sasl.specs.declared.credential.Credential.{Credential}
 use Rattle.mongo_scram.specs.declared.cache.SaltedKey.{SaltedKey}
@@ -17,8 +17,6 @@ use Rattle.mongo_server.specs.ClientMessages.{IsNonce}
 use Rattle.mongo_server.specs.Exchange.{Exchange, open_of}
 use Rattle.mongo_generate.specs.declared.user_login.UserLogin.{UserLogin}
 use Rattle.mongo_generate.specs.Options.{most_iterations}
-use Rattle.mongo_sasl.specs.declared.mechanism.AuthMechanism.{AuthMechanism}
-use Rattle.mongo_sasl.specs.declared.mechanism.AuthMechanism.TheVariants.{ScramSha1, ScramSha256}
 
 -- the credential of a user of the database `admin` whose mechanism is given
 abbrev pub credential_by : ScramVersion → List ℕ → List ℕ → Credential
@@ -58,9 +56,3 @@ pub record KeepsEntries (old new : Ledgers) : Type 0 where
   pub rounds : ℕ
   pub counts : Counts rounds old new
   pub entries : SameEntries old new ⊎ ((key : SaltedKey) × Adds (entries_of old.cache) (entries_of new.cache) (key, salted_of key))
-
--- the mechanism is one of SCRAM's
-abbrev pub is_scram : Option AuthMechanism → Bool
-is_scram (Some ScramSha1) = true
-is_scram (Some ScramSha256) = true
-is_scram mechanism = false

@@ -1,6 +1,6 @@
 ghost use Rattle.std.specs.Prelude.{◌≡◌, Some, IsTrue};
 ghost use Rattle.mongo_scram.specs.Commands.{mechanism_of};
-ghost use Rattle.mongo_generate.specs.Login.{is_scram};
+ghost use Rattle.mongo_generate.specs.Scram.{is_scram};
 
 use mongo_bson::Text;
 use mongo_establish::{
