@@ -33,7 +33,9 @@ pub use generation::{ConnectionGeneration, Generations, PoolGeneration};
 pub use handshaker::Handshaker;
 pub use login_state::{LoginInputs, LoginState, Nonces};
 pub use memory::want_of_memory;
-pub use mongo_bson::{BsonFault, Bytes, Items, ObjectId, RawDocumentBuf, Text, Texts};
+pub use mongo_bson::{
+    BsonFault, Bytes, Items, ObjectId, RawDocument, RawDocumentBuf, RawValue, Text, Texts,
+};
 pub use mongo_command::{
     Command, Connection, DEFAULT_PORT, HelloCommandResponse, HelloReply, LastWrite, MemberTag,
     RawCommandResponse, ServerAddress, ServerApi, ServerApiVersion, ServerType, StreamDescription,
@@ -48,7 +50,7 @@ pub use mongo_sasl::{AuthMechanism, AuthOptions, Credential, Moment};
 pub use mongo_scram::{SaltedCache, ScramVersion};
 pub use mongo_wire::{
     ArgumentFault, AuthFault, CommandError, Error, ErrorKind, Failed, FailingLink, FrameBuffer,
-    IndexedWriteError, InsertManyError, Link, MemoryLink, RequestIds, ResponseFault, Sink,
+    IndexedWriteError, InsertManyError, Link, MemoryLink, Outside, RequestIds, ResponseFault, Sink,
     SinkError, Source, StdLink, StdSink, StdSource, WriteConcernError, WriteError, WriteErrors,
     WriteFailure, WriteFailureCause,
 };

@@ -1,4 +1,4 @@
-ghost use Rattle.std.specs.Prelude.{◌≡◌, ◌+◌, ◌-◌, ◌^◌, ◌<◌, ◌≤◌, ◌++◌, ℕ, List, Some, IfOk, OnOk};
+ghost use Rattle.std.specs.Prelude.{◌≡◌, ◌+◌, ◌-◌, ◌^◌, ◌<◌, ◌≤◌, ◌++◌, ℕ, List, Some, IsSome, IfOk, OnOk};
 ghost use Rattle.sha2.specs.Hashers.{Holds256};
 ghost use Rattle.mongo_scram.specs.Costs.{ledgers};
 ghost use Rattle.mongo_establish.specs.KeyCosts.{TakesKey};
@@ -62,14 +62,16 @@ pub fn generate<G: Ledger>(
 // Counts a login that both sides accepted, and takes its last messages into the digest.
 fn tally(met: Option<Acceptance>, accepted: &mut u32, hasher: &mut Sha256)
     requires few { accepted.old < 2 ^ 32 - 1 }
+    requires met { IsSome met }
     ensures counted { (x : Exchange) → met ≡ Some (acceptance_of x) → accepted.new ≡ accepted.old + 1 }
     ensures digested { (x : Exchange) (before : List ℕ) → met ≡ Some (acceptance_of x) → Holds256 hasher.old before → Holds256 hasher.new (before ++ last_messages x) }
 {
-    if let Some(acceptance) = met {
-        *accepted += 1;
-        hasher.update(acceptance.client_final.as_bytes());
-        hasher.update(acceptance.server_final.as_bytes());
-    }
+    let Some(acceptance) = met else {
+        unreachable!()
+    };
+    *accepted += 1;
+    hasher.update(acceptance.client_final.as_bytes());
+    hasher.update(acceptance.server_final.as_bytes());
 }
 
 // The login of this number, against the server that knows its user.

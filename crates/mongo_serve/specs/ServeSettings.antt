@@ -118,13 +118,13 @@ serve_settings_in d = do
   Some (record { accounts = accounts; suffix = suffix })
 
 -- the value of a text of JSON, which is UTF-8
-abbrev pub json_of : List ℕ → Option Data
-json_of text = if is_utf8 text then read text else None
+abbrev pub json_in : List ℕ → Option Data
+json_in text = if is_utf8 text then read text else None
 
 -- The settings that a text says.
 unfoldable pub settings_said : List ℕ → Option SaidSettings
 settings_said text = do
-  d ← json_of text
+  d ← json_in text
   serve_settings_in d
 
 -- ---- what a reader answers

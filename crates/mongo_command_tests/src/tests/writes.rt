@@ -31,7 +31,7 @@ fn count(alloc: Global, reply: &RawCommandResponse) -> Result<String, Fail> {
     printed(alloc, reply.extract_n())
 }
 
-fn command_document(alloc: Global, reply: &RawCommandResponse) -> Result<String, Fail> {
+fn succeeded(alloc: Global, reply: &RawCommandResponse) -> Result<String, Fail> {
     printed(alloc, command_body(alloc, reply))
 }
 
@@ -49,7 +49,7 @@ fn answer(alloc: Global, call: Call, reply: &RawCommandResponse) -> Result<Strin
         Call::SingleWrite => single_write(alloc, reply),
         Call::InsertMany => printed(alloc, insert_many(alloc, reply)),
         Call::Count => count(alloc, reply),
-        Call::CommandBody => command_document(alloc, reply),
+        Call::CommandBody => succeeded(alloc, reply),
         Call::Body => body(alloc, reply),
         Call::AuthBody => auth_body(alloc, reply),
     }

@@ -123,7 +123,7 @@ struct Taken {
     of: Option<RuntimeEnvironment>,
 }
 
-fn copy_of(alloc: Global, taken: &Taken) -> Result<Option<RuntimeEnvironment>, BsonFault> {
+fn taken_again(alloc: Global, taken: &Taken) -> Result<Option<RuntimeEnvironment>, BsonFault> {
     match &taken.of {
         Some(taken) => Ok(Some(taken.try_clone(alloc)?)),
         None => Ok(None),
@@ -134,7 +134,7 @@ fn copy_of(alloc: Global, taken: &Taken) -> Result<Option<RuntimeEnvironment>, B
 fn take_from(alloc: Global, row: &str) -> Result<Taken, Error> {
     let environment = environment(alloc, row)?;
     let of = RuntimeEnvironment::from_environment(alloc, &environment)?;
-    let of = copy_of(alloc, &Taken { of })?;
+    let of = taken_again(alloc, &Taken { of })?;
     Ok(Taken { of })
 }
 

@@ -12,7 +12,7 @@
 ghost use Rattle.std.specs.Prelude.{◌≡◌, ◌≤◌, [], ◌∷◌, ◌++◌, map, IfSome, IfOk, IfErr, OnOk, IsTrue};
 ghost use Rattle.serde_json.specs.View.{view, items_view};
 ghost use Rattle.mongo_server.specs.ClientMessages.{IsNonce};
-ghost use Rattle.mongo_serve.specs.ServeSettings.{text_under, items_in, count_in, scram_version_in, salt_in, is_suffix, suffix_in, json_of, as_said, account_in, accounts_of_user, accounts_of, settings_as_said, settings_said, HaveAtEnd, AnswersSaid, SaysNothing};
+ghost use Rattle.mongo_serve.specs.ServeSettings.{text_under, items_in, count_in, scram_version_in, salt_in, is_suffix, suffix_in, json_in, as_said, account_in, accounts_of_user, accounts_of, settings_as_said, settings_said, HaveAtEnd, AnswersSaid, SaysNothing};
 ghost use Rattle.mongo_serve.specs.declared.serve_settings.reading.ServeSettingsError.TheVariants.{OutOfMemory};
 
 use super::{Account, ServeSettings};
@@ -62,7 +62,7 @@ impl<T: Drop> From<AllocFailed<T>> for ServeSettingsError {
 pub fn serve_settings_of(alloc: Global, text: &[u8]) -> Result<ServeSettings, ServeSettingsError>
     ensures { AnswersSaid settings_as_said result (settings_said text.now) }
 {
-    let value = json_of(alloc, text)?;
+    let value = json_in(alloc, text)?;
     let suffix = suffix_in(&value)?;
     let users = items_in(&value, "users")?;
     let accounts = accounts_of(alloc, users)?;
@@ -168,8 +168,8 @@ fn text_copy(alloc: Global, text: &str) -> Result<Text, ServeSettingsError>
     Ok(Text::from_string(copy))
 }
 
-fn json_of(alloc: Global, text: &[u8]) -> Result<Value, ServeSettingsError>
-    ensures { AnswersSaid view result (json_of text.now) }
+fn json_in(alloc: Global, text: &[u8]) -> Result<Value, ServeSettingsError>
+    ensures { AnswersSaid view result (json_in text.now) }
 {
     match Value::from_slice(alloc, text) {
         Ok(value) => Ok(value),

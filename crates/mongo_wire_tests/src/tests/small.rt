@@ -110,14 +110,14 @@ const COMMAND_DOCUMENT: [u8; 29] = [
     0x30, 0, 5, 0, 0, 0, 0, 0, 0,
 ];
 
-fn command_document(alloc: Global) -> Result<RawDocumentBuf, Fail> {
+fn joined_document(alloc: Global) -> Result<RawDocumentBuf, Fail> {
     let message = message_with_sequence(alloc)?;
     given(message.get_raw_command_document(alloc))
 }
 
 #[test]
 fn a_sequence_is_an_array_of_the_command_document(rt: HostRuntime) -> Result<(), Fail> {
-    let document = command_document(rt.alloc())?;
+    let document = joined_document(rt.alloc())?;
     assert!(rt; document.as_bytes() == COMMAND_DOCUMENT.as_slice());
     Ok(())
 }

@@ -2,10 +2,10 @@ use Rattle.std.proofs.Common.{◌≡◌, ℕ, Bool, true, false, None, List, ref
 use Rattle.std.specs.Str.{IsUtf8, is_utf8}
 use Rattle.std.proofs.lemmas.Str.{is_utf8-from_IsUtf8, IsUtf8-from_is_utf8}
 use Rattle.serde_json.specs.Read.{read}
-use Rattle.mongo_serve.specs.ServeSettings.{json_of}
-use Rattle.mongo_serve.proofs.serve_settings.reading.json_of.Goals as goal
+use Rattle.mongo_serve.specs.ServeSettings.{json_in}
+use Rattle.mongo_serve.proofs.serve_settings.reading.json_in.Goals as goal
 
-unread : (text : List ℕ) (test : Bool) → is_utf8 text ≡ test → (IsUtf8 text → read text ≡ None) → json_of text ≡ None
+unread : (text : List ℕ) (test : Bool) → is_utf8 text ≡ test → (IsUtf8 text → read text ≡ None) → json_in text ≡ None
 unread text true is none = rw is (none (IsUtf8-from_is_utf8 text is))
 unread text false is none = rw is refl
 
