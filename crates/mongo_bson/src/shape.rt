@@ -172,7 +172,7 @@ fn is_string(counted: &[u8]) -> bool
 {
     match counted {
         [_, _, _, _, text @ .., last] => *last == 0 && str::from_utf8(text).is_ok(),
-        _ => false,
+        _ => unreachable!(),
     }
 }
 
@@ -183,7 +183,7 @@ fn is_document(counted: &[u8]) -> bool
 {
     match counted {
         [.., last] => *last == 0,
-        _ => false,
+        _ => unreachable!(),
     }
 }
 
@@ -194,7 +194,7 @@ fn is_code_with_scope(counted: &[u8]) -> bool
 {
     match counted {
         [_, _, _, _, parts @ ..] => is_code_and_scope(parts),
-        _ => false,
+        _ => unreachable!(),
     }
 }
 
