@@ -4,7 +4,7 @@ use Rattle.std.specs.List.{AllByRecursion, flat_map}
 use Rattle.std.proofs.lemmas.List.{append_assoc, append-nil}
 use Rattle.mongo_bson.specs.Document.{Element, IsElement, spell}
 use Rattle.mongo_bson.specs.Reading.{BeginsWithElement}
-use Rattle.mongo_bson.specs.Steps.{HasNoElement}
+use Rattle.mongo_bson.specs.Steps.{IsBroken}
 use Rattle.mongo_bson.specs.Keys.{keys_of}
 use Rattle.mongo_bson.specs.Find.{IsFirstOf, LacksKey, BreaksOff, FindsValue, FindsBytes, BeginsWithKey}
 use Rattle.mongo_bson.specs.Checks.{IsModifier, BeginsWithModifier, BeginsWithField, IsUpdate, IsReplacement}
@@ -25,7 +25,7 @@ GoesOn bytes key before rest = (bytes ≡ flat_map spell before ++ rest) × AllB
 begins_first : (e : Element) (es : List Element) (bytes rest : List ℕ) → IsElement e → bytes ≡ flat_map spell (e ∷ es) ++ rest → BeginsWithElement bytes e (flat_map spell es ++ rest)
 begins_first e es bytes rest is same = record { is_element = is; spelled = same ∙ append_assoc (spell e) (flat_map spell es) rest }
 
-pub no_first : (bytes rest : List ℕ) (e : Element) → HasNoElement bytes → BeginsWithElement bytes e rest → ⊥
+pub no_first : (bytes rest : List ℕ) (e : Element) → IsBroken bytes → BeginsWithElement bytes e rest → ⊥
 no_first bytes rest e none begins = none.none e rest begins.is_element begins.spelled
 
 one_first : (bytes x y : List ℕ) (e f : Element) → BeginsWithElement bytes e x → BeginsWithElement bytes f y → (e ≡ f) × (x ≡ y)
@@ -33,7 +33,7 @@ one_first bytes x y e f p q = one_element e f x y p.is_element q.is_element (sym
 
 -- both walks pass over the same elements, as long as both go on
 abbrev Outcome : List ℕ → List ℕ → Type 0
-Outcome key rest = (rest ≡ []) ⊎ (HasNoElement rest ⊎ ((e : Element) × (after : List ℕ) × BeginsWithElement rest e after × (e.key ≡ key)))
+Outcome key rest = (rest ≡ []) ⊎ (IsBroken rest ⊎ ((e : Element) × (after : List ℕ) × BeginsWithElement rest e after × (e.key ≡ key)))
 
 nothing_begins : (rest after : List ℕ) (e : Element) → rest ≡ [] → BeginsWithElement rest e after → ⊥
 nothing_begins rest after e none begins = let over : spell e ++ after ≡ [] = sym begins.spelled ∙ none in cc
@@ -82,7 +82,7 @@ none_or_broken bytes key none broken = broken.broken.left (same_end bytes key (b
 
 pub found_or_broken : (bytes key : List ℕ) (e : Element) → IsFirstOf bytes key e → BreaksOff bytes key → ⊥
 found_or_broken bytes key e found broken =
-    no_first found.rest found.after e (subst HasNoElement (same_end bytes key (broken_ends bytes key broken) (found_ends bytes key e found)) broken.broken) found.begins
+    no_first found.rest found.after e (subst IsBroken (same_end bytes key (broken_ends bytes key broken) (found_ends bytes key e found)) broken.broken) found.begins
 
 pub found_or_none : (bytes key : List ℕ) (e : Element) → IsFirstOf bytes key e → LacksKey bytes key → ⊥
 found_or_none bytes key e found none =

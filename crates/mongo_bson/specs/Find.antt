@@ -6,7 +6,7 @@ use Rattle.mongo_bson.specs.Document.{Element, IsElement, spell}
 use Rattle.mongo_bson.specs.Value.{IsValue}
 use Rattle.mongo_bson.specs.Reading.{BeginsWithElement}
 use Rattle.mongo_bson.specs.Keys.{Fill}
-use Rattle.mongo_bson.specs.Steps.{HasNoElement}
+use Rattle.mongo_bson.specs.Steps.{IsBroken}
 use Rattle.mongo_bson.specs.declared.raw_value.RawValue.{RawValue}
 
 -- elements of other keys stand before the rest
@@ -34,7 +34,7 @@ pub record LacksKey (bytes key : List ℕ) : Type 0 where
 pub record BreaksOff (bytes key : List ℕ) : Type 0 where
   pub rest : List ℕ
   pub passed : PassesOver bytes key rest
-  pub broken : HasNoElement rest
+  pub broken : IsBroken rest
 
 -- what the first element of a key is, or that there is none
 abbrev pub FindsValue : List ℕ → List ℕ → Option RawValue → Type 0

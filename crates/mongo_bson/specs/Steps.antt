@@ -2,6 +2,7 @@
 use Rattle.std.specs.Prelude.{◌≡◌, ◌≢◌, Option, None, Some, Result, Ok, Err, List, [], ◌++◌, ℕ}
 use Rattle.std.specs.Borrow.{Bor}
 use Rattle.mongo_bson.specs.Document.{Element, IsElement, spell}
+use Rattle.mongo_bson.specs.Reading.{NoElementAtFront}
 use Rattle.mongo_bson.specs.Value.{IsValue}
 use Rattle.mongo_bson.specs.declared.raw_value.RawValue.{RawValue}
 use Rattle.mongo_bson.specs.declared.iter.Iter.{Iter}
@@ -17,13 +18,13 @@ pub record TakesElement (old : List ℕ) (key : List ℕ) (value : RawValue) (ne
   pub rest : old ≡ spell element ++ new
 
 -- something is left, and no element stands at its front
-pub record HasNoElement (bytes : List ℕ) : Type 0 where
+pub record IsBroken (bytes : List ℕ) : Type 0 where
   pub left : bytes ≢ []
-  pub none : (element : Element) (more : List ℕ) → IsElement element → bytes ≡ spell element ++ more → ⊥
+  pub none : NoElementAtFront bytes
 
 -- one step: the end, an element, or the fault that ends the iteration
 abbrev pub NextElement : Iter → Option (Result (Bor (List ℕ) × RawValue) BsonFault) → Iter → Type 0
 NextElement s None t = (s.rest.now ≡ []) × (t.rest.now ≡ [])
 NextElement s (Some (Ok p)) t = TakesElement s.rest.now p.0.now p.1 t.rest.now
-NextElement s (Some (Err Malformed)) t = HasNoElement s.rest.now × (t.rest.now ≡ [])
+NextElement s (Some (Err Malformed)) t = IsBroken s.rest.now × (t.rest.now ≡ [])
 NextElement s (Some (Err other)) t = ⊥

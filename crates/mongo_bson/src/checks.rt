@@ -1,6 +1,6 @@
 ghost use Rattle.std.specs.Prelude.{◌≡◌, ◌↔◌, IsTrue, IsErr, IfOk, IfErr};
 ghost use Rattle.mongo_bson.specs.Framed.{body_of};
-ghost use Rattle.mongo_bson.specs.Steps.{HasNoElement};
+ghost use Rattle.mongo_bson.specs.Steps.{IsBroken};
 ghost use Rattle.mongo_bson.specs.Find.{FirstKey};
 ghost use Rattle.mongo_bson.specs.Checks.{IsModifier, IsUpdate, IsReplacement};
 
@@ -13,8 +13,8 @@ use crate::{BsonFault, RawDocument};
 /// `Malformed` where it isn't empty and no element stands first.
 pub fn first_key<'a>(document: RawDocument<'a>) -> Result<Option<&'a str>, BsonFault>
     ensures first { IfOk result (FirstKey (body_of document.entry.bytes.now)) }
-    ensures malformed { IfErr result (λ fault. (fault ≡ BsonFault.Malformed) × HasNoElement (body_of document.entry.bytes.now)) }
-    ensures no_element { IsErr result ↔ HasNoElement (body_of document.entry.bytes.now) }
+    ensures malformed { IfErr result (λ fault. (fault ≡ BsonFault.Malformed) × IsBroken (body_of document.entry.bytes.now)) }
+    ensures no_element { IsErr result ↔ IsBroken (body_of document.entry.bytes.now) }
 {
     let elements = body(document.bytes);
     if elements.is_empty() {

@@ -3,7 +3,7 @@ use Rattle.std.proofs.Common.{◌≡◌, ℕ, Result, Ok, Err, List, [], ◌∷�
 use Rattle.std.specs.Result.{IsErrAnd}
 use Rattle.mongo_bson.specs.Document.{Element, IsWellFormed}
 use Rattle.mongo_bson.specs.Framed.{IsFramed, body_of}
-use Rattle.mongo_bson.specs.Steps.{TakesElement, HasNoElement}
+use Rattle.mongo_bson.specs.Steps.{TakesElement, IsBroken}
 use Rattle.mongo_bson.specs.declared.raw_value.RawValue.{RawValue}
 use Rattle.mongo_bson.proofs.OneElement.{one_document}
 use Rattle.mongo_wire.specs.declared.write_error.IndexedWriteError.{IndexedWriteError}
@@ -64,7 +64,7 @@ all_errors document rest errors framed so_far over =
     record { items = so_far.elements; filled = passes_all document rest so_far.elements framed so_far.passes over; each = so_far.each }
 
 -- none fill a document of which an element can't be read
-pub errors_broken_off : (document rest : List ℕ) (read : List IndexedWriteError) → ReadsEachSoFar ReadsWriteError (body_of document) rest read → HasNoElement rest → (errors : List IndexedWriteError) → HoldsWriteErrors document errors → ⊥
+pub errors_broken_off : (document rest : List ℕ) (read : List IndexedWriteError) → ReadsEachSoFar ReadsWriteError (body_of document) rest read → IsBroken rest → (errors : List IndexedWriteError) → HoldsWriteErrors document errors → ⊥
 errors_broken_off document rest read so_far none errors holds = no_element document rest so_far.elements so_far.passes none holds.items holds.filled
 
 -- nor one of which an element is no write error

@@ -4,7 +4,7 @@ use Rattle.std.specs.List.{flat_map}
 use Rattle.mongo_bson.specs.Framed.{body_of}
 use Rattle.mongo_bson.specs.Document.{Element, IsDocument, spell}
 use Rattle.mongo_bson.specs.Keys.{Fill}
-use Rattle.mongo_bson.specs.Steps.{TakesElement, HasNoElement}
+use Rattle.mongo_bson.specs.Steps.{TakesElement, IsBroken}
 use Rattle.mongo_bson.specs.declared.raw_value.RawValue.{RawValue}
 use Rattle.mongo_bson.proofs.Filled.{fill_rest, no_fill}
 use Rattle.mongo_sasl.specs.Validation.{is_oidc_property, has_foreign_property}
@@ -52,5 +52,5 @@ pub left_none : (rest : List ℕ) (all : List Element) → rest ≡ [] → IsLef
 left_none rest all over left = left.same ∙ none_more rest left.more over left.fill
 
 -- elements that are left don't break off
-pub left_unbroken : (rest : List ℕ) (all : List Element) → HasNoElement rest → IsLeft rest all → ⊥
+pub left_unbroken : (rest : List ℕ) (all : List Element) → IsBroken rest → IsLeft rest all → ⊥
 left_unbroken rest all broken left = no_fill rest left.more broken.none broken.left left.fill
