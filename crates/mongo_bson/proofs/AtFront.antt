@@ -1,14 +1,10 @@
 -- What the parts of an element at the front say of the element.
-use Rattle.std.proofs.Common.{◌≡◌, ℕ, List, [], ◌∷◌, ◌++◌, length, take, drop, sym, ap, ◌∙◌, subst, arith}
+use Rattle.std.proofs.Common.{◌≡◌, ℕ, List, ◌∷◌, ◌++◌, take, drop, sym, ap, ◌∙◌, subst}
 use Rattle.std.proofs.lemmas.List.{append_assoc, take-append-drop}
 use Rattle.mongo_bson.specs.Document.{spell}
 use Rattle.mongo_bson.specs.Reading.{IsAtFront, NoneAtFront, HoldsKind, BeginsWithCstring, HasNoCstring, BeginsWithElement, NoElementAtFront}
 use Rattle.mongo_bson.proofs.Cstrings.{one_cstring}
 use Rattle.mongo_bson.proofs.OneElement.{made_of}
-
-pub nothing_no_element : (bytes : List ℕ) → length bytes ≡ 0 → NoElementAtFront bytes
-nothing_no_element [] none e rest is same = cc
-nothing_no_element (b ∷ bytes) none e rest is same = absurd (omega arith)
 
 head_of : (k l : ℕ) (xs ys : List ℕ) → k ∷ xs ≡ l ∷ ys → k ≡ l
 head_of k l xs ys e = cc

@@ -14,7 +14,6 @@ pub mod Searched
 pub mod IdFirst
 pub mod ReadBack
 pub mod Found
-pub mod Numbers
 pub mod OneAnswer
 pub mod Splits
 pub mod Written

@@ -1,21 +1,17 @@
 -- Of the things that a reader may say of bytes, at most one is so.
-use Rattle.std.proofs.Common.{◌≡◌, ◌≢◌, ◌⊎◌, inl, inr, ℕ, List, [], ◌∷◌, ◌++◌, Option, None, Some, Result, Ok, Err, IfErr, refl, sym, ap, ◌∙◌, subst}
+use Rattle.std.proofs.Common.{◌≡◌, ◌≢◌, ◌⊎◌, inl, inr, ℕ, List, [], ◌∷◌, ◌++◌, Result, Ok, Err, IfErr, refl, sym, ap, ◌∙◌, subst}
 use Rattle.std.specs.List.{AllByRecursion, flat_map}
 use Rattle.std.proofs.lemmas.List.{append_assoc, append-nil}
 use Rattle.mongo_bson.specs.Document.{Element, IsElement, spell}
 use Rattle.mongo_bson.specs.Reading.{BeginsWithElement}
 use Rattle.mongo_bson.specs.Steps.{IsBroken}
 use Rattle.mongo_bson.specs.Keys.{keys_of}
-use Rattle.mongo_bson.specs.Find.{IsFirstOf, LacksKey, BreaksOff, FindsValue, FindsBytes, BeginsWithKey}
-use Rattle.mongo_bson.specs.Checks.{IsModifier, BeginsWithModifier, BeginsWithField, IsUpdate, IsReplacement}
+use Rattle.mongo_bson.specs.Find.{IsFirstOf, LacksKey, BreaksOff, BeginsWithKey}
 use Rattle.std.specs.Prelude.{IsErrOf}
-use Rattle.std.specs.Borrow.{Bor}
-use Rattle.mongo_bson.specs.Value.{IsValue}
 use Rattle.mongo_bson.specs.Refusals.{PushRefuses, HadMemory}
 use Rattle.mongo_bson.specs.Merge.{HaveCommon, ShareKey, ShareNoKey}
-use Rattle.mongo_bson.specs.declared.raw_value.RawValue.{RawValue}
 use Rattle.mongo_bson.specs.declared.fault.BsonFault.{BsonFault}
-use Rattle.mongo_bson.specs.declared.fault.BsonFault.TheVariants.{Malformed, DuplicateKey, UpdateEmpty, UpdateNotModifiers, ReplacementHasModifiers}
+use Rattle.mongo_bson.specs.declared.fault.BsonFault.TheVariants.{DuplicateKey}
 use Rattle.mongo_bson.proofs.OneElement.{one_element, one_list}
 
 -- bytes that begin with elements of other keys than this one, and go on as the rest
@@ -94,24 +90,6 @@ one_found bytes key e f p q =
     let same = same_end bytes key (found_ends bytes key e p) (found_ends bytes key f q) in
     (one_first q.rest p.after q.after e f (subst (λ r. BeginsWithElement r e p.after) same p.begins) q.begins).0
 
--- what the search finds excludes that the elements break off
-pub value_or_broken : (bytes key : List ℕ) (found : Option RawValue) → FindsValue bytes key found → BreaksOff bytes key → ⊥
-value_or_broken bytes key None finds broken = none_or_broken bytes key finds broken
-value_or_broken bytes key (Some value) (e, first, is) broken = found_or_broken bytes key e first broken
-
--- and it finds one thing
-pub one_value_found : (bytes key : List ℕ) (v w : RawValue) → FindsValue bytes key (Some v) → FindsValue bytes key (Some w) → (e : Element) × IsValue e.kind e.value v × IsValue e.kind e.value w
-one_value_found bytes key v w (e, first, is) (f, other, is_other) =
-    (e, is, subst (λ x. IsValue x.kind x.value w) (sym (one_found bytes key e f first other)) is_other)
-
-pub value_or_none : (bytes key : List ℕ) (v : RawValue) → FindsValue bytes key (Some v) → FindsValue bytes key None → ⊥
-value_or_none bytes key v (e, first, is) none = found_or_none bytes key e first none
-
-pub one_bytes_found : (bytes key : List ℕ) (v w : ℕ × Bor (List ℕ)) → FindsBytes bytes key (Some v) → FindsBytes bytes key (Some w) → (v.0 ≡ w.0) × (v.1.now ≡ w.1.now)
-one_bytes_found bytes key v w p q =
-    let same = one_found bytes key (record { kind = v.0; key = key; value = v.1.now }) (record { kind = w.0; key = key; value = w.1.now }) p q in
-    (ap (λ e. e.kind) same, ap (λ e. e.value) same)
-
 -- a key stands in both documents or in none
 pub shared_or_not : (this other : List ℕ) → ShareKey this other → ShareNoKey this other → ⊥
 shared_or_not this other share none =
@@ -128,59 +106,3 @@ no_duplicate this other (Err fault) none refused = (λ same. cc, λ said. absurd
 -- the first key is one
 pub one_key : (bytes key other : List ℕ) → BeginsWithKey bytes key → BeginsWithKey bytes other → key ≡ other
 one_key bytes key other (e, x, p, same) (f, y, q, same_other) = sym same ∙ ap (λ z. z.key) (one_first bytes x y e f p q).0 ∙ same_other
-
-modifier_or_field : (bytes : List ℕ) → BeginsWithModifier bytes → BeginsWithField bytes → ⊥
-modifier_or_field bytes (key, begins, modifier) (other, starts, none) = none (subst IsModifier (one_key bytes key other begins starts) modifier)
-
-pub key_or_nothing : (bytes key : List ℕ) → BeginsWithKey bytes key → bytes ≡ [] → ⊥
-key_or_nothing bytes key (e, rest, begins, same) none = nothing_begins bytes rest e none begins
-
-pub key_or_broken : (bytes key : List ℕ) → BeginsWithKey bytes key → HasNoElement bytes → ⊥
-key_or_broken bytes key (e, rest, begins, same) none = no_first bytes rest e none begins
-
--- so a check has one answer
-pub one_update : (bytes : List ℕ) (r s : Result (Unit {0}) BsonFault) → IsUpdate bytes r → IsUpdate bytes s → r ≡ s
-one_update bytes (Ok _) (Ok _) p q = refl
-one_update bytes (Ok _) (Err UpdateEmpty) (key, begins, is) q = absurd (key_or_nothing bytes key begins q)
-one_update bytes (Ok _) (Err UpdateNotModifiers) p q = absurd (modifier_or_field bytes p q)
-one_update bytes (Ok _) (Err Malformed) (key, begins, is) q = absurd (key_or_broken bytes key begins q)
-one_update bytes (Ok _) (Err other) p q = absurd q
-one_update bytes (Err UpdateEmpty) (Ok _) p (key, begins, is) = absurd (key_or_nothing bytes key begins p)
-one_update bytes (Err UpdateEmpty) (Err UpdateEmpty) p q = refl
-one_update bytes (Err UpdateEmpty) (Err UpdateNotModifiers) p (key, begins, is) = absurd (key_or_nothing bytes key begins p)
-one_update bytes (Err UpdateEmpty) (Err Malformed) p q = absurd (q.left p)
-one_update bytes (Err UpdateEmpty) (Err other) p q = absurd q
-one_update bytes (Err UpdateNotModifiers) (Ok _) p q = absurd (modifier_or_field bytes q p)
-one_update bytes (Err UpdateNotModifiers) (Err UpdateEmpty) (key, begins, is) q = absurd (key_or_nothing bytes key begins q)
-one_update bytes (Err UpdateNotModifiers) (Err UpdateNotModifiers) p q = refl
-one_update bytes (Err UpdateNotModifiers) (Err Malformed) (key, begins, is) q = absurd (key_or_broken bytes key begins q)
-one_update bytes (Err UpdateNotModifiers) (Err other) p q = absurd q
-one_update bytes (Err Malformed) (Ok _) p (key, begins, is) = absurd (key_or_broken bytes key begins p)
-one_update bytes (Err Malformed) (Err UpdateEmpty) p q = absurd (p.left q)
-one_update bytes (Err Malformed) (Err UpdateNotModifiers) p (key, begins, is) = absurd (key_or_broken bytes key begins p)
-one_update bytes (Err Malformed) (Err Malformed) p q = refl
-one_update bytes (Err Malformed) (Err other) p q = absurd q
-one_update bytes (Err other) s p q = absurd p
-
-may_replace : (bytes : List ℕ) → (bytes ≡ []) ⊎ BeginsWithField bytes → BeginsWithModifier bytes → ⊥
-may_replace bytes (inl none) (key, begins, is) = key_or_nothing bytes key begins none
-may_replace bytes (inr field) modifier = modifier_or_field bytes modifier field
-
-may_be_read : (bytes : List ℕ) → (bytes ≡ []) ⊎ BeginsWithField bytes → HasNoElement bytes → ⊥
-may_be_read bytes (inl none) broken = broken.left none
-may_be_read bytes (inr (key, begins, is)) broken = key_or_broken bytes key begins broken
-
-pub one_replacement : (bytes : List ℕ) (r s : Result (Unit {0}) BsonFault) → IsReplacement bytes r → IsReplacement bytes s → r ≡ s
-one_replacement bytes (Ok _) (Ok _) p q = refl
-one_replacement bytes (Ok _) (Err ReplacementHasModifiers) p q = absurd (may_replace bytes p q)
-one_replacement bytes (Ok _) (Err Malformed) p q = absurd (may_be_read bytes p q)
-one_replacement bytes (Ok _) (Err other) p q = absurd q
-one_replacement bytes (Err ReplacementHasModifiers) (Ok _) p q = absurd (may_replace bytes q p)
-one_replacement bytes (Err ReplacementHasModifiers) (Err ReplacementHasModifiers) p q = refl
-one_replacement bytes (Err ReplacementHasModifiers) (Err Malformed) (key, begins, is) q = absurd (key_or_broken bytes key begins q)
-one_replacement bytes (Err ReplacementHasModifiers) (Err other) p q = absurd q
-one_replacement bytes (Err Malformed) (Ok _) p q = absurd (may_be_read bytes q p)
-one_replacement bytes (Err Malformed) (Err ReplacementHasModifiers) p (key, begins, is) = absurd (key_or_broken bytes key begins p)
-one_replacement bytes (Err Malformed) (Err Malformed) p q = refl
-one_replacement bytes (Err Malformed) (Err other) p q = absurd q
-one_replacement bytes (Err other) s p q = absurd p

@@ -3,11 +3,9 @@ use Rattle.std.proofs.Common.{◌≡◌, ℕ, ◌+◌, ◌-◌, ◌^◌, ◌<◌
 use Rattle.std.specs.Int.{to_le_bytes, from_le_bytes, from_bool, cast_signed, cast_unsigned, w32, w64}
 use Rattle.std.specs.List.{flat_map}
 use Rattle.std.specs.Str.{IsUtf8}
-use Rattle.std.proofs.Math.Facts.{Fits-of_z}
-use Rattle.std.proofs.lemmas.Int.{to_z-of_z}
 use Rattle.std.proofs.lemmas.List.{append_assoc, append-nil, length-append, get_or_at, take_at}
 use Rattle.std.proofs.lemmas.List.Concat.{flat_map-append}
-use Rattle.std.proofs.lemmas.Nat.{from_le_bytes-to_le_bytes_4, from_le_bytes-to_le_bytes_8}
+use Rattle.std.proofs.lemmas.Nat.{from_le_bytes-to_le_bytes_4}
 use Rattle.mongo_bson.specs.Framed.{IsFramed, body_of, enclosed}
 use Rattle.mongo_bson.specs.Document.{Element, fixed, boolean, string, document, binary, Holds, IsCstring, IsString, IsBinary, IsElement, IsDocument, AddsElement, spell, text_of}
 use Rattle.mongo_bson.specs.Reading.{HoldsKind}
@@ -57,32 +55,6 @@ written_holds Null is = (fixed 0, refl, refl)
 written_holds (Int32 number) is = (fixed 4, refl, refl)
 written_holds (Int64 number) is = (fixed 8, refl, refl)
 written_holds (Other kind content) is = is.0
-
--- a signed number, written and read
-signed_64 : (z : ℤ) → FitsSigned w64 z → cast_signed w64 (from_le_bytes w64 (to_le_bytes w64 (cast_unsigned w64 z))) ≡ z
-signed_64 z fits =
-    let small : Fits w64 (cast_unsigned w64 z) = Fits-of_z fits in
-    ap (cast_signed w64) (from_le_bytes-to_le_bytes_8 (cast_unsigned w64 z) (omega (arith, small))) ∙ to_z-of_z w64 z fits
-
-signed_32 : (z : ℤ) → FitsSigned w32 z → cast_signed w32 (from_le_bytes w32 (to_le_bytes w32 (cast_unsigned w32 z))) ≡ z
-signed_32 z fits =
-    let small : Fits w32 (cast_unsigned w32 z) = Fits-of_z fits in
-    ap (cast_signed w32) (from_le_bytes-to_le_bytes_4 (cast_unsigned w32 z) (omega (arith, small))) ∙ to_z-of_z w32 z fits
-
--- and mean that value
-pub written_means : (value : RawValue) → IsWritable value → IsValue (kind_of value) (bytes_of value) value
-written_means (Double bits) is = (refl, sym (from_le_bytes-to_le_bytes_8 bits is))
-written_means (Str text) is = (refl, sym (take_at text.now (0 ∷ []) (length (bytes_of (Str text)) - 5) (omega (arith, length-append text.now (0 ∷ [])))))
-written_means (Document d) is = (refl, refl)
-written_means (Array a) is = (refl, refl)
-written_means (Binary subtype content) is = (refl, refl, refl)
-written_means (ObjectId id) is = (refl, refl)
-written_means (Boolean b) is = (refl, refl)
-written_means (DateTime milliseconds) is = (refl, sym (signed_64 milliseconds is))
-written_means Null is = refl
-written_means (Int32 number) is = (refl, sym (signed_32 number is))
-written_means (Int64 number) is = (refl, sym (signed_64 number is))
-written_means (Other kind content) is = (refl, refl, is.1)
 
 -- so a key and a value are written as an element
 pub written_element : (key : List ℕ) (value : RawValue) → IsCstring key → IsWritable value → IsElement (element_of key value)

@@ -8,9 +8,6 @@ use Rattle.mongo_bson.specs.Reading.{IsAtFront, NoneAtFront, BeginsWithCstring, 
 use Rattle.mongo_bson.proofs.Cstrings.{one_cstring}
 use Rattle.mongo_bson.proofs.OneElement.{one_value, pair_at_front, id_at_front}
 
-pub no_pattern : (bytes : List ℕ) → HasNoCstring bytes → NoneAtFront (Holds regular_expression) bytes
-no_pattern bytes none front rest (a, b, is) e = none a (b ++ 0 ∷ rest) is.pattern_cstring (e ∙ pair_at_front front a b rest is.spelled)
-
 pub no_options : (bytes pattern rest : List ℕ) → BeginsWithCstring bytes pattern rest → HasNoCstring rest → NoneAtFront (Holds regular_expression) bytes
 no_options bytes pattern rest first none front more (a, b, is) e =
     let one = one_cstring pattern a rest (b ++ 0 ∷ more) first.is_cstring.without_zero is.pattern_cstring.without_zero (sym first.spelled ∙ e ∙ pair_at_front front a b more is.spelled) in

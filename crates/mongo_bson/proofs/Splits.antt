@@ -20,9 +20,6 @@ pub record Splits (P Q : List ℕ → Type 0) (bytes : List ℕ) : Type 0 where
 abbrev pub NoneBefore : (List ℕ → Type 0) → (List ℕ → Type 0) → List ℕ → ℕ → Type 0
 NoneBefore P Q bytes place = (n : ℕ) → n < place → P (take n bytes) → Q (drop n bytes) → ⊥
 
-pub none_at_start : (P Q : List ℕ → Type 0) (bytes : List ℕ) → NoneBefore P Q bytes 0
-none_at_start P Q bytes n before p q = absurd (omega arith)
-
 pub one_place_more : (P Q : List ℕ → Type 0) (bytes : List ℕ) (place : ℕ) → NoneBefore P Q bytes place → (P (take place bytes) → Q (drop place bytes) → ⊥) → NoneBefore P Q bytes (place + 1)
 one_place_more P Q bytes place none here n before p q =
     elim (cases_lt n place) [
@@ -49,9 +46,6 @@ IsSpelled bytes = (e : Element) × IsElement e × (bytes ≡ spell e)
 abbrev pub IsFilled : List ℕ → Type 0
 IsFilled bytes = (elements : List Element) × Fill bytes elements
 
-pub no_empty_element : (bytes : List ℕ) → bytes ≡ [] → IsSpelled bytes → ⊥
-no_empty_element bytes none (e, is, same) = let over : spell e ≡ [] = sym same ∙ none in cc
-
 pub filled_from : (bytes : List ℕ) → Splits IsSpelled IsFilled bytes → IsFilled bytes
 filled_from bytes splits =
     let e = splits.first.0 in
@@ -70,10 +64,6 @@ IsZeroAndValue kind bytes = (value : List ℕ) × (bytes ≡ 0 ∷ value) × Hol
 
 abbrev pub IsKeyAndValue : ℕ → List ℕ → Type 0
 IsKeyAndValue kind bytes = (key value : List ℕ) × (bytes ≡ key ++ 0 ∷ value) × IsCstring key × HoldsKind kind value
-
-pub key_and_value_from : (kind : ℕ) (bytes : List ℕ) → Splits IsCstring (IsZeroAndValue kind) bytes → IsKeyAndValue kind bytes
-key_and_value_from kind bytes splits =
-    (splits.front, splits.second.0, splits.spelled ∙ ap (λ w. splits.front ++ w) splits.second.1, splits.first, splits.second.2)
 
 pub key_and_value_splits : (kind : ℕ) (bytes : List ℕ) → IsKeyAndValue kind bytes → Splits IsCstring (IsZeroAndValue kind) bytes
 key_and_value_splits kind bytes (key, value, spelled, name, holds) =
@@ -94,16 +84,9 @@ element_splits bytes rest kind same (e, is, spelled) =
 abbrev pub IsTextBetweenZeros : List ℕ → Type 0
 IsTextBetweenZeros bytes = (name : List ℕ) × (bytes ≡ 0 ∷ (name ++ 0 ∷ [])) × IsCstring name
 
-pub regular_expression_from : (bytes : List ℕ) → Splits IsCstring IsTextBetweenZeros bytes → Holds regular_expression bytes
-regular_expression_from bytes splits =
-    (splits.front, splits.second.0, record { spelled = splits.spelled ∙ ap (λ w. splits.front ++ w) splits.second.1; pattern_cstring = splits.first; options_cstring = splits.second.2 })
-
 pub regular_expression_splits : (bytes : List ℕ) → Holds regular_expression bytes → Splits IsCstring IsTextBetweenZeros bytes
 regular_expression_splits bytes (first, second, is) =
     record { front = first; back = 0 ∷ (second ++ 0 ∷ []); spelled = is.spelled; first = is.pattern_cstring; second = (second, refl, is.options_cstring) }
-
-pub code_and_scope_from : (bytes : List ℕ) → Splits IsString IsFramed bytes → IsCodeAndScope bytes
-code_and_scope_from bytes splits = (splits.front, splits.back, splits.spelled, splits.first, splits.second)
 
 pub code_and_scope_splits : (bytes : List ℕ) → IsCodeAndScope bytes → Splits IsString IsFramed bytes
 code_and_scope_splits bytes (code, scope, spelled, string, framed) =

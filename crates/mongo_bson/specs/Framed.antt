@@ -1,6 +1,6 @@
 -- The frame of a document, BSON 1.1: its first four bytes are its whole length as an int32, low byte first, and its
 -- last byte is zero.
-use Rattle.std.specs.Prelude.{◌≡◌, ℕ, ◌+◌, ◌-◌, ◌^◌, ◌<◌, ◌≤◌, ◌==◌, ◌&&◌, nat_lt, nat_le, Bool, List, [], ◌∷◌, ◌++◌, length, take, drop, slice_index}
+use Rattle.std.specs.Prelude.{◌≡◌, ℕ, ◌+◌, ◌-◌, ◌^◌, ◌<◌, ◌≤◌, List, [], ◌∷◌, ◌++◌, length, take, drop, slice_index}
 use Rattle.std.specs.Int.{to_le_bytes, from_le_bytes, w32}
 
 pub record IsFramed (b : List ℕ) : Type 0 where
@@ -8,10 +8,6 @@ pub record IsFramed (b : List ℕ) : Type 0 where
   pub most : length b < 2 ^ 31
   pub counted : from_le_bytes w32 b ≡ length b
   pub ended : slice_index b (length b - 1) ≡ 0
-
--- the test of it
-abbrev pub is_framed : List ℕ → Bool
-is_framed b = nat_le 5 (length b) && (nat_lt (length b) (2 ^ 31) && ((from_le_bytes w32 b == length b) && (slice_index b (length b - 1) == 0)))
 
 -- what stands between the length and the final zero
 abbrev pub body_of : List ℕ → List ℕ
