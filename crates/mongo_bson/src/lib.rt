@@ -57,7 +57,7 @@ pub use iter::Iter;
 pub use number::{get_int_raw, get_u64_raw};
 pub use owned_value::OwnedValue;
 pub use raw_array_buf::RawArrayBuf;
-pub use raw_document::RawDocument;
+pub use raw_document::{MAXIMUM_LENGTH, RawDocument};
 pub use raw_document_buf::{Documents, RawDocumentBuf};
 pub use raw_value::{ObjectId, RawValue};
 pub use text::{Text, Texts};

@@ -4,6 +4,9 @@ ghost use Rattle.mongo_bson.specs.Framed.{IsFramed, body_of};
 use crate::{BsonFault, RawDocumentBuf};
 use std::alloc::Global;
 
+/// The greatest length of a document and of a value, the greatest `int32`: an `int32` says how long each is.
+pub const MAXIMUM_LENGTH: usize = 0x7FFF_FFFF;
+
 /// A document borrowed from bytes: its length field is its length, and its last byte is zero. Its elements are judged
 /// as they are read.
 #[derive(Debug, Clone, Copy, PartialEq, Drop)]
@@ -64,8 +67,8 @@ pub(crate) fn is_framed(bytes: &[u8]) -> bool
 {
     match bytes {
         [a, b, c, d, .., last] => {
-            let length = u32::from_le_bytes([*a, *b, *c, *d]);
-            length < 0x8000_0000 && length as usize == bytes.len() && *last == 0
+            let length = u32::from_le_bytes([*a, *b, *c, *d]) as usize;
+            length <= MAXIMUM_LENGTH && length == bytes.len() && *last == 0
         }
         _ => false,
     }

@@ -5,7 +5,7 @@ ghost use Rattle.mongo_bson.specs.Document.{Holds, fixed, boolean, regular_expre
 ghost use Rattle.mongo_bson.specs.Reading.{IsAtFront, NoneAtFront, HoldsKind, IsCounted, IsNotCounted, IsCodeAndScope};
 
 use crate::cstring::take_cstring;
-use crate::raw_document::is_framed;
+use crate::raw_document::{MAXIMUM_LENGTH, is_framed};
 
 // How many bytes the value of a kind takes at the front. None where no value of that kind stands there, as for a kind
 // that BSON 1.1 doesn't have.
@@ -155,7 +155,7 @@ pub(crate) fn counted_len(bytes: &[u8], more: usize) -> Option<usize>
         [a, b, c, d, ..] => {
             let count = u32::from_le_bytes([*a, *b, *c, *d]) as usize;
             let size = count + more;
-            if count < 0x8000_0000 && 5 <= size && size <= bytes.len() {
+            if count <= MAXIMUM_LENGTH && 5 <= size && size <= bytes.len() {
                 Some(size)
             } else {
                 None

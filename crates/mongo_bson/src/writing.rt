@@ -5,13 +5,11 @@ ghost use Rattle.mongo_bson.specs.Document.{spell};
 ghost use Rattle.mongo_bson.specs.Value.{kind_of, bytes_of, element_of};
 
 use crate::cstring::cstring_end;
+use crate::raw_document::MAXIMUM_LENGTH;
 use crate::{BsonFault, RawValue};
 
 // What writes one element is written out where an element is put in: most callers name the key and the kind of the value,
 // so that there nothing is left of the tests for the others.
-
-// The greatest length of a document, the greatest `int32`.
-const MAXIMUM_LENGTH: usize = 0x7FFF_FFFF;
 
 // The length from which a document's memory doesn't double any more.
 const LONG: usize = 0x4000;
