@@ -1,16 +1,16 @@
 -- What was appended is read back.
-use Rattle.std.proofs.Common.{◌≡◌, ℕ, ◌+◌, ◌-◌, ◌^◌, ◌<◌, inl, inr, Bool, true, false, ℤ, Fits, FitsSigned, Result, Ok, Err, OnOk, List, [], ◌∷◌, ◌++◌, length, get_or, refl, sym, ap, ◌∙◌, subst, arith}
-use Rattle.std.specs.Int.{to_le_bytes, from_le_bytes, from_bool, cast_signed, cast_unsigned, w32, w64}
-use Rattle.std.specs.List.{flat_map}
+use Rattle.std.proofs.Common.{◌≡◌, ◌≢◌, ℕ, suc, ◌+◌, ◌-◌, ◌^◌, ◌<◌, inl, inr, Bool, true, false, Result, Ok, Err, OnOk, List, [], ◌∷◌, ◌++◌, length, get_or, refl, sym, ap, ◌∙◌, subst, arith}
+use Rattle.std.specs.Int.{to_le_bytes, from_le_bytes, from_bool, w32}
+use Rattle.std.specs.List.{AllByRecursion, Contains, flat_map}
 use Rattle.std.specs.Str.{IsUtf8}
 use Rattle.std.proofs.lemmas.List.{append_assoc, append-nil, length-append, get_or_at, take_at}
 use Rattle.std.proofs.lemmas.List.Concat.{flat_map-append}
 use Rattle.std.proofs.lemmas.Nat.{from_le_bytes-to_le_bytes_4}
 use Rattle.mongo_bson.specs.Framed.{IsFramed, body_of, enclosed}
-use Rattle.mongo_bson.specs.Document.{Element, fixed, boolean, string, document, binary, Holds, IsCstring, IsString, IsBinary, IsElement, IsDocument, AddsElement, spell, text_of}
+use Rattle.mongo_bson.specs.Document.{Element, fixed, boolean, string, document, binary, Holds, IsCstring, IsString, IsBinary, IsElement, AddsElement, spell, text_of}
 use Rattle.mongo_bson.specs.Reading.{HoldsKind}
-use Rattle.mongo_bson.specs.Value.{IsValue, kind_of, bytes_of, element_of}
-use Rattle.mongo_bson.specs.Writable.{IsWritable}
+use Rattle.mongo_bson.specs.Value.{kind_of, bytes_of, element_of}
+use Rattle.mongo_bson.specs.Writable.{IsWritable, AddsValue}
 use Rattle.mongo_bson.specs.declared.fault.BsonFault.{BsonFault}
 use Rattle.mongo_bson.specs.declared.raw_value.RawValue.{RawValue}
 use Rattle.mongo_bson.specs.declared.raw_value.RawValue.TheVariants.{Double, Str, Document, Array, Binary, ObjectId, Bool as Boolean, DateTime, Null, Int32, Int64, Other}
@@ -76,6 +76,12 @@ pub one_more_on_ok : (r : Result (Unit {0}) BsonFault) (old new : List ℕ) (ele
 one_more_on_ok (Ok done) old new element framed grown = one_more old new element framed grown
 one_more_on_ok (Err fault) old new element framed grown = tt
 
--- so one that a key and a value were appended to has them
-pub appended_document : (old new key : List ℕ) (value : RawValue) (elements : List Element) → IsDocument old elements → IsCstring key → IsWritable value → IsFramed new → new ≡ enclosed (body_of old ++ spell (element_of key value)) → IsDocument new (elements ++ element_of key value ∷ [])
-appended_document old new key value elements is name writable framed grown = one_more old new (element_of key value) framed grown elements is (written_element key value name writable)
+-- bytes that don't hold a zero have none
+no_zero : (bytes : List ℕ) → (Contains bytes 0 → ⊥) → AllByRecursion (λ b. b ≢ 0) bytes
+no_zero [] none = tt
+no_zero (b ∷ bytes) none = (λ same. none (0, omega arith, same), no_zero bytes (λ held. none (suc held.0, omega (arith, held.1), held.2)))
+
+-- so one that a value was appended to under a key has them
+pub adds_value_on_ok : (r : Result (Unit {0}) BsonFault) (old new key : List ℕ) (value : RawValue) → IsUtf8 key → (Contains key 0 → ⊥) → OnOk r (AddsElement old new (element_of key value)) → OnOk r (AddsValue old new key value)
+adds_value_on_ok (Ok done) old new key value utf8 none adds = λ writable elements is. adds elements is (written_element key value (record { utf8 = utf8; without_zero = no_zero key none }) writable)
+adds_value_on_ok (Err fault) old new key value utf8 none adds = tt

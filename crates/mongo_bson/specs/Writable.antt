@@ -1,10 +1,11 @@
 -- The values that can stand in a document.
-use Rattle.std.specs.Prelude.{◌≡◌, ◌-◌, ◌^◌, ◌<◌, false, ⊤, FitsSigned, length}
+use Rattle.std.specs.Prelude.{◌≡◌, ℕ, ◌-◌, ◌^◌, ◌<◌, false, ⊤, FitsSigned, List, [], ◌∷◌, ◌++◌, length}
 use Rattle.std.specs.Int.{w32, w64}
 use Rattle.std.specs.Str.{IsUtf8}
 use Rattle.mongo_bson.specs.Framed.{IsFramed}
+use Rattle.mongo_bson.specs.Document.{Element, IsDocument}
 use Rattle.mongo_bson.specs.Reading.{HoldsKind}
-use Rattle.mongo_bson.specs.Value.{has_variant}
+use Rattle.mongo_bson.specs.Value.{has_variant, element_of}
 use Rattle.mongo_bson.specs.declared.raw_value.RawValue.{RawValue}
 use Rattle.mongo_bson.specs.declared.raw_value.RawValue.TheVariants.{Double, Str, Document, Array, Binary, ObjectId, Bool as Boolean, DateTime, Null, Int32, Int64, Other}
 
@@ -23,3 +24,7 @@ IsWritable Null = ⊤
 IsWritable (Int32 number) = FitsSigned w32 number
 IsWritable (Int64 number) = FitsSigned w64 number
 IsWritable (Other kind content) = HoldsKind kind content.now × (has_variant kind ≡ false)
+
+-- where the value can stand in a document, the document has it under the key as one element more, at its end
+abbrev pub AddsValue : List ℕ → List ℕ → List ℕ → RawValue → Type 0
+AddsValue old new key value = IsWritable value → (elements : List Element) → IsDocument old elements → IsDocument new (elements ++ element_of key value ∷ [])

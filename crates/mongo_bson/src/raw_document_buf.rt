@@ -6,6 +6,7 @@ ghost use Rattle.std.proofs.Common.{rules};
 ghost use Rattle.mongo_bson.specs.Framed.{IsFramed, body_of, enclosed};
 ghost use Rattle.mongo_bson.specs.Document.{AddsElement, spell};
 ghost use Rattle.mongo_bson.specs.Value.{element_of};
+ghost use Rattle.mongo_bson.specs.Writable.{AddsValue};
 ghost use Rattle.mongo_bson.specs.Refusals.{AppendRefuses, PushRefuses};
 
 use crate::raw_document::is_framed;
@@ -79,6 +80,7 @@ impl RawDocumentBuf {
     pub fn append(&mut self, key: &str, value: RawValue<'_>) -> Result<(), BsonFault>
         ensures added { OnOk result (self.new ≡ enclosed (body_of self.old ++ spell (element_of key.now value.entry))) }
         ensures one_more { OnOk result (AddsElement self.old self.new (element_of key.now value.entry)) }
+        ensures adds_value { OnOk result (AddsValue self.old self.new key.now value.entry) }
         ensures key_has_zero { IsErrOf result BsonFault.KeyHasZero ↔ Contains key.now 0 }
         ensures too_long { IsErrOf result BsonFault.TooLong ↔ ((¬ Contains key.now 0) × (2 ^ 31 - 1 < length self.old + length (spell (element_of key.now value.entry)))) }
         ensures unchanged { OnErr result (self.new ≡ self.old) }
