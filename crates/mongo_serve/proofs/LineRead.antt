@@ -4,7 +4,8 @@ use Rattle.std.proofs.KnownBytes.{Consumes-trans}
 use Rattle.std.proofs.lemmas.List.Elements.{All-push}
 use Rattle.std.specs.Result.{IsErrAnd}
 use Rattle.std.specs.Io.KnownBytes.{Consumes}
-use Rattle.mongo_wire.proofs.ReadStopped.{passed_on, stops_after, reads_on}
+use Rattle.mongo_wire.proofs.ReadStopped.{stops_after, reads_on}
+use Rattle.mongo_wire.proofs.Written.{passed_on}
 use Rattle.mongo_wire.specs.Outside.{State, ReadsOn, Rose, RanOut, ConsumesAtMost}
 use Rattle.mongo_wire.specs.declared.error.ErrorKind.TheVariants.{EndOfInput}
 use Rattle.mongo_serve.specs.Line.{maximum_line_length, HasNoLineFeed, TakesLine, HasNoLine, StopsWithin}

@@ -18,9 +18,6 @@ use Rattle.mongo_wire.proofs.OneFrame.{one_framed, made_of}
 
 -- ---- documents
 
-pub no_documents : AreDocuments []
-no_documents = ([], tt, refl)
-
 pub documents_more : (bytes document rest : List ℕ) → BeginsWithDocument bytes document rest → AreDocuments rest → AreDocuments bytes
 documents_more bytes document rest begins (documents, each, spelled) =
     (document ∷ documents, (begins.framed, each), begins.spelled ∙ ap (λ l. document ++ l) spelled)
@@ -42,9 +39,6 @@ pub sequence_size : (bytes rest : List ℕ) (s : DocumentSequence) → IsSequenc
 sequence_size bytes rest s is e =
     let size = 4 + length (sequence_bytes s) in
     ap (from_le_bytes w32) (e ∙ append_assoc (uint32 size) (sequence_bytes s) rest) ∙ number_at_front (uint32 size) (sequence_bytes s ++ rest) (omega arith) ∙ from_le_bytes-to_le_bytes_4 size (omega (arith, is.size))
-
-pub sequence_length : (bytes rest : List ℕ) (s : DocumentSequence) → bytes ≡ sized s ++ rest → length bytes ≡ 4 + length (sequence_bytes s) + length rest
-sequence_length bytes rest s e = omega (arith, ap length e, length-append (sized s) rest, length-append (uint32 (4 + length (sequence_bytes s))) (sequence_bytes s))
 
 -- what the size counts beside itself
 content_is : (bytes rest content : List ℕ) (size : ℕ) (s : DocumentSequence) → IsSequence s → bytes ≡ sized s ++ rest → size ≡ from_le_bytes w32 bytes → content ≡ drop 4 (take size bytes) → content ≡ sequence_bytes s

@@ -136,12 +136,12 @@ no_frame head bytes sixteen none parts is =
 
 -- ---- the document that a buffer holds
 
-pub body_lies : (buffer : FrameBuffer) (frame : List ℕ) (parts : Frame) (held : HeldFrame) → HoldsFrame frame parts buffer → buffer.last ≡ Some held → buffer.held ≤ length buffer.store.items
+pub body_lies : (buffer : FrameBuffer) (frame : List ℕ) (parts : Frame) (held : HeldFrame) → HoldsFrame frame parts buffer → buffer.last ≡ Some held → buffer.size ≤ length buffer.store.items
     → (held.offsets.body_start ≤ held.offsets.body_end) × (held.offsets.body_end ≤ length buffer.store.items) × (slice_range buffer.store.items held.offsets.body_start held.offsets.body_end ≡ parts.body)
 body_lies buffer frame parts held holds is within =
     let s = held.offsets.body_start in
     let e = held.offsets.body_end in
-    let h = buffer.held in
+    let h = buffer.size in
     let xs = buffer.store.items in
     let at : IsAt (drop 16 frame) parts.body s e = subst (λ f. IsAt (drop 16 frame) parts.body f.offsets.body_start f.offsets.body_end) (one_held holds.held held (sym holds.last_is ∙ is)) holds.is_held.body_at in
     let size : length (take h xs) ≡ h = length-take-le h xs within in

@@ -1,5 +1,5 @@
 -- What the exits of reading a frame say.
-use Rattle.std.proofs.Common.{◌≡◌, ℕ, ℤ, pos, ◌≤ℤ◌, ◌+◌, ◌-◌, ◌*◌, ◌<◌, ◌≤◌, max, ◌⊎◌, inl, inr, Bool, true, false, is_some, Option, None, Some, Result, Ok, Err, OnOk, IfErr, IfSome, List, [], ◌++◌, length, refl, sym, ap, ◌∙◌, subst, arith, length-append, append-nil}
+use Rattle.std.proofs.Common.{◌≡◌, ℕ, ℤ, pos, ◌≤ℤ◌, ◌+◌, ◌-◌, ◌*◌, ◌<◌, ◌≤◌, max, ◌⊎◌, inl, inr, Bool, true, false, is_some, Option, None, Some, IfSome, List, [], ◌++◌, length, refl, sym, ap, ◌∙◌, subst, arith, length-append, append-nil}
 use Rattle.std.specs.Prelude.{int_lt, if◌then◌else◌}
 use Rattle.std.proofs.lemmas.Int.{ints}
 use Rattle.std.proofs.lemmas.Bool.{false≢true}
@@ -13,7 +13,7 @@ use Rattle.mongo_wire.specs.Message.{ReadRefused, IsUnreadable}
 use Rattle.std.proofs.lemmas.List.{drop_at}
 use Rattle.mongo_wire.specs.Held.{NoFrame, IsHeld}
 use Rattle.mongo_wire.specs.declared.held_frame.HeldFrame.{HeldFrame}
-use Rattle.mongo_wire.specs.Buffer.{HoldsFrame, held_bytes, IsFrameTaken, TakesAgain, GrowsFor, StaysWithin, memory_of}
+use Rattle.mongo_wire.specs.Buffer.{HoldsFrame, held_bytes, IsFrameTaken, GrowsFor, StaysWithin, memory_of}
 use Rattle.mongo_wire.specs.declared.op_code.OpCode.{OpCode}
 use Rattle.mongo_wire.specs.declared.op_code.OpCode.TheVariants as op_code
 use Rattle.mongo_wire.specs.declared.fault.ArgumentFault.{ArgumentFault}
@@ -21,8 +21,6 @@ use Rattle.mongo_wire.specs.declared.fault.ArgumentFault.TheVariants.{CheckedFai
 use Rattle.mongo_wire.specs.declared.fault.ResponseFault.{ResponseFault}
 use Rattle.mongo_wire.specs.declared.fault.ResponseFault.TheVariants.{OpCode as OpCodeFault, OverMaximum, Compressed, NotMessage, Sections}
 use Rattle.mongo_wire.specs.declared.frame_buffer.FrameBuffer.{FrameBuffer}
-use Rattle.mongo_wire.specs.Error.{kind_of_frame_fault}
-use Rattle.mongo_wire.specs.declared.fault.FrameFault.{FrameFault}
 use Rattle.mongo_wire.specs.declared.error.ErrorKind.{ErrorKind}
 use Rattle.mongo_wire.specs.declared.error.ErrorKind.TheVariants.{InvalidArgument, InvalidResponse, Command, Authentication, IncompatibleServer, Write, InsertMany, ReadFault, WriteFault, EndOfInput, Callback, PasswordNotAscii, OutOfMemory}
 use Rattle.mongo_wire.proofs.OneFrame.{one_frame, least_frame, row_no_frame, row_in, signed_in}
@@ -178,12 +176,6 @@ same_taken maximum old new buffer frame rest parts is frame_is taken = at new.le
     at (Some left) c =
         let (frames, both, rests) = one_frame taken.frame frame left rest taken.parts parts taken.holds.is_held.is_frame frame_is (sym c) in
         (subst (λ f. HoldsFrame f parts buffer) frames (subst (λ p. HoldsFrame taken.frame p buffer) both taken.holds), ap Some rests)
-
-pub takes_again : {T : Type 0} (result : Result T FrameFault) (maximum : ℤ) (old new : State) (buffer : FrameBuffer)
-    → OnOk result (IsFrameTaken maximum old new buffer) → IfErr result (λ fault. ReadRefused (kind_of_frame_fault fault) maximum old new)
-    → (frame rest : List ℕ) (parts : Frame) → old.left ≡ Some (frame ++ rest) → IsFrame frame parts → pos (length frame) ≤ℤ maximum → TakesAgain frame parts rest new.left buffer result
-takes_again (Ok x) maximum old new buffer p q frame rest parts is frame_is within = same_taken maximum old new buffer frame rest parts is frame_is p
-takes_again (Err fault) maximum old new buffer p q frame rest parts is frame_is within = no_refusal (kind_of_frame_fault fault) maximum old new frame rest parts is frame_is within q
 
 -- ---- the whole frame came
 

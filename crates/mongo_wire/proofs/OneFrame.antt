@@ -11,7 +11,7 @@ use Rattle.mongo_bson.specs.Framed.{IsFramed}
 use Rattle.mongo_bson.proofs.Cstrings.{one_cstring}
 use Rattle.mongo_bson.proofs.Sizes.{document_size, one_size, number_at_front}
 use Rattle.mongo_wire.specs.Frame.{Frame, IsFrame, Section, body, sequence, IsSection, IsSequence, IsChecksum, section_bytes, sequence_bytes, bodies, sequences_of, int32, uint32, message_code, known_flags}
-use Rattle.mongo_wire.specs.Header.{number_at, signed_at, op_code_of}
+use Rattle.mongo_wire.specs.Header.{header_length, number_at, signed_at, op_code_of}
 use Rattle.mongo_wire.specs.Rows.{IsRow, ShortHeader, HeaderRow, ShortFrame, NoSections, header_row, length_row}
 use Rattle.mongo_wire.specs.declared.op_code.OpCode.TheVariants as op_code
 use Rattle.mongo_wire.specs.declared.error.ErrorKind.{ErrorKind}
@@ -193,21 +193,21 @@ frame_size f p is =
     let number : number_at 0 f ≡ length f = ap (number_at 0) is.spelled ∙ number_at_front (uint32 (length f)) (after_length f p is) (omega arith) ∙ from_le_bytes-to_le_bytes_4 (length f) (omega (arith, is.length_fits)) in
     ap (cast_signed w32) number ∙ to_z_pos w32 (length f) is.length_fits
 
-pub frame_code : (f : List ℕ) (p : Frame) → IsFrame f p → signed_at 12 f ≡ pos 2013
+pub frame_code : (f : List ℕ) (p : Frame) → IsFrame f p → signed_at 12 f ≡ pos message_code
 frame_code f p is = ap (signed_at 12) is.spelled
 
 pub least_frame : (f : List ℕ) (p : Frame) → IsFrame f p → 20 ≤ length f
 least_frame f p is = omega (arith, ap length is.spelled)
 
-no_row : (maximum size : ℤ) → pos 16 ≤ℤ size → size ≤ℤ maximum → length_row maximum size (Some op_code.Message) (pos 2013) ≡ None
+no_row : (maximum size : ℤ) → pos header_length ≤ℤ size → size ≤ℤ maximum → length_row maximum size (Some op_code.Message) (pos message_code) ≡ None
 no_row maximum size p q =
     let long : int_lt maximum size ≡ false = grind (arith, ints) in
-    let short : int_lt size (pos 16) ≡ false = grind (arith, ints) in
+    let short : int_lt size (pos header_length) ≡ false = grind (arith, ints) in
     rw (long, short) refl
 
 pub frame_row : (maximum : ℤ) (f : List ℕ) (p : Frame) → IsFrame f p → pos (length f) ≤ℤ maximum → header_row maximum f ≡ None
 frame_row maximum f p is within =
-    ap (λ z. length_row maximum (signed_at 0 f) (op_code_of z) z) (frame_code f p is) ∙ ap (λ z. length_row maximum z (Some op_code.Message) (pos 2013)) (frame_size f p is)
+    ap (λ z. length_row maximum (signed_at 0 f) (op_code_of z) z) (frame_code f p is) ∙ ap (λ z. length_row maximum z (Some op_code.Message) (pos message_code)) (frame_size f p is)
     ∙ no_row maximum (pos (length f)) (omega (arith, ints, least_frame f p is)) within
 
 -- ---- rows

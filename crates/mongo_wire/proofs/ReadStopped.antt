@@ -1,18 +1,16 @@
 -- What a read that was refused has consumed.
-use Rattle.std.proofs.Common.{◌≡◌, ℕ, ◌+◌, ◌-◌, ◌≤◌, Option, None, Some, List, [], ◌++◌, length, take, drop, Result, Err, refl, sym, ap, ◌∙◌, arith, length-append}
+use Rattle.std.proofs.Common.{◌≡◌, ℕ, ◌+◌, ◌-◌, ◌≤◌, Option, None, Some, List, [], ◌++◌, length, take, drop, refl, sym, ap, ◌∙◌, arith, length-append}
 use Rattle.std.proofs.Math.Seq.{take-add}
-use Rattle.std.proofs.lemmas.List.{take_at, take-take, drop-drop, drop-take}
-use Rattle.std.proofs.lemmas.Result.{err_from_is_err_and}
-use Rattle.std.specs.Result.{IsErrAnd}
+use Rattle.std.proofs.lemmas.List.{take-take, drop-drop, drop-take, length-take-le, length-drop}
 use Rattle.std.proofs.KnownBytes.{Consumes-trans}
 use Rattle.std.specs.Io.KnownBytes.{Consumes}
 use Rattle.mongo_wire.specs.Outside.{State, ReadsOn, Rose, ReadStops, ConsumesAtMost, ConsumesFewer, RanOut}
 use Rattle.mongo_wire.specs.declared.error.ErrorKind.{ErrorKind}
 use Rattle.mongo_wire.specs.declared.error.ErrorKind.TheVariants.{InvalidArgument, InvalidResponse, Command, Authentication, IncompatibleServer, Write, InsertMany, ReadFault, WriteFault, EndOfInput, Callback, PasswordNotAscii, OutOfMemory}
 
--- what the exit of a `?` returns where the error stays as it is
-pub passed_on : {T E : Type 0} (r : Result T E) (x : E) → IsErrAnd r (λ y. y ≡ x) → r ≡ Err x
-passed_on r x p = let (e, is, same) = err_from_is_err_and r p in is ∙ ap Err same
+-- how many items stand between two places
+pub length_between : (before at : ℕ) (xs : List ℕ) → before ≤ at → at ≤ length xs → length (take (at - before) (drop before xs)) ≡ at - before
+length_between before at xs start within = length-take-le (at - before) (drop before xs) (omega (arith, length-drop before xs, start, within))
 
 -- a refused read by its kind, of which there are three
 pub stop_cases : (P : ErrorKind → Type 0) (kind : ErrorKind) (old new : State) (wanted : ℕ)
@@ -114,7 +112,3 @@ came_then kind old mid new taken part had left p had_is left_is s =
       where
         none : (rest : List ℕ) → Some rest ≡ Some [] → rest ≡ []
         none rest e = cc
-
--- a vector after its slice was written
-pub written_back : (n : ℕ) (xs ys : List ℕ) → length ys ≡ n → take n (ys ++ drop (length ys) xs) ≡ ys
-written_back n xs ys e = take_at ys (drop (length ys) xs) n e

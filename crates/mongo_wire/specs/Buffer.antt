@@ -15,7 +15,7 @@ use Rattle.mongo_wire.specs.declared.held_frame.HeldFrame.{HeldFrame}
 
 -- the bytes of the last frame after its header
 abbrev pub held_bytes : FrameBuffer → List ℕ
-held_bytes buffer = take buffer.held buffer.store.items
+held_bytes buffer = take buffer.size buffer.store.items
 
 abbrev pub document_at : Option HeldFrame → List ℕ → List ℕ
 document_at None bytes = []
@@ -43,7 +43,7 @@ pub record HoldsFrame (frame : List ℕ) (parts : Frame) (buffer : FrameBuffer) 
 -- it holds nothing
 pub record HoldsNothing (buffer : FrameBuffer) : Type 0 where
   pub none : buffer.last ≡ None
-  pub start : buffer.held ≡ 0
+  pub start : buffer.size ≡ 0
   pub empty : held_bytes buffer ≡ []
 
 -- A frame within the maximum was taken of the bytes left, and nothing after it; the buffer holds it.

@@ -41,6 +41,10 @@ ReadRefused (InvalidResponse fault) maximum old new = TakesRow (InvalidResponse 
 ReadRefused (InvalidArgument fault) maximum old new = TakesRow (InvalidArgument fault) maximum old.left new.left
 ReadRefused kind maximum old new = ⊥
 
+-- this holds of each frame within the maximum that stands before a rest
+abbrev pub WhereFrameStands : ℤ → State → (List ℕ → List ℕ → Frame → Type 0) → Type 0
+WhereFrameStands maximum source Holds = (frame rest : List ℕ) (parts : Frame) → source.left ≡ Some (frame ++ rest) → IsFrame frame parts → pos (length frame) ≤ℤ maximum → Holds frame rest parts
+
 -- a fault of reading, or want of memory
 abbrev pub IsUnreadable : ErrorKind → Type 0
 IsUnreadable ReadFault = ⊤

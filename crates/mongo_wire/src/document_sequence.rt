@@ -8,7 +8,7 @@ use mongo_bson::{BsonFault, Documents, Items, RawDocumentBuf, Text, TryClone};
 use std::alloc::Global;
 
 // The greatest size of a document sequence, the greatest `int32`.
-const MAXIMUM_SEQUENCE_SIZE: usize = 0x7FFF_FFFF;
+pub(crate) const MAXIMUM_SEQUENCE_SIZE: usize = 0x7FFF_FFFF;
 
 /// A section of kind 1: an identifier and the documents of the field that it names.
 #[derive(Debug, Drop)]

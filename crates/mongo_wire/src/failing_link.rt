@@ -1,7 +1,7 @@
-ghost use Rattle.std.specs.Prelude.{◌≡◌, ◌<◌, ◌≤◌, ◌↔◌, [], length, drop, true, IfOk, OnOk, OnErr, IsErr, IsErrOf};
+ghost use Rattle.std.specs.Prelude.{◌≡◌, ◌<◌, ◌≤◌, ◌↔◌, [], length, true, IfOk, OnOk, OnErr, IsErr, IsErrOf};
 ghost use Rattle.std.specs.Io.KnownBytes.{Keeps, ReadConsumes, WriteAppends};
 ghost use Rattle.mongo_wire.specs.Outside.{Rose, IsFlushed, ReadCounts, ReadsOn, WritesOn, risen};
-ghost use Rattle.mongo_wire.specs.Failing.{fails_at, counted_fault, unread, output_of, state_of};
+ghost use Rattle.mongo_wire.specs.Memory.{bytes_left, bytes_written};
 
 use crate::{Failed, MemoryLink, Outside, Sink, SinkError, Source};
 use mongo_bson::Bytes;
@@ -22,6 +22,8 @@ pub struct FailingLink {
 }
 
 impl FailingLink {
+    ghost use Rattle.mongo_wire.specs.Failing.{fails_at};
+
     /// A link that gives the bytes of `input`, and to which nothing was written. A call fails where its byte in
     /// `failing` isn't 0; calls past the end of `failing` don't. A read or a write moves at most `most` bytes. It takes
     /// no memory.
@@ -50,14 +52,14 @@ impl FailingLink {
 
     /// All that was written.
     pub fn written(&self) -> &[u8]
-        ensures { result.now ≡ self.now.link.output.items }
+        ensures { result.now ≡ bytes_written self.now.link }
     {
         self.link.written()
     }
 
     /// What is left of the input.
     pub fn left(&self) -> &[u8]
-        ensures { result.now ≡ drop self.now.link.at self.now.link.input.items }
+        ensures { result.now ≡ bytes_left self.now.link }
     {
         self.link.left()
     }
@@ -77,17 +79,21 @@ impl FailingLink {
 }
 
 impl Outside for FailingLink {
-    ghost state = { λ s. state_of s.link s.read_faults s.write_faults };
+    ghost use Rattle.mongo_wire.specs.Failing.{state_of};
+
+    ghost state = { state_of };
 }
 
 impl Source for FailingLink {
+    ghost use Rattle.mongo_wire.specs.Failing.{fails_at, counted_fault, state_of};
+
     fn read(&mut self, buf: &mut [u8]) -> Result<usize, Failed>
         ensures most { IfOk result (λ count. count ≤ length buf.new) }
-        ensures bytes { ReadConsumes (unread self.old.link) (unread self.new.link) result buf.new }
+        ensures bytes { ReadConsumes (state_of self.old).left (state_of self.new).left result buf.new }
         ensures failed { OnErr result (Rose self.old.read_faults self.new.read_faults) }
         ensures ended { IfOk result (λ count. count ≡ 0 → 0 < length buf.new → Rose self.old.link.ends self.new.link.ends) }
-        ensures exact { ReadCounts result (length buf.new) (state_of self.old.link self.old.read_faults self.old.write_faults) (state_of self.new.link self.new.read_faults self.new.write_faults) }
-        ensures on { ReadsOn (state_of self.old.link self.old.read_faults self.old.write_faults) (state_of self.new.link self.new.read_faults self.new.write_faults) }
+        ensures exact { ReadCounts result (length buf.new) (state_of self.old) (state_of self.new) }
+        ensures on { ReadsOn (state_of self.old) (state_of self.new) }
         // It fails just where its byte isn't 0, moves at most so many bytes, and each call counts.
         ensures fails { IsErr result ↔ (fails_at self.old.failing self.old.calls ≡ true) }
         ensures few { IfOk result (λ count. count ≤ self.old.most) }
@@ -113,12 +119,14 @@ impl Source for FailingLink {
 }
 
 impl Sink for FailingLink {
+    ghost use Rattle.mongo_wire.specs.Failing.{fails_at, counted_fault, state_of};
+
     fn write(&mut self, piece: &[u8]) -> Result<usize, SinkError>
         ensures most { IfOk result (λ count. count ≤ length piece.now) }
         ensures some { IfOk result (λ count. 0 < length piece.now → 0 < count) }
-        ensures bytes { WriteAppends (output_of self.old.link) (output_of self.new.link) result piece.now }
+        ensures bytes { WriteAppends (state_of self.old).written (state_of self.new).written result piece.now }
         ensures failed { IsErrOf result SinkError.Failed → Rose self.old.write_faults self.new.write_faults }
-        ensures on { WritesOn (state_of self.old.link self.old.read_faults self.old.write_faults) (state_of self.new.link self.new.read_faults self.new.write_faults) }
+        ensures on { WritesOn (state_of self.old) (state_of self.new) }
         // It fails just where its byte isn't 0, moves at most so many bytes, and each call counts.
         ensures fails { IsErrOf result SinkError.Failed ↔ (fails_at self.old.failing self.old.calls ≡ true) }
         ensures few { IfOk result (λ count. count ≤ self.old.most) }
@@ -135,10 +143,10 @@ impl Sink for FailingLink {
     }
 
     fn flush(&mut self) -> Result<(), SinkError>
-        ensures bytes { Keeps (output_of self.old.link) (output_of self.new.link) }
-        ensures all { OnOk result (IsFlushed (state_of self.new.link self.new.read_faults self.new.write_faults)) }
+        ensures bytes { Keeps (state_of self.old).written (state_of self.new).written }
+        ensures all { OnOk result (IsFlushed (state_of self.new)) }
         ensures failed { IsErrOf result SinkError.Failed → Rose self.old.write_faults self.new.write_faults }
-        ensures on { WritesOn (state_of self.old.link self.old.read_faults self.old.write_faults) (state_of self.new.link self.new.read_faults self.new.write_faults) }
+        ensures on { WritesOn (state_of self.old) (state_of self.new) }
         // It fails just where its byte isn't 0, and each call counts.
         ensures fails { IsErrOf result SinkError.Failed ↔ (fails_at self.old.failing self.old.calls ≡ true) }
         ensures calls { self.new.calls ≡ risen self.old.calls }

@@ -1,5 +1,4 @@
 use mongo_bson::BsonFault;
-use std::alloc::AllocError;
 
 /// What is wrong with what a caller handed in.
 #[derive(Clone, Copy, Debug, PartialEq, Eq)]
@@ -69,17 +68,6 @@ pub enum FrameFault {
     InvalidArgument(ArgumentFault),
     /// The header or what follows it isn't an OP_MSG within the maximum.
     InvalidResponse(ResponseFault),
-}
-
-impl From<AllocError> for FrameFault {
-    ghost use Rattle.std.specs.Prelude.{◌≡◌};
-    ghost use Rattle.mongo_wire.specs.declared.fault.FrameFault.TheVariants.{OutOfMemory};
-
-    ghost from_gives = { λ _ fault. fault ≡ OutOfMemory };
-
-    fn from(_error: AllocError) -> FrameFault {
-        FrameFault::OutOfMemory
-    }
 }
 
 /// What is wrong with a server's reply.

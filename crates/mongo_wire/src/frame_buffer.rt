@@ -7,7 +7,7 @@ use crate::held_frame::HeldFrame;
 use mongo_bson::{Bytes, RawDocumentBuf};
 use std::alloc::Global;
 
-/// A buffer that holds the bytes of one frame after its header at a time. Its memory is used again for each frame, and grows only as
+/// A buffer that holds one frame at a time: the bytes that follow its header. Its memory is used again for each frame, and grows only as
 /// the bytes of a frame come.
 ///
 /// [`FrameBuffer::read`] and [`FrameBuffer::next`] read a frame into it and lend it to the message that shows the frame;
@@ -15,12 +15,13 @@ use std::alloc::Global;
 #[derive(Debug, Drop)]
 pub struct FrameBuffer {
     pub(crate) store: Vec<u8>,
-    pub(crate) held: usize,
+    // How many bytes of the store the last frame has.
+    pub(crate) size: usize,
     pub(crate) last: Option<HeldFrame>,
     pub(crate) frames: u64,
-    pub ghost within: { held ≤ length store.items },
+    pub ghost within: { size ≤ length store.items },
     // The parts of the last frame lie in the bytes that are held.
-    pub ghost lies: { ForSome last (LiesIn (take held store.items)) },
+    pub ghost lies: { ForSome last (LiesIn (take size store.items)) },
 }
 
 impl FrameBuffer {
@@ -38,7 +39,7 @@ impl FrameBuffer {
     {
         FrameBuffer {
             store: Vec::new(alloc),
-            held: 0,
+            size: 0,
             last: None,
             frames: 0,
         }
@@ -48,7 +49,7 @@ impl FrameBuffer {
     pub fn as_bytes(&self) -> &[u8]
         ensures { result.now ≡ held_bytes self.now }
     {
-        &self.store.as_slice()[..self.held]
+        &self.store.as_slice()[..self.size]
     }
 
     /// How many frames were taken into the buffer. It stays at 18446744073709551615.
@@ -78,7 +79,7 @@ impl FrameBuffer {
     {
         let FrameBuffer {
             store,
-            held: _,
+            size: _,
             last,
             frames: _,
         } = self;
@@ -101,7 +102,7 @@ impl FrameBuffer {
         ensures store { self.new.store ≡ self.old.store }
     {
         self.last = None;
-        self.held = 0;
+        self.size = 0;
     }
 
     // Holds a frame that lies at the front of the store, and counts it.
@@ -113,7 +114,7 @@ impl FrameBuffer {
         ensures frames { frames_taken self.new ≡ risen (frames_taken self.old) }
         ensures memory { memory_of self.new ≡ memory_of self.old }
     {
-        self.held = length;
+        self.size = length;
         self.last = Some(frame);
         self.frames = self.frames.saturating_add(1);
     }

@@ -1,14 +1,13 @@
 ghost use denote.Follow.{follows_so};
 ghost use mathlib.Core.Option.{none};
 ghost use Rattle.std.specs.Borrow.{sem};
-ghost use Rattle.std.specs.Prelude.{◌≡◌, ◌≤◌, ℕ, pos, ◌≤ℤ◌, List, ◌++◌, Some, true, false, length, IfOk, IfErr, OnOk, OnErr, IfSome, IsNone, MatchResult, ⊤};
+ghost use Rattle.std.specs.Prelude.{◌≡◌, Some, true, false, length, IfOk, IfErr, OnOk, OnErr, IfSome, IsNone, MatchResult, ⊤};
 ghost use Rattle.std.specs.Io.KnownBytes.{Consumes};
 ghost use Rattle.mongo_wire.specs.contracts.frame_buffer.FrameBuffer.{the_row};
 ghost use Rattle.mongo_wire.specs.Error.{kind_of_frame_fault};
 ghost use Rattle.mongo_wire.specs.Outside.{State, ReadsOn, HasEnded, HasMore, risen};
-ghost use Rattle.mongo_wire.specs.Frame.{Frame, IsFrame};
 ghost use Rattle.mongo_wire.specs.Header.{maximum_of};
-ghost use Rattle.mongo_wire.specs.Message.{ReadRefused, IsUnreadable};
+ghost use Rattle.mongo_wire.specs.Message.{ReadRefused, IsUnreadable, WhereFrameStands};
 ghost use Rattle.mongo_wire.specs.Ref.{IsFrameRead, ShowsAgain, FoundAgain};
 ghost use Rattle.mongo_wire.specs.Buffer.{IsFrameTaken, HoldsNothing, IsCleared, FindsAgain, TakesAgain, ReadsInto, NextInto, StaysWithin, GrowsFor, frames_taken};
 
@@ -36,7 +35,7 @@ impl FrameBuffer {
         ensures* after { sem 𝓛 (follows_so the_row the_row self.entry.ghost_name none (λ _ _. ⊤) (λ buffer. ReadsInto (maximum_of maximum) (S.state source.old) (S.state source.new) self.old result buffer)) }
         ensures read { IfOk result (IsFrameRead (maximum_of maximum) (S.state source.old) (S.state source.new)) }
         ensures refused { IfErr result (λ fault. ReadRefused (kind_of_frame_fault fault) (maximum_of maximum) (S.state source.old) (S.state source.new)) }
-        ensures again { (frame rest : List ℕ) (parts : Frame) → (S.state source.old).left ≡ Some (frame ++ rest) → IsFrame frame parts → pos (length frame) ≤ℤ maximum_of maximum → MatchResult result (ShowsAgain frame parts rest (S.state source.new).left) (λ fault. IsUnreadable (kind_of_frame_fault fault)) }
+        ensures again { WhereFrameStands (maximum_of maximum) (S.state source.old) (λ frame rest parts. MatchResult result (ShowsAgain frame parts rest (S.state source.new).left) (λ fault. IsUnreadable (kind_of_frame_fault fault))) }
         ensures on { ReadsOn (S.state source.old) (S.state source.new) }
     {
         match self.take_frame(source, maximum) {
@@ -61,7 +60,7 @@ impl FrameBuffer {
         ensures refused { IfErr result (λ fault. ReadRefused (kind_of_frame_fault fault) (maximum_of maximum) (S.state source.old) (S.state source.new)) }
         // An end that is a refusal came after the first byte.
         ensures more { IfErr result (λ fault. HasMore (kind_of_frame_fault fault) (S.state source.old).left) }
-        ensures again { (frame rest : List ℕ) (parts : Frame) → (S.state source.old).left ≡ Some (frame ++ rest) → IsFrame frame parts → pos (length frame) ≤ℤ maximum_of maximum → MatchResult result (FoundAgain frame parts rest (S.state source.new).left) (λ fault. IsUnreadable (kind_of_frame_fault fault)) }
+        ensures again { WhereFrameStands (maximum_of maximum) (S.state source.old) (λ frame rest parts. MatchResult result (FoundAgain frame parts rest (S.state source.new).left) (λ fault. IsUnreadable (kind_of_frame_fault fault))) }
         ensures on { ReadsOn (S.state source.old) (S.state source.new) }
     {
         match self.take_next_frame(source, maximum) {
@@ -86,7 +85,7 @@ impl FrameBuffer {
         // Each refusal is the first row of the table that applies, and has taken what shows it.
         ensures refused { IfErr result (λ fault. ReadRefused (kind_of_frame_fault fault) (maximum_of maximum) (S.state source.old) (S.state source.new)) }
         // A frame within the maximum is taken, whatever follows it.
-        ensures again { (frame rest : List ℕ) (parts : Frame) → (S.state source.old).left ≡ Some (frame ++ rest) → IsFrame frame parts → pos (length frame) ≤ℤ maximum_of maximum → TakesAgain frame parts rest (S.state source.new).left self.new result }
+        ensures again { WhereFrameStands (maximum_of maximum) (S.state source.old) (λ frame rest parts. TakesAgain frame parts rest (S.state source.new).left self.new result) }
         ensures counted { OnOk result (frames_taken self.new ≡ risen (frames_taken self.old)) }
         ensures emptied { OnErr result (IsCleared self.old self.new) }
         // Memory is for bytes that came, for twice as many at most and one piece of 4096, and never for more than the maximum:
@@ -114,7 +113,7 @@ impl FrameBuffer {
         ensures ended { IfOk result (λ found. found ≡ false → HasEnded (S.state source.old) (S.state source.new)) }
         ensures refused { IfErr result (λ fault. ReadRefused (kind_of_frame_fault fault) (maximum_of maximum) (S.state source.old) (S.state source.new)) }
         ensures more { IfErr result (λ fault. HasMore (kind_of_frame_fault fault) (S.state source.old).left) }
-        ensures again { (frame rest : List ℕ) (parts : Frame) → (S.state source.old).left ≡ Some (frame ++ rest) → IsFrame frame parts → pos (length frame) ≤ℤ maximum_of maximum → FindsAgain frame parts rest (S.state source.new).left self.new result }
+        ensures again { WhereFrameStands (maximum_of maximum) (S.state source.old) (λ frame rest parts. FindsAgain frame parts rest (S.state source.new).left self.new result) }
         ensures counted { IfOk result (λ found. found ≡ true → frames_taken self.new ≡ risen (frames_taken self.old)) }
         ensures none { IfOk result (λ found. found ≡ false → IsCleared self.old self.new) }
         ensures emptied { OnErr result (IsCleared self.old self.new) }
@@ -169,7 +168,8 @@ impl FrameBuffer {
     }
 }
 
-/// Reads the next frame of the source into the buffer. As [`FrameBuffer::read`] in every answer and refusal.
+/// Reads the next frame of the source into the buffer. As [`FrameBuffer::read`] in every answer and refusal. The buffer has its
+/// allocator; the one handed in isn't used.
 pub fn read_frame<'b, S: Source>(
     _alloc: Global,
     source: &mut S,
@@ -178,7 +178,7 @@ pub fn read_frame<'b, S: Source>(
 ) -> Result<MessageRef<'b>, Error>
     ensures read { IfOk result (IsFrameRead (maximum_of maximum) (S.state source.old) (S.state source.new)) }
     ensures refused { IfErr result (λ e. ReadRefused e.kind (maximum_of maximum) (S.state source.old) (S.state source.new)) }
-    ensures again { (frame rest : List ℕ) (parts : Frame) → (S.state source.old).left ≡ Some (frame ++ rest) → IsFrame frame parts → pos (length frame) ≤ℤ maximum_of maximum → MatchResult result (ShowsAgain frame parts rest (S.state source.new).left) (λ e. IsUnreadable e.kind) }
+    ensures again { WhereFrameStands (maximum_of maximum) (S.state source.old) (λ frame rest parts. MatchResult result (ShowsAgain frame parts rest (S.state source.new).left) (λ e. IsUnreadable e.kind)) }
     ensures on { ReadsOn (S.state source.old) (S.state source.new) }
 {
     match buffer.read(source, maximum) {
@@ -188,7 +188,7 @@ pub fn read_frame<'b, S: Source>(
 }
 
 /// Reads the next frame of the source into the buffer, or None where the source ended before its first byte. As
-/// [`FrameBuffer::next`] in every answer and refusal.
+/// [`FrameBuffer::next`] in every answer and refusal. The buffer has its allocator; the one handed in isn't used.
 pub fn next_frame<'b, S: Source>(
     _alloc: Global,
     source: &mut S,
@@ -199,7 +199,7 @@ pub fn next_frame<'b, S: Source>(
     ensures ended { IfOk result (λ found. IsNone found → HasEnded (S.state source.old) (S.state source.new)) }
     ensures refused { IfErr result (λ e. ReadRefused e.kind (maximum_of maximum) (S.state source.old) (S.state source.new)) }
     ensures more { IfErr result (λ e. HasMore e.kind (S.state source.old).left) }
-    ensures again { (frame rest : List ℕ) (parts : Frame) → (S.state source.old).left ≡ Some (frame ++ rest) → IsFrame frame parts → pos (length frame) ≤ℤ maximum_of maximum → MatchResult result (FoundAgain frame parts rest (S.state source.new).left) (λ e. IsUnreadable e.kind) }
+    ensures again { WhereFrameStands (maximum_of maximum) (S.state source.old) (λ frame rest parts. MatchResult result (FoundAgain frame parts rest (S.state source.new).left) (λ e. IsUnreadable e.kind)) }
     ensures on { ReadsOn (S.state source.old) (S.state source.new) }
 {
     match buffer.next(source, maximum) {

@@ -8,6 +8,13 @@
 //! The outside is three traits: a [`Source`] gives bytes, a [`Sink`] takes them, a [`Link`] does both. What they mean
 //! stands on their calls: told bytes are lists, counts of faults and ends never fall.
 //!
+//! A [`FrameBuffer`] reads one frame after another into the same memory and lends itself to the [`MessageRef`] that shows the frame; a
+//! [`Message`] owns its parts, and is what is written.
+//!
+//! Proved: bytes begin with at most one frame, and a read takes just that frame or answers the first row of
+//! `specs/Rows.antt` that the bytes call for; what was taken by then is said, and nothing past it is read. A write appends
+//! just the message's frame and flushes it, or leaves a front of it. A fault of the outside is answered only where its count rose.
+//!
 //! A call that takes an allocator may answer want of memory; where nothing else is said, that is its only refusal.
 #![tactic(auto)]
 

@@ -6,7 +6,16 @@ ghost use Rattle.mongo_wire.specs.Message.{Fits, ArgumentRow, frame_length, sect
 ghost use Rattle.mongo_wire.specs.Measure.{IsWithoutZero, HasIdentifier, HasCountedSize, HoldsDocuments, sequences_bytes};
 
 use crate::message::FIRST_MAXIMUM;
-use crate::{ArgumentFault, DocumentSequence, Message};
+use crate::{ArgumentFault, DocumentSequence, Header, Message};
+
+// Where a frame's flags end and its sections begin.
+pub(crate) const FLAGS_END: usize = Header::LENGTH + 4;
+
+// How many bytes a section's kind takes.
+const KIND_LENGTH: usize = 1;
+
+// How many bytes a checksum takes.
+const CHECKSUM_LENGTH: u64 = 4;
 
 // The length of the message's frame, where it can be written within the maximum.
 //
@@ -42,9 +51,10 @@ fn whole_length(body: usize, sequences: u64, checksum: Option<u32>) -> u64
     requires { body < 2 ^ 31 }
     ensures { result ≡ min (21 + body + sequences + length (checksum_bytes checksum)) (2 ^ 64 - 1) }
 {
+    let with_body = (FLAGS_END + KIND_LENGTH + body) as u64;
     let rest = match checksum {
-        Some(_) => body as u64 + 25,
-        None => body as u64 + 21,
+        Some(_) => with_body + CHECKSUM_LENGTH,
+        None => with_body,
     };
     sequences.saturating_add(rest)
 }

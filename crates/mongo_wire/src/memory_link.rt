@@ -1,4 +1,4 @@
-ghost use Rattle.std.specs.Prelude.{◌≡◌, ◌≤◌, [], length, drop, Some};
+ghost use Rattle.std.specs.Prelude.{◌≡◌, ◌≤◌, [], length, Some};
 
 use crate::{Failed, Outside, Sink, SinkError, Source};
 use mongo_bson::Bytes;
@@ -22,7 +22,6 @@ pub struct MemoryLink {
 }
 
 impl MemoryLink {
-    ghost use Rattle.std.specs.Prelude.{◌≡◌, []};
     ghost use Rattle.mongo_wire.specs.Memory.{bytes_left, bytes_written};
 
     /// A link that gives these bytes, and to which nothing was written. It takes no memory.
@@ -65,7 +64,9 @@ impl MemoryLink {
 }
 
 impl Outside for MemoryLink {
-    ghost state = { λ s. record { left = Some (drop s.at s.input.items); read_faults = 0; ends = s.ends; written = Some s.output.items; flushed = s.flushed; write_faults = 0 } };
+    ghost use Rattle.mongo_wire.specs.Memory.{bytes_left, bytes_written};
+
+    ghost state = { λ s. record { left = Some (bytes_left s); read_faults = 0; ends = s.ends; written = Some (bytes_written s); flushed = s.flushed; write_faults = 0 } };
 }
 
 impl Source for MemoryLink {

@@ -1,8 +1,8 @@
-ghost use Rattle.std.specs.Prelude.{◌≡◌, [], ℕ, pos, ◌≤ℤ◌, List, ◌++◌, None, Some, length, IfOk, IfErr, OnOk};
+ghost use Rattle.std.specs.Prelude.{◌≡◌, [], ℕ, List, ◌++◌, None, Some, length, IfOk, IfErr, OnOk};
 ghost use Rattle.mongo_wire.specs.Outside.{ReadsOn, WritesOn};
 ghost use Rattle.mongo_wire.specs.Frame.{Frame, IsFrame};
 ghost use Rattle.mongo_wire.specs.Header.{maximum_of};
-ghost use Rattle.mongo_wire.specs.Message.{IsRead, ReadRefused, ReadsAgain, Writes, WriteRefused, IsFrameOf, TellsChecksum, written_frame, id_of, id_after};
+ghost use Rattle.mongo_wire.specs.Message.{IsRead, ReadRefused, ReadsAgain, WhereFrameStands, Writes, WriteRefused, IsFrameOf, TellsChecksum, written_frame, id_of, id_after};
 ghost use Rattle.mongo_wire.specs.declared.fault.ArgumentFault.{ArgumentFault};
 ghost use Rattle.mongo_wire.specs.declared.error.ErrorKind.TheVariants.{InvalidArgument};
 
@@ -67,7 +67,7 @@ impl Message {
         // Each refusal is the first row of the table that applies, and has taken what shows it.
         ensures refused { IfErr result (λ e. ReadRefused e.kind (maximum_of maximum) (S.state source.old) (S.state source.new)) }
         // A frame within the maximum is read, whatever follows it.
-        ensures again { (frame rest : List ℕ) (parts : Frame) → (S.state source.old).left ≡ Some (frame ++ rest) → IsFrame frame parts → pos (length frame) ≤ℤ maximum_of maximum → ReadsAgain parts rest (S.state source.new).left result }
+        ensures again { WhereFrameStands (maximum_of maximum) (S.state source.old) (λ frame rest parts. ReadsAgain parts rest (S.state source.new).left result) }
         // That is one frame and no other: none is a front of another.
         ensures alone { (frame more : List ℕ) (parts other : Frame) → IsFrame frame parts → IsFrame (frame ++ more) other → more ≡ [] }
         ensures on { ReadsOn (S.state source.old) (S.state source.new) }

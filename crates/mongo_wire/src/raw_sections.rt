@@ -7,6 +7,7 @@ ghost use Rattle.mongo_wire.specs.Sending.{unsummed_flags, sections_frame, Secti
 ghost use Rattle.mongo_wire.specs.declared.fault.ArgumentFault.{ArgumentFault};
 ghost use Rattle.mongo_wire.specs.declared.error.ErrorKind.TheVariants.{InvalidArgument};
 
+use crate::measure::FLAGS_END;
 use crate::message::FIRST_MAXIMUM;
 use crate::write_message::message_header;
 use crate::writing::{flush_out, write_pieces};
@@ -58,10 +59,10 @@ fn sections_length(sections: &[u8], maximum: Option<i32>) -> Result<u32, Argumen
         return Err(ArgumentFault::MaximumNegative);
     }
     let room = maximum as usize;
-    if room < 20 || sections.len() > room - 20 {
+    if room < FLAGS_END || sections.len() > room - FLAGS_END {
         return Err(ArgumentFault::TooLong);
     }
-    Ok(sections.len() as u32 + 20)
+    Ok((FLAGS_END + sections.len()) as u32)
 }
 
 // The flag word of a frame without a checksum.

@@ -1,6 +1,7 @@
 ghost use Rattle.std.specs.Prelude.{◌↔◌, IsTrue, MatchOption};
 ghost use Rattle.mongo_wire.specs.Sections.{BeginsWithDocument, HasNoDocument, AreDocuments, SplitsSequence, HasNoSequence, BeginsWithSection, SplitsSection, HasNoSection};
 
+use crate::document_sequence::MAXIMUM_SEQUENCE_SIZE;
 use crate::header::number;
 use mongo_bson::{RawDocument, take_cstring};
 
@@ -84,7 +85,7 @@ fn split_sequence<'a>(bytes: &'a [u8]) -> Option<(SequenceRef<'a>, &'a [u8])>
     if size < 4 {
         return None;
     }
-    if size > 0x7fff_ffff {
+    if size as usize > MAXIMUM_SEQUENCE_SIZE {
         return None;
     }
     if size as usize > bytes.len() {

@@ -1,9 +1,8 @@
 use Rattle.std.proofs.Common.{arith, ◌≡◌, ◌≤◌, ◌+◌, ◌-◌, length, take, drop, subst, sym, ◌∙◌}
-use Rattle.std.proofs.lemmas.List.{length-take-le, length-drop}
 use Rattle.std.proofs.KnownBytes.{Consumes-trans}
 use Rattle.std.specs.Io.KnownBytes.{Consumes}
 use Rattle.mongo_wire.specs.Error.{kind_of_frame_fault}
-use Rattle.mongo_wire.proofs.ReadStopped.{stops_after, same_front, next_part, came_before, came_then, reads_on}
+use Rattle.mongo_wire.proofs.ReadStopped.{length_between, stops_after, same_front, next_part, came_before, came_then, reads_on}
 use Rattle.mongo_wire.proofs.reading.take_into.Goals as goal
 
 pub returns-in-Err-fill_store-clause-refused : goal.returns-in-Err-fill_store-clause-refused
@@ -13,7 +12,7 @@ returns-in-Err-fill_store-clause-refused g c =
     let store = c.taking.store.items in
     let taken = take (at - before) (drop before store) in
     let invariant = c.taking.invariant in
-    let size : length taken ≡ at - before = length-take-le (at - before) (drop before store) (omega (arith, length-drop before store, invariant.within, invariant.behind)) in
+    let size : length taken ≡ at - before = length_between before at store invariant.behind invariant.within in
     let after : at ≤ c.min-end.result = omega (arith, c.min-end.ensures, c.len.ensures, c.in-Ok.ensures.longer, c.taking-test.true) in
     let within : length taken + (c.min-end.result - at) ≤ c.args.wanted - before = omega (arith, size, after, c.min-end.ensures, invariant.behind) in
     stops_after (kind_of_frame_fault c.in-Err-fill_store.fault) _ _ _ taken _ _ invariant.taken invariant.on within c.in-Err-fill_store.ensures.refused
@@ -31,7 +30,7 @@ returns-in-Err-fill_store-clause-came g c = λ had left had_is left_is.
     let store = c.taking.store.items in
     let invariant = c.taking.invariant in
     let taken = take (at - before) (drop before store) in
-    let size : length taken ≡ at - before = length-take-le (at - before) (drop before store) (omega (arith, length-drop before store, invariant.within, invariant.behind)) in
+    let size : length taken ≡ at - before = length_between before at store invariant.behind invariant.within in
     let came = came_then (kind_of_frame_fault c.in-Err-fill_store.fault) (g.S.Outside.state c.args.source.now) _ _ taken _ had left invariant.taken had_is left_is c.in-Err-fill_store.ensures.refused in
     let room = c.in-Ok.ensures in
     omega (arith, c.in-Err-fill_store.ensures.memory, room.came, invariant.came, invariant.behind, size, came)
@@ -43,7 +42,7 @@ returns-in-Err-clause-refused g c =
     let store = c.taking.store.items in
     let invariant = c.taking.invariant in
     let taken = take (at - before) (drop before store) in
-    let size : length taken ≡ at - before = length-take-le (at - before) (drop before store) (omega (arith, length-drop before store, invariant.within, invariant.behind)) in
+    let size : length taken ≡ at - before = length_between before at store invariant.behind invariant.within in
     rw c.in-Err.ensures.refused (taken, omega (arith, size, invariant.short, invariant.behind), invariant.taken)
 
 pub returns-in-Err-clause-came : goal.returns-in-Err-clause-came
@@ -53,7 +52,7 @@ returns-in-Err-clause-came g c = λ had left had_is left_is.
     let store = c.taking.store.items in
     let invariant = c.taking.invariant in
     let taken = take (at - before) (drop before store) in
-    let size : length taken ≡ at - before = length-take-le (at - before) (drop before store) (omega (arith, length-drop before store, invariant.within, invariant.behind)) in
+    let size : length taken ≡ at - before = length_between before at store invariant.behind invariant.within in
     let came = came_before _ _ taken had left invariant.taken had_is left_is in
     omega (arith, c.in-Err.ensures.came, invariant.came, invariant.behind, size, came)
 
@@ -64,7 +63,7 @@ returns-clause-came g c = λ had left had_is left_is.
     let store = c.taking.store.items in
     let invariant = c.taking.invariant in
     let taken = take (at - before) (drop before store) in
-    let size : length taken ≡ at - before = length-take-le (at - before) (drop before store) (omega (arith, length-drop before store, invariant.within, invariant.behind)) in
+    let size : length taken ≡ at - before = length_between before at store invariant.behind invariant.within in
     let came = came_before _ _ taken had left invariant.taken had_is left_is in
     omega (arith, invariant.came, invariant.behind, size, came)
 
