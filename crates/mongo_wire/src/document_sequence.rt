@@ -4,11 +4,8 @@ ghost use Rattle.mongo_bson.specs.Framed.{IsFramed};
 ghost use Rattle.mongo_wire.specs.Frame.{sequence_bytes};
 ghost use Rattle.mongo_wire.specs.Measure.{HasCountedSize, HoldsDocuments, documents_bytes};
 
-use mongo_bson::{BsonFault, Documents, Items, RawDocumentBuf, Text, TryClone};
+use mongo_bson::{BsonFault, Documents, Items, MAXIMUM_LENGTH, RawDocumentBuf, Text, TryClone};
 use std::alloc::Global;
-
-// The greatest size of a document sequence, the greatest `int32`.
-pub(crate) const MAXIMUM_SEQUENCE_SIZE: usize = 0x7FFF_FFFF;
 
 /// A section of kind 1: an identifier and the documents of the field that it names.
 #[derive(Debug, Drop)]
@@ -40,10 +37,10 @@ impl DocumentSequence {
         ensures none { IfNone result (¬ HasCountedSize self.now) }
     {
         let identifier = self.identifier.as_bytes();
-        if identifier.len() > MAXIMUM_SEQUENCE_SIZE - 5 {
+        if identifier.len() > MAXIMUM_LENGTH - 5 {
             return None;
         }
-        let room = MAXIMUM_SEQUENCE_SIZE - 5 - identifier.len();
+        let room = MAXIMUM_LENGTH - 5 - identifier.len();
         match documents_size(self.documents.as_slice(), room) {
             Some(size) => Some((identifier.len() + 5 + size) as u32),
             None => None,

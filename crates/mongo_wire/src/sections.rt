@@ -1,9 +1,8 @@
 ghost use Rattle.std.specs.Prelude.{◌↔◌, IsTrue, MatchOption};
 ghost use Rattle.mongo_wire.specs.Sections.{BeginsWithDocument, HasNoDocument, AreDocuments, SplitsSequence, HasNoSequence, BeginsWithSection, SplitsSection, HasNoSection};
 
-use crate::document_sequence::MAXIMUM_SEQUENCE_SIZE;
 use crate::header::number;
-use mongo_bson::{RawDocument, take_cstring};
+use mongo_bson::{MAXIMUM_LENGTH, RawDocument, take_cstring};
 
 // A section as it lies in a frame.
 #[derive(Debug, Clone, Copy)]
@@ -85,7 +84,7 @@ fn split_sequence<'a>(bytes: &'a [u8]) -> Option<(SequenceRef<'a>, &'a [u8])>
     if size < 4 {
         return None;
     }
-    if size as usize > MAXIMUM_SEQUENCE_SIZE {
+    if size as usize > MAXIMUM_LENGTH {
         return None;
     }
     if size as usize > bytes.len() {

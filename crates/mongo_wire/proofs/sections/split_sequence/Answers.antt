@@ -16,6 +16,6 @@ returns c =
     record {
       shorter = omega (arith, ap length c.split_at.ensures.back, length-drop size bytes, c.if-size-lt4.false, c.if-size-bytes.false);
       whole = λ are. sequence_found bytes c.split_at-2.result.1.now c.split_at.result.1.now size _ (λ i. (c.type_inv.bytes i).fits)
-          c.if-size-lt4.false (omega (arith, c.if-size-gt-MAXIMUM_SEQUENCE_SIZE.false)) c.if-size-bytes.false c.number-size.ensures content c.split_at.ensures.back c.in_ok-identifier.ensures are;
+          c.if-size-lt4.false (omega (arith, c.if-size-gt-MAXIMUM_LENGTH.false)) c.if-size-bytes.false c.number-size.ensures content c.split_at.ensures.back c.in_ok-identifier.ensures are;
       filled = sequence_filled bytes c.split_at-2.result.1.now c.in_ok-identifier.identifier.now c.in_ok-identifier.documents.now size c.number-size.ensures content c.in_ok-identifier.ensures;
     }
