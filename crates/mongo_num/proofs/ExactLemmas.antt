@@ -55,6 +55,12 @@ divisor_nonzero n b d z =
 divisor_counts : (n : ℤ) → IsNarrow n → n ≢ pos 0 → 0 < cast_unsigned w128 (passed n)
 divisor_counts n b nonzero = subst (λ (k : ℤ). 0 < cast_unsigned w128 k) (sym (passed_narrow n b)) (grind (arith, ints))
 
+-- 128 bits have a quotient that the type has
+pub can_divide : (least greatest m n : ℤ) → IsNarrow m → IsNarrow n → ((k : ℤ) → IsWithin least greatest k → IsNarrow k) →
+    Divides least greatest m n → CanDivide w128 (passed m) (passed n)
+can_divide least greatest m n a b narrow d =
+    (divisor_counts n b d.nonzero, rw (passed_narrow m a, passed_narrow n b) (narrow_fits _ (narrow _ d.quotient)))
+
 -- the lowest bits on 128 bits
 low_bits_is : (n m low : ℤ) (k : ℕ) → FitsSigned w128 n → FitsSigned w128 m → m ≡ pos (2 ^ k) →
     low ≡ int_rem_euclid (passed n) (passed m) → low ≡ int_rem_euclid n (pos (2 ^ k))
@@ -113,13 +119,11 @@ module _ {T : Type 0} (number : T → ℤ) (least greatest : ℤ) where
       λ h. none (rw (passed_narrow m a, passed_narrow n b) (narrow_fits (m *ℤ n) (narrow (m *ℤ n) h))) in
       record { there = (search rules, λ h. absurd (outside h)); value = search rules }
 
-  -- a quotient that 128 bits do not have, and so no remainder either
+  -- a quotient that 128 bits do not have
   pub no_quotient : (m n z : ℤ) → IsNarrow m → IsNarrow n → ((k : ℤ) → IsWithin least greatest k → IsNarrow k) →
       (CanDivide w128 (passed m) (passed n) → ⊥) → HoldsWhere number (Divides least greatest m n) z None
   no_quotient m n z a b narrow none =
-      let undivided : Divides least greatest m n → ⊥ =
-      λ d. none (divisor_counts n b d.nonzero, rw (passed_narrow m a, passed_narrow n b) (narrow_fits _ (narrow _ d.quotient))) in
-      record { there = (search rules, λ d. absurd (undivided d)); value = search rules }
+      record { there = (search rules, λ d. absurd (none (can_divide least greatest m n a b narrow d))); value = search rules }
 
   -- a quotient on 128 bits
   pub quotient_holds : (m n q : ℤ) (r : Option T) → IsNarrow m → IsNarrow n → FitsSigned w128 q →

@@ -132,6 +132,6 @@ fn remainder<T: Int>(x: T, y: T) -> Option<T>
     quotient(x, y)?;
     match wide(x).checked_rem(wide(y)) {
         Some(n) => T::of_i128(n),
-        None => None,
+        None => unreachable!(),
     }
 }
