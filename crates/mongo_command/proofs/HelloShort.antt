@@ -1,7 +1,6 @@
 -- A hello is short, so that memory alone can be wanting.
-use Rattle.std.proofs.Common.{◌≡◌, ℕ, ◌+◌, ◌^◌, ◌<◌, Bool, true, false, Option, None, Some, List, [], ◌∷◌, ◌++◌, length, length-append, flat_map, refl, ap, ◌∙◌, subst, IfSome, arith}
+use Rattle.std.proofs.Common.{◌≡◌, ℕ, ◌+◌, ◌^◌, ◌<◌, Bool, true, false, Option, None, Some, List, [], ◌∷◌, ◌++◌, length, length-append, flat_map, refl, sym, ap, ◌∙◌, subst, Result, Ok, Err, IfSome, IfOk, IfErr, arith}
 use Rattle.mongo_bson.specs.Document.{Element, spell}
-use Rattle.mongo_bson.specs.Framed.{body_of, enclosed}
 use Rattle.mongo_bson.specs.declared.fault.BsonFault.{BsonFault}
 use Rattle.mongo_bson.specs.declared.fault.BsonFault.TheVariants.{TooLong, OutOfMemory}
 use Rattle.mongo_bson.proofs.Enclosed.{length-enclosed}
@@ -34,18 +33,17 @@ short_hello false None (Some options) short = omega (arith, length-document_of (
 short_hello false (Some boolean) None short = omega (arith, length-document_of (named_elements false (Some boolean) None))
 short_hello false (Some boolean) (Some options) short = omega (arith, length-document_of (named_elements false (Some boolean) (Some options)))
 
--- fields that are put into an empty document are the whole
-pub first_fields : (old new : List ℕ) (fields elements : List Element) → fields ≡ elements → old ≡ enclosed [] → new ≡ enclosed (body_of old ++ flat_map spell fields) → new ≡ document_of elements
-first_fields old new fields elements same empty added =
-    added ∙ ap (λ d. enclosed (body_of d ++ flat_map spell fields)) empty ∙ ap document_of same
-
 short_fault : (fault : BsonFault) (document : List ℕ) → TooLongFor fault document → length document < 2 ^ 31 → fault ≡ OutOfMemory
 short_fault TooLong document long short = absurd (omega arith)
 short_fault OutOfMemory document long short = refl
 short_fault fault document long short = absurd long
 
--- where the whole is short, only memory can be wanting
-pub only_memory : (fault : BsonFault) (old : List ℕ) (fields elements : List Element) → fields ≡ elements → old ≡ enclosed [] → TooLongFor fault (enclosed (body_of old ++ flat_map spell fields)) → length (document_of elements) < 2 ^ 31 → fault ≡ OutOfMemory
-only_memory fault old fields elements same empty long short =
-    let whole : enclosed (body_of old ++ flat_map spell fields) ≡ document_of elements = ap (λ d. enclosed (body_of d ++ flat_map spell fields)) empty ∙ ap document_of same in
-    short_fault fault (document_of elements) (subst (TooLongFor fault) whole long) short
+-- where a document is short, only memory can be wanting for it
+pub only_memory : {T : Type 0} (answer : Result T BsonFault) (fields elements : List Element) → fields ≡ elements → length (document_of elements) < 2 ^ 31 → IfErr answer (λ fault. TooLongFor fault (document_of fields)) → IfErr answer (λ fault. fault ≡ OutOfMemory)
+only_memory (Ok value) fields elements same short refused = tt
+only_memory (Err fault) fields elements same short refused = short_fault fault (document_of elements) (subst (λ es. TooLongFor fault (document_of es)) same refused) short
+
+-- and what is made is as short
+pub short_document : (answer : Result (List ℕ) BsonFault) (fields elements : List Element) → fields ≡ elements → length (document_of elements) < 2 ^ 8 → IfOk answer (λ document. document ≡ document_of fields) → IfOk answer (λ document. length document < 2 ^ 8)
+short_document (Ok document) fields elements same short is = subst (λ d. length d < 2 ^ 8) (sym (is ∙ ap document_of same)) short
+short_document (Err fault) fields elements same short is = tt

@@ -23,4 +23,5 @@ pub mod Tables
 pub mod OneWrite
 pub mod Kept
 pub mod CarriedArguments
+pub mod ArgumentSizes
 pub mod Rest

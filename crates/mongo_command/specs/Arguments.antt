@@ -1,7 +1,7 @@
 -- What the writer of a command's generic arguments holds: the fields that it still has to write.
-use Rattle.std.specs.Prelude.{ℕ, ◌-◌, ◌^◌, ◌<◌, Option, None, Some, List, [], ◌∷◌, length, Contains, ⊤}
+use Rattle.std.specs.Prelude.{ℕ, ◌-◌, ◌^◌, ◌<◌, min, Option, None, Some, List, [], ◌∷◌, length, flat_map, Contains, ⊤}
 use Rattle.std.specs.Borrow.{Bor}
-use Rattle.mongo_bson.specs.Document.{Element}
+use Rattle.mongo_bson.specs.Document.{Element, spell}
 use Rattle.mongo_bson.specs.Value.{element_of}
 use Rattle.mongo_bson.specs.declared.raw_value.RawValue.{RawValue}
 use Rattle.mongo_bson.specs.declared.fault.BsonFault.{BsonFault}
@@ -11,6 +11,10 @@ use Rattle.mongo_bson.specs.declared.fault.BsonFault.TheVariants.{TooLong, OutOf
 abbrev pub field_elements : Option (Bor (List ℕ) × RawValue) → List Element
 field_elements None = []
 field_elements (Some field) = element_of field.0.now field.1 ∷ []
+
+-- how many bytes elements are written as, at most as many as 64 bits say
+abbrev pub size_of_elements : List Element → ℕ
+size_of_elements elements = min (length (flat_map spell elements)) (2 ^ 64 - 1)
 
 -- its key has no zero byte
 abbrev pub IsNamed : Option (Bor (List ℕ) × RawValue) → Type 0

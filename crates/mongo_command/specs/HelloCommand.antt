@@ -3,7 +3,7 @@
 use Rattle.std.specs.Prelude.{ℕ, ℤ, pos, ◌-◌, ◌^◌, nat_lt, ◌||◌, Bool, true, false, Option, None, Some, option_map, is_some, is_none, unwrap_or, List, [], ◌∷◌, ◌++◌, codes, if◌then◌else◌}
 use Rattle.mongo_bson.specs.Document.{Element}
 use Rattle.mongo_command.specs.Literal.{text_element, document_element, object_id_element, int32_element, int64_element, boolean_element, document_of}
-use Rattle.mongo_command.specs.Command.{given, command_of}
+use Rattle.mongo_command.specs.Command.{present, command_of}
 use Rattle.mongo_command.specs.declared.server_api.ServerApi.{ServerApi}
 use Rattle.mongo_command.specs.declared.inner_documents.TopologyVersion.{TopologyVersion}
 use Rattle.mongo_command.specs.declared.hello.AwaitableHelloOptions.{AwaitableHelloOptions}
@@ -39,10 +39,10 @@ await_time options = if nat_lt options.max_await_time_ms (2 ^ 63) then pos optio
 abbrev pub named_elements : Bool → Option Bool → Option AwaitableHelloOptions → List Element
 named_elements modern hello_ok awaitable =
     int32_element (hello_name modern) (pos 1)
-    ∷ (given (boolean_element hello_ok_key) (asked_hello_ok modern hello_ok)
+    ∷ (present (boolean_element hello_ok_key) (asked_hello_ok modern hello_ok)
     ++ (text_element (codes "backpressure") (codes "2")
-    ∷ (given (document_element topology_version_key) (option_map topology_version_document awaitable)
-    ++ (given (int64_element (codes "maxAwaitTimeMS")) (option_map await_time awaitable)
+    ∷ (present (document_element topology_version_key) (option_map topology_version_document awaitable)
+    ++ (present (int64_element (codes "maxAwaitTimeMS")) (option_map await_time awaitable)
     ++ []))))
 
 abbrev pub hello_elements : Option ServerApi → Option Bool → Option Bool → Option AwaitableHelloOptions → List Element

@@ -6,10 +6,11 @@ ghost use Rattle.mongo_command.specs.Command.{carried_elements, argument_element
 ghost use Rattle.mongo_command.specs.Arguments.{field_elements, IsNamed, TooLongFor};
 
 use crate::ServerApi;
-use crate::arguments::{
-    ArgumentField, append_arguments, boolean_field, copy_with_room, document_field, int64_field,
-    size_of_field, size_of_fields, version_field, write_concern_field,
+use crate::argument_field::{
+    ArgumentField, optional_boolean_field, optional_document_field, optional_int64_field,
+    optional_version_field, optional_write_concern_field,
 };
+use crate::arguments::{append_arguments, copy_with_room, size_of_field, size_of_fields};
 use crate::copies::copies_of;
 use crate::keys::{CLUSTER_TIME, DB};
 use crate::read_concern::ReadConcern;
@@ -107,21 +108,21 @@ impl GenericArguments {
         ensures named { AllByRecursion IsNamed result }
     {
         [
-            document_field("lsid", &self.lsid),
-            document_field(CLUSTER_TIME, &self.cluster_time),
-            version_field(self.server_api),
-            boolean_field("apiStrict", strict_of(self.server_api)),
-            boolean_field(
+            optional_document_field("lsid", &self.lsid),
+            optional_document_field(CLUSTER_TIME, &self.cluster_time),
+            optional_version_field(self.server_api),
+            optional_boolean_field("apiStrict", strict_of(self.server_api)),
+            optional_boolean_field(
                 "apiDeprecationErrors",
                 deprecation_errors_of(self.server_api),
             ),
-            document_field("$readPreference", &self.read_preference),
-            int64_field("txnNumber", self.txn_number),
-            boolean_field("startTransaction", self.start_transaction),
-            boolean_field("autocommit", self.autocommit),
-            document_field("readConcern", read_concern),
-            write_concern_field(&self.write_concern),
-            document_field("recoveryToken", &self.recovery_token),
+            optional_document_field("$readPreference", &self.read_preference),
+            optional_int64_field("txnNumber", self.txn_number),
+            optional_boolean_field("startTransaction", self.start_transaction),
+            optional_boolean_field("autocommit", self.autocommit),
+            optional_document_field("readConcern", read_concern),
+            optional_write_concern_field(&self.write_concern),
+            optional_document_field("recoveryToken", &self.recovery_token),
         ]
     }
 

@@ -4,7 +4,11 @@ ghost use Rattle.mongo_command.specs.Literal.{document_of};
 ghost use Rattle.mongo_command.specs.Arguments.{field_elements, IsNamed};
 ghost use Rattle.mongo_command.specs.HelloCommand.{hello_name, asked_hello_ok, topology_version_elements, topology_version_document, await_time, named_elements};
 
-use crate::arguments::{ArgumentField, append_fields, boolean_field, document_field, int64_field};
+use crate::argument_field::{
+    ArgumentField, int32_field, int64_field, optional_boolean_field, optional_document_field,
+    optional_int64_field,
+};
+use crate::arguments::document_of;
 use crate::keys::{COUNTER, HELLO_OK, PROCESS_ID, TOPOLOGY_VERSION};
 use crate::{AwaitableHelloOptions, LEGACY_HELLO_COMMAND_NAME, TopologyVersion};
 use mongo_bson::{BsonFault, RawDocumentBuf, RawValue};
@@ -45,9 +49,7 @@ pub(crate) fn hello_body(
 {
     let topology_version = topology_version_document(alloc, awaitable)?;
     let fields = hello_fields(modern, hello_ok, awaitable, &topology_version);
-    let mut body = RawDocumentBuf::new(alloc)?;
-    append_fields(&mut body, &fields)?;
-    Ok(body)
+    document_of(alloc, &fields)
 }
 
 // The fields of a hello in their order.
@@ -62,11 +64,11 @@ fn hello_fields<'a>(
     ensures named { AllByRecursion IsNamed result }
 {
     [
-        Some((hello_name(modern), RawValue::Int32(1))),
-        boolean_field(HELLO_OK, asked_hello_ok(modern, hello_ok)),
+        int32_field(hello_name(modern), 1),
+        optional_boolean_field(HELLO_OK, asked_hello_ok(modern, hello_ok)),
         Some(("backpressure", RawValue::Str("2"))),
-        document_field(TOPOLOGY_VERSION, topology_version),
-        int64_field("maxAwaitTimeMS", await_time(awaitable)),
+        optional_document_field(TOPOLOGY_VERSION, topology_version),
+        optional_int64_field("maxAwaitTimeMS", await_time(awaitable)),
     ]
 }
 
@@ -114,9 +116,7 @@ fn document_of_version(alloc: Global, version: TopologyVersion) -> Result<RawDoc
     ensures refused { IfErr result (λ fault. fault ≡ BsonFault.OutOfMemory) }
 {
     let fields = version_fields(version);
-    let mut document = RawDocumentBuf::new(alloc)?;
-    append_fields(&mut document, &fields)?;
-    Ok(document)
+    document_of(alloc, &fields)
 }
 
 // The fields of a state in their order.
@@ -126,6 +126,6 @@ fn version_fields(version: TopologyVersion) -> [ArgumentField<'static>; 2]
 {
     [
         Some((PROCESS_ID, RawValue::ObjectId(version.process_id))),
-        int64_field(COUNTER, Some(version.counter)),
+        int64_field(COUNTER, version.counter),
     ]
 }

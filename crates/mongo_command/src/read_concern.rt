@@ -3,7 +3,8 @@ ghost use Rattle.std.specs.List.{AllByRecursion};
 ghost use Rattle.mongo_command.specs.Command.{read_concern_elements, read_concern_document, timestamp_bytes};
 ghost use Rattle.mongo_command.specs.Arguments.{field_elements, IsNamed, TooLongFor};
 
-use crate::arguments::{ArgumentField, append_fields, text_field, timestamp_field};
+use crate::argument_field::{ArgumentField, optional_text_field, optional_timestamp_field};
+use crate::arguments::document_of;
 use mongo_bson::{BsonFault, RawDocumentBuf, Text, TryClone, copy_of};
 use std::alloc::Global;
 
@@ -27,9 +28,7 @@ impl ReadConcern {
         let at_cluster_time = timestamp(self.at_cluster_time);
         let after_cluster_time = timestamp(self.after_cluster_time);
         let fields = self.fields(&at_cluster_time, &after_cluster_time);
-        let mut document = RawDocumentBuf::new(alloc)?;
-        append_fields(&mut document, &fields)?;
-        Ok(document)
+        document_of(alloc, &fields)
     }
 
     // The parts in their order; the times as the bytes of their timestamps.
@@ -44,9 +43,9 @@ impl ReadConcern {
         ensures named { AllByRecursion IsNamed result }
     {
         [
-            text_field("level", &self.level),
-            timestamp_field("atClusterTime", at_cluster_time),
-            timestamp_field("afterClusterTime", after_cluster_time),
+            optional_text_field("level", &self.level),
+            optional_timestamp_field("atClusterTime", at_cluster_time),
+            optional_timestamp_field("afterClusterTime", after_cluster_time),
         ]
     }
 }

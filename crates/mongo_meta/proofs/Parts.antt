@@ -8,7 +8,7 @@ use Rattle.mongo_bson.specs.declared.fault.BsonFault.{BsonFault}
 use Rattle.mongo_bson.specs.declared.fault.BsonFault.TheVariants.{TooLong, OutOfMemory}
 use Rattle.mongo_bson.proofs.Enclosed.{length-enclosed}
 use Rattle.mongo_command.specs.Literal.{document_element, text_element, document_of}
-use Rattle.mongo_command.specs.Command.{given}
+use Rattle.mongo_command.specs.Command.{present}
 use Rattle.mongo_command.specs.Arguments.{TooLongFor}
 use Rattle.mongo_command.proofs.CommandDocument.{joined}
 use Rattle.mongo_meta.specs.declared.client_metadata.ClientMetadata.{ClientMetadata}
@@ -39,14 +39,14 @@ pub later_part : (fault : BsonFault) (before more : List Element) → TooLongFor
 later_part fault before more long = longer fault (document_of more) (document_of (before ++ more)) (length-later before more) long
 
 -- the same of a part that may be there
-pub given_part : (fault : BsonFault) (key : List ℕ) (part : Option (List ℕ)) (more : List Element) → IsSomeAnd part (TooLongFor fault) → TooLongFor fault (document_of (given (document_element key) part ++ more))
+pub given_part : (fault : BsonFault) (key : List ℕ) (part : Option (List ℕ)) (more : List Element) → IsSomeAnd part (TooLongFor fault) → TooLongFor fault (document_of (present (document_element key) part ++ more))
 given_part fault key None more long = absurd long
 given_part fault key (Some part) more long = first_part fault (document_element key part) more long
 
 -- ---- the parts of metadata
 
 application_elements : ClientMetadata → List Element
-application_elements m = given (document_element (codes "application")) (option_map application_document m.application)
+application_elements m = present (document_element (codes "application")) (option_map application_document m.application)
 
 driver_element : ClientMetadata → Element
 driver_element m = document_element (codes "driver") (driver_document m.driver)
@@ -58,7 +58,7 @@ platform_element : ClientMetadata → Element
 platform_element m = text_element (codes "platform") m.platform
 
 environment_elements : ClientMetadata → List Element
-environment_elements m = given (document_element (codes "env")) (option_map environment_document m.env) ++ []
+environment_elements m = present (document_element (codes "env")) (option_map environment_document m.env) ++ []
 
 driver_long : (fault : BsonFault) (m : ClientMetadata) → TooLongFor fault (driver_document m.driver) → TooLongFor fault (metadata_document m)
 unfolding application_elements driver_element os_element platform_element environment_elements

@@ -2,7 +2,7 @@
 use Rattle.std.specs.Prelude.{ℕ, Option, Some, option_map, List, [], ◌∷◌, codes, flat_map}
 use Rattle.mongo_bson.specs.Document.{Element}
 use Rattle.mongo_command.specs.Literal.{text_element, int32_element, document_element, document_of}
-use Rattle.mongo_command.specs.Command.{given}
+use Rattle.mongo_command.specs.Command.{present}
 use Rattle.mongo_meta.specs.declared.client_metadata.AppMetadata.{AppMetadata}
 use Rattle.mongo_meta.specs.declared.client_metadata.DriverMetadata.{DriverMetadata}
 use Rattle.mongo_meta.specs.declared.client_metadata.ClientMetadata.{ClientMetadata}
@@ -16,41 +16,41 @@ document_of_given fields = document_of (flat_map (λ es. es) fields)
 
 abbrev pub application_document : AppMetadata → List ℕ
 application_document application = document_of_given (
-    given (text_element (codes "name")) (Some application.name)
+    present (text_element (codes "name")) (Some application.name)
     ∷ [])
 
 abbrev pub driver_document : DriverMetadata → List ℕ
 driver_document driver = document_of_given (
-    given (text_element (codes "name")) (Some driver.name)
-    ∷ given (text_element (codes "version")) (Some driver.version)
+    present (text_element (codes "name")) (Some driver.name)
+    ∷ present (text_element (codes "version")) (Some driver.version)
     ∷ [])
 
 abbrev pub os_document : OsMetadata → List ℕ
 os_document os = document_of_given (
-    given (text_element (codes "type")) (Some os.os_type)
-    ∷ given (text_element (codes "name")) os.name
-    ∷ given (text_element (codes "architecture")) os.architecture
-    ∷ given (text_element (codes "version")) os.version
+    present (text_element (codes "type")) (Some os.os_type)
+    ∷ present (text_element (codes "name")) os.name
+    ∷ present (text_element (codes "architecture")) os.architecture
+    ∷ present (text_element (codes "version")) os.version
     ∷ [])
 
 abbrev pub environment_document : RuntimeEnvironment → List ℕ
 environment_document env = document_of_given (
-    given (text_element (codes "name")) (option_map name_text env.name)
-    ∷ given (text_element (codes "runtime")) env.runtime
-    ∷ given (int32_element (codes "timeout_sec")) env.timeout_sec
-    ∷ given (int32_element (codes "memory_mb")) env.memory_mb
-    ∷ given (text_element (codes "region")) env.region
-    ∷ given (document_element (codes "container")) env.container
+    present (text_element (codes "name")) (option_map name_text env.name)
+    ∷ present (text_element (codes "runtime")) env.runtime
+    ∷ present (int32_element (codes "timeout_sec")) env.timeout_sec
+    ∷ present (int32_element (codes "memory_mb")) env.memory_mb
+    ∷ present (text_element (codes "region")) env.region
+    ∷ present (document_element (codes "container")) env.container
     ∷ [])
 
 -- by the documents of its parts
 abbrev pub document_of_parts : Option (List ℕ) → List ℕ → List ℕ → List ℕ → Option (List ℕ) → List ℕ
 document_of_parts application driver os platform env = document_of_given (
-    given (document_element (codes "application")) application
-    ∷ given (document_element (codes "driver")) (Some driver)
-    ∷ given (document_element (codes "os")) (Some os)
-    ∷ given (text_element (codes "platform")) (Some platform)
-    ∷ given (document_element (codes "env")) env
+    present (document_element (codes "application")) application
+    ∷ present (document_element (codes "driver")) (Some driver)
+    ∷ present (document_element (codes "os")) (Some os)
+    ∷ present (text_element (codes "platform")) (Some platform)
+    ∷ present (document_element (codes "env")) env
     ∷ [])
 
 abbrev pub metadata_document : ClientMetadata → List ℕ

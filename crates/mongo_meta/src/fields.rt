@@ -1,7 +1,7 @@
 ghost use Rattle.std.specs.Prelude.{◌≡◌, ◌<◌, Some, flat_map, Contains, IfOk, IfErr};
 ghost use Rattle.std.specs.List.{AllByRecursion};
 ghost use Rattle.mongo_command.specs.Literal.{text_element, document_element, int32_element, document_of};
-ghost use Rattle.mongo_command.specs.Command.{given};
+ghost use Rattle.mongo_command.specs.Command.{present};
 ghost use Rattle.mongo_command.specs.Arguments.{field_elements, IsNamed, TooLongFor};
 
 use mongo_bson::{BsonFault, RawDocumentBuf, RawValue, Text};
@@ -25,7 +25,7 @@ pub(crate) fn document_of(alloc: Global, fields: &[Field<'_>]) -> Result<RawDocu
 // A text.
 pub(crate) fn text_field<'a>(key: &'static str, text: &'a Text) -> Field<'a>
     requires { ¬ Contains key.now 0 }
-    ensures elements { field_elements result ≡ given (text_element key.now) (Some text.now) }
+    ensures elements { field_elements result ≡ present (text_element key.now) (Some text.now) }
     ensures named { IsNamed result }
 {
     Some((key, RawValue::Str(text.as_str())))
@@ -34,7 +34,7 @@ pub(crate) fn text_field<'a>(key: &'static str, text: &'a Text) -> Field<'a>
 // A text that may be there.
 pub(crate) fn optional_text_field<'a>(key: &'static str, text: &'a Option<Text>) -> Field<'a>
     requires { ¬ Contains key.now 0 }
-    ensures elements { field_elements result ≡ given (text_element key.now) text.now }
+    ensures elements { field_elements result ≡ present (text_element key.now) text.now }
     ensures named { IsNamed result }
 {
     match text {
@@ -46,7 +46,7 @@ pub(crate) fn optional_text_field<'a>(key: &'static str, text: &'a Option<Text>)
 // A document.
 pub(crate) fn document_field<'a>(key: &'static str, document: &'a RawDocumentBuf) -> Field<'a>
     requires { ¬ Contains key.now 0 }
-    ensures elements { field_elements result ≡ given (document_element key.now) (Some document.now) }
+    ensures elements { field_elements result ≡ present (document_element key.now) (Some document.now) }
     ensures named { IsNamed result }
 {
     Some((key, RawValue::Document(document.borrow())))
@@ -58,7 +58,7 @@ pub(crate) fn optional_document_field<'a>(
     document: &'a Option<RawDocumentBuf>,
 ) -> Field<'a>
     requires { ¬ Contains key.now 0 }
-    ensures elements { field_elements result ≡ given (document_element key.now) document.now }
+    ensures elements { field_elements result ≡ present (document_element key.now) document.now }
     ensures named { IsNamed result }
 {
     match document {
@@ -70,7 +70,7 @@ pub(crate) fn optional_document_field<'a>(
 // A 32-bit number that may be there.
 pub(crate) fn optional_int32_field(key: &'static str, number: Option<i32>) -> Field<'static>
     requires { ¬ Contains key.now 0 }
-    ensures elements { field_elements result ≡ given (int32_element key.now) number }
+    ensures elements { field_elements result ≡ present (int32_element key.now) number }
     ensures named { IsNamed result }
 {
     match number {

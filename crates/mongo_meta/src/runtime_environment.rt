@@ -1,6 +1,6 @@
 ghost use Rattle.std.specs.Prelude.{◌≡◌, option_map, codes, IfOk, IfErr};
 ghost use Rattle.mongo_command.specs.Literal.{text_element};
-ghost use Rattle.mongo_command.specs.Command.{given};
+ghost use Rattle.mongo_command.specs.Command.{present};
 ghost use Rattle.mongo_command.specs.Arguments.{field_elements, IsNamed, TooLongFor};
 ghost use Rattle.mongo_meta.specs.Providers.{name_text, provider, taken_of};
 ghost use Rattle.mongo_wire.specs.declared.error.ErrorKind.TheVariants.{OutOfMemory};
@@ -151,7 +151,7 @@ fn taken_of(
 
 // The provider's name.
 fn name_field(name: Option<FaasEnvironmentName>) -> Field<'static>
-    ensures elements { field_elements result ≡ given (text_element (codes "name")) (option_map name_text name) }
+    ensures elements { field_elements result ≡ present (text_element (codes "name")) (option_map name_text name) }
     ensures named { IsNamed result }
 {
     match name {

@@ -7,7 +7,7 @@ use Rattle.mongo_wire.specs.declared.error.Error.{Error}
 use Rattle.mongo_wire.specs.declared.error.ErrorKind.{ErrorKind}
 use Rattle.mongo_wire.specs.declared.error.ErrorKind.TheVariants.{OutOfMemory}
 use Rattle.mongo_wire.specs.Outside.{State}
-use Rattle.mongo_command.specs.Command.{given}
+use Rattle.mongo_command.specs.Command.{present}
 use Rattle.mongo_command.specs.Conversation.{plain_message, ends, saying, reading, ending, Reached, Stopped}
 use Rattle.mongo_command.specs.Exchange.{CountsStay, Exchanges}
 use Rattle.mongo_command.specs.Literal.{text_element, int32_element}
@@ -35,7 +35,7 @@ module _ (handed : X509Handed) (later : handed.speculated ≡ false) where
   x509_unbuilt kind old before unbuilt =
       x509_stopped kind old old before before
       (unbuilt_stopped (x509_said handed) x509_heard (x509_command handed.credential handed.server_api) kind old before refl
-      (omega (arith, length-enclosed (flat_map spell (int32_element authenticate_key (pos 1) ∷ text_element mechanism_key (codes "MONGODB-X509") ∷ given (text_element (codes "username")) handed.credential.username)))) unbuilt)
+      (omega (arith, length-enclosed (flat_map spell (int32_element authenticate_key (pos 1) ∷ text_element mechanism_key (codes "MONGODB-X509") ∷ present (text_element (codes "username")) handed.credential.username)))) unbuilt)
 
   -- the server took the certificate
   pub x509_replied : {T : Type 0} (r : Result T Error) (reply held : List ℕ) (old new : State) (before after : ℤ) → reply ≡ held → Exchanges handed.maximum (plain_message (x509_said handed).document) old new before after reply → CountsStay old new → OnOk r (IsCertificateTaken reply) → OnOk r (EndsByReply (x509_plan handed) tt held old new before after)

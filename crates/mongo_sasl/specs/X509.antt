@@ -9,7 +9,7 @@ use Rattle.mongo_wire.specs.declared.auth_fault.AuthFault.TheVariants.{Malformed
 use Rattle.mongo_wire.specs.Outside.{State}
 use Rattle.mongo_command.specs.declared.command.Command.{Command}
 use Rattle.mongo_command.specs.declared.server_api.ServerApi.{ServerApi}
-use Rattle.mongo_command.specs.Command.{given, command_of, command_document}
+use Rattle.mongo_command.specs.Command.{present, command_of, command_document}
 use Rattle.mongo_command.specs.Conversation.{Said, Plan, HasNone, or_else, row_for, row_of, ending, unless, reading, saying}
 use Rattle.mongo_command.specs.Field.{field_of}
 use Rattle.mongo_command.specs.Hello.{IsSuccess}
@@ -27,7 +27,7 @@ x509_body username =
     document_of
     (int32_element authenticate_key (pos 1)
     ∷ text_element mechanism_key (codes "MONGODB-X509")
-    ∷ given (text_element (codes "username")) username)
+    ∷ present (text_element (codes "username")) username)
 
 -- the `authenticate` of `$external`
 abbrev pub x509_command : Credential → Option ServerApi → Command

@@ -1,14 +1,15 @@
-use Rattle.std.proofs.lemmas.Result.{err_from_is_err_and}
+use Rattle.std.proofs.Common.{◌≡◌, List, subst, IfOk}
+use Rattle.mongo_bson.specs.Document.{Element}
+use Rattle.mongo_command.specs.Literal.{document_of}
 use Rattle.mongo_command.specs.HelloCommand.{named_elements}
-use Rattle.mongo_command.proofs.HelloShort.{short_hello, first_fields, only_memory}
+use Rattle.mongo_command.proofs.HelloShort.{short_hello, only_memory}
 use Rattle.mongo_command.proofs.hello_body.hello_body.Goals as goal
-
-pub returns-in_err-append_fields-clause-refused : goal.returns-in_err-append_fields-clause-refused
-returns-in_err-append_fields-clause-refused c =
-    let short = short_hello c.args.modern c.args.hello_ok c.args.awaitable c.in_ok-topology_version.ensures.short in
-    let e = err_from_is_err_and c.from_residual-in_err-append_fields.result c.from_residual-in_err-append_fields.ensures.1 in
-    rw (e.1, e.2) (only_memory c.in_err-append_fields.field-0.0 _ _ (named_elements c.args.modern c.args.hello_ok c.args.awaitable) c.hello_fields-fields.ensures.elements c.in_ok-body.ensures.empty c.in_err-append_fields.ensures.refused short)
 
 pub returns-clause-body : goal.returns-clause-body
 returns-clause-body c =
-    first_fields _ _ _ _ c.hello_fields-fields.ensures.elements c.in_ok-body.ensures.empty c.in_ok-append_fields.ensures.added
+    subst (λ (es : List Element). IfOk c.document_of.result (λ body. body ≡ document_of es)) c.hello_fields-fields.ensures.elements c.document_of.ensures.document
+
+pub returns-clause-refused : goal.returns-clause-refused
+returns-clause-refused c =
+    let short = short_hello c.args.modern c.args.hello_ok c.args.awaitable c.in_ok-topology_version.ensures.short in
+    only_memory c.document_of.result _ (named_elements c.args.modern c.args.hello_ok c.args.awaitable) c.hello_fields-fields.ensures.elements short c.document_of.ensures.refused

@@ -1,21 +1,21 @@
 use Rattle.std.proofs.Common.{ap, refl, codes, ◌∙◌}
 use Rattle.mongo_command.specs.Literal.{document_element, boolean_element}
-use Rattle.mongo_command.specs.Command.{given}
+use Rattle.mongo_command.specs.Command.{present}
 use Rattle.mongo_command.proofs.CommandDocument.{joined}
 use Rattle.mongo_command.proofs.generic_arguments.GenericArguments.fields.Goals as goal
 
 pub returns-clause-elements : goal.returns-clause-elements
 returns-clause-elements c =
-    joined _ _ _ _ c.document_field.ensures.elements
-    (joined _ _ _ _ c.document_field-2.ensures.elements
-    (joined _ _ _ _ c.version_field.ensures.elements
-    (joined _ _ _ _ (c.boolean_field.ensures.elements ∙ ap (given (boolean_element (codes "apiStrict"))) c.strict_of.ensures)
-    (joined _ _ _ _ (c.boolean_field-2.ensures.elements ∙ ap (given (boolean_element (codes "apiDeprecationErrors"))) c.deprecation_errors_of.ensures)
-    (joined _ _ _ _ c.document_field-3.ensures.elements
-    (joined _ _ _ _ c.int64_field.ensures.elements
-    (joined _ _ _ _ c.boolean_field-3.ensures.elements
-    (joined _ _ _ _ c.boolean_field-4.ensures.elements
-    (joined _ _ _ _ (c.document_field-4.ensures.elements ∙ ap (given (document_element (codes "readConcern"))) c.requires)
-    (joined _ _ _ _ c.write_concern_field.ensures.elements
-    (joined _ _ _ _ c.document_field-5.ensures.elements
+    joined _ _ _ _ c.optional_document_field.ensures.elements
+    (joined _ _ _ _ c.optional_document_field-2.ensures.elements
+    (joined _ _ _ _ c.optional_version_field.ensures.elements
+    (joined _ _ _ _ (c.optional_boolean_field.ensures.elements ∙ ap (present (boolean_element (codes "apiStrict"))) c.strict_of.ensures)
+    (joined _ _ _ _ (c.optional_boolean_field-2.ensures.elements ∙ ap (present (boolean_element (codes "apiDeprecationErrors"))) c.deprecation_errors_of.ensures)
+    (joined _ _ _ _ c.optional_document_field-3.ensures.elements
+    (joined _ _ _ _ c.optional_int64_field.ensures.elements
+    (joined _ _ _ _ c.optional_boolean_field-3.ensures.elements
+    (joined _ _ _ _ c.optional_boolean_field-4.ensures.elements
+    (joined _ _ _ _ (c.optional_document_field-4.ensures.elements ∙ ap (present (document_element (codes "readConcern"))) c.requires)
+    (joined _ _ _ _ c.optional_write_concern_field.ensures.elements
+    (joined _ _ _ _ c.optional_document_field-5.ensures.elements
     refl)))))))))))

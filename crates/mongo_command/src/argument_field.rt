@@ -1,0 +1,164 @@
+ghost use Rattle.std.specs.Prelude.{◌≡◌, ◌∷◌, [], Contains, option_map};
+ghost use Rattle.mongo_command.specs.Literal.{text_element, document_element, int32_element, int64_element, boolean_element};
+ghost use Rattle.mongo_command.specs.Command.{version_text, present, timestamp_element, sent_concern};
+ghost use Rattle.mongo_command.specs.Arguments.{field_elements, IsNamed};
+ghost use Rattle.mongo_command.specs.Keys.{api_version_key, write_concern_key};
+
+use crate::ServerApi;
+use crate::keys::{API_VERSION, WRITE_CONCERN};
+use mongo_bson::{RawDocumentBuf, RawValue, Text};
+
+// The length of a document without elements.
+const EMPTY_DOCUMENT: usize = 5;
+
+/// A field of a document that may be there: its key and its value.
+pub type ArgumentField<'a> = Option<(&'static str, RawValue<'a>)>;
+
+/// A text.
+pub fn text_field<'a>(key: &'static str, text: &'a Text) -> ArgumentField<'a>
+    requires { ¬ Contains key.now 0 }
+    ensures elements { field_elements result ≡ text_element key.now text.now ∷ [] }
+    ensures named { IsNamed result }
+{
+    Some((key, RawValue::Str(text.as_str())))
+}
+
+/// A text that may be there.
+pub fn optional_text_field<'a>(key: &'static str, text: &'a Option<Text>) -> ArgumentField<'a>
+    requires { ¬ Contains key.now 0 }
+    ensures elements { field_elements result ≡ present (text_element key.now) text.now }
+    ensures named { IsNamed result }
+{
+    match text {
+        Some(text) => text_field(key, text),
+        None => None,
+    }
+}
+
+/// A document.
+pub fn document_field<'a>(key: &'static str, document: &'a RawDocumentBuf) -> ArgumentField<'a>
+    requires { ¬ Contains key.now 0 }
+    ensures elements { field_elements result ≡ document_element key.now document.now ∷ [] }
+    ensures named { IsNamed result }
+{
+    Some((key, RawValue::Document(document.borrow())))
+}
+
+/// A document that may be there.
+pub fn optional_document_field<'a>(
+    key: &'static str,
+    document: &'a Option<RawDocumentBuf>,
+) -> ArgumentField<'a>
+    requires { ¬ Contains key.now 0 }
+    ensures elements { field_elements result ≡ present (document_element key.now) document.now }
+    ensures named { IsNamed result }
+{
+    match document {
+        Some(document) => document_field(key, document),
+        None => None,
+    }
+}
+
+/// A boolean.
+pub fn boolean_field(key: &'static str, boolean: bool) -> ArgumentField<'static>
+    requires { ¬ Contains key.now 0 }
+    ensures elements { field_elements result ≡ boolean_element key.now boolean ∷ [] }
+    ensures named { IsNamed result }
+{
+    Some((key, RawValue::Bool(boolean)))
+}
+
+/// A boolean that may be there.
+pub fn optional_boolean_field(key: &'static str, boolean: Option<bool>) -> ArgumentField<'static>
+    requires { ¬ Contains key.now 0 }
+    ensures elements { field_elements result ≡ present (boolean_element key.now) boolean }
+    ensures named { IsNamed result }
+{
+    match boolean {
+        Some(boolean) => boolean_field(key, boolean),
+        None => None,
+    }
+}
+
+/// A 32-bit number.
+pub fn int32_field(key: &'static str, number: i32) -> ArgumentField<'static>
+    requires { ¬ Contains key.now 0 }
+    ensures elements { field_elements result ≡ int32_element key.now number ∷ [] }
+    ensures named { IsNamed result }
+{
+    Some((key, RawValue::Int32(number)))
+}
+
+/// A 32-bit number that may be there.
+pub fn optional_int32_field(key: &'static str, number: Option<i32>) -> ArgumentField<'static>
+    requires { ¬ Contains key.now 0 }
+    ensures elements { field_elements result ≡ present (int32_element key.now) number }
+    ensures named { IsNamed result }
+{
+    match number {
+        Some(number) => int32_field(key, number),
+        None => None,
+    }
+}
+
+/// A 64-bit number.
+pub fn int64_field(key: &'static str, number: i64) -> ArgumentField<'static>
+    requires { ¬ Contains key.now 0 }
+    ensures elements { field_elements result ≡ int64_element key.now number ∷ [] }
+    ensures named { IsNamed result }
+{
+    Some((key, RawValue::Int64(number)))
+}
+
+/// A 64-bit number that may be there.
+pub fn optional_int64_field(key: &'static str, number: Option<i64>) -> ArgumentField<'static>
+    requires { ¬ Contains key.now 0 }
+    ensures elements { field_elements result ≡ present (int64_element key.now) number }
+    ensures named { IsNamed result }
+{
+    match number {
+        Some(number) => int64_field(key, number),
+        None => None,
+    }
+}
+
+// A timestamp that may be there, of which these are the bytes.
+pub(crate) fn optional_timestamp_field<'a>(
+    key: &'static str,
+    bytes: &'a Option<[u8; 8]>,
+) -> ArgumentField<'a>
+    requires { ¬ Contains key.now 0 }
+    ensures elements { field_elements result ≡ present (timestamp_element key.now) bytes.now }
+    ensures named { IsNamed result }
+{
+    match bytes {
+        Some(bytes) => Some((key, RawValue::Other(0x11, bytes.as_slice()))),
+        None => None,
+    }
+}
+
+// The version of a server API that may be there.
+pub(crate) fn optional_version_field(server_api: Option<ServerApi>) -> ArgumentField<'static>
+    ensures elements { field_elements result ≡ present (text_element api_version_key) (option_map (λ api. version_text api.version) server_api) }
+    ensures named { IsNamed result }
+{
+    match server_api {
+        Some(api) => Some((API_VERSION, RawValue::Str(api.version.as_str()))),
+        None => None,
+    }
+}
+
+// A write concern that may be there, unless it is empty.
+pub(crate) fn optional_write_concern_field<'a>(
+    concern: &'a Option<RawDocumentBuf>,
+) -> ArgumentField<'a>
+    ensures elements { field_elements result ≡ present (document_element write_concern_key) (sent_concern concern.now) }
+    ensures named { IsNamed result }
+{
+    match concern {
+        Some(concern) if concern.as_bytes().len() > EMPTY_DOCUMENT => {
+            Some((WRITE_CONCERN, RawValue::Document(concern.borrow())))
+        }
+        _ => None,
+    }
+}
