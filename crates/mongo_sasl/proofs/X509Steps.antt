@@ -12,11 +12,13 @@ use Rattle.mongo_command.specs.Conversation.{plain_message, ends, saying, readin
 use Rattle.mongo_command.specs.Exchange.{CountsStay, Exchanges}
 use Rattle.mongo_command.specs.Literal.{text_element, int32_element}
 use Rattle.mongo_command.proofs.Steps.{reached_ending, stopped_memory, stopped_row, stopped_later}
+use Rattle.mongo_sasl.specs.declared.mechanism.AuthMechanism.TheVariants.{MongoDbX509}
 use Rattle.mongo_sasl.specs.Commands.{IsNotBuilt}
 use Rattle.mongo_sasl.specs.EndsByScript.{BeginsWithCommand}
 use Rattle.mongo_sasl.specs.Login.{EndsByReply}
 use Rattle.mongo_sasl.specs.X509.{Takes, IsCertificateTaken, X509Row, x509_body, x509_command, X509Handed, x509_said, x509_heard, x509_plan_from, x509_plan}
 use Rattle.mongo_sasl.specs.Keys.{authenticate_key, mechanism_key}
+use Rattle.mongo_sasl.specs.Mechanism.{name_of}
 use Rattle.mongo_sasl.proofs.LastReply.{ends_by_reply}
 use Rattle.mongo_sasl.proofs.Unsent.{unbuilt_stopped}
 use Rattle.mongo_sasl.proofs.X509Plan.{taken_no_row}
@@ -35,7 +37,7 @@ module _ (handed : X509Handed) (later : handed.speculated ≡ false) where
   x509_unbuilt kind old before unbuilt =
       x509_stopped kind old old before before
       (unbuilt_stopped (x509_said handed) x509_heard (x509_command handed.credential handed.server_api) kind old before refl
-      (omega (arith, length-enclosed (flat_map spell (int32_element authenticate_key (pos 1) ∷ text_element mechanism_key (codes "MONGODB-X509") ∷ present (text_element (codes "username")) handed.credential.username)))) unbuilt)
+      (omega (arith, length-enclosed (flat_map spell (int32_element authenticate_key (pos 1) ∷ text_element mechanism_key (name_of MongoDbX509) ∷ present (text_element (codes "username")) handed.credential.username)))) unbuilt)
 
   -- the server took the certificate
   pub x509_replied : {T : Type 0} (r : Result T Error) (reply held : List ℕ) (old new : State) (before after : ℤ) → reply ≡ held → Exchanges handed.maximum (plain_message (x509_said handed).document) old new before after reply → CountsStay old new → OnOk r (IsCertificateTaken reply) → OnOk r (EndsByReply (x509_plan handed) tt held old new before after)

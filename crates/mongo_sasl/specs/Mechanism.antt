@@ -22,15 +22,19 @@ Names text (Err MechanismGssapi) = text ≡ codes "GSSAPI"
 Names text (Err MechanismUnknown) = ((mechanism : AuthMechanism) → text ≢ name_of mechanism) × (text ≢ codes "GSSAPI")
 Names text (Err other) = ⊥
 
+-- the database of users that are known elsewhere
+abbrev pub external : List ℕ
+external = codes "$external"
+
 -- the database that a mechanism logs in on where the credential names none, by the one that the connection string names
 abbrev pub source_of : AuthMechanism → Option (List ℕ) → List ℕ
 source_of MongoDbCr database = unwrap_or database (codes "admin")
 source_of ScramSha1 database = unwrap_or database (codes "admin")
 source_of ScramSha256 database = unwrap_or database (codes "admin")
-source_of MongoDbX509 database = codes "$external"
-source_of Plain database = unwrap_or database (codes "$external")
-source_of MongoDbAws database = codes "$external"
-source_of MongoDbOidc database = codes "$external"
+source_of MongoDbX509 database = external
+source_of Plain database = unwrap_or database external
+source_of MongoDbAws database = external
+source_of MongoDbOidc database = external
 
 -- a server lists a mechanism for the user that its hello named
 abbrev pub Lists : Option (List (List ℕ)) → AuthMechanism → Type 0

@@ -1,5 +1,5 @@
 -- PLAIN, RFC 4616: one command carries the user name and the password as they are, and its reply ends the login.
-use Rattle.std.specs.Prelude.{◌≡◌, ℕ, ℤ, ◌⊎◌, true, false, Result, Option, Some, unwrap_or, List, [], ◌∷◌, ◌++◌, codes}
+use Rattle.std.specs.Prelude.{◌≡◌, ℕ, ℤ, ◌⊎◌, true, false, Result, Option, Some, unwrap_or, List, [], ◌∷◌, ◌++◌}
 use Rattle.mongo_wire.specs.declared.error.Error.{Error}
 use Rattle.mongo_wire.specs.declared.error.ErrorKind.{ErrorKind}
 use Rattle.mongo_wire.specs.declared.error.ErrorKind.TheVariants.{Authentication}
@@ -18,6 +18,7 @@ use Rattle.mongo_sasl.specs.Credential.{NoUserRow}
 use Rattle.mongo_sasl.specs.EndsByScript.{Standing, EndsByScript}
 use Rattle.mongo_sasl.specs.Reply.{IsSaslReply, SaslRow}
 use Rattle.mongo_sasl.specs.Keys.{sasl_start_key}
+use Rattle.mongo_sasl.specs.Mechanism.{external}
 
 -- ---- what is said
 
@@ -36,7 +37,7 @@ pub record PlainUser : Type 0 where
 pub record IsPlainUser (credential : Credential) (user : PlainUser) : Type 0 where
   pub username : credential.username ≡ Some user.username
   pub password : credential.password ≡ Some user.password
-  pub source : user.source ≡ unwrap_or credential.source (codes "$external")
+  pub source : user.source ≡ unwrap_or credential.source external
 
 -- why a credential has no login by PLAIN
 abbrev pub PlainRow : Credential → ErrorKind → Type 0

@@ -8,6 +8,7 @@ use Rattle.mongo_sasl.specs.declared.mechanism.AuthMechanism.{AuthMechanism}
 use Rattle.mongo_sasl.specs.declared.mechanism.AuthMechanism.TheVariants.{MongoDbCr, ScramSha1, ScramSha256, MongoDbX509, Plain, MongoDbAws, MongoDbOidc}
 use Rattle.mongo_sasl.specs.declared.credential.Credential.{Credential}
 use Rattle.mongo_sasl.specs.declared.rules.Rule.{Rule}
+use Rattle.mongo_sasl.specs.Mechanism.{external}
 use Rattle.mongo_sasl.specs.Rules.{rule, first_broken, is_other_than, is_given, properties_of, has_property, text_property, is_other_than_array}
 
 -- ---- the rules of each mechanism
@@ -20,7 +21,7 @@ scram_rules c =
 abbrev pub x509_rules : Credential → List Rule
 x509_rules c =
     rule X509Password (is_some c.password)
-    ∷ rule X509Source (is_other_than (codes "$external") c.source)
+    ∷ rule X509Source (is_other_than external c.source)
     ∷ []
 
 abbrev pub plain_rules : Credential → List Rule
@@ -61,7 +62,7 @@ oidc_table c callback_given foreign environment resource hosts_other_than_array 
     ∷ rule OidcCallbackWithEnvironment (is_some environment && callback_given)
     ∷ rule OidcResourceMissing (takes_resource environment && not resource)
     ∷ rule OidcResourceGiven (not (takes_resource environment) && resource)
-    ∷ rule OidcSource (is_other_than (codes "$external") c.source)
+    ∷ rule OidcSource (is_other_than external c.source)
     ∷ rule OidcPassword (is_some c.password)
     ∷ rule OidcEnvironment (is_unknown_environment environment)
     ∷ rule OidcHostsNotArray hosts_other_than_array

@@ -15,9 +15,11 @@ use Rattle.mongo_command.specs.Field.{field_of}
 use Rattle.mongo_command.specs.Hello.{IsSuccess}
 use Rattle.mongo_command.specs.Literal.{text_element, int32_element, document_of}
 use Rattle.mongo_command.specs.Keys.{ok_key}
+use Rattle.mongo_sasl.specs.declared.mechanism.AuthMechanism.TheVariants.{MongoDbX509}
 use Rattle.mongo_sasl.specs.declared.credential.Credential.{Credential}
 use Rattle.mongo_sasl.specs.EndsByScript.{Standing, EndsByScript}
 use Rattle.mongo_sasl.specs.Keys.{authenticate_key, mechanism_key}
+use Rattle.mongo_sasl.specs.Mechanism.{external, name_of}
 
 -- ---- what is said
 
@@ -26,12 +28,12 @@ abbrev pub x509_body : Option (List ℕ) → List ℕ
 x509_body username =
     document_of
     (int32_element authenticate_key (pos 1)
-    ∷ text_element mechanism_key (codes "MONGODB-X509")
+    ∷ text_element mechanism_key (name_of MongoDbX509)
     ∷ present (text_element (codes "username")) username)
 
 -- the `authenticate` of `$external`
 abbrev pub x509_command : Credential → Option ServerApi → Command
-x509_command credential api = command_of authenticate_key (codes "$external") (x509_body credential.username) api
+x509_command credential api = command_of authenticate_key external (x509_body credential.username) api
 
 -- ---- what the reply says
 

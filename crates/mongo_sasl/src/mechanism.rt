@@ -1,5 +1,6 @@
 ghost use Rattle.std.specs.Prelude.{◌↔◌, IsTrue, Contains, codes};
 
+use crate::EXTERNAL;
 use mongo_bson::Texts;
 use mongo_command::StreamDescription;
 use mongo_wire::ArgumentFault;
@@ -55,9 +56,9 @@ impl AuthMechanism {
             AuthMechanism::MongoDbCr | AuthMechanism::ScramSha1 | AuthMechanism::ScramSha256 => {
                 uri_db.unwrap_or("admin")
             }
-            AuthMechanism::Plain => uri_db.unwrap_or("$external"),
+            AuthMechanism::Plain => uri_db.unwrap_or(EXTERNAL),
             AuthMechanism::MongoDbX509 | AuthMechanism::MongoDbAws | AuthMechanism::MongoDbOidc => {
-                "$external"
+                EXTERNAL
             }
         }
     }

@@ -77,7 +77,10 @@ fn authenticate_body(alloc: Global, username: &Option<Text>) -> Result<RawDocume
     ensures refused { IfErr result (λ fault. IsTooLong fault (x509_body username.now)) }
 {
     let authenticate = (AUTHENTICATE, RawValue::Int32(1));
-    let mechanism = (MECHANISM, RawValue::Str("MONGODB-X509"));
+    let mechanism = (
+        MECHANISM,
+        RawValue::Str(AuthMechanism::MongoDbX509.as_str()),
+    );
     match username {
         Some(username) => {
             let username = ("username", RawValue::Str(username.as_str()));

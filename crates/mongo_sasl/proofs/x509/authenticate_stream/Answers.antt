@@ -1,8 +1,9 @@
-use Rattle.std.proofs.Common.{◌≡◌, ◌⊎◌, option_copied, codes, refl}
+use Rattle.std.proofs.Common.{◌≡◌, ◌⊎◌, option_copied, refl}
 use Rattle.mongo_wire.specs.declared.error.ErrorKind.TheVariants.{OutOfMemory}
 use Rattle.mongo_command.specs.Exchange.{frame_maximum}
 use Rattle.mongo_sasl.specs.X509.{X509Row, x509_handed, x509_body, x509_heard, x509_plan, IsX509Login}
 use Rattle.mongo_sasl.specs.Keys.{authenticate_key}
+use Rattle.mongo_sasl.specs.Mechanism.{external}
 use Rattle.mongo_sasl.proofs.EndsByScript.{ends_by_script, refused_by_script, once_by_script, holds_its_reply}
 use Rattle.mongo_sasl.proofs.Handed.{no_answer_on}
 use Rattle.mongo_sasl.proofs.KeptAfter.{unbuilt_own, x509_own}
@@ -54,7 +55,7 @@ returns-in_err-exchange_into-clause-login g c =
     let passed = c.from_residual-in_err-exchange_into.ensures.1 in
     refused_by_script _ (x509_plan handed) (IsX509Login handed) handed.maximum (x509_joins handed) _ _ r e passed
     (at_exchange _ (x509_plan handed) _ _ _ _ e (x509_begins handed c.if-speculated.false) exchange.kept exchange.refused
-    (λ refused. x509_stopped handed c.if-speculated.false e.kind _ _ _ _ (unanswered_as authenticate_key (codes "$external") (x509_body handed.credential.username) handed.server_api handed.maximum c.in_ok-command.command x509_heard e.kind _ _ _ _ _ c.in_ok-command.ensures.command exchange.counts refused))
+    (λ refused. x509_stopped handed c.if-speculated.false e.kind _ _ _ _ (unanswered_as authenticate_key external (x509_body handed.credential.username) handed.server_api handed.maximum c.in_ok-command.command x509_heard e.kind _ _ _ _ _ c.in_ok-command.ensures.command exchange.counts refused))
     exchange.connection exchange.counts)
 
 pub returns-in_err-exchange_into-clause-buffer : goal.returns-in_err-exchange_into-clause-buffer
@@ -72,7 +73,7 @@ returns-clause-login g c =
     let exchange = c.in_ok-exchange_into.ensures in
     let reply = c.held_reply.result.bytes.now in
     let r = c.take.result in
-    let exchanged = exchanged_as authenticate_key (codes "$external") (x509_body handed.credential.username) handed.server_api handed.maximum c.in_ok-command.command _ _ _ _ _ _ c.in_ok-command.ensures.command c.held_reply.ensures exchange.exchanged in
+    let exchanged = exchanged_as authenticate_key external (x509_body handed.credential.username) handed.server_api handed.maximum c.in_ok-command.command _ _ _ _ _ _ c.in_ok-command.ensures.command c.held_reply.ensures exchange.exchanged in
     once_by_script _ (x509_plan handed) (IsX509Login handed) handed.maximum (x509_joins handed) _ _ tt _ r
     (x509_replied handed later r reply _ _ _ _ _ c.held_reply.ensures exchanged exchange.counts c.take.ensures.taken) (was_faultless tt _ (λ kind is. (exchange.kept kind is).0)) exchange.faultless
     (after_exchange _ (x509_plan handed) tt (λ kind. X509Row reply kind ⊎ (kind ≡ OutOfMemory)) _ _ r exchange.kept exchange.faultless exchange.connection exchange.counts (x509_own reply) c.take.ensures.refused
@@ -82,7 +83,7 @@ pub returns-clause-buffer : goal.returns-clause-buffer
 returns-clause-buffer g c later =
     let handed = x509_handed c.args.credential.now (option_copied c.args.server_api) c.args.speculated (frame_maximum c.args.connection.now.stream_description) in
     let exchange = c.in_ok-exchange_into.ensures in
-    let exchanged = exchanged_as authenticate_key (codes "$external") (x509_body handed.credential.username) handed.server_api handed.maximum c.in_ok-command.command _ _ _ _ _ _ c.in_ok-command.ensures.command c.held_reply.ensures exchange.exchanged in
+    let exchanged = exchanged_as authenticate_key external (x509_body handed.credential.username) handed.server_api handed.maximum c.in_ok-command.command _ _ _ _ _ _ c.in_ok-command.ensures.command c.held_reply.ensures exchange.exchanged in
     holds_its_reply _ (x509_plan handed) tt _ _ _ c.take.result exchange.counted exchange.taken
     (x509_replied handed later c.take.result c.held_reply.result.bytes.now _ _ _ _ _ c.held_reply.ensures exchanged exchange.counts c.take.ensures.taken)
 
