@@ -14,7 +14,7 @@ use mongo_bson::{BsonFault, Bytes, OwnedValue, RawDocument, RawValue, Text, get_
 use mongo_command::keys::{ERRMSG, OK};
 use mongo_command::{FieldFault, Fields};
 use mongo_wire::{AuthFault, Error, ErrorKind};
-use std::alloc::{AllocError, Global};
+use std::alloc::Global;
 
 /// What the reply to a command of a login says, borrowed from the reply's document.
 #[derive(Debug, Clone, Copy, Drop)]
@@ -109,23 +109,13 @@ fn failure_of(alloc: Global, fields: &Fields<'_>) -> Error
         Some(RawValue::Str(text)) => text,
         _ => "Authentication failure",
     };
-    match text_copy(alloc, text) {
+    match Text::from_slice(alloc, text) {
         Ok(text) => Error {
             kind: ErrorKind::Authentication(AuthFault::Refused(text)),
         },
         Err(_) => Error {
             kind: ErrorKind::OutOfMemory,
         },
-    }
-}
-
-// A copy of a text.
-fn text_copy(alloc: Global, text: &str) -> Result<Text, AllocError>
-    ensures { IfOk result (λ copy. copy ≡ text.now) }
-{
-    match String::from_str(alloc, text) {
-        Ok(copy) => Ok(Text::from_string(copy)),
-        Err(_) => Err(AllocError),
     }
 }
 
