@@ -45,12 +45,6 @@ impl SaslContinue {
         ensures refused { IfErr result (λ e. IsNotBuilt (continue_body self.conversation_id self.payload) e.kind) }
     {
         let body = continue_body(alloc, &self.conversation_id, &self.payload)?;
-        login_command(
-            alloc,
-            SASL_CONTINUE,
-            self.source.as_str(),
-            body,
-            self.server_api,
-        )
+        login_command(alloc, SASL_CONTINUE, self.source, body, self.server_api)
     }
 }

@@ -46,12 +46,6 @@ impl SaslStart {
         ensures refused { IfErr result (λ e. IsNotBuilt (start_body self.mechanism self.payload) e.kind) }
     {
         let body = start_body(alloc, self.mechanism, &self.payload)?;
-        login_command(
-            alloc,
-            SASL_START,
-            self.source.as_str(),
-            body,
-            self.server_api,
-        )
+        login_command(alloc, SASL_START, self.source, body, self.server_api)
     }
 }

@@ -32,7 +32,8 @@ pub fn build_client_first(
     ensures refused { IfErr result (λ e. IsNotBuilt (x509_body credential.now.username) e.kind) }
 {
     let body = authenticate_body(alloc, &credential.username)?;
-    login_command(alloc, AUTHENTICATE, EXTERNAL, body, server_api.copied())
+    let source = Text::from_slice(alloc, EXTERNAL)?;
+    login_command(alloc, AUTHENTICATE, source, body, server_api.copied())
 }
 
 /// Logs a connection in by the link's certificate: by one command and one reply, which passes through the buffer. Where the
