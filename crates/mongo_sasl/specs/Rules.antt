@@ -22,11 +22,6 @@ abbrev pub is_other_than : List ℕ → Option (List ℕ) → Bool
 is_other_than text None = false
 is_other_than text (Some given) = not (bytes_eq given text)
 
--- a text is there and is this
-abbrev pub is_given : List ℕ → Option (List ℕ) → Bool
-is_given text None = false
-is_given text (Some given) = bytes_eq given text
-
 -- the properties of a credential; without any they are empty
 abbrev pub properties_of : Credential → List ℕ
 properties_of c = unwrap_or c.mechanism_properties (enclosed [])

@@ -4,12 +4,13 @@ use Rattle.mongo_bson.specs.Document.{Element, IsDocument, IsReadable, maximum_d
 use Rattle.mongo_wire.specs.declared.fault.ArgumentFault.{ArgumentFault}
 use Rattle.mongo_wire.specs.declared.fault.ArgumentFault.TheVariants.{PropertiesMalformed, ScramUsername, X509Password, X509Source, PlainUsername, PlainUsernameEmpty, PlainPassword, AwsUriCredentials, OidcProperty, OidcCallbackWithEnvironment, OidcResourceMissing, OidcResourceGiven, OidcSource, OidcPassword, OidcEnvironment, OidcHostsNotArray}
 use Rattle.mongo_command.specs.Field.{field_of}
+use Rattle.mongo_command.specs.Hello.{is_text}
 use Rattle.mongo_sasl.specs.declared.mechanism.AuthMechanism.{AuthMechanism}
 use Rattle.mongo_sasl.specs.declared.mechanism.AuthMechanism.TheVariants.{MongoDbCr, ScramSha1, ScramSha256, MongoDbX509, Plain, MongoDbAws, MongoDbOidc}
 use Rattle.mongo_sasl.specs.declared.credential.Credential.{Credential}
 use Rattle.mongo_sasl.specs.declared.rules.Rule.{Rule}
 use Rattle.mongo_sasl.specs.Mechanism.{external}
-use Rattle.mongo_sasl.specs.Rules.{rule, first_broken, is_other_than, is_given, properties_of, has_property, text_property, is_other_than_array}
+use Rattle.mongo_sasl.specs.Rules.{rule, first_broken, is_other_than, properties_of, has_property, text_property, is_other_than_array}
 
 -- ---- the rules of each mechanism
 
@@ -27,7 +28,7 @@ x509_rules c =
 abbrev pub plain_rules : Credential → List Rule
 plain_rules c =
     rule PlainUsername (is_none c.username)
-    ∷ rule PlainUsernameEmpty (is_given (codes "") c.username)
+    ∷ rule PlainUsernameEmpty (is_text c.username (codes ""))
     ∷ rule PlainPassword (is_none c.password)
     ∷ []
 
@@ -48,11 +49,11 @@ has_foreign_property (e ∷ es) = not (is_oidc_property e.key) || has_foreign_pr
 
 -- the environments whose tokens are made for a resource
 abbrev pub takes_resource : Option (List ℕ) → Bool
-takes_resource environment = is_given (codes "azure") environment || is_given (codes "gcp") environment
+takes_resource environment = is_text environment (codes "azure") || is_text environment (codes "gcp")
 
 -- an environment is given that is none of the three
 abbrev pub is_unknown_environment : Option (List ℕ) → Bool
-is_unknown_environment environment = is_some environment && not (takes_resource environment || is_given (codes "k8s") environment)
+is_unknown_environment environment = is_some environment && not (takes_resource environment || is_text environment (codes "k8s"))
 
 -- by what the properties say: whether there is a foreign one, the environment, whether there is a token resource, and
 -- whether the allowed hosts are there and no array

@@ -13,11 +13,11 @@
 #![tactic(auto)]
 
 mod buffered_reply;
-mod command_body;
 mod commands;
 mod credential;
 mod documents;
 pub mod keys;
+mod login_bodies;
 mod mechanism;
 mod moment;
 pub mod plain;

@@ -1,6 +1,6 @@
-use crate::command_body::continue_body;
 use crate::commands::login_command;
 use crate::keys::SASL_CONTINUE;
+use crate::login_bodies::continue_body;
 use mongo_bson::{Bytes, OwnedValue, Text};
 use mongo_command::{Command, ServerApi};
 use mongo_wire::Error;

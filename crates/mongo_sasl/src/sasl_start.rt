@@ -1,7 +1,7 @@
 use crate::AuthMechanism;
-use crate::command_body::start_body;
 use crate::commands::login_command;
 use crate::keys::SASL_START;
+use crate::login_bodies::start_body;
 use mongo_bson::{Bytes, Text};
 use mongo_command::{Command, ServerApi};
 use mongo_wire::Error;

@@ -1,6 +1,7 @@
 ghost use Rattle.std.specs.Prelude.{◌≡◌, Option, List, codes, option_copied, is_some};
 ghost use Rattle.mongo_bson.specs.Document.{Element, IsDocument, IsReadable, maximum_depth};
-ghost use Rattle.mongo_sasl.specs.Rules.{first_broken, is_other_than, is_given, properties_of};
+ghost use Rattle.mongo_command.specs.Hello.{is_text};
+ghost use Rattle.mongo_sasl.specs.Rules.{first_broken, is_other_than, properties_of};
 ghost use Rattle.mongo_sasl.specs.Validation.{scram_rules, x509_rules, plain_rules, aws_rules, oidc_rules, oidc_table, ByProperties, IsValidated, takes_resource, is_unknown_environment};
 
 use crate::properties::{
@@ -208,7 +209,7 @@ fn is_other_than(text: &str, given: &Option<Text>) -> bool
 
 // Whether a text is there and is empty.
 fn is_empty(given: &Option<Text>) -> bool
-    ensures { result ≡ is_given (codes "") given.now }
+    ensures { result ≡ is_text given.now (codes "") }
 {
     match given {
         Some(given) => given.as_str() == "",

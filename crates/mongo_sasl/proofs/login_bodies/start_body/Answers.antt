@@ -1,7 +1,7 @@
 use Rattle.std.proofs.Common.{◌≡◌, IfOk, IfErr, subst}
 use Rattle.mongo_sasl.specs.Commands.{IsTooLong}
 use Rattle.mongo_sasl.proofs.StartBody.{scram_started}
-use Rattle.mongo_sasl.proofs.command_body.start_body.Goals as goal
+use Rattle.mongo_sasl.proofs.login_bodies.start_body.Goals as goal
 
 pub returns-in-ScramSha1-clause-body : goal.returns-in-ScramSha1-clause-body
 returns-in-ScramSha1-clause-body c =
