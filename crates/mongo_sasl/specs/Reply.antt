@@ -62,7 +62,7 @@ pub record IsSaslFailure (reply text : List ℕ) : Type 0 where
   pub text_is : text ≡ failure_text (field_of errmsg_key elements)
 
 -- why a reply is refused: for what a failure says; else, where it is no success, as malformed: it isn't well formed, or `ok` is no
--- whole number, or it is 1 and a field is absent or of another kind
+-- whole number, or it is absent or 1, and a field is absent or of another kind
 abbrev pub SaslRow : List ℕ → ErrorKind → Type 0
 SaslRow reply =
     row_of Authentication
