@@ -1,4 +1,5 @@
--- The metadata that a hello carries: the first of five forms that fits, by the handshake specification.
+-- The metadata that a hello carries: the first of five forms that fits, which leave out what the handshake specification names, in
+-- its order.
 use Rattle.std.specs.Prelude.{ℕ, ◌+◌, nat_le, Bool, Option, None, option_map, List, [], ◌∷◌, length, map, unwrap_or}
 use Rattle.std.specs.List.{find}
 use Rattle.mongo_meta.specs.declared.client_metadata.ClientMetadata.{ClientMetadata}

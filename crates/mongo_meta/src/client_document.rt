@@ -10,7 +10,8 @@ use mongo_bson::{BsonFault, RawDocumentBuf, Text};
 use mongo_wire::Error;
 use std::alloc::Global;
 
-// The greatest length of a hello's body and its metadata, by the handshake specification.
+// The greatest length of a hello's body, the key and the metadata together. It is stricter than the handshake specification, which
+// bounds the document under `client` alone by 512 bytes.
 const MAX_HELLO_SIZE: usize = 512;
 
 // What an element of the key `client` has beside its document: a kind byte, the key and its zero.

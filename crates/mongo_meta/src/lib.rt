@@ -4,9 +4,9 @@
 //! system, the platform, and the variables by which the provider of a function ([`FaasEnvironmentName`]) and a container
 //! are found. Libraries that stand on the driver add themselves ([`ClientMetadata::append`]).
 //!
-//! A server takes a hello's metadata up to a length of 512 bytes, so a hello carries the first of five forms that fits
-//! ([`ClientMetadata::client_document`]): the whole; `env` with its name alone; `os` with its type alone too; no `env`; and
-//! with all that the short text of the platform.
+//! A hello carries the first of five forms with which its body, the key and the metadata have 512 bytes together at most, or else
+//! the last ([`ClientMetadata::client_document`]): the whole; `env` with its name alone; `os` with its type alone too; no `env`;
+//! and with all that the short text of the platform.
 //!
 //! Nothing here asks the outside: variables and the rest are handed in. Want of memory may stand in place of any answer of
 //! a call that is handed an allocator, and of [`ClientMetadata::append`].
