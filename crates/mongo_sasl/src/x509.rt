@@ -77,17 +77,23 @@ fn authenticate_body(alloc: Global, username: &Option<Text>) -> Result<RawDocume
     ensures body { IfOk result (λ body. body ≡ x509_body username.now) }
     ensures refused { IfErr result (λ fault. IsTooLong fault (x509_body username.now)) }
 {
-    let authenticate = (AUTHENTICATE, RawValue::Int32(1));
-    let mechanism = (
-        MECHANISM,
-        RawValue::Str(AuthMechanism::MongoDbX509.as_str()),
-    );
+    let name = AuthMechanism::MongoDbX509.as_str();
     match username {
-        Some(username) => {
-            let username = ("username", RawValue::Str(username.as_str()));
-            document_of(alloc, &[authenticate, mechanism, username])
-        }
-        None => document_of(alloc, &[authenticate, mechanism]),
+        Some(username) => document_of(
+            alloc,
+            &[
+                (AUTHENTICATE, RawValue::Int32(1)),
+                (MECHANISM, RawValue::Str(name)),
+                ("username", RawValue::Str(username.as_str())),
+            ],
+        ),
+        None => document_of(
+            alloc,
+            &[
+                (AUTHENTICATE, RawValue::Int32(1)),
+                (MECHANISM, RawValue::Str(name)),
+            ],
+        ),
     }
 }
 
