@@ -1,18 +1,20 @@
 -- What a login's last exchange shows of its closing.
-use Rattle.std.proofs.Common.{◌≡◌, ℕ, ℤ, ap, ◌∙◌, subst, List, drop}
+use Rattle.std.proofs.Common.{◌≡◌, ℕ, ℤ, refl, ap, ◌∙◌, subst, List, drop}
+use Rattle.mongo_bson.specs.declared.owned_value.OwnedValue.{OwnedValue}
 use Rattle.mongo_wire.specs.declared.error.ErrorKind.{ErrorKind}
 use Rattle.mongo_wire.specs.Outside.{State}
-use Rattle.mongo_command.specs.Conversation.{Said, HasNone, Stopped}
+use Rattle.mongo_command.specs.Conversation.{Said, Stopped}
 use Rattle.mongo_sasl.specs.Login.{EndsByReply}
+use Rattle.mongo_scram.specs.declared.scram_version.ScramVersion.{ScramVersion}
 use Rattle.mongo_scram.specs.declared.messages.ClientFirst.{ClientFirst}
 use Rattle.mongo_scram.specs.declared.messages.ClientFinal.{ClientFinal}
 use Rattle.mongo_scram.specs.Client.{bare_of, message_of, final_of, auth_message_of, final_conversation, final_source_of, final_api_of}
 use Rattle.mongo_scram.specs.Commands.{final_command}
 use Rattle.mongo_command.specs.Command.{command_document}
-use Rattle.mongo_scram.specs.Costs.{EndsLogin}
+use Rattle.mongo_scram.specs.Costs.{EndsLogin, TakesLastMessage}
 use Rattle.mongo_scram.specs.Messages.{transcript, close_message, verifier}
-use Rattle.mongo_scram.specs.Plan.{Handed, Challenge, message_by, salted_by, auth_message_by, close_by, verifier_by, close_said, LastRow, closing}
-use Rattle.mongo_scram.specs.Login.{final_said, LastMessageRow, last_exchange, TakesLastMessage}
+use Rattle.mongo_scram.specs.Plan.{Handed, Challenge, message_by, salted_by, auth_message_by, close_by, verifier_by, close_said, closing, last_exchange}
+use Rattle.mongo_scram.specs.Login.{final_said}
 use Rattle.mongo_scram.specs.Version.{digest_of}
 
 -- the client's last message in answer to a challenge, by its salted password
@@ -38,38 +40,32 @@ final_by handed c tag first final tag_is message auth_message message_is convers
       api = api;
     }
 
-same_said : (handed : Handed) (c : Challenge) (tag : List ℕ) (final : ClientFinal) (maximum : ℤ) → maximum ≡ handed.maximum → IsFinal handed c tag final → final_said final maximum ≡ close_said handed c
-same_said handed c tag final maximum same is =
+-- what the last exchange says, the conversation that it is of, and the verifier that is owed in it
+abbrev Closing : Type 0
+Closing = Said × OwnedValue × List ℕ
+
+abbrev closing_of : ScramVersion → List ℕ → ClientFinal → ℤ → Closing
+closing_of version tag final maximum = (final_said final maximum, final_conversation final, verifier (digest_of version) tag (auth_message_of final))
+
+-- they are those of the login
+same_closing : (handed : Handed) (c : Challenge) (tag : List ℕ) (final : ClientFinal) (maximum : ℤ) → maximum ≡ handed.maximum → IsFinal handed c tag final → closing_of handed.version tag final maximum ≡ (close_said handed c, c.first.conversation_id, verifier_by handed c)
+same_closing handed c tag final maximum same is =
+    let salted = is.tag_is in
+    let auth = is.auth_message in
     let conversation = is.conversation in
     let source = is.source in
     let message = is.message in
     let api = is.api in
-    λ i. let said : Said = record { maximum = same i; document = command_document (final_command (conversation i) (source i) (message i) (api i)) } in said
-
-same_owed : (handed : Handed) (c : Challenge) (tag : List ℕ) (final : ClientFinal) → IsFinal handed c tag final → verifier (digest_of handed.version) tag (auth_message_of final) ≡ verifier_by handed c
-same_owed handed c tag final is =
-    let salted = is.tag_is in
-    let auth = is.auth_message in
-    λ i. verifier (digest_of handed.version) (salted i) (auth i)
+    λ i. let said : Said = record { maximum = same i; document = command_document (final_command (conversation i) (source i) (message i) (api i)) } in (said, conversation i, verifier (digest_of handed.version) (salted i) (auth i))
 
 pub closing_ends : (handed : Handed) (c : Challenge) (tag : List ℕ) (final : ClientFinal) (maximum : ℤ) (document : List ℕ) (old new : State) (before after : ℤ) → maximum ≡ handed.maximum → IsFinal handed c tag final
     → EndsByReply (last_exchange (final_said final maximum) (final_conversation final) (verifier (digest_of handed.version) tag (auth_message_of final)) c) c document old new before after → EndsByReply (closing handed c) c document old new before after
-closing_ends handed c tag final maximum document old new before after same is r =
-    subst (λ owed. EndsByReply (last_exchange (close_said handed c) c.first.conversation_id owed c) c document old new before after) (same_owed handed c tag final is)
-    (subst (λ id. EndsByReply (last_exchange (close_said handed c) id (verifier (digest_of handed.version) tag (auth_message_of final)) c) c document old new before after) is.conversation
-    (subst (λ said. EndsByReply (last_exchange said (final_conversation final) (verifier (digest_of handed.version) tag (auth_message_of final)) c) c document old new before after) (same_said handed c tag final maximum same is) r))
+closing_ends handed c tag final maximum document old new before after same is = subst (λ (x : Closing). EndsByReply (last_exchange x.0 x.1 x.2 c) c document old new before after) (same_closing handed c tag final maximum same is)
 
 pub closing_stopped : (handed : Handed) (c : Challenge) (tag : List ℕ) (final : ClientFinal) (maximum : ℤ) (kind : ErrorKind) (old new : State) (before after : ℤ) → maximum ≡ handed.maximum → IsFinal handed c tag final
     → Stopped (last_exchange (final_said final maximum) (final_conversation final) (verifier (digest_of handed.version) tag (auth_message_of final)) c) kind old new before after → Stopped (closing handed c) kind old new before after
-closing_stopped handed c tag final maximum kind old new before after same is r =
-    subst (λ owed. Stopped (last_exchange (close_said handed c) c.first.conversation_id owed c) kind old new before after) (same_owed handed c tag final is)
-    (subst (λ id. Stopped (last_exchange (close_said handed c) id (verifier (digest_of handed.version) tag (auth_message_of final)) c) kind old new before after) is.conversation
-    (subst (λ said. Stopped (last_exchange said (final_conversation final) (verifier (digest_of handed.version) tag (auth_message_of final)) c) kind old new before after) (same_said handed c tag final maximum same is) r))
+closing_stopped handed c tag final maximum kind old new before after same is = subst (λ (x : Closing). Stopped (last_exchange x.0 x.1 x.2 c) kind old new before after) (same_closing handed c tag final maximum same is)
 
 -- the last reply ends the login
 pub ends_login : (handed : Handed) (c : Challenge) (tag : List ℕ) (final : ClientFinal) (document : List ℕ) → IsFinal handed c tag final → TakesLastMessage (final_conversation final) (verifier (digest_of handed.version) tag (auth_message_of final)) document → EndsLogin handed c document
-ends_login handed c tag final document is taken =
-    let row : HasNone (LastRow handed c taken.last) =
-    subst (λ owed. HasNone (LastMessageRow c.first.conversation_id owed taken.last)) (same_owed handed c tag final is)
-    (subst (λ id. HasNone (LastMessageRow id (verifier (digest_of handed.version) tag (auth_message_of final)) taken.last)) is.conversation taken.taken) in
-    record { last = taken.last; carries = taken.carries; taken = row }
+ends_login handed c tag final document is = subst (λ (x : Closing). TakesLastMessage x.1 x.2 document) (same_closing handed c tag final handed.maximum refl is)

@@ -20,9 +20,10 @@ use Rattle.mongo_sasl.proofs.LastReply.{ends_by_reply}
 use Rattle.mongo_scram.specs.declared.messages.ClientFinal.{ClientFinal}
 use Rattle.mongo_scram.specs.Client.{final_of, final_conversation, final_source_of, final_api_of}
 use Rattle.mongo_scram.specs.Commands.{final_command}
-use Rattle.mongo_scram.specs.Plan.{Challenge}
+use Rattle.mongo_scram.specs.Plan.{Challenge, LastMessageRow, last_heard, last_exchange}
 use Rattle.mongo_scram.specs.Replies.{FinalReplyRow}
-use Rattle.mongo_scram.specs.Login.{final_said, LastMessageRow, last_heard, last_exchange, TakesLastMessage, LastRefusal, EndsLastExchange}
+use Rattle.mongo_scram.specs.Costs.{TakesLastMessage}
+use Rattle.mongo_scram.specs.Login.{final_said, LastRefusal, EndsLastExchange}
 use Rattle.mongo_scram.proofs.OneMessage.{no_final_row}
 use Rattle.mongo_sasl.proofs.Unsent.{unbuilt_stopped}
 

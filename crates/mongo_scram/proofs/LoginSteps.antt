@@ -13,10 +13,10 @@ use Rattle.mongo_scram.specs.declared.conversation.FirstRound.{FirstRound}
 use Rattle.mongo_scram.specs.declared.login.Opened.{Opened}
 use Rattle.mongo_scram.specs.Cache.{entries_of, rounds_of, Adds}
 use Rattle.mongo_scram.specs.Client.{nonce_of, frames_after}
-use Rattle.mongo_scram.specs.Costs.{Ledgers, ledgers, key_by, HasEntry, Derives, SameEntries, EndsLogin, Accepted, StoppedScram, FaultCosts}
+use Rattle.mongo_scram.specs.Costs.{Ledgers, ledgers, key_by, HasEntry, Derives, SameEntries, EndsLogin, Accepted, StoppedScram, FaultCosts, key_for}
 use Rattle.mongo_scram.specs.Entry.{salted_of, IsUsable}
 use Rattle.mongo_scram.specs.Plan.{Handed, salted_by, opening, closing}
-use Rattle.mongo_scram.specs.Login.{frames_opened, Opens, key_for, IsAnswered}
+use Rattle.mongo_scram.specs.Login.{frames_opened, Opens, IsAnswered}
 use Rattle.mongo_scram.specs.User.{User, IsUser}
 use Rattle.mongo_scram.proofs.OpeningSteps.{opening_reached, opening_at_once}
 use Rattle.mongo_scram.proofs.ScramPlan.{challenge_of}

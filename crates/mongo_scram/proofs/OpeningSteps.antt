@@ -12,9 +12,9 @@ use Rattle.mongo_scram.specs.declared.server_first.ServerFirst.{ServerFirst}
 use Rattle.mongo_scram.specs.Client.{nonce_of}
 use Rattle.mongo_scram.specs.Costs.{Ledgers, CostsNothing, FaultCosts}
 use Rattle.mongo_scram.specs.Key.{PasswordRow}
-use Rattle.mongo_scram.specs.Plan.{Speculated, Handed, Challenge, nonce_by, start_said, ChallengeRow, challenged, opened, opening}
+use Rattle.mongo_scram.specs.Plan.{Speculated, Handed, Challenge, nonce_by, start_said, ChallengeRow, challenged, opened, opening, AnswerRow}
 use Rattle.mongo_scram.specs.Replies.{CarriesFirst, FirstReplyRow}
-use Rattle.mongo_scram.specs.Login.{Replies, Opens, AnswerRow}
+use Rattle.mongo_scram.specs.Login.{Replies, Opens}
 use Rattle.mongo_scram.specs.User.{User, IsUser, CredentialRow}
 use Rattle.mongo_scram.specs.Validity.{IsValidFirst, ServerFirstRow}
 use Rattle.mongo_command.proofs.Plans.{none_else}

@@ -14,7 +14,8 @@ use Rattle.mongo_scram.specs.declared.server_first.ServerFirst.{ServerFirst}
 use Rattle.mongo_scram.specs.declared.server_final.ServerFinal.{ServerFinal}
 use Rattle.mongo_scram.specs.Key.{PasswordRow}
 use Rattle.mongo_scram.specs.Replies.{FirstReplyRow, FinalReplyRow}
-use Rattle.mongo_scram.specs.Login.{AnswerRow, LastMessageRow, LastRefusal}
+use Rattle.mongo_scram.specs.Plan.{AnswerRow, LastMessageRow}
+use Rattle.mongo_scram.specs.Login.{LastRefusal}
 use Rattle.mongo_scram.specs.User.{CredentialRow}
 
 pub credential_own : (credential : Credential) (kind : ErrorKind) → CredentialRow credential kind → IsOwn kind

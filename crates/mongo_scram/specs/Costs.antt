@@ -1,6 +1,7 @@
 -- What a login takes of the counter and of the cache: it derives where its key has no entry, and its key is put in once
 -- it was accepted.
 use Rattle.std.specs.Prelude.{◌≡◌, ℕ, ℤ, ◌+◌, ◌-◌, ◌^◌, ◌⊎◌, min, None, List, [], Contains}
+use Rattle.mongo_bson.specs.declared.owned_value.OwnedValue.{OwnedValue}
 use Rattle.mongo_wire.specs.declared.error.ErrorKind.{ErrorKind}
 use Rattle.mongo_wire.specs.declared.error.ErrorKind.TheVariants.{OutOfMemory}
 use Rattle.mongo_wire.specs.Outside.{State}
@@ -10,14 +11,20 @@ use Rattle.mongo_scram.specs.declared.cache.SaltedCache.{SaltedCache}
 use Rattle.mongo_scram.specs.declared.cache.SaltedKey.{SaltedKey}
 use Rattle.mongo_scram.specs.Cache.{entries_of, rounds_of, Adds}
 use Rattle.mongo_scram.specs.Entry.{salted_of}
+use Rattle.mongo_scram.specs.declared.scram_version.ScramVersion.{ScramVersion}
+use Rattle.mongo_scram.specs.declared.server_first.ServerFirst.{ServerFirst}
 use Rattle.mongo_scram.specs.declared.server_final.ServerFinal.{ServerFinal}
 use Rattle.mongo_scram.specs.Replies.{CarriesFinal}
-use Rattle.mongo_scram.specs.Plan.{Handed, Challenge, LastRow, opening, closing}
+use Rattle.mongo_scram.specs.Plan.{Handed, Challenge, verifier_by, LastMessageRow, opening, closing}
 use Rattle.mongo_scram.specs.User.{User, IsUser}
+
+-- the key that a server's first message asks of a user
+abbrev pub key_for : ScramVersion → User → ServerFirst → SaltedKey
+key_for version user first = record { version = version; username = user.username; password = user.password; salt = first.salt; count = first.i }
 
 -- the key that a challenge asks for
 abbrev pub key_by : Handed → Challenge → SaltedKey
-key_by handed c = record { version = handed.version; username = c.user.username; password = c.user.password; salt = c.first.salt; count = c.first.i }
+key_by handed c = key_for handed.version c.user c.first
 
 -- the key has an entry
 abbrev pub HasEntry : SaltedCache → SaltedKey → Type 0
@@ -48,11 +55,15 @@ pub record CostsNothing (old new : Ledgers) : Type 0 where
   pub counts : Counts 0 old new
   pub entries : SameEntries old new
 
--- the document carries the server's last message, by which a login ends
-pub record EndsLogin (handed : Handed) (c : Challenge) (document : List ℕ) : Type 0 where
+-- the document carries a last message of the server that is taken in this conversation, by the verifier that is owed
+pub record TakesLastMessage (conversation : OwnedValue) (owed document : List ℕ) : Type 0 where
   pub last : ServerFinal
   pub carries : CarriesFinal document last
-  pub taken : HasNone (LastRow handed c last)
+  pub taken : HasNone (LastMessageRow conversation owed last)
+
+-- the one by which a login ends
+abbrev pub EndsLogin : Handed → Challenge → List ℕ → Type 0
+EndsLogin handed c = TakesLastMessage c.first.conversation_id (verifier_by handed c)
 
 -- The opening was followed to its end and then the closing, by one exchange, whose reply this document is; the key was
 -- derived where it had no entry, and has one now.

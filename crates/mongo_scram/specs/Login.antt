@@ -9,10 +9,9 @@ use Rattle.mongo_command.specs.declared.connection.Connection.{Connection}
 use Rattle.mongo_command.specs.Command.{command_document}
 use Rattle.mongo_command.specs.Connection.{kept_fault}
 use Rattle.mongo_command.specs.Exchange.{Exchanges, HoldsReply, CountsStay}
-use Rattle.mongo_command.specs.Conversation.{Said, Plan, HasNone, or_else, ending, unless, reading, saying, plain_message}
+use Rattle.mongo_command.specs.Conversation.{Said, plain_message}
 use Rattle.mongo_sasl.specs.EndsByScript.{Standing}
 use Rattle.mongo_sasl.specs.Login.{EndsByReply}
-use Rattle.mongo_scram.specs.declared.scram_version.ScramVersion.{ScramVersion}
 use Rattle.mongo_scram.specs.declared.cache.SaltedKey.{SaltedKey}
 use Rattle.mongo_scram.specs.declared.conversation.FirstRound.{FirstRound}
 use Rattle.mongo_scram.specs.declared.messages.ClientFinal.{ClientFinal}
@@ -23,13 +22,12 @@ use Rattle.mongo_scram.specs.declared.server_final.ServerFinal.{ServerFinal}
 use Rattle.mongo_scram.specs.Base64.{base64_of}
 use Rattle.mongo_scram.specs.Client.{message_of, nonce_of, handed_to, final_of, final_conversation, final_source_of, final_api_of}
 use Rattle.mongo_scram.specs.Commands.{final_command}
-use Rattle.mongo_scram.specs.Costs.{Ledgers, Derives, SameEntries}
+use Rattle.mongo_scram.specs.Costs.{Ledgers, Derives, SameEntries, TakesLastMessage}
 use Rattle.mongo_scram.specs.Entry.{salted_of, IsUsable}
-use Rattle.mongo_scram.specs.Key.{PasswordRow}
-use Rattle.mongo_scram.specs.Plan.{Speculated, Handed, Challenge, message_by, nonce_by, start_said, NotCompletedRow}
+use Rattle.mongo_scram.specs.Plan.{Speculated, Handed, Challenge, message_by, nonce_by, start_said, LastMessageRow, last_exchange}
 use Rattle.mongo_scram.specs.Replies.{CarriesFirst, CarriesFinal, FinalReplyRow}
 use Rattle.mongo_scram.specs.User.{User}
-use Rattle.mongo_scram.specs.Validity.{IsValidFirst, ServerFirstRow, ServerFinalRow}
+use Rattle.mongo_scram.specs.Validity.{IsValidFirst}
 
 -- what a login is handed, with a first round or without, over a link of this maximum
 abbrev pub handed_by : ScramLogin → Option FirstRound → ℤ → Handed
@@ -65,10 +63,6 @@ frames_opened (Some round) frames = frames
 
 -- ---- the derivation
 
--- the key that a server's first message asks of a user
-abbrev pub key_for : ScramVersion → User → ServerFirst → SaltedKey
-key_for version user first = record { version = version; username = user.username; password = user.password; salt = first.salt; count = first.i }
-
 -- A client of this nonce and ceiling goes on from the message, by the salted password of its key, which was derived where
 -- it had no entry.
 pub record IsAnswered (first : ServerFirst) (nonce : List ℕ) (max_iterations : ℕ) (key : SaltedKey) (tag : List ℕ) (old new : Ledgers) : Type 0 where
@@ -78,36 +72,13 @@ pub record IsAnswered (first : ServerFirst) (nonce : List ℕ) (max_iterations :
   pub derived : Derives key old new
   pub entries : SameEntries old new
 
--- why it doesn't: a row of the message, and then one of the password
-abbrev pub AnswerRow : ServerFirst → List ℕ → ℕ → ScramVersion → List ℕ → ErrorKind → Type 0
-AnswerRow first nonce max_iterations version password = or_else (ServerFirstRow first nonce max_iterations) (PasswordRow version password)
-
 -- ---- the last exchange
 
 -- the command of the client's last message
 abbrev pub final_said : ClientFinal → ℤ → Said
 final_said final maximum = record { maximum = maximum; document = command_document (final_command (final_conversation final) (final_source_of final) (final_of final) (final_api_of final)) }
 
--- why the server's last message isn't taken in this conversation, by the verifier that is owed
-abbrev pub LastMessageRow : OwnedValue → List ℕ → ServerFinal → ErrorKind → Type 0
-LastMessageRow conversation owed last = or_else (ServerFinalRow last conversation owed) (NotCompletedRow last)
-
--- after the reply with it
-abbrev pub last_heard : OwnedValue → List ℕ → Challenge → List ℕ → Plan Challenge
-last_heard conversation owed c reply =
-    unless (FinalReplyRow reply) (reading (CarriesFinal reply) (λ last. unless (LastMessageRow conversation owed last) (ending c)))
-
--- what is left of a login by this challenge, once the client's last message is made
-abbrev pub last_exchange : Said → OwnedValue → List ℕ → Challenge → Plan Challenge
-last_exchange said conversation owed c = saying said (last_heard conversation owed c)
-
--- the document carries a last message of the server that is taken
-pub record TakesLastMessage (conversation : OwnedValue) (owed document : List ℕ) : Type 0 where
-  pub last : ServerFinal
-  pub carries : CarriesFinal document last
-  pub taken : HasNone (LastMessageRow conversation owed last)
-
--- the last exchange was made, whatever the challenge: its reply, which the buffer holds, carries such a message
+-- the last exchange was made, whatever the challenge: its reply, which the buffer holds, carries a message that is taken
 pub record EndsLastExchange {L : Type 0} (state : L → State) (said : Said) (conversation : OwnedValue) (owed : List ℕ) (buffer : FrameBuffer) (old new : Standing L) : Type 0 where
   pub ends : (c : Challenge) → EndsByReply (last_exchange said conversation owed c) c (held_document buffer) (state old.link) (state new.link) old.id new.id
   pub taken : TakesLastMessage conversation owed (held_document buffer)

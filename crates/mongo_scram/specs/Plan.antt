@@ -1,5 +1,6 @@
 -- The plan of a SCRAM login: an opening, up to a password that can be derived from, and a closing.
 use Rattle.std.specs.Prelude.{◌≡◌, ℕ, ℤ, false, Option, None, Some, List, drop}
+use Rattle.mongo_bson.specs.declared.owned_value.OwnedValue.{OwnedValue}
 use Rattle.mongo_wire.specs.declared.error.ErrorKind.{ErrorKind}
 use Rattle.mongo_wire.specs.declared.error.ErrorKind.TheVariants.{Authentication}
 use Rattle.mongo_wire.specs.declared.auth_fault.AuthFault.TheVariants.{NotCompleted}
@@ -82,9 +83,13 @@ start_said handed user = record { maximum = handed.maximum; document = command_d
 abbrev pub close_said : Handed → Challenge → Said
 close_said handed c = record { maximum = handed.maximum; document = command_document (final_command c.first.conversation_id c.user.source (close_by handed c) handed.server_api) }
 
--- why the server's first message isn't gone on from: its rows, and then those of the password
+-- why a client of this nonce and ceiling doesn't go on from the server's first message: its rows, and then those of the
+-- password
+abbrev pub AnswerRow : ServerFirst → List ℕ → ℕ → ScramVersion → List ℕ → ErrorKind → Type 0
+AnswerRow first nonce max_iterations version password = or_else (ServerFirstRow first nonce max_iterations) (PasswordRow version password)
+
 abbrev pub ChallengeRow : Handed → Challenge → ErrorKind → Type 0
-ChallengeRow handed c = or_else (ServerFirstRow c.first (nonce_by handed) handed.max_iterations) (PasswordRow handed.version c.user.password)
+ChallengeRow handed c = AnswerRow c.first (nonce_by handed) handed.max_iterations handed.version c.user.password
 
 -- after the reply with the server's first message
 abbrev pub challenged : Handed → User → List ℕ → Plan Challenge
@@ -105,16 +110,28 @@ opening handed = unless (CredentialRow handed.credential) (reading (IsUser hande
 abbrev pub NotCompletedRow : ServerFinal → ErrorKind → Type 0
 NotCompletedRow last kind = (kind ≡ Authentication NotCompleted) × (last.done ≡ false)
 
--- why the server's last message isn't taken
-abbrev pub LastRow : Handed → Challenge → ServerFinal → ErrorKind → Type 0
-LastRow handed c last = or_else (ServerFinalRow last c.first.conversation_id (verifier_by handed c)) (NotCompletedRow last)
+-- why the server's last message isn't taken in this conversation, by the verifier that is owed
+abbrev pub LastMessageRow : OwnedValue → List ℕ → ServerFinal → ErrorKind → Type 0
+LastMessageRow conversation owed last = or_else (ServerFinalRow last conversation owed) (NotCompletedRow last)
 
--- after the reply with the server's last message
+-- after the reply with it
+abbrev pub last_heard : OwnedValue → List ℕ → Challenge → List ℕ → Plan Challenge
+last_heard conversation owed c reply =
+    unless (FinalReplyRow reply) (reading (CarriesFinal reply) (λ last. unless (LastMessageRow conversation owed last) (ending c)))
+
+-- what is left of a login by this challenge, once the client's last message is made
+abbrev pub last_exchange : Said → OwnedValue → List ℕ → Challenge → Plan Challenge
+last_exchange said conversation owed c = saying said (last_heard conversation owed c)
+
+-- the same by what the login was handed
+abbrev pub LastRow : Handed → Challenge → ServerFinal → ErrorKind → Type 0
+LastRow handed c = LastMessageRow c.first.conversation_id (verifier_by handed c)
+
 abbrev pub closed : Handed → Challenge → List ℕ → Plan Challenge
-closed handed c reply = unless (FinalReplyRow reply) (reading (CarriesFinal reply) (λ last. unless (LastRow handed c last) (ending c)))
+closed handed c = last_heard c.first.conversation_id (verifier_by handed c) c
 
 abbrev pub closing : Handed → Challenge → Plan Challenge
-closing handed c = saying (close_said handed c) (closed handed c)
+closing handed c = last_exchange (close_said handed c) c.first.conversation_id (verifier_by handed c) c
 
 abbrev pub scram_plan : Handed → Plan Challenge
 scram_plan handed = followed_by (opening handed) (closing handed)

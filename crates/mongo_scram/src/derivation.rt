@@ -4,10 +4,11 @@ ghost use Rattle.std.specs.Prelude.{◌≡◌, ◌⊎◌, ◌≤◌, IfOk, IfErr
 ghost use Rattle.mongo_wire.specs.declared.error.ErrorKind.TheVariants.{OutOfMemory};
 ghost use Rattle.mongo_scram.specs.Cache.{entries_of, rounds_of, Adds};
 ghost use Rattle.mongo_scram.specs.Client.{user_of};
-ghost use Rattle.mongo_scram.specs.Costs.{ledgers, HasEntry, Counts, Derives, CostsNothing};
+ghost use Rattle.mongo_scram.specs.Costs.{ledgers, HasEntry, Counts, Derives, CostsNothing, key_for};
 ghost use Rattle.mongo_scram.specs.Entry.{salted_of, IsUsable};
 ghost use Rattle.mongo_scram.specs.Key.{PasswordRow};
-ghost use Rattle.mongo_scram.specs.Login.{key_for, IsAnswered, AnswerRow};
+ghost use Rattle.mongo_scram.specs.Plan.{AnswerRow};
+ghost use Rattle.mongo_scram.specs.Login.{IsAnswered};
 
 use crate::auth_info::ClientAuthInfo;
 use crate::cache::{SaltedCache, SaltedKey};

@@ -7,9 +7,10 @@ ghost use Rattle.mongo_command.specs.Exchange.{frame_maximum};
 ghost use Rattle.mongo_sasl.specs.EndsByScript.{standing, StopsBy};
 ghost use Rattle.mongo_scram.specs.Client.{auth_message_of, final_conversation};
 ghost use Rattle.mongo_scram.specs.Messages.{verifier};
-ghost use Rattle.mongo_scram.specs.Plan.{Challenge};
+ghost use Rattle.mongo_scram.specs.Plan.{Challenge, last_exchange};
 ghost use Rattle.mongo_scram.specs.Replies.{CarriesFirst, FirstReplyRow};
-ghost use Rattle.mongo_scram.specs.Login.{final_said, last_exchange, TakesLastMessage, LastRefusal, LeavesOneExchange, EndsLastExchange};
+ghost use Rattle.mongo_scram.specs.Costs.{TakesLastMessage};
+ghost use Rattle.mongo_scram.specs.Login.{final_said, LastRefusal, LeavesOneExchange, EndsLastExchange};
 ghost use Rattle.mongo_scram.specs.Version.{digest_of};
 
 use crate::auth_info::ClientAuthInfo;

@@ -4,7 +4,8 @@ use Rattle.mongo_command.specs.Exchange.{frame_maximum}
 use Rattle.mongo_sasl.specs.Commands.{continue_body}
 use Rattle.mongo_scram.specs.Client.{final_of, auth_message_of, final_conversation}
 use Rattle.mongo_scram.specs.Messages.{verifier}
-use Rattle.mongo_scram.specs.Login.{final_said, last_exchange, LastRefusal}
+use Rattle.mongo_scram.specs.Plan.{last_exchange}
+use Rattle.mongo_scram.specs.Login.{final_said, LastRefusal}
 use Rattle.mongo_scram.specs.Version.{digest_of}
 use Rattle.mongo_sasl.proofs.Handed.{no_answer_on, on_answer}
 use Rattle.mongo_sasl.proofs.KeptAfter.{unbuilt_own}
