@@ -19,7 +19,7 @@ use Rattle.mongo_scram.specs.Base64.{base64_of}
 use Rattle.mongo_scram.specs.Commands.{mechanism_of}
 use Rattle.mongo_scram.specs.Costs.{key_by}
 use Rattle.mongo_scram.specs.Messages.{open_message}
-use Rattle.mongo_scram.specs.Plan.{Speculated, Handed, Challenge, first_message, first_nonce, close_said, opening}
+use Rattle.mongo_scram.specs.Plan.{Speculated, Handed, Challenge, client_first_message, client_first_nonce, close_said, opening}
 use Rattle.mongo_scram.specs.Replies.{CarriesFirst}
 use Rattle.mongo_scram.specs.Script.{IsScramLogin, IsLoginFrom, IsConversation}
 use Rattle.mongo_scram.specs.User.{User, IsUser, CredentialRow}
@@ -161,8 +161,8 @@ module _ (pending : PendingConnection) (x : Exchange) (nonces : Nonces) (bytes :
         version = refl;
         username = refl;
         password = refl;
-        said = ap (λ s. first_message s user.username handed.nonce) speculates ∙ ap (λ n. open_message x.username n) nonce_is;
-        nonce = ap (λ s. first_nonce s handed.nonce) speculates ∙ nonce_is;
+        said = ap (λ s. client_first_message s user.username handed.nonce) speculates ∙ ap (λ n. open_message x.username n) nonce_is;
+        nonce = ap (λ s. client_first_nonce s handed.nonce) speculates ∙ nonce_is;
         enough = possible.enough;
         within = omega (arith, max_iterations);
         usable = possible.usable;

@@ -16,7 +16,7 @@ use Rattle.mongo_scram.specs.declared.server_final.ServerFinal.{ServerFinal}
 use Rattle.mongo_scram.specs.declared.server_final.ServerFinalBody.{ServerFinalBody}
 use Rattle.mongo_scram.specs.declared.server_final.ServerFinalBody.TheVariants.{Error, Verifier}
 use Rattle.mongo_scram.specs.Base64.{base64_of}
-use Rattle.mongo_scram.specs.ServerMessages.{IsServerFirst, IsIterationCount, FirstMessageRow, Decodes, SaysAttribute, SaysFinal}
+use Rattle.mongo_scram.specs.ServerMessages.{IsServerFirst, IsIterationCount, ServerFirstTextRow, Decodes, SaysAttribute, SaysFinal}
 use Rattle.mongo_scram.specs.Replies.{CarriesFirst, FirstPayloadRow, FirstReplyRow, CarriesFinal, FinalPayloadRow, FinalReplyRow}
 use Rattle.mongo_scram.proofs.Parts.{SameParts, one_parts, heads}
 
@@ -65,26 +65,26 @@ one_first reply = λ a b p q.
     parts.second
     (sym p.is_count.1 ∙ ap (λ text. digits_value 10 (without_leading_plus text)) parts.third ∙ q.is_count.1)
 
-one_first_message_row : (message : List ℕ) → IsOne (FirstMessageRow message)
-one_first_message_row message = one_else _ _ (one_row _ _) (one_row _ _)
+one_first_text_row : (message : List ℕ) → IsOne (ServerFirstTextRow message)
+one_first_text_row message = one_else _ _ (one_row _ _) (one_row _ _)
 
 one_first_payload_row : (reply : List ℕ) → IsOne (FirstPayloadRow reply)
 one_first_payload_row reply = one_of Authentication _ (λ a b p q.
     let same = one_sasl_reply reply p.0 q.0 p.1 q.1 in
-    one_first_message_row q.0.payload a b (subst (λ (sasl : SaslResponse). FirstMessageRow sasl.payload a) same p.2) q.2)
+    one_first_text_row q.0.payload a b (subst (λ (sasl : SaslResponse). ServerFirstTextRow sasl.payload a) same p.2) q.2)
 
 pub one_first_row : (reply : List ℕ) → IsOne (FirstReplyRow reply)
 one_first_row reply = one_else (SaslRow reply) (FirstPayloadRow reply) (one_sasl_row reply) (one_first_payload_row reply)
 
-no_first_message_row : (message nonce salt count : List ℕ) (i : ℕ) → IsServerFirst message nonce salt count → IsIterationCount count i → HasNone (FirstMessageRow message)
-no_first_message_row message nonce salt count i is counts =
+no_first_text_row : (message nonce salt count : List ℕ) (i : ℕ) → IsServerFirst message nonce salt count → IsIterationCount count i → HasNone (ServerFirstTextRow message)
+no_first_text_row message nonce salt count i is counts =
     none_else _ _ (no_row _ _ (λ none. none nonce salt count is))
     (no_row _ _ (λ row. row.4 i (subst (λ text. IsIterationCount text i) (one_server_first message nonce salt count row.0 row.1 row.2 is row.3).third counts)))
 
 no_first_payload_row : (reply : List ℕ) (first : ServerFirst) → CarriesFirst reply first → HasNone (FirstPayloadRow reply)
 no_first_payload_row reply first is = no_of Authentication _ (λ fault row.
     let same = one_sasl_reply reply row.0 is.sasl row.1 is.is_reply in
-    no_first_message_row is.sasl.payload first.nonce first.salt is.count first.i is.is_first is.is_count fault (subst (λ (sasl : SaslResponse). FirstMessageRow sasl.payload fault) same row.2))
+    no_first_text_row is.sasl.payload first.nonce first.salt is.count first.i is.is_first is.is_count fault (subst (λ (sasl : SaslResponse). ServerFirstTextRow sasl.payload fault) same row.2))
 
 -- a reply that carries one isn't refused
 pub no_first_row : (reply : List ℕ) (first : ServerFirst) → CarriesFirst reply first → HasNone (FirstReplyRow reply)

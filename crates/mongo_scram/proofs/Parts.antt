@@ -4,7 +4,7 @@ use Rattle.std.proofs.lemmas.Str.Pattern.{IsSplitOnceResult, split_parts}
 use Rattle.base64.specs.GeneralPurpose.{IsBytes}
 use Rattle.mongo_wire.specs.declared.auth_fault.AuthFault.TheVariants.{Malformed}
 use Rattle.mongo_scram.specs.Base64.{base64_of}
-use Rattle.mongo_scram.specs.ServerMessages.{HasNoComma, BeginsWithParts, IsBeforeComma, FirstMessageRow}
+use Rattle.mongo_scram.specs.ServerMessages.{HasNoComma, BeginsWithParts, IsBeforeComma, ServerFirstTextRow}
 
 -- ---- one comma
 
@@ -93,20 +93,20 @@ three message first rest second more third first_ends is second_ends rest_is las
 -- ---- the rows of a server first message
 
 module _ (message a b c : List ℕ) (parts : BeginsWithParts message a b c) where
-  pub no_nonce : ((value : List ℕ) → a ≢ codes "r=" ++ value) → FirstMessageRow message Malformed
+  pub no_nonce : ((value : List ℕ) → a ≢ codes "r=" ++ value) → ServerFirstTextRow message Malformed
   no_nonce none = inl (refl, λ nonce salt count f. none nonce (one_parts message a b c _ _ _ parts f.parts).first)
 
-  pub no_salt : ((value : List ℕ) → b ≢ codes "s=" ++ value) → FirstMessageRow message Malformed
+  pub no_salt : ((value : List ℕ) → b ≢ codes "s=" ++ value) → ServerFirstTextRow message Malformed
   no_salt none = inl (refl, λ nonce salt count f. none (base64_of salt) (one_parts message a b c _ _ _ parts f.parts).second)
 
-  pub no_base64 : (text : List ℕ) → b ≡ codes "s=" ++ text → ((bytes : List ℕ) → IsBytes bytes → text ≢ base64_of bytes) → FirstMessageRow message Malformed
+  pub no_base64 : (text : List ℕ) → b ≡ codes "s=" ++ text → ((bytes : List ℕ) → IsBytes bytes → text ≢ base64_of bytes) → ServerFirstTextRow message Malformed
   no_base64 text is none = inl (refl, λ nonce salt count f. none salt f.bytes (same_rest text (base64_of salt) (sym is ∙ (one_parts message a b c _ _ _ parts f.parts).second)))
     where
       same_rest : (x y : List ℕ) → codes "s=" ++ x ≡ codes "s=" ++ y → x ≡ y
       same_rest x y is = tails 61 61 x y (tails 115 115 (61 ∷ x) (61 ∷ y) is)
 
-  pub no_count : ((value : List ℕ) → c ≢ codes "i=" ++ value) → FirstMessageRow message Malformed
+  pub no_count : ((value : List ℕ) → c ≢ codes "i=" ++ value) → ServerFirstTextRow message Malformed
   no_count none = inl (refl, λ nonce salt count f. none count (one_parts message a b c _ _ _ parts f.parts).third)
 
-pub no_parts : (message : List ℕ) → ((a b c : List ℕ) → BeginsWithParts message a b c → ⊥) → FirstMessageRow message Malformed
+pub no_parts : (message : List ℕ) → ((a b c : List ℕ) → BeginsWithParts message a b c → ⊥) → ServerFirstTextRow message Malformed
 no_parts message none = inl (refl, λ nonce salt count f. none _ _ _ f.parts)

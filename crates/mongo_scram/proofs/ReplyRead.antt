@@ -12,7 +12,7 @@ use Rattle.mongo_sasl.specs.Reply.{IsSaslReply, SaslRow, SaslRefused}
 use Rattle.mongo_sasl.proofs.OneReply.{sasl_reply_no_row}
 use Rattle.mongo_scram.specs.declared.server_final.ServerFinalBody.{ServerFinalBody}
 use Rattle.mongo_scram.specs.Parsed.{FirstRefused, ServerFinalUnread}
-use Rattle.mongo_scram.specs.ServerMessages.{FirstMessageRow, SaysFinal}
+use Rattle.mongo_scram.specs.ServerMessages.{ServerFirstTextRow, SaysFinal}
 use Rattle.mongo_scram.specs.Replies.{FirstReplyRow, FinalReplyRow}
 
 -- an error that is handed on
@@ -35,7 +35,7 @@ first_refused reply sasl OutOfMemory is row = inr refl
 first_refused reply sasl kind is row = absurd row
 
 -- bytes that are no text are no message
-pub first_without_text : (payload : List ℕ) → (IsUtf8 payload → ⊥) → FirstMessageRow payload Malformed
+pub first_without_text : (payload : List ℕ) → (IsUtf8 payload → ⊥) → ServerFirstTextRow payload Malformed
 first_without_text payload none = inl (refl, λ nonce salt count is. none is.text)
 
 pub final_refused : (reply : List ℕ) (sasl : SaslResponse) (kind : ErrorKind) → IsSaslReply reply sasl → ServerFinalUnread sasl.payload kind → FinalReplyRow reply kind ⊎ (kind ≡ OutOfMemory)

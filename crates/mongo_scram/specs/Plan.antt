@@ -40,19 +40,19 @@ pub record Handed : Type 0 where
   pub maximum : ℤ
 
 -- the client's first message, and the nonce in it: of the first round where there was one
-abbrev pub first_message : Option Speculated → List ℕ → List ℕ → List ℕ
-first_message None username nonce = open_message username nonce
-first_message (Some speculated) username nonce = speculated.message
+abbrev pub client_first_message : Option Speculated → List ℕ → List ℕ → List ℕ
+client_first_message None username nonce = open_message username nonce
+client_first_message (Some speculated) username nonce = speculated.message
 
-abbrev pub first_nonce : Option Speculated → List ℕ → List ℕ
-first_nonce None nonce = nonce
-first_nonce (Some speculated) nonce = speculated.nonce
+abbrev pub client_first_nonce : Option Speculated → List ℕ → List ℕ
+client_first_nonce None nonce = nonce
+client_first_nonce (Some speculated) nonce = speculated.nonce
 
 abbrev pub message_by : Handed → User → List ℕ
-message_by handed user = first_message handed.speculated user.username handed.nonce
+message_by handed user = client_first_message handed.speculated user.username handed.nonce
 
 abbrev pub nonce_by : Handed → List ℕ
-nonce_by handed = first_nonce handed.speculated handed.nonce
+nonce_by handed = client_first_nonce handed.speculated handed.nonce
 
 -- ---- what it derives
 

@@ -9,7 +9,7 @@ use Rattle.mongo_sasl.specs.Reply.{IsSaslReply, SaslRow}
 use Rattle.mongo_scram.specs.declared.server_first.ServerFirst.{ServerFirst}
 use Rattle.mongo_scram.specs.declared.server_final.ServerFinal.{ServerFinal}
 use Rattle.mongo_scram.specs.declared.server_final.ServerFinalBody.{ServerFinalBody}
-use Rattle.mongo_scram.specs.ServerMessages.{IsServerFirst, IsIterationCount, FirstMessageRow, SaysFinal}
+use Rattle.mongo_scram.specs.ServerMessages.{IsServerFirst, IsIterationCount, ServerFirstTextRow, SaysFinal}
 
 -- ---- the server's first message
 
@@ -26,7 +26,7 @@ pub record CarriesFirst (reply : List ℕ) (first : ServerFirst) : Type 0 where
 
 -- the reply reads, and its payload is no server first message
 abbrev pub FirstPayloadRow : List ℕ → ErrorKind → Type 0
-FirstPayloadRow reply = row_of Authentication (λ fault. (sasl : SaslResponse) × IsSaslReply reply sasl × FirstMessageRow sasl.payload fault)
+FirstPayloadRow reply = row_of Authentication (λ fault. (sasl : SaslResponse) × IsSaslReply reply sasl × ServerFirstTextRow sasl.payload fault)
 
 -- why it carries none: the row of the reply, else that of the message
 abbrev pub FirstReplyRow : List ℕ → ErrorKind → Type 0

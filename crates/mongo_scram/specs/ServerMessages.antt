@@ -36,8 +36,8 @@ abbrev pub IsIterationCount : List ℕ → ℕ → Type 0
 IsIterationCount text number = IsNumeral 10 (without_leading_plus text) × (digits_value 10 (without_leading_plus text) ≡ number) × (number < 2 ^ 32)
 
 -- why a message is no server first message: the first row that applies
-abbrev pub FirstMessageRow : List ℕ → AuthFault → Type 0
-FirstMessageRow message =
+abbrev pub ServerFirstTextRow : List ℕ → AuthFault → Type 0
+ServerFirstTextRow message =
     or_else (row_for Malformed ((nonce salt count : List ℕ) → IsServerFirst message nonce salt count → ⊥))
     (row_for CountUnreadable ((nonce salt count : List ℕ) × IsServerFirst message nonce salt count × ((number : ℕ) → IsIterationCount count number → ⊥)))
 

@@ -15,7 +15,7 @@ use std::alloc::Global;
 
 /// What a server first message says, its texts borrowed from it.
 #[derive(Drop)]
-pub struct FirstMessage<'a> {
+pub struct ServerFirstParts<'a> {
     /// The nonce, the client's with the server's behind it.
     pub nonce: &'a str,
     /// The salt.
@@ -29,7 +29,7 @@ pub struct FirstMessage<'a> {
 ///
 /// `Malformed` where a part is missing, has another key, or the salt is no base64; else `CountUnreadable` where the count
 /// is no decimal number below 2^32.
-pub fn read_server_first<'a>(alloc: Global, message: &'a str) -> Result<FirstMessage<'a>, Error>
+pub fn read_server_first<'a>(alloc: Global, message: &'a str) -> Result<ServerFirstParts<'a>, Error>
     ensures first { IfOk result (HoldsServerFirst message.now) }
     ensures refused { IfErr result (λ e. FirstRefused message.now e.kind) }
 {
@@ -49,7 +49,7 @@ pub fn read_server_first<'a>(alloc: Global, message: &'a str) -> Result<FirstMes
         return Err(refused(AuthFault::Malformed));
     };
     match count.parse::<u32>() {
-        Ok(i) => Ok(FirstMessage { nonce, salt, i }),
+        Ok(i) => Ok(ServerFirstParts { nonce, salt, i }),
         Err(_) => Err(refused(AuthFault::CountUnreadable)),
     }
 }
