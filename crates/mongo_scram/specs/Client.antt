@@ -1,5 +1,5 @@
 -- What the client's messages hold.
-use Rattle.std.specs.Prelude.{ℕ, ℤ, Bool, Option, None, Some, List, drop, string_bytes}
+use Rattle.std.specs.Prelude.{◌≡◌, ℕ, ℤ, Bool, Option, None, Some, List, drop, string_bytes}
 use Rattle.mongo_wire.specs.Outside.{risen}
 use Rattle.mongo_command.specs.declared.server_api.ServerApi.{ServerApi}
 use Rattle.mongo_sasl.specs.declared.credential.Credential.{Credential}
@@ -30,6 +30,14 @@ includes_db first = first.include_db
 
 abbrev pub server_api_of : ClientFirst → Option ServerApi
 server_api_of first = first.server_api
+
+-- two messages say the same, and their commands too
+pub record SameFirst (a b : ClientFirst) : Type 0 where
+  pub message : message_of a ≡ message_of b
+  pub nonce : nonce_of a ≡ nonce_of b
+  pub source : first_source a ≡ first_source b
+  pub db : includes_db a ≡ includes_db b
+  pub api : server_api_of a ≡ server_api_of b
 
 abbrev pub final_of : ClientFinal → List ℕ
 final_of last = string_bytes last.message

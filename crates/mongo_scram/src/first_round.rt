@@ -6,10 +6,11 @@ use mongo_wire::Error;
 use std::alloc::Global;
 
 impl FirstRound {
-    ghost use Rattle.mongo_scram.specs.Client.{speculated_of};
+    ghost use Rattle.mongo_scram.specs.Client.{SameFirst, speculated_of};
 
     /// A copy of the round.
     pub fn try_clone(&self, alloc: Global) -> Result<FirstRound, Error>
+        ensures client { IfOk result (λ round. SameFirst round.client_first self.now.client_first) }
         ensures said { IfOk result (λ round. speculated_of (Some round) ≡ speculated_of (Some self.now)) }
         ensures refused { IfErr result (λ e. e.kind ≡ OutOfMemory) }
     {

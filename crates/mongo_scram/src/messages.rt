@@ -51,7 +51,7 @@ impl ClientFirst {
     ghost use Rattle.std.specs.Prelude.{◌≡◌, codes, IfOk, IfErr};
     ghost use Rattle.mongo_sasl.specs.Commands.{IsNotBuilt};
     ghost use Rattle.mongo_scram.specs.Base64.{base64_of};
-    ghost use Rattle.mongo_scram.specs.Client.{message_of, bare_of, nonce_of, first_source, includes_db, server_api_of};
+    ghost use Rattle.mongo_scram.specs.Client.{message_of, bare_of, nonce_of, first_source, includes_db, server_api_of, SameFirst};
     ghost use Rattle.mongo_scram.specs.Commands.{first_body, first_command};
     ghost use Rattle.mongo_scram.specs.Messages.{open_message};
 
@@ -175,11 +175,7 @@ impl ClientFirst {
 
     /// A copy of the message.
     pub fn try_clone(&self, alloc: Global) -> Result<ClientFirst, Error>
-        ensures message { IfOk result (λ first. message_of first ≡ message_of self.now) }
-        ensures nonce { IfOk result (λ first. nonce_of first ≡ nonce_of self.now) }
-        ensures source { IfOk result (λ first. first_source first ≡ first_source self.now) }
-        ensures db { IfOk result (λ first. includes_db first ≡ includes_db self.now) }
-        ensures api { IfOk result (λ first. server_api_of first ≡ server_api_of self.now) }
+        ensures copied { IfOk result (λ first. SameFirst first self.now) }
         ensures refused { IfErr result (λ e. e.kind ≡ OutOfMemory) }
     {
         Ok(ClientFirst {
