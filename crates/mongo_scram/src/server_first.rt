@@ -59,16 +59,18 @@ impl ServerFirst {
         ensures refused { IfErr result (λ e. ServerFirstRow self.now nonce.now max_iterations e.kind) }
     {
         if self.done {
-            Err(refused(AuthFault::EndedEarly))
-        } else if !self.nonce.as_str().starts_with(nonce) {
-            Err(refused(AuthFault::Nonce))
-        } else if self.i < MIN_ITERATION_COUNT {
-            Err(refused(AuthFault::CountLow))
-        } else if self.i > max_iterations {
-            Err(refused(AuthFault::CountHigh))
-        } else {
-            Ok(())
+            return Err(refused(AuthFault::EndedEarly));
         }
+        if !self.nonce.as_str().starts_with(nonce) {
+            return Err(refused(AuthFault::Nonce));
+        }
+        if self.i < MIN_ITERATION_COUNT {
+            return Err(refused(AuthFault::CountLow));
+        }
+        if self.i > max_iterations {
+            return Err(refused(AuthFault::CountHigh));
+        }
+        Ok(())
     }
 
     /// A copy of the message.
