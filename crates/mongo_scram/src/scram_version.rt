@@ -1,10 +1,9 @@
 ghost use Rattle.std.specs.Prelude.{◌≡◌, ◌+◌, ◌≤◌, length};
 ghost use Rattle.mongo_mac.specs.Hi.{hi_of};
-ghost use Rattle.mongo_mac.specs.Hmac.{hmac_of};
 ghost use Rattle.mongo_scram.specs.Commands.{mechanism_of};
 ghost use Rattle.mongo_scram.specs.Version.{digest_of, digest_len, version_name};
 
-use mongo_mac::{Sha1Fn, Sha256Fn, Steps, Tag, digest, hi, hmac};
+use mongo_mac::{Sha1Fn, Sha256Fn, Steps, Tag, digest, hi};
 use mongo_sasl::AuthMechanism;
 use std::fmt;
 use std::sync::ledger::Ledger;
@@ -44,17 +43,6 @@ impl ScramVersion {
         match self {
             ScramVersion::Sha1 => digest::<Sha1Fn>(text),
             ScramVersion::Sha256 => digest::<Sha256Fn>(text),
-        }
-    }
-
-    /// HMAC(key, text) by the version's hash function (RFC 2104).
-    pub fn hmac(&self, key: &[u8], text: &[u8]) -> Tag
-        ensures value { result ≡ hmac_of (digest_of self.now) key.now text.now }
-        ensures len { length result ≡ digest_len self.now }
-    {
-        match self {
-            ScramVersion::Sha1 => hmac::<Sha1Fn>(key, text),
-            ScramVersion::Sha256 => hmac::<Sha256Fn>(key, text),
         }
     }
 
