@@ -1,4 +1,5 @@
-// The texts of a client's messages (RFC 5802, sections 3 and 7), each made in memory that is taken once.
+// The texts of a client's messages (RFC 5802, sections 3 and 7), each with room for it taken first; a name with many `=` or `,`
+// grows it, and a proof's base64 has memory of its own.
 
 ghost use Rattle.std.specs.Prelude.{◌≡◌, ◌++◌, codes, IfOk, IfErr, OnOk, string_bytes};
 ghost use Rattle.mongo_scram.specs.Base64.{base64_of};
