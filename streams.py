@@ -40,36 +40,60 @@ def seconds(text):
 
 # ---- documents and frames, to be looked at
 
-def document(raw, at=0):
-    """The elements of a BSON document that begins at a place, as text, and the place after it."""
-    end = at + struct.unpack_from('<i', raw, at)[0]
+# How many levels of documents are looked into: as many as the proved readers take.
+LEVELS = 100
+
+
+def printable(text):
+    """A text of the peer's for a terminal, which letters that can't be printed would steer: they stand as escapes."""
+    return ''.join(letter if letter.isprintable() else letter.encode('unicode_escape').decode() for letter in text)
+
+
+def length_at(raw, at, least):
+    """The length of four bytes that stands at a place. It has a sign, and one below the least would lead back."""
+    number = struct.unpack_from('<i', raw, at)[0]
+    if number < least:
+        raise ValueError(f'length {number}')
+    return number
+
+
+def document(raw, at, limit, level=1):
+    """The elements of a BSON document that begins at a place, as text, and the place after it. ValueError, IndexError or struct.error
+    where none begins there that ends at the limit or before it. Its elements have to end where its length says: bytes that two
+    documents both claim would be read once for each, twice as often with each level."""
+    end = at + length_at(raw, at, 5)
+    if end > limit or level > LEVELS:
+        raise ValueError('a document too long or too deep')
     at += 4
     parts = []
     while raw[at]:
-        kind = raw[at]
-        zero = raw.index(0, at + 1)
-        key = raw[at + 1:zero].decode('utf-8', 'replace')
-        value, at = element(raw, kind, zero + 1)
+        zero = raw.index(0, at + 1, end)
+        key = printable(raw[at + 1:zero].decode('utf-8', 'replace'))
+        value, at = element(raw, raw[at], zero + 1, end - 1, level)
+        if at >= end:
+            raise ValueError('an element passes its document')
         parts.append(f'{key}: {value}')
+    if at != end - 1:
+        raise ValueError('a document ends before its length')
     return '{' + ', '.join(parts) + '}', end
 
 
-def element(raw, kind, at):
-    """A value as text, and the place after it."""
+def element(raw, kind, at, limit, level):
+    """A value as text, and the place after it, which may lie past the limit unless the value is a document."""
     def number(form):
         return str(struct.unpack_from('<' + form, raw, at)[0]), at + struct.calcsize('<' + form)
     if kind == 0x01:
         return number('d')
     if kind in (0x02, 0x0D, 0x0E):
-        length = struct.unpack_from('<i', raw, at)[0]
-        return repr(raw[at + 4:at + 3 + length].decode('utf-8', 'replace')), at + 4 + length
+        size = length_at(raw, at, 1)
+        return repr(raw[at + 4:at + 3 + size].decode('utf-8', 'replace')), at + 4 + size
     if kind in (0x03, 0x04):
-        return document(raw, at)
+        return document(raw, at, limit, level + 1)
     if kind == 0x05:
-        length = struct.unpack_from('<i', raw, at)[0]
-        piece = raw[at + 5:at + 5 + length]
+        size = length_at(raw, at, 0)
+        piece = raw[at + 5:at + 5 + size]
         shown = repr(piece.decode('ascii')) if piece and all(32 <= byte < 127 for byte in piece) else piece.hex()
-        return f'binary {shown}', at + 5 + length
+        return f'binary {shown}', at + 5 + size
     if kind in (0x06, 0x0A):
         return 'null', at
     if kind == 0x07:
@@ -89,17 +113,17 @@ def element(raw, kind, at):
 
 
 def shown(frame):
-    """A whole frame as text: its header and its document."""
+    """A whole frame as text: its header and its document, or its bytes where these can't be read."""
     length, request, response, code = struct.unpack_from('<iiii', frame)
     head = f'{length} bytes, request {request}, response to {response}'
     try:
         if code == 2013:
-            body = document(frame, 21)[0] if frame[20] == 0 else 'a document sequence first'
+            body = document(frame, 21, length)[0] if frame[20] == 0 else 'a document sequence first'
             return f'OP_MSG, {head}: {body}'
         if code == 2004:
-            return f'OP_QUERY, {head}: {document(frame, frame.index(0, 20) + 9)[0]}'
+            return f'OP_QUERY, {head}: {document(frame, frame.index(0, 20) + 9, length)[0]}'
         if code == 1:
-            return f'OP_REPLY, {head}: {document(frame, 36)[0]}'
+            return f'OP_REPLY, {head}: {document(frame, 36, length)[0]}'
     except (ValueError, IndexError, struct.error):
         pass
     return f'op code {code}, {head}: {frame[16:].hex()}'
