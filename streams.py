@@ -3,6 +3,7 @@ person's eyes, and a relay between a socket and a program. Python's standard lib
 import argparse
 import os
 import selectors
+import socket
 import ssl
 import struct
 import subprocess
@@ -152,81 +153,126 @@ class Frames:
 
 # ---- a program between its settings and a socket
 
+# How many bytes are read ahead of a program before the peer has to wait.
+AHEAD = 1 << 20
+
+
 class Closed(Exception):
-    """The peer was silent too long."""
+    """The peer was silent too long, or took nothing for as long."""
+
+
+class Input:
+    """What is due to a program's standard input. It is kept here while the program doesn't read, so that what the program writes is taken
+    meanwhile: it may well wait for that before it reads on."""
+
+    def __init__(self, stdin, ready):
+        os.set_blocking(stdin.fileno(), False)
+        self.stdin, self.ready, self.due, self.ended = stdin, ready, bytearray(), False
+
+    def add(self, piece):
+        """A piece more; none where the program has closed its input."""
+        if not self.ended:
+            self.due += piece
+            look_for(self.ready, self.stdin, selectors.EVENT_WRITE, True)
+
+    def end(self):
+        """Nothing more is added."""
+        self.ended = True
+        if not self.due:
+            self.stdin.close()
+
+    def write(self):
+        """Hands on what the program takes now. Its input is closed where that was the last, or where the program has closed it."""
+        try:
+            del self.due[:self.stdin.write(self.due) or 0]
+        except BrokenPipeError:
+            self.due.clear()
+            self.ended = True
+        if not self.due:
+            look_for(self.ready, self.stdin, selectors.EVENT_WRITE, False)
+            if self.ended:
+                self.stdin.close()
+
+
+def look_for(ready, stream, event, wanted):
+    """Has a selector look for an event of an open stream just where it is wanted."""
+    if wanted and stream not in ready.get_map():
+        ready.register(stream, event)
+    elif not wanted and stream in ready.get_map():
+        ready.unregister(stream)
 
 
 def relay(program, first_line, sock, peer_begins, seconds, trace):
     """Runs a program whose standard input is one line and then what the socket gives, and whose standard output goes to the socket.
-    Gives its status and what it wrote to standard error. `Closed` where nothing came for so many seconds while it was the peer's turn:
-    after a whole frame of the peer it is the program's, which may derive a key for as long as that takes. Who begins is told."""
+    Gives its status and what it wrote to standard error. `Closed` where nothing came for so many seconds while it was the peer's turn,
+    or where it took nothing for so many: after a whole frame of the peer, and while a part of what came is still due to the program, it is
+    the program's turn, which may derive a key for as long as that takes. Who begins is told."""
     out, back, peers_turn = Frames('->', trace), Frames('<-', trace), peer_begins
     with subprocess.Popen([program], stdin=subprocess.PIPE, stdout=subprocess.PIPE, stderr=subprocess.PIPE, bufsize=0) as running, selectors.DefaultSelector() as ready:
-        said = b''
+        said, open_streams, sending = b'', 2, True
         try:
-            running.stdin.write(first_line + b'\n')
+            given = Input(running.stdin, ready)
+            given.add(first_line + b'\n')
             ready.register(running.stdout, selectors.EVENT_READ)
             ready.register(running.stderr, selectors.EVENT_READ)
-            ready.register(sock, selectors.EVENT_READ)
-            open_streams, reading = 2, True
             while open_streams:
-                waiting = reading and getattr(sock, 'pending', lambda: 0)() > 0
-                events = [key.fileobj for key, _ in ready.select(0 if waiting else seconds if peers_turn else None)]
+                has_room = not given.ended and len(given.due) < AHEAD
+                look_for(ready, sock, selectors.EVENT_READ, has_room)
+                waiting = has_room and getattr(sock, 'pending', lambda: 0)() > 0
+                is_silent = peers_turn and not given.due and not given.ended
+                events = [key.fileobj for key, _ in ready.select(0 if waiting else seconds if is_silent else None)]
                 if waiting and sock not in events:
                     events.append(sock)
                 if not events:
                     raise Closed
                 for stream in events:
-                    if stream is sock:
-                        piece = from_socket(sock, running.stdin)
-                        if piece is None:
-                            continue
-                        if not piece:
-                            ready.unregister(sock)
-                            reading = False
-                        if not piece or back.take(piece):
-                            peers_turn = False
-                        continue
-                    piece = os.read(stream.fileno(), 65536)
-                    if not piece:
-                        ready.unregister(stream)
-                        open_streams -= 1
-                    elif stream is running.stderr:
-                        said += piece
+                    if stream is running.stdin:
+                        given.write()
+                    elif stream is sock:
+                        piece = from_socket(sock)
+                        if piece:
+                            given.add(piece)
+                            if back.take(piece):
+                                peers_turn = False
+                        elif piece is not None:
+                            given.end()
                     else:
-                        if out.take(piece):
-                            peers_turn = True
-                        send(sock, piece, seconds)
+                        piece = os.read(stream.fileno(), 65536)
+                        if not piece:
+                            ready.unregister(stream)
+                            open_streams -= 1
+                        elif stream is running.stderr:
+                            said += piece
+                        else:
+                            if out.take(piece):
+                                peers_turn = True
+                            sending = sending and send(sock, piece, seconds)
             return running.wait(), said.decode('utf-8', 'replace')
         finally:
             if running.poll() is None:
                 running.kill()
 
 
-def from_socket(sock, stdin):
-    """Hands on what the socket has, and gives it: nothing where the socket or the program's input has ended, the other then too. None
-    where there is nothing yet: what makes a TLS stream ready may be a record of TLS itself, with nothing for the program in it."""
+def from_socket(sock):
+    """What the socket has: nothing where it has ended. None where there is nothing yet: what makes a TLS stream ready may be a record of
+    TLS itself, with nothing for the program in it."""
     sock.setblocking(False)
     try:
-        piece = sock.recv(65536)
+        return sock.recv(65536)
     except (BlockingIOError, InterruptedError, ssl.SSLWantReadError, ssl.SSLWantWriteError):
         return None
     except OSError:
-        piece = b''
-    try:
-        if piece:
-            stdin.write(piece)
-        else:
-            stdin.close()
-    except (BrokenPipeError, ValueError):
         return b''
-    return piece
 
 
 def send(sock, piece, seconds):
-    """Sends a piece; a peer that has gone is told by the end of its stream."""
+    """Sends a whole piece, and tells whether the peer is still there: one that has gone gets no more, and the program is told by the end
+    of its stream. `Closed` where the piece wasn't taken in time, since nothing may follow a part of it."""
     sock.settimeout(seconds)
     try:
         sock.sendall(piece)
+        return True
+    except socket.timeout:
+        raise Closed from None
     except OSError:
-        pass
+        return False
