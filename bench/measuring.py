@@ -7,6 +7,11 @@ import subprocess
 import sys
 
 HERE = os.path.dirname(os.path.abspath(__file__))
+sys.path.insert(0, os.path.dirname(HERE))
+import streams
+
+# How often something may be asked for; the program takes no number of 2^32, and a run of many is one more.
+TIMES = streams.whole_number(1, 1_000_000_000)
 CRATE = os.path.join(os.path.dirname(HERE), "crates", "mongo_bench")
 LIBBSON = ("libbson-1.0", "bson2", "libbson-2.0")
 
