@@ -97,7 +97,17 @@ fn converse<L: Link, G: Ledger>(
     let mut buffer = FrameBuffer::new(alloc);
     match conversation {
         Conversation::Scram(version) => by_scram(
-            alloc, options, version, connection, link, credential, state, round, inputs, steps,
+            alloc,
+            options,
+            version,
+            connection,
+            link,
+            &mut buffer,
+            credential,
+            state,
+            round,
+            inputs,
+            steps,
         ),
         Conversation::Plain => plain::authenticate_stream(
             alloc,
@@ -128,6 +138,7 @@ fn by_scram<L: Link, G: Ledger>(
     version: ScramVersion,
     connection: &mut Connection,
     link: &mut L,
+    buffer: &mut FrameBuffer,
     credential: &Credential,
     state: &mut LoginState,
     round: Option<AnsweredRound>,
@@ -138,13 +149,12 @@ fn by_scram<L: Link, G: Ledger>(
     ensures converses { Converses result (Scram version) (asked_over connection.old options.now (Some credential.now) inputs.now.nonces state.old.ids) credential.now round connection.old connection.new
         (L.state link.old) (L.state link.new) state.old.ids state.new.ids (ledgers steps.old state.old.salted) (ledgers steps.new state.new.salted) }
 {
-    let mut buffer = FrameBuffer::new(alloc);
     version.authenticate_stream(
         alloc,
         connection,
         link,
         &mut state.ids,
-        &mut buffer,
+        buffer,
         credential,
         options.auth_options.server_api.as_ref(),
         scram_round(round),
