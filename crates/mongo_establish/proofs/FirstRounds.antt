@@ -78,7 +78,7 @@ scram_document version credential nonce (Some (X509 command)) is = absurd is
 x509_document : (credential : Credential) (first : Option ClientFirst) → IsX509First credential first → option_map first_document first ≡ Some (x509_body credential.username)
 x509_document credential None is = absurd is
 x509_document credential (Some (Scram also first)) is = absurd is
-x509_document credential (Some (X509 command)) is = ap Some is
+x509_document credential (Some (X509 command)) is = ap (λ command. Some command.body) is
 
 document_in : (conversation : Option Conversation) (credential : Credential) (nonce : List ℕ) (first : Option ClientFirst) → IsFirstIn conversation credential nonce first → option_map first_document first ≡ speculation_in conversation credential nonce
 document_in (Some (ByScram version)) credential nonce first is = scram_document version credential nonce first is

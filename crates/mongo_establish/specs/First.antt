@@ -5,7 +5,7 @@ use Rattle.mongo_wire.specs.declared.error.ErrorKind.TheVariants.{OutOfMemory}
 use Rattle.mongo_sasl.specs.declared.credential.Credential.{Credential}
 use Rattle.mongo_sasl.specs.declared.mechanism.AuthMechanism.{AuthMechanism}
 use Rattle.mongo_sasl.specs.Commands.{IsNotBuilt}
-use Rattle.mongo_sasl.specs.X509.{x509_body}
+use Rattle.mongo_sasl.specs.X509.{x509_command}
 use Rattle.mongo_scram.specs.declared.scram_version.ScramVersion.{ScramVersion}
 use Rattle.mongo_scram.specs.declared.messages.ClientFirst.{ClientFirst as ScramFirst}
 use Rattle.mongo_scram.specs.declared.conversation.FirstRound.{FirstRound as ScramRound}
@@ -42,9 +42,9 @@ abbrev pub IsScramFirst : ScramVersion → Credential → List ℕ → Option Cl
 IsScramFirst version credential nonce (Some (Scram also first)) = IsScramMessage version credential nonce also first
 IsScramFirst version credential nonce first = ⊥
 
--- the body of X.509's command
+-- the command of a login by X.509, without a server API
 abbrev pub IsX509First : Credential → Option ClientFirst → Type 0
-IsX509First credential (Some (X509 command)) = command.body ≡ x509_body credential.username
+IsX509First credential (Some (X509 command)) = command ≡ x509_command credential None
 IsX509First credential first = ⊥
 
 -- the first message that goes with a hello, or none
