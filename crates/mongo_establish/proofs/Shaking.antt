@@ -1,5 +1,6 @@
 -- What a handshake over a connection answers, step by step.
 use Rattle.std.proofs.Common.{◌≡◌, ℕ, ℤ, ◌∙◌, refl, ap, subst, sym, inl, inr, is_some, Option, None, option_map, Result, Ok, Err, List, IfErr, OnOk}
+use Rattle.std.specs.Result.{IsErrAnd}
 use Rattle.mongo_wire.specs.declared.error.Error.{Error}
 use Rattle.mongo_wire.specs.declared.error.ErrorKind.{ErrorKind}
 use Rattle.mongo_wire.specs.Outside.{State}
@@ -31,18 +32,25 @@ use Rattle.mongo_establish.proofs.LoginAlike.{pending_over, reached_alike, stopp
 
 -- ---- results
 
-pub err_of : {T : Type 0} (r : Result T Error) (e : Error) (P : Error → Type 0) → r ≡ Err e → P e → IfErr r P
-err_of r e P is h = subst (λ x. IfErr x P) (sym is) h
-
 pub ok_of : {T : Type 0} {P : Type 0} (r : Result T Error) (x : T) → r ≡ Ok x → OnOk r P → P
 ok_of {P = P} r x is h = subst (λ y. OnOk y P) is h
 
 pub if_err_of : {T : Type 0} (r : Result T Error) (e : Error) (P : Error → Type 0) → r ≡ Err e → IfErr r P → P e
 if_err_of r e P is h = subst (λ y. IfErr y P) is h
 
+-- what holds of an error holds where it is handed on
+pub handed : {U : Type 0} (out : Result U Error) (x : Error) (P : Error → Type 0) → IsErrAnd out (λ e. e ≡ x) → P x → IfErr out P
+handed (Ok y) x P same h = tt
+handed (Err e) x P same h = subst P (sym same) h
+
+-- and so does what a call promises of it
+pub handed_on : {T U : Type 0} (out : Result U Error) (inner : Result T Error) (x : Error) (P : Error → Type 0) → IsErrAnd out (λ e. e ≡ x) → inner ≡ Err x → IfErr inner P → IfErr out P
+handed_on out inner x P same was h = handed out x P same (if_err_of inner x P was h)
+
 -- what a refusal costs
-costs_of_err : {T : Type 0} (r : Result T Error) (e : Error) (asked : Asked) (old new : State) (after : ℤ) (early late : Ledgers) → r ≡ Err e → StoppedHandshakeCosts asked e.kind old new after early late → CostsOf r asked old new after early late
-costs_of_err r e asked old new after early late is h = subst (λ x. CostsOf x asked old new after early late) (sym is) (record { accepted = tt; refused = h })
+costs_of_err : {T : Type 0} (r : Result T Error) (e : Error) (asked : Asked) (old new : State) (after : ℤ) (early late : Ledgers) → IsErrAnd r (λ x. x ≡ e) → StoppedHandshakeCosts asked e.kind old new after early late → CostsOf r asked old new after early late
+costs_of_err (Ok y) e asked old new after early late same h = absurd same
+costs_of_err (Err x) e asked old new after early late same h = record { accepted = tt; refused = subst (λ (y : Error). StoppedHandshakeCosts asked y.kind old new after early late) (sym same) h }
 
 -- the reply after what it said to the login that went with the hello was taken out
 abbrev pub taken_out : HelloReply → Option (List ℕ) → HelloReply
@@ -72,8 +80,8 @@ module _ (opened : Connection) (options : HandshakerOptions) (credential : Optio
     unmade_stopped (Ok x) old h = tt
     unmade_stopped (Err e) old h = inl (record { hello = unmade e.kind old h; undescribed = fresh; rest = same_rest })
 
-    pub unmade_costs : {T : Type 0} (r : Result T Error) (e : Error) (old : State) (ledgers : Ledgers) → r ≡ Err e → CostsNothing ledgers ledgers → NoFirst e.kind → CostsOf r asked old old id ledgers ledgers
-    unmade_costs r e old ledgers is nothing h = costs_of_err r e asked old old id ledgers ledgers is (inl (record { hello = unmade e.kind old h; nothing = nothing }))
+    pub unmade_costs : {T : Type 0} (r : Result T Error) (e : Error) (old : State) (ledgers : Ledgers) → IsErrAnd r (λ x. x ≡ e) → CostsNothing ledgers ledgers → NoFirst e.kind → CostsOf r asked old old id ledgers ledgers
+    unmade_costs r e old ledgers same nothing h = costs_of_err r e asked old old id ledgers ledgers same (inl (record { hello = unmade e.kind old h; nothing = nothing }))
 
   -- ---- the hello
 
@@ -95,8 +103,8 @@ module _ (opened : Connection) (options : HandshakerOptions) (credential : Optio
     ungreeted_stopped (Ok x) connection old new after h = tt
     ungreeted_stopped (Err e) connection old new after h = inl (record { hello = stopped_so e.kind old new after h.stopped; undescribed = h.undescribed; rest = h.rest })
 
-    pub ungreeted_costs : {T : Type 0} (r : Result T Error) (e : Error) (connection : Connection) (old new : State) (after : ℤ) (ledgers : Ledgers) → r ≡ Err e → CostsNothing ledgers ledgers → UngreetedBy options credential sent opened connection e.kind old new id after → CostsOf r asked old new after ledgers ledgers
-    ungreeted_costs r e connection old new after ledgers is nothing h = costs_of_err r e asked old new after ledgers ledgers is (inl (record { hello = stopped_so e.kind old new after h.stopped; nothing = nothing }))
+    pub ungreeted_costs : {T : Type 0} (r : Result T Error) (e : Error) (connection : Connection) (old new : State) (after : ℤ) (ledgers : Ledgers) → IsErrAnd r (λ x. x ≡ e) → CostsNothing ledgers ledgers → UngreetedBy options credential sent opened connection e.kind old new id after → CostsOf r asked old new after ledgers ledgers
+    ungreeted_costs r e connection old new after ledgers same nothing h = costs_of_err r e asked old new after ledgers ledgers same (inl (record { hello = stopped_so e.kind old new after h.stopped; nothing = nothing }))
 
     -- ---- the login
 
@@ -139,8 +147,8 @@ module _ (opened : Connection) (options : HandshakerOptions) (credential : Optio
         held = held connection later;
       })
 
-      pub login_stopped_costs : {T : Type 0} (r : Result T Error) (e : Error) (new : State) (after : ℤ) (early late : Ledgers) → r ≡ Err e → LoginStops anew described.stream_description round e.kind middle new between after early late → CostsOf r asked old new after early late
-      login_stopped_costs r e new after early late is h = costs_of_err r e asked old new after early late is (inr (record {
+      pub login_stopped_costs : {T : Type 0} (r : Result T Error) (e : Error) (new : State) (after : ℤ) (early late : Ledgers) → IsErrAnd r (λ x. x ≡ e) → LoginStops anew described.stream_description round e.kind middle new between after early late → CostsOf r asked old new after early late
+      login_stopped_costs r e new after early late same h = costs_of_err r e asked old new after early late same (inr (record {
         greeting = greeting;
         middle = middle;
         between = between;

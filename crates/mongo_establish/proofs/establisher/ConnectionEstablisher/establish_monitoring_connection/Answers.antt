@@ -1,15 +1,12 @@
-use Rattle.std.proofs.Common.{ap, ◌∙◌, Err}
-use Rattle.std.proofs.lemmas.Result.{err_from_is_err_and}
 use Rattle.mongo_establish.specs.Options.{options_of_establisher}
 use Rattle.mongo_establish.proofs.Monitoring.{monitored, unmonitored, monitored_memory, monitored_refused}
-use Rattle.mongo_establish.proofs.Shaking.{err_of, if_err_of}
+use Rattle.mongo_establish.proofs.Shaking.{handed_on}
 use Rattle.mongo_establish.proofs.establisher.ConnectionEstablisher.establish_monitoring_connection.Goals as goal
 
 pub returns-in_err-reply-clause-refused : goal.returns-in_err-reply-clause-refused
 returns-in_err-reply-clause-refused g c =
-    let e = err_from_is_err_and c.from_residual.result c.from_residual.ensures.1 in
     unmonitored c.args.address c.args.id (options_of_establisher c.args.self.now) c.args.ids.now c.new-connection.result c.new-connection.ensures.address
-    _ c.say_hello.new.connection _ _ _ (err_of _ c.in_err-reply.field-0.0 _ (e.1 ∙ ap Err e.2) (if_err_of c.say_hello.result c.in_err-reply.field-0.0 _ c.in_err-reply.was c.say_hello.ensures.refused))
+    _ c.say_hello.new.connection _ _ _ (handed_on _ c.say_hello.result c.in_err-reply.field-0.0 _ c.from_residual.ensures.1 c.in_err-reply.was c.say_hello.ensures.refused)
 
 pub returns-in_err-reply-clause-complete : goal.returns-in_err-reply-clause-complete
 returns-in_err-reply-clause-complete g c bytes is script unfailed unwritten =

@@ -1,5 +1,4 @@
-use Rattle.std.proofs.Common.{rules, ap, ◌∙◌, option_copied, Err}
-use Rattle.std.proofs.lemmas.Result.{err_from_is_err_and}
+use Rattle.std.proofs.Common.{rules, option_copied}
 use Rattle.mongo_command.specs.Conversation.{or_else}
 use Rattle.mongo_sasl.proofs.KeptAfter.{row_keeps}
 use Rattle.mongo_scram.proofs.Derived.{costs_nothing, on_refused}
@@ -7,7 +6,7 @@ use Rattle.mongo_establish.specs.First.{IsUnmade}
 use Rattle.mongo_establish.specs.Options.{options_in}
 use Rattle.mongo_establish.specs.Speculation.{HelloRow, speculation}
 use Rattle.mongo_establish.proofs.Keeping.{first_own}
-use Rattle.mongo_establish.proofs.Shaking.{unmade_stopped, unmade_costs, ungreeted_stopped, ungreeted_costs, login_stopped, login_stopped_costs, shook, shook_costs, err_of, ok_of, if_err_of}
+use Rattle.mongo_establish.proofs.Shaking.{unmade_stopped, unmade_costs, ungreeted_stopped, ungreeted_costs, login_stopped, login_stopped_costs, shook, shook_costs, handed_on, ok_of, if_err_of}
 use Rattle.mongo_establish.proofs.handshaker.Handshaker.handshake.Goals as goal
 
 pub returns-in_err-first-clause-refused : goal.returns-in_err-first-clause-refused
@@ -16,37 +15,32 @@ returns-in_err-first-clause-refused g c =
 
 pub returns-in_err-first-clause-costs : goal.returns-in_err-first-clause-costs
 returns-in_err-first-clause-costs g c =
-    let e = err_from_is_err_and c.from_residual.result c.from_residual.ensures.1 in
     unmade_costs c.args.connection.now (options_in c.args.self.now) (option_copied c.args.credential) c.args.inputs.now.nonces c.args.state.now.ids c.requires.undescribed
-    _ c.in_err-first.field-0.0 _ _ (e.1 ∙ ap Err e.2) (costs_nothing _ _) c.in_err-first.ensures.refused
+    _ c.in_err-first.field-0.0 _ _ c.from_residual.ensures.1 (costs_nothing _ _) c.in_err-first.ensures.refused
 
 pub returns-in_err-reply-clause-refused : goal.returns-in_err-reply-clause-refused
 returns-in_err-reply-clause-refused g c =
-    let e = err_from_is_err_and c.from_residual-in_err-reply.result c.from_residual-in_err-reply.ensures.1 in
     ungreeted_stopped c.args.connection.now (options_in c.args.self.now) (option_copied c.args.credential) c.args.inputs.now.nonces c.args.state.now.ids
-    c.in_ok-first.ensures.made c.in_ok-first.first c.in_ok-first.ensures.first _ c.say_hello.new.connection _ _ _ (err_of _ c.in_err-reply.field-0.0 _ (e.1 ∙ ap Err e.2) (if_err_of c.say_hello.result c.in_err-reply.field-0.0 _ c.in_err-reply.was c.say_hello.ensures.refused))
+    c.in_ok-first.ensures.made c.in_ok-first.first c.in_ok-first.ensures.first _ c.say_hello.new.connection _ _ _ (handed_on _ c.say_hello.result c.in_err-reply.field-0.0 _ c.from_residual-in_err-reply.ensures.1 c.in_err-reply.was c.say_hello.ensures.refused)
 
 pub returns-in_err-reply-clause-costs : goal.returns-in_err-reply-clause-costs
 returns-in_err-reply-clause-costs g c =
-    let e = err_from_is_err_and c.from_residual-in_err-reply.result c.from_residual-in_err-reply.ensures.1 in
     ungreeted_costs c.args.connection.now (options_in c.args.self.now) (option_copied c.args.credential) c.args.inputs.now.nonces c.args.state.now.ids
-    c.in_ok-first.ensures.made c.in_ok-first.first c.in_ok-first.ensures.first _ c.in_err-reply.field-0.0 c.say_hello.new.connection _ _ _ _ (e.1 ∙ ap Err e.2) (costs_nothing _ _) (if_err_of c.say_hello.result c.in_err-reply.field-0.0 _ c.in_err-reply.was c.say_hello.ensures.refused)
+    c.in_ok-first.ensures.made c.in_ok-first.first c.in_ok-first.ensures.first _ c.in_err-reply.field-0.0 c.say_hello.new.connection _ _ _ _ c.from_residual-in_err-reply.ensures.1 (costs_nothing _ _) (if_err_of c.say_hello.result c.in_err-reply.field-0.0 _ c.in_err-reply.was c.say_hello.ensures.refused)
 
 pub returns-in_err-log_in-clause-refused : goal.returns-in_err-log_in-clause-refused
 returns-in_err-log_in-clause-refused g c =
-    let e = err_from_is_err_and c.from_residual-in_err-log_in.result c.from_residual-in_err-log_in.ensures.1 in
     login_stopped c.args.connection.now (options_in c.args.self.now) (option_copied c.args.credential) c.args.inputs.now.nonces c.args.state.now.ids
     c.in_ok-first.ensures.made c.in_ok-first.first c.in_ok-first.ensures.first _ _ _ c.in_ok-reply.reply c.say_hello.new.connection c.in_ok-reply.ensures.greeted
     c.answered_round-round.result c.answered_round-round.ensures.there c.answered_round-round.ensures.scram
-    _ c.log_in.new.connection _ _ _ _ c.log_in.ensures.connection (err_of _ c.in_err-log_in.field-0.0 _ (e.1 ∙ ap Err e.2) (if_err_of c.log_in.result c.in_err-log_in.field-0.0 _ c.in_err-log_in.was c.log_in.ensures.refused))
+    _ c.log_in.new.connection _ _ _ _ c.log_in.ensures.connection (handed_on _ c.log_in.result c.in_err-log_in.field-0.0 _ c.from_residual-in_err-log_in.ensures.1 c.in_err-log_in.was c.log_in.ensures.refused)
 
 pub returns-in_err-log_in-clause-costs : goal.returns-in_err-log_in-clause-costs
 returns-in_err-log_in-clause-costs g c =
-    let e = err_from_is_err_and c.from_residual-in_err-log_in.result c.from_residual-in_err-log_in.ensures.1 in
     login_stopped_costs c.args.connection.now (options_in c.args.self.now) (option_copied c.args.credential) c.args.inputs.now.nonces c.args.state.now.ids
     c.in_ok-first.ensures.made c.in_ok-first.first c.in_ok-first.ensures.first _ _ _ c.in_ok-reply.reply c.say_hello.new.connection c.in_ok-reply.ensures.greeted
     c.answered_round-round.result c.answered_round-round.ensures.there c.answered_round-round.ensures.scram
-    _ c.in_err-log_in.field-0.0 _ _ _ _ (e.1 ∙ ap Err e.2) (if_err_of c.log_in.result c.in_err-log_in.field-0.0 _ c.in_err-log_in.was c.log_in.ensures.refused)
+    _ c.in_err-log_in.field-0.0 _ _ _ _ c.from_residual-in_err-log_in.ensures.1 (if_err_of c.log_in.result c.in_err-log_in.field-0.0 _ c.in_err-log_in.was c.log_in.ensures.refused)
 
 pub returns-in_err-log_in-clause-entries : goal.returns-in_err-log_in-clause-entries
 returns-in_err-log_in-clause-entries g c = on_refused c.from_residual-in_err-log_in.result _ c.in_err-log_in.ensures.entries
@@ -77,10 +71,8 @@ returns-in_err-first-clause-keeps g c =
 
 pub returns-in_err-reply-clause-keeps : goal.returns-in_err-reply-clause-keeps
 returns-in_err-reply-clause-keeps g c =
-    let e = err_from_is_err_and c.from_residual-in_err-reply.result c.from_residual-in_err-reply.ensures.1 in
-    err_of _ c.in_err-reply.field-0.0 _ (e.1 ∙ ap Err e.2) (if_err_of c.say_hello.result c.in_err-reply.field-0.0 _ c.in_err-reply.was c.say_hello.ensures.keeps)
+    handed_on _ c.say_hello.result c.in_err-reply.field-0.0 _ c.from_residual-in_err-reply.ensures.1 c.in_err-reply.was c.say_hello.ensures.keeps
 
 pub returns-in_err-log_in-clause-keeps : goal.returns-in_err-log_in-clause-keeps
 returns-in_err-log_in-clause-keeps g c =
-    let e = err_from_is_err_and c.from_residual-in_err-log_in.result c.from_residual-in_err-log_in.ensures.1 in
-    err_of _ c.in_err-log_in.field-0.0 _ (e.1 ∙ ap Err e.2) (if_err_of c.log_in.result c.in_err-log_in.field-0.0 _ c.in_err-log_in.was c.log_in.ensures.keeps)
+    handed_on _ c.log_in.result c.in_err-log_in.field-0.0 _ c.from_residual-in_err-log_in.ensures.1 c.in_err-log_in.was c.log_in.ensures.keeps

@@ -1,5 +1,4 @@
-use Rattle.std.proofs.Common.{rules, ap, ◌∙◌, Err, option_copied, option_map}
-use Rattle.std.proofs.lemmas.Result.{err_from_is_err_and}
+use Rattle.std.proofs.Common.{rules, ap, ◌∙◌, option_copied, option_map}
 use Rattle.mongo_command.specs.Connection.{kept_fault}
 use Rattle.mongo_sasl.proofs.KeptAfter.{own_keeps, row_keeps}
 use Rattle.mongo_establish.specs.Client.{hello_with}
@@ -8,7 +7,7 @@ use Rattle.mongo_establish.specs.Options.{options_in}
 use Rattle.mongo_establish.specs.HelloBody.{HelloBodyRefused}
 use Rattle.mongo_establish.proofs.HelloExchange.{unbuilt_greeting, unrun_greeting, undescribed_greeting, greeted}
 use Rattle.mongo_establish.proofs.Keeping.{body_own, run_keeps, description_own}
-use Rattle.mongo_establish.proofs.Shaking.{err_of}
+use Rattle.mongo_establish.proofs.Shaking.{handed, handed_on}
 use Rattle.mongo_establish.proofs.handshaker.Handshaker.say_hello.Goals as goal
 
 pub returns-in_err-hello-clause-refused : goal.returns-in_err-hello-clause-refused
@@ -22,10 +21,9 @@ returns-in_err-reply-clause-refused g c =
 
 pub returns-in_err-describe-clause-refused : goal.returns-in_err-describe-clause-refused
 returns-in_err-describe-clause-refused g c =
-    let e = err_from_is_err_and c.from_residual-in_err-describe.result c.from_residual-in_err-describe.ensures.1 in
     undescribed_greeting (options_in c.args.self.now) (option_copied c.args.credential) (option_map first_document c.args.first.now) c.args.connection.now c.requires.undescribed c.in_ok-hello.hello c.in_ok-hello.ensures.hello
     _ _ _ _ c.in_ok-reply.reply c.in_ok-reply.ensures.reply c.run_hello.ensures.counts c.run_hello.new.connection c.run_hello.ensures.connection
-    _ c.describe.new.connection c.in_err-describe.ensures.undescribed (err_of _ c.in_err-describe.field-0.0 _ (e.1 ∙ ap Err e.2) c.in_err-describe.ensures.refused)
+    _ c.describe.new.connection c.in_err-describe.ensures.undescribed (handed_on _ c.describe.result c.in_err-describe.field-0.0 _ c.from_residual-in_err-describe.ensures.1 c.in_err-describe.was c.describe.ensures.refused)
 
 pub returns-clause-greeted : goal.returns-clause-greeted
 returns-clause-greeted g c =
@@ -42,11 +40,9 @@ returns-in_err-hello-clause-keeps g c =
 
 pub returns-in_err-reply-clause-keeps : goal.returns-in_err-reply-clause-keeps
 returns-in_err-reply-clause-keeps g c =
-    let e = err_from_is_err_and c.from_residual-in_err-reply.result c.from_residual-in_err-reply.ensures.1 in
-    err_of _ c.in_err-reply.field-0.0 _ (e.1 ∙ ap Err e.2) (run_keeps c.in_err-reply.field-0.0.kind _ _ _ _ _ _ _ (c.in_err-reply.ensures.refused c.requires.faultless))
+    handed _ c.in_err-reply.field-0.0 _ c.from_residual-in_err-reply.ensures.1 (run_keeps c.in_err-reply.field-0.0.kind _ _ _ _ _ _ _ (c.in_err-reply.ensures.refused c.requires.faultless))
 
 pub returns-in_err-describe-clause-keeps : goal.returns-in_err-describe-clause-keeps
 returns-in_err-describe-clause-keeps g c =
-    let e = err_from_is_err_and c.from_residual-in_err-describe.result c.from_residual-in_err-describe.ensures.1 in
-    err_of _ c.in_err-describe.field-0.0 _ (e.1 ∙ ap Err e.2)
+    handed _ c.in_err-describe.field-0.0 _ c.from_residual-in_err-describe.ensures.1
     (own_keeps c.in_err-describe.field-0.0.kind _ (description_own c.in_ok-reply.reply.command_response _ c.in_err-describe.ensures.refused) (ap kept_fault c.in_err-describe.ensures.undescribed ∙ c.in_ok-reply.ensures.faultless))
