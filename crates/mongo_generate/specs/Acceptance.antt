@@ -7,7 +7,7 @@ use Rattle.mongo_server.specs.declared.server_core.ServerCore.{ServerCore}
 use Rattle.mongo_server.specs.Acceptance.{Accepts}
 use Rattle.mongo_server.specs.Exchange.{Exchange, first_of, close_of, server_final_of, IsReadAs}
 use Rattle.mongo_server.specs.Server.{IsOwed, IsLastMessageTaken}
-use Rattle.mongo_generate.specs.declared.accepted.Acceptance.{Acceptance}
+use Rattle.mongo_generate.specs.declared.acceptance.Acceptance.{Acceptance}
 use Rattle.mongo_generate.specs.Replies.{AreReplies}
 
 -- the last messages of an exchange

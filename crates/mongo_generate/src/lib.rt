@@ -12,7 +12,7 @@
 //! numbers and the digest that `specs/Generated.antt` gives. Want of memory is the only refusal of each call.
 #![tactic(auto)]
 
-mod accepted;
+mod acceptance;
 mod log_in;
 mod logins;
 mod numbering;
@@ -21,7 +21,7 @@ mod replies;
 mod user_login;
 mod written;
 
-pub use accepted::Acceptance;
+pub use acceptance::Acceptance;
 pub use logins::{Generated, generate};
 pub use numbering::generated_server;
 pub use options::Client;

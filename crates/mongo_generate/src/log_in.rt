@@ -112,11 +112,11 @@ impl Client {
 fn is_accepted(ended: Result<PooledConnection, EstablishError>) -> Result<bool, AllocError>
     ensures { IfOk result (IsAcceptedAs ended) }
 {
-    acceptance(&ended)
+    was_accepted(&ended)
 }
 
 // The same by reference: what owns the end lets all of its parts go once.
-fn acceptance(ended: &Result<PooledConnection, EstablishError>) -> Result<bool, AllocError>
+fn was_accepted(ended: &Result<PooledConnection, EstablishError>) -> Result<bool, AllocError>
     ensures { IfOk result (IsAcceptedAs ended.now) }
 {
     match ended {
