@@ -65,22 +65,35 @@ fn client_options(alloc: Global) -> Result<ClientOptions, BsonFault>
     ensures options { IfOk result (λ options. options ≡ client_options) }
     ensures refused { IfErr result (λ fault. fault ≡ BsonFault.OutOfMemory) }
 {
+    let platform = Text::from_slice(alloc, "rattle / sync")?;
+    let platform_short = Text::from_slice(alloc, "rattle")?;
+    let os = client_os(alloc)?;
     Ok(ClientOptions {
         app_name: None,
         driver_info: None,
         server_api: None,
         load_balanced: false,
-        os: OsMetadata {
-            os_type: Text::from_slice(alloc, "linux")?,
-            name: None,
-            architecture: Some(Text::from_slice(alloc, "x86_64")?),
-            version: None,
-        },
-        platform: Text::from_slice(alloc, "rattle / sync")?,
-        platform_short: Text::from_slice(alloc, "rattle")?,
+        os,
+        platform,
+        platform_short,
         environment: Environment {
             variables: Variables::new(alloc),
             dockerenv: false,
         },
+    })
+}
+
+// The system that it names. It is made last, in a function of its own, so that fewer texts are dropped at a refusal.
+fn client_os(alloc: Global) -> Result<OsMetadata, BsonFault>
+    ensures os { IfOk result (λ os. os ≡ client_options.os) }
+    ensures refused { IfErr result (λ fault. fault ≡ BsonFault.OutOfMemory) }
+{
+    let os_type = Text::from_slice(alloc, "linux")?;
+    let architecture = Text::from_slice(alloc, "x86_64")?;
+    Ok(OsMetadata {
+        os_type,
+        name: None,
+        architecture: Some(architecture),
+        version: None,
     })
 }
