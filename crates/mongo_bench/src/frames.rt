@@ -26,7 +26,7 @@ pub fn run_frames<W: Write>(
 ) -> RanTask
     ensures done { result.status ≡ BenchStatus.Done → HasPrinted (BenchTask.Frames direction size count) (W.contents out.old) (W.contents out.new) }
     ensures work { result.status ≡ BenchStatus.Done → result.work ≡ work_of_frames direction count }
-    ensures ran { (result.status ≢ BenchStatus.Usage) × (result.status ≢ BenchStatus.NoWords) }
+    ensures ran { result.status ≢ BenchStatus.Usage }
 {
     // The frames are of the grammar and the memory never fails, so nothing but want of memory is refused.
     match pass_frames(alloc, direction, size, count) {

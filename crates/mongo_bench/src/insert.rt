@@ -28,7 +28,7 @@ const ONE: u64 = 0x3ff0_0000_0000_0000;
 pub fn run_inserts<W: Write>(alloc: Global, count: u32, out: &mut W) -> RanTask
     ensures done { result.status ≡ BenchStatus.Done → HasPrinted (BenchTask.Insert count) (W.contents out.old) (W.contents out.new) }
     ensures work { result.status ≡ BenchStatus.Done → result.work ≡ only_built count }
-    ensures ran { (result.status ≢ BenchStatus.Usage) × (result.status ≢ BenchStatus.NoWords) }
+    ensures ran { result.status ≢ BenchStatus.Usage }
 {
     // The keys hold no zero and the command is short, so nothing but want of memory is refused.
     match build(alloc, count) {

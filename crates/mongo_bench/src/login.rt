@@ -25,7 +25,7 @@ pub fn run_logins<W: Write, G: Ledger>(
     ensures done { result.status ≡ BenchStatus.Done → HasPrinted (BenchTask.Login hash count) (W.contents out.old) (W.contents out.new) }
     ensures work { result.status ≡ BenchStatus.Done → result.work ≡ only_logged_in count }
     ensures cost { Costs (BenchTask.Login hash count) result.status steps.old steps.new }
-    ensures ran { (result.status ≢ BenchStatus.Usage) × (result.status ≢ BenchStatus.NoWords) }
+    ensures ran { result.status ≢ BenchStatus.Usage }
 {
     match make_logins(alloc, hash, count, steps) {
         Ok(passed) => RanTask::written(write_number(passed.last, out), passed.work),

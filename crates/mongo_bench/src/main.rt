@@ -38,7 +38,7 @@ fn main(rt: HostRuntime) -> ExitCode {
         Ok(words) => {
             run_counted::<_, Brand>(rt.alloc(), &words, &mut rt.stdout(), Blank::new(1)).status
         }
-        Err(_) => BenchStatus::NoWords,
+        Err(_) => BenchStatus::NoMemory,
     };
     ExitCode::from(status.code())
 }

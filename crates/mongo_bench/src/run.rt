@@ -26,9 +26,7 @@ pub enum BenchStatus {
     Usage,
     /// The writer failed.
     SinkFault,
-    /// The words could not be had from the system.
-    NoWords,
-    /// Memory ran out.
+    /// Memory ran out, also for the words.
     NoMemory,
 }
 
@@ -41,7 +39,6 @@ impl BenchStatus {
             BenchStatus::Done => 0,
             BenchStatus::Usage => 3,
             BenchStatus::SinkFault => 5,
-            BenchStatus::NoWords => 6,
             BenchStatus::NoMemory => 6,
         }
     }
@@ -99,7 +96,6 @@ pub fn run<W: Write, G: Ledger>(
     ensures usage { (result.status ≡ BenchStatus.Usage) ↔ AsksNothing (map string_bytes words.now) }
     ensures usage_does_nothing { result.status ≡ BenchStatus.Usage →
         (out.new ≡ out.old) × (steps.new ≡ steps.old) }
-    ensures had_words { result.status ≢ BenchStatus.NoWords }
 {
     let Some(task) = task_of(words) else {
         return RanTask {
@@ -133,7 +129,6 @@ pub fn run_counted<W: Write, G: Ledger>(
         result.work ≡ work_of task }
     ensures usage { (result.status ≡ BenchStatus.Usage) ↔ AsksNothing (map string_bytes words.now) }
     ensures usage_writes_nothing { result.status ≡ BenchStatus.Usage → out.new ≡ out.old }
-    ensures had_words { result.status ≢ BenchStatus.NoWords }
 {
     let mut steps = Steps::<G>::new(blank);
     run(alloc, words, out, &mut steps)
@@ -150,7 +145,7 @@ fn run_derivation<W: Write, G: Ledger>(
     ensures done { result.status ≡ BenchStatus.Done → HasPrinted (BenchTask.Derive hash count) (W.contents out.old) (W.contents out.new) }
     ensures work { result.work ≡ nothing_done }
     ensures cost { steps.new ≡ steps.old + count }
-    ensures ran { (result.status ≢ BenchStatus.Usage) × (result.status ≢ BenchStatus.NoWords) }
+    ensures ran { result.status ≢ BenchStatus.Usage }
 {
     let tag = derived_bytes(hash, count, steps);
     RanTask::written(write_line(&tag, out), Work::nothing())

@@ -28,7 +28,7 @@ pub fn run_walk<W: Write>(
     requires { 0 < count }
     ensures done { result.status ≡ BenchStatus.Done → HasPrinted (BenchTask.Walk pass shape count) (W.contents out.old) (W.contents out.new) }
     ensures work { result.status ≡ BenchStatus.Done → result.work ≡ work_of_pass pass count }
-    ensures ran { (result.status ≢ BenchStatus.Usage) × (result.status ≢ BenchStatus.NoWords) }
+    ensures ran { result.status ≢ BenchStatus.Usage }
 {
     let Ok(document) = document_of_shape(alloc, shape) else {
         return RanTask::without_memory();
@@ -41,7 +41,7 @@ pub fn walk<W: Write>(document: RawDocument<'_>, pass: Pass, count: u32, out: &m
     requires { 0 < count }
     ensures told { result.status ≡ BenchStatus.Done → HasTold pass document.entry.bytes.now (W.contents out.old) (W.contents out.new) }
     ensures work { result.work ≡ work_of_pass pass count }
-    ensures ran { (result.status ≢ BenchStatus.Usage) × (result.status ≢ BenchStatus.NoWords) }
+    ensures ran { result.status ≢ BenchStatus.Usage }
 {
     match pass {
         Pass::Iterate => {
@@ -59,7 +59,7 @@ pub fn walk<W: Write>(document: RawDocument<'_>, pass: Pass, count: u32, out: &m
 pub fn run_document<W: Write>(alloc: Global, shape: DocumentShape, out: &mut W) -> RanTask
     ensures done { result.status ≡ BenchStatus.Done → HasPrinted (BenchTask.Document shape) (W.contents out.old) (W.contents out.new) }
     ensures work { result.work ≡ nothing_done }
-    ensures ran { (result.status ≢ BenchStatus.Usage) × (result.status ≢ BenchStatus.NoWords) }
+    ensures ran { result.status ≢ BenchStatus.Usage }
 {
     let Ok(document) = document_of_shape(alloc, shape) else {
         return RanTask::without_memory();
