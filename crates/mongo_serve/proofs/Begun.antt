@@ -1,5 +1,5 @@
 -- How a login begins: at an account, and by the settings.
-use Rattle.std.proofs.Common.{◌≡◌, ◌↔◌, ℕ, Bool, true, false, Option, None, Some, Result, Ok, Err, IfOk, List, ◌∷◌, ◌++◌, codes, option_copied, IsTrue, refl, sym, ap, ◌∙◌, subst, append_assoc}
+use Rattle.std.proofs.Common.{◌≡◌, ◌≢◌, ◌⊎◌, ◌↔◌, ℕ, Bool, true, false, Option, None, Some, Result, Ok, Err, IfOk, List, ◌∷◌, ◌++◌, codes, option_copied, IsTrue, IsNone, inl, inr, refl, sym, ap, ◌∙◌, subst, append_assoc}
 use Rattle.std.specs.Borrow.{Bor}
 use Rattle.std.specs.List.{AllByRecursion}
 use Rattle.mongo_scram.specs.Key.{PasswordRow}
@@ -18,6 +18,7 @@ use Rattle.mongo_server.specs.declared.user.ServerUser.{ServerUser}
 use Rattle.mongo_server.proofs.ClientFirsts.{opens, bares}
 use Rattle.mongo_server.proofs.UserNames.{escaped_same, escaped-no_comma}
 use Rattle.mongo_wire.specs.declared.error.ErrorKind.{ErrorKind}
+use Rattle.mongo_wire.specs.declared.error.ErrorKind.TheVariants.{OutOfMemory as WantOfMemory}
 use Rattle.mongo_serve.specs.Accounts.{AreOfOneUser, IsFirstAccount}
 use Rattle.mongo_serve.specs.Login.{exchange_of}
 use Rattle.mongo_serve.specs.Opened.{NamesUser, Suits, IsFound, IsOpening, BeginsExchange, OpensFor, OpensBy}
@@ -163,6 +164,16 @@ module _ (settings : ServeSettings) (start : StartRequest) (version : ScramVersi
 -- no exchange of an account whose password its mechanism doesn't take
 pub unusable : (account : Account) (suffix message password : List ℕ) (kind : ErrorKind) → password ≡ account.password → PasswordRow account.version password kind → (nonce : List ℕ) → IsOpening account suffix message nonce → ⊥
 unusable account suffix message password kind worded row nonce opening = opening.usable kind (subst (λ w. PasswordRow account.version w kind) worded row)
+
+-- where the mechanism doesn't take the password, no message begins a login
+pub unusable : (result : Result (Option OpenedLogin) ServeFault) (account : Account) (suffix message : List ℕ) (skips : Bool) (password : List ℕ) (kind : ErrorKind) → password ≡ account.password → PasswordRow account.version password kind ⊎ (kind ≡ WantOfMemory)
+    → IfOk result (λ found. IsNone found × (kind ≢ WantOfMemory)) → IfOk result (OpensFor account suffix message skips)
+unusable (Ok None) account suffix message skips password kind worded refused none = λ nonce opening. elim refused [
+  | inl row ↦ opening.usable kind (subst (λ p. PasswordRow account.version p kind) worded row)
+  | inr memory ↦ none.1 memory
+]
+unusable (Ok (Some opened)) account suffix message skips password kind worded refused none = absurd none.0
+unusable (Err fault) account suffix message skips password kind worded refused none = tt
 
 -- nor of a message that its server refuses
 pub unheard : (account : Account) (suffix message : List ℕ) (core : ServerCore) (user : ServerUser) (name password salt : List ℕ) (fault : ServerFault) → name ≡ account.name → password ≡ account.password → salt ≡ account.salt

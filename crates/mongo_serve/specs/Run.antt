@@ -1,5 +1,5 @@
 -- How a run ends.
-use Rattle.std.specs.Prelude.{◌≡◌, ℕ, ◌⊎◌, Option, None, Some, List}
+use Rattle.std.specs.Prelude.{◌≡◌, ℕ, ◌<◌, ◌⊎◌, Option, None, Some, List}
 use Rattle.mongo_wire.specs.Outside.{State, Rose, AppendsFront}
 use Rattle.mongo_serve.specs.declared.fault.ServeFault.{ServeFault}
 use Rattle.mongo_serve.specs.declared.fault.ServeFault.TheVariants as fault
@@ -50,10 +50,19 @@ pub record Ran (run : ServeRun) (status : ServeStatus) : Type 0 where
 abbrev pub SendsNothing : ServeRun → Type 0
 SendsNothing run = run.new.written ≡ run.old.written
 
--- How a run ends. The link may fail, and memory run out, before there are settings: then no more than the first line was taken.
-abbrev pub RunEnds : ServeRun → ServeStatus → Type 0
-RunEnds run Ended = Ran run Ended
-RunEnds run Broken = Ran run Broken ⊎ (Rose run.old.read_faults run.new.read_faults × StopsWithin run.old run.new × SendsNothing run × WritesReport run line_failed)
-RunEnds run BadSettings = HasNoSettings run.old run.new × SendsNothing run × WritesReport run no_settings
-RunEnds run NoMemory = Ran run NoMemory ⊎ (StopsWithin run.old run.new × SendsNothing run × WritesReport run no_memory)
-RunEnds run Usage = ⊥
+-- How a run without words ends. The link may fail, and memory run out, before there are settings: then no more than the first line was taken.
+abbrev pub ServingEnds : ServeRun → ServeStatus → Type 0
+ServingEnds run Ended = Ran run Ended
+ServingEnds run Broken = Ran run Broken ⊎ (Rose run.old.read_faults run.new.read_faults × StopsWithin run.old run.new × SendsNothing run × WritesReport run line_failed)
+ServingEnds run BadSettings = HasNoSettings run.old run.new × SendsNothing run × WritesReport run no_settings
+ServingEnds run NoMemory = Ran run NoMemory ⊎ (StopsWithin run.old run.new × SendsNothing run × WritesReport run no_memory)
+ServingEnds run Usage = ⊥
+
+-- nothing was read or written
+abbrev pub IsUntouched : ServeRun → Type 0
+IsUntouched run = (run.new ≡ run.old) × (run.report_new ≡ run.report_old)
+
+-- how a run ends, with so many words after the program's name: it takes none
+abbrev pub RunEnds : ℕ → ServeRun → ServeStatus → Type 0
+RunEnds words run Usage = (0 < words) × IsUntouched run
+RunEnds words run status = (words ≡ 0) × ServingEnds run status

@@ -35,13 +35,13 @@ use std::rt::Env;
 use std::sync::ledger::Blank;
 use std::{env, io};
 
-/// Serves the client on standard input and output, and ends with the run's status; with 3 where there are words after the program's
-/// name, and 6 where these can't be had.
+/// Serves the client on standard input and output, and ends with the run's status; with 6 where the words after the program's name
+/// can't be had.
 fn main(rt: HostRuntime) -> ExitCode {
-    let status = match has_words(&rt) {
-        Ok(true) => ServeStatus::Usage,
-        Ok(false) => run_counted::<_, _, Brand>(
+    let status = match words_of(&rt) {
+        Ok(words) => run_counted::<_, _, Brand>(
             rt.alloc(),
+            &words,
             &mut PutBack::new(rt.alloc(), StdLink::new(rt.stdin(), rt.stdout())),
             &mut StdSink::new(rt.stderr()),
             Blank::new(1),
@@ -51,7 +51,7 @@ fn main(rt: HostRuntime) -> ExitCode {
     ExitCode::from(status)
 }
 
-/// Whether there are words after the program's name.
-fn has_words(rt: &(impl Env + AllocGlobal)) -> io::Result<bool> {
-    Ok(env::args(rt)?.skip(1).next().is_some())
+/// The words after the program's name.
+fn words_of(rt: &(impl Env + AllocGlobal)) -> io::Result<Vec<String>> {
+    Ok(env::args(rt)?.skip(1).collect(rt.alloc())?)
 }

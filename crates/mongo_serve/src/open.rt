@@ -1,9 +1,10 @@
 //! How a login begins: which account the client's first message is of, and the server's answer to it.
 
-ghost use Rattle.std.specs.Prelude.{◌≡◌, ◌+◌, ◌≤◌, ◌↔◌, IsTrue, IfOk, IfErr};
+ghost use Rattle.std.specs.Prelude.{◌≡◌, ◌≢◌, ◌+◌, ◌≤◌, ◌↔◌, IsTrue, IsNone, IfOk, IfErr};
 ghost use Rattle.mongo_server.specs.ClientMessages.{IsNonce};
 ghost use Rattle.mongo_serve.specs.Opened.{NamesUser, Suits, FindsAccount, OpensFor, OpensBy};
 ghost use Rattle.mongo_serve.specs.declared.fault.ServeFault.TheVariants.{OutOfMemory};
+ghost use Rattle.mongo_wire.specs.declared.error.ErrorKind.TheVariants.{OutOfMemory as WantOfMemory};
 
 use crate::fault::ServeFault;
 use crate::request::StartRequest;
@@ -13,7 +14,7 @@ use mongo_bson::Text;
 use mongo_mac::Steps;
 use mongo_scram::{ScramVersion, push_user_name};
 use mongo_server::{ServerCore, ServerFault, ServerUser};
-use mongo_wire::ErrorKind;
+use mongo_wire::{Error, ErrorKind};
 use std::alloc::{AllocError, Global};
 use std::sync::ledger::Ledger;
 
@@ -122,12 +123,7 @@ fn open<G: Ledger>(
         steps,
     ) {
         Ok(user) => user,
-        Err(error) => {
-            return match &error.kind {
-                ErrorKind::OutOfMemory => Err(ServeFault::OutOfMemory),
-                _ => Ok(None),
-            };
-        }
+        Err(error) => return no_login(error),
     };
     let mut core = ServerCore::new(user, Text::from_slice(alloc, suffix)?);
     match core.first(alloc, payload) {
@@ -144,5 +140,16 @@ fn open<G: Ledger>(
             ServerFault::OutOfMemory => Err(ServeFault::OutOfMemory),
             _ => Ok(None),
         },
+    }
+}
+
+// What becomes of a login whose account's password its mechanism doesn't take. The error is dropped here, once.
+fn no_login(error: Error) -> Result<Option<OpenedLogin>, ServeFault>
+    ensures none { IfOk result (λ found. IsNone found × (error.kind ≢ WantOfMemory)) }
+    ensures memory { IfErr result (λ fault. fault ≡ OutOfMemory) }
+{
+    match &error.kind {
+        ErrorKind::OutOfMemory => Err(ServeFault::OutOfMemory),
+        _ => Ok(None),
     }
 }

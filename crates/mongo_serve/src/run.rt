@@ -1,9 +1,9 @@
 //! The top call.
 
-ghost use Rattle.std.specs.Prelude.{◌≡◌, ◌<◌, ◌≤◌};
+ghost use Rattle.std.specs.Prelude.{◌≡◌, ◌<◌, ◌≤◌, length};
 ghost use Rattle.mongo_serve.specs.Taken.{put_back_state};
 ghost use Rattle.mongo_serve.specs.Report.{report_text};
-ghost use Rattle.mongo_serve.specs.Run.{status_of_fault, RunEnds};
+ghost use Rattle.mongo_serve.specs.Run.{status_of_fault, ServingEnds, RunEnds};
 ghost use Rattle.mongo_wire.specs.Outside.{AppendsFront};
 
 #[cfg(test)]
@@ -22,13 +22,50 @@ use std::sync::ledger::{Blank, Ledger};
 
 /// Reads settings from the link's first line, serves the client that follows it, and says on `report` how that ended. Where the report
 /// can't be written, or there is no memory for it, the status alone says it.
+///
+/// It takes no words: where there are any, nothing is read or written.
 pub fn run<L: Link, K: Sink, G: Ledger>(
+    alloc: Global,
+    words: &[String],
+    link: &mut PutBack<L>,
+    report: &mut K,
+    steps: &mut Steps<G>,
+) -> ServeStatus
+    ensures ends { RunEnds (length words.now) (record { old = put_back_state L.state link.old; new = put_back_state L.state link.new; report_old = K.state report.old; report_new = K.state report.new }) result }
+    ensures rises { steps.old ≤ steps.new }
+{
+    if words.is_empty() {
+        serve_line(alloc, link, report, steps)
+    } else {
+        ServeStatus::Usage
+    }
+}
+
+/// [`run`] with a counter of its own, of the ledger that `blank` opens.
+pub fn run_counted<L: Link, K: Sink, G: Ledger>(
+    alloc: Global,
+    words: &[String],
+    link: &mut PutBack<L>,
+    report: &mut K,
+    blank: Blank,
+) -> ServeStatus
+    requires name { blank.name ≡ G.name }
+    requires parts { blank.parts ≡ G.parts }
+    requires has_a_part { 0 < G.parts }
+    ensures { RunEnds (length words.now) (record { old = put_back_state L.state link.old; new = put_back_state L.state link.new; report_old = K.state report.old; report_new = K.state report.new }) result }
+{
+    let mut steps = Steps::<G>::new(blank);
+    run(alloc, words, link, report, &mut steps)
+}
+
+// Serves the client by the settings of the first line.
+fn serve_line<L: Link, K: Sink, G: Ledger>(
     alloc: Global,
     link: &mut PutBack<L>,
     report: &mut K,
     steps: &mut Steps<G>,
 ) -> ServeStatus
-    ensures ends { RunEnds (record { old = put_back_state L.state link.old; new = put_back_state L.state link.new; report_old = K.state report.old; report_new = K.state report.new }) result }
+    ensures ends { ServingEnds (record { old = put_back_state L.state link.old; new = put_back_state L.state link.new; report_old = K.state report.old; report_new = K.state report.new }) result }
     ensures rises { steps.old ≤ steps.new }
 {
     let settings = match read_serve_settings(alloc, link) {
@@ -49,22 +86,6 @@ pub fn run<L: Link, K: Sink, G: Ledger>(
     let served = serve(alloc, &settings, link, steps);
     tell(alloc, report, &served);
     status_of_fault(served.fault)
-}
-
-/// [`run`] with a counter of its own, of the ledger that `blank` opens.
-pub fn run_counted<L: Link, K: Sink, G: Ledger>(
-    alloc: Global,
-    link: &mut PutBack<L>,
-    report: &mut K,
-    blank: Blank,
-) -> ServeStatus
-    requires name { blank.name ≡ G.name }
-    requires parts { blank.parts ≡ G.parts }
-    requires has_a_part { 0 < G.parts }
-    ensures { RunEnds (record { old = put_back_state L.state link.old; new = put_back_state L.state link.new; report_old = K.state report.old; report_new = K.state report.new }) result }
-{
-    let mut steps = Steps::<G>::new(blank);
-    run(alloc, link, report, &mut steps)
 }
 
 fn status_of_fault(fault: Option<ServeFault>) -> ServeStatus

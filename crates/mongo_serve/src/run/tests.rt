@@ -33,7 +33,7 @@ fn ends(
     input.extend_from_slice(frames)?;
     let mut link = PutBack::new(alloc, MemoryLink::new(alloc, input));
     let mut report = MemoryLink::new(alloc, Bytes::new(alloc));
-    let status = run_counted::<_, _, Brand>(alloc, &mut link, &mut report, Blank::new(1));
+    let status = run_counted::<_, _, Brand>(alloc, &[], &mut link, &mut report, Blank::new(1));
     Ok((status, report.written().ends_with(line.as_bytes())))
 }
 
@@ -126,7 +126,7 @@ fn ends_failing(
     calls.extend_from_slice(failing)?;
     let mut link = PutBack::new(alloc, FailingLink::new(alloc, input, calls, most));
     let mut report = MemoryLink::new(alloc, Bytes::new(alloc));
-    let status = run_counted::<_, _, Brand>(alloc, &mut link, &mut report, Blank::new(1));
+    let status = run_counted::<_, _, Brand>(alloc, &[], &mut link, &mut report, Blank::new(1));
     Ok((status, report.written().ends_with(line.as_bytes())))
 }
 
@@ -207,7 +207,7 @@ fn serve_client(
     let failing = failing_at(alloc, fails)?;
     let mut link = PutBack::new(alloc, FailingLink::new(alloc, input, failing, most));
     let mut report = MemoryLink::new(alloc, Bytes::new(alloc));
-    let status = run_counted::<_, _, Brand>(alloc, &mut link, &mut report, Blank::new(1));
+    let status = run_counted::<_, _, Brand>(alloc, &[], &mut link, &mut report, Blank::new(1));
     let written = link.link().written();
     Ok(Ended {
         status,
@@ -350,7 +350,7 @@ fn answers_two(
     }
     let mut link = PutBack::new(alloc, MemoryLink::new(alloc, input));
     let mut said = MemoryLink::new(alloc, Bytes::new(alloc));
-    let status = run_counted::<_, _, Brand>(alloc, &mut link, &mut said, Blank::new(1));
+    let status = run_counted::<_, _, Brand>(alloc, &[], &mut link, &mut said, Blank::new(1));
     let is_answered = link.link().written() == replies.as_bytes();
     Ok((status, is_answered, said.written() == told.as_bytes()))
 }

@@ -1,8 +1,8 @@
 use Rattle.std.proofs.Common.{refl, sym, subst}
 use Rattle.mongo_serve.specs.Taken.{put_back_state}
-use Rattle.mongo_serve.specs.Run.{ServeRun, status_of_fault, Ran, RunEnds}
+use Rattle.mongo_serve.specs.Run.{ServeRun, status_of_fault, Ran, ServingEnds}
 use Rattle.mongo_serve.proofs.Ran.{ran_ends}
-use Rattle.mongo_serve.proofs.run.run.Goals as goal
+use Rattle.mongo_serve.proofs.run.serve_line.Goals as goal
 
 pub returns-clause-ends : goal.returns-clause-ends
 returns-clause-ends g c =
@@ -22,4 +22,4 @@ returns-clause-ends g c =
       status_is = refl;
       said = c.tell.ensures;
     } in
-    subst (RunEnds run) (sym c.status_of_fault.ensures) (ran_ends run fault ran)
+    subst (ServingEnds run) (sym c.status_of_fault.ensures) (ran_ends run fault ran)
