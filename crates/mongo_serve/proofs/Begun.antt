@@ -1,5 +1,5 @@
 -- How a login begins: at an account, and by the settings.
-use Rattle.std.proofs.Common.{◌≡◌, ◌≢◌, ◌⊎◌, ◌↔◌, ℕ, Bool, true, false, Option, None, Some, Result, Ok, Err, IfOk, List, ◌∷◌, ◌++◌, codes, option_copied, IsTrue, IsNone, inl, inr, refl, sym, ap, ◌∙◌, subst, append_assoc}
+use Rattle.std.proofs.Common.{◌≡◌, ◌≢◌, ◌⊎◌, ◌↔◌, ℕ, Bool, true, false, Option, None, Some, Result, Ok, Err, IfOk, List, ◌∷◌, ◌++◌, codes, option_copied, IsTrue, inl, inr, refl, sym, ap, ◌∙◌, subst, append_assoc}
 use Rattle.std.specs.Borrow.{Bor}
 use Rattle.std.specs.List.{AllByRecursion}
 use Rattle.mongo_scram.specs.Key.{PasswordRow}
@@ -162,18 +162,21 @@ module _ (settings : ServeSettings) (start : StartRequest) (version : ScramVersi
 -- ---- where none begins
 
 -- no exchange of an account whose password its mechanism doesn't take
-pub unusable : (account : Account) (suffix message password : List ℕ) (kind : ErrorKind) → password ≡ account.password → PasswordRow account.version password kind → (nonce : List ℕ) → IsOpening account suffix message nonce → ⊥
+unusable : (account : Account) (suffix message password : List ℕ) (kind : ErrorKind) → password ≡ account.password → PasswordRow account.version password kind → (nonce : List ℕ) → IsOpening account suffix message nonce → ⊥
 unusable account suffix message password kind worded row nonce opening = opening.usable kind (subst (λ w. PasswordRow account.version w kind) worded row)
 
 -- where the mechanism doesn't take the password, no message begins a login
-pub unusable : (result : Result (Option OpenedLogin) ServeFault) (account : Account) (suffix message : List ℕ) (skips : Bool) (password : List ℕ) (kind : ErrorKind) → password ≡ account.password → PasswordRow account.version password kind ⊎ (kind ≡ WantOfMemory)
-    → IfOk result (λ found. IsNone found × (kind ≢ WantOfMemory)) → IfOk result (OpensFor account suffix message skips)
-unusable (Ok None) account suffix message skips password kind worded refused none = λ nonce opening. elim refused [
-  | inl row ↦ opening.usable kind (subst (λ p. PasswordRow account.version p kind) worded row)
+pub unopened : (result : Result (Option OpenedLogin) ServeFault) (account : Account) (suffix message : List ℕ) (skips : Bool) (password : List ℕ) (kind : ErrorKind) → password ≡ account.password → PasswordRow account.version password kind ⊎ (kind ≡ WantOfMemory)
+    → IfOk result (λ found. (found ≡ None) × (kind ≢ WantOfMemory)) → IfOk result (OpensFor account suffix message skips)
+unopened (Ok None) account suffix message skips password kind worded refused none = λ nonce opening. elim refused [
+  | inl row ↦ unusable account suffix message password kind worded row nonce opening
   | inr memory ↦ none.1 memory
 ]
-unusable (Ok (Some opened)) account suffix message skips password kind worded refused none = absurd none.0
-unusable (Err fault) account suffix message skips password kind worded refused none = tt
+unopened (Ok (Some opened)) account suffix message skips password kind worded refused none = absurd (none_opened none.0)
+  where
+    none_opened : Some opened ≡ None → ⊥
+    none_opened is = cc
+unopened (Err fault) account suffix message skips password kind worded refused none = tt
 
 -- nor of a message that its server refuses
 pub unheard : (account : Account) (suffix message : List ℕ) (core : ServerCore) (user : ServerUser) (name password salt : List ℕ) (fault : ServerFault) → name ≡ account.name → password ≡ account.password → salt ≡ account.salt

@@ -1,6 +1,6 @@
 //! How a login begins: which account the client's first message is of, and the server's answer to it.
 
-ghost use Rattle.std.specs.Prelude.{◌≡◌, ◌≢◌, ◌+◌, ◌≤◌, ◌↔◌, IsTrue, IsNone, IfOk, IfErr};
+ghost use Rattle.std.specs.Prelude.{◌≡◌, ◌≢◌, ◌+◌, ◌≤◌, ◌↔◌, None, IsTrue, IfOk, IfErr};
 ghost use Rattle.mongo_server.specs.ClientMessages.{IsNonce};
 ghost use Rattle.mongo_serve.specs.Opened.{NamesUser, Suits, FindsAccount, OpensFor, OpensBy};
 ghost use Rattle.mongo_serve.specs.declared.fault.ServeFault.TheVariants.{OutOfMemory};
@@ -145,7 +145,7 @@ fn open<G: Ledger>(
 
 // What becomes of a login whose account's password its mechanism doesn't take. The error is dropped here, once.
 fn no_login(error: Error) -> Result<Option<OpenedLogin>, ServeFault>
-    ensures none { IfOk result (λ found. IsNone found × (error.kind ≢ WantOfMemory)) }
+    ensures none { IfOk result (λ found. (found ≡ None) × (error.kind ≢ WantOfMemory)) }
     ensures memory { IfErr result (λ fault. fault ≡ OutOfMemory) }
 {
     match &error.kind {
