@@ -4,9 +4,9 @@ ghost use Rattle.mongo_meta.specs.Metadata.{metadata_document, document_of_parts
 ghost use Rattle.mongo_meta.specs.Client.{fits, fitting, in_form};
 
 use crate::ClientMetadata;
-use crate::fields::{document_field, document_of, optional_document_field, text_field};
 use crate::form::Form;
 use mongo_bson::{BsonFault, RawDocumentBuf, Text};
+use mongo_command::{document_field, document_of, optional_document_field, text_field};
 use mongo_wire::Error;
 use std::alloc::Global;
 

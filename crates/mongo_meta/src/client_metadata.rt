@@ -3,9 +3,9 @@ ghost use Rattle.mongo_command.specs.Arguments.{TooLongFor};
 ghost use Rattle.mongo_meta.specs.Options.{with_part, bar};
 
 use crate::driver_info::holds;
-use crate::fields::{document_of, text_field};
 use crate::{ClientOptions, DriverInfo, DriverInfos, OsMetadata, RuntimeEnvironment};
 use mongo_bson::{BsonFault, RawDocumentBuf, Text, copy_of};
+use mongo_command::{document_of, text_field};
 use mongo_wire::Error;
 use std::alloc::Global;
 

@@ -2,8 +2,8 @@ ghost use Rattle.std.specs.Prelude.{◌≡◌, IfOk, IfErr};
 ghost use Rattle.mongo_meta.specs.Providers.{container_in};
 
 use crate::Environment;
-use crate::fields::document_of;
 use mongo_bson::{BsonFault, RawDocumentBuf, RawValue};
+use mongo_command::document_of;
 use std::alloc::Global;
 
 // The container that the client runs in: what runs it and what manages it, or None where neither is seen.

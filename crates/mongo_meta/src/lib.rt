@@ -19,7 +19,6 @@ mod container;
 mod driver_info;
 mod environment;
 mod faas;
-mod fields;
 mod form;
 mod os_metadata;
 mod runtime_environment;

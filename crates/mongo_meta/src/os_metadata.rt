@@ -1,8 +1,8 @@
 ghost use Rattle.std.specs.Prelude.{◌≡◌, IfOk, IfErr};
 ghost use Rattle.mongo_command.specs.Arguments.{TooLongFor};
 
-use crate::fields::{document_of, optional_text_field, text_field};
 use mongo_bson::{BsonFault, RawDocumentBuf, Text, copy_of};
+use mongo_command::{document_of, optional_text_field, text_field};
 use std::alloc::Global;
 
 /// The operating system that the client runs on.

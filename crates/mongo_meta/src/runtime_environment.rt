@@ -6,11 +6,11 @@ ghost use Rattle.mongo_meta.specs.Providers.{name_text, provider, taken_of};
 ghost use Rattle.mongo_wire.specs.declared.error.ErrorKind.TheVariants.{OutOfMemory};
 
 use crate::container::container_in;
-use crate::fields::{
-    Field, document_of, optional_document_field, optional_int32_field, optional_text_field,
-};
 use crate::{Environment, FaasEnvironmentName};
 use mongo_bson::{BsonFault, RawDocumentBuf, RawValue, Text, copy_of};
+use mongo_command::{
+    ArgumentField, document_of, optional_document_field, optional_int32_field, optional_text_field,
+};
 use mongo_wire::Error;
 use std::alloc::Global;
 
@@ -150,7 +150,7 @@ fn taken_of(
 }
 
 // The provider's name.
-fn name_field(name: Option<FaasEnvironmentName>) -> Field<'static>
+fn name_field(name: Option<FaasEnvironmentName>) -> ArgumentField<'static>
     ensures elements { field_elements result ≡ present (text_element (codes "name")) (option_map name_text name) }
     ensures named { IsNamed result }
 {
