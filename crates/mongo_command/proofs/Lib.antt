@@ -25,3 +25,4 @@ pub mod Kept
 pub mod CarriedArguments
 pub mod ArgumentSizes
 pub mod Rest
+pub mod EndsExchange

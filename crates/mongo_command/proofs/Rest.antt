@@ -1,5 +1,5 @@
 -- What stays of a connection over two steps of an exchange, and that one without a fault keeps none.
-use Rattle.std.proofs.Common.{◌≡◌, ◌∙◌, None, Some}
+use Rattle.std.proofs.Common.{◌≡◌, ◌∙◌, refl, None, Some}
 use Rattle.mongo_command.specs.Connection.{KeepsRest}
 use Rattle.mongo_command.specs.declared.connection.Connection.{Connection}
 
@@ -14,3 +14,6 @@ keeps_on old middle new p q = record {
   server_id = q.server_id ∙ p.server_id;
   token = q.token ∙ p.token;
 }
+
+pub keeps_all : (connection : Connection) → KeepsRest connection connection
+keeps_all connection = record { address = refl; id = refl; description = refl; server_id = refl; token = refl }

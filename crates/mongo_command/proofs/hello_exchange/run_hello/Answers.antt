@@ -1,5 +1,4 @@
 use Rattle.std.proofs.Common.{◌≡◌, ℕ, ℤ, List, Option, None, Result, Ok, Err, IfOk, IfErr, inl, inr, sym, subst}
-use Rattle.std.proofs.lemmas.Result.{err_from_is_err_and}
 use Rattle.mongo_wire.specs.declared.error.Error.{Error}
 use Rattle.mongo_wire.specs.declared.error.ErrorKind.{ErrorKind}
 use Rattle.mongo_wire.specs.declared.message.Message.{Message}
@@ -8,6 +7,7 @@ use Rattle.mongo_command.specs.Exchange.{Exchanges}
 use Rattle.mongo_command.specs.Hello.{IsHelloResponse, HelloRefused}
 use Rattle.mongo_command.specs.HelloExchange.{RunsHello, RunHelloRefused}
 use Rattle.mongo_command.specs.declared.hello.HelloReply.{HelloReply}
+use Rattle.mongo_command.proofs.EndsExchange.{ends_handed, ends_replied}
 use Rattle.mongo_command.proofs.hello_exchange.run_hello.Goals as goal
 
 replied : (r : Result HelloReply Error) (document : List ℕ) (maximum : ℤ) (message : Message) (old new : State) (before after : ℤ) → Exchanges maximum message old new before after document
@@ -26,10 +26,9 @@ not_replied (Err e) document maximum message old new before after kept exchanges
 pub returns-clause-reply : goal.returns-clause-reply
 returns-clause-reply g c = replied _ _ _ _ _ _ _ _ c.in_ok-response.ensures.exchanged c.into_hello_reply.ensures.response c.into_hello_reply.ensures.document
 
-pub returns-clause-refused : goal.returns-clause-refused
-returns-clause-refused g c unkept = not_replied _ _ _ _ _ _ _ _ _ c.in_ok-response.ensures.exchanged c.into_hello_reply.ensures.refused c.in_ok-response.ensures.faultless
+pub returns-clause-ends : goal.returns-clause-ends
+returns-clause-ends g c =
+    ends_replied _ _ _ _ _ _ _ _ (not_replied _ _ _ _ _ _ _ _ _ c.in_ok-response.ensures.exchanged c.into_hello_reply.ensures.refused c.in_ok-response.ensures.ends.faultless) c.in_ok-response.ensures.ends
 
-pub returns-in_err-response-clause-refused : goal.returns-in_err-response-clause-refused
-returns-in_err-response-clause-refused g c unkept =
-    let e = err_from_is_err_and c.from_residual.result c.from_residual.ensures.1 in
-    rw (e.1, e.2) (inl (c.in_err-response.ensures.refused unkept))
+pub returns-in_err-response-clause-ends : goal.returns-in_err-response-clause-ends
+returns-in_err-response-clause-ends g c = ends_handed _ _ _ _ _ _ _ _ c.from_residual.ensures.1 (λ cause. inl cause) c.in_err-response.ensures.ends

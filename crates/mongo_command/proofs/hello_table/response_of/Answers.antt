@@ -25,30 +25,7 @@ returns c = λ els are.
     let roles = c.in_ok-hidden.ensures els are in
     let last = c.in_ok-last_write.ensures els are in
     record {
-      set = record {
-        server = record {
-          compressors = set.server.compressors;
-          logical_session_timeout_minutes = set.server.logical_session_timeout_minutes;
-          min_wire_version = set.server.min_wire_version;
-          max_wire_version = set.server.max_wire_version;
-          sasl_supported_mechs = set.server.sasl_supported_mechs;
-          speculative_authenticate = set.server.speculative_authenticate;
-          max_bson_object_size = search rules;
-          max_message_size_bytes = search rules;
-          max_write_batch_size = set.server.max_write_batch_size;
-          service_id = set.server.service_id;
-          topology_version = set.server.topology_version;
-          connection_id = set.server.connection_id;
-        };
-        hosts = set.hosts;
-        passives = set.passives;
-        arbiters = set.arbiters;
-        primary = set.primary;
-        set_version = set.set_version;
-        set_name = set.set_name;
-        tags = set.tags;
-        election_id = set.election_id;
-      };
+      set = search (rules, set);
       is_writable_primary = flags.0;
       is_master = flags.1;
       hello_ok = flags.2;

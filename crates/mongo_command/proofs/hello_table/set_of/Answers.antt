@@ -24,20 +24,7 @@ returns c = λ els are.
     let lists = c.in_ok-hosts.ensures els are in
     let names = c.in_ok-primary.ensures els are in
     record {
-      server = record {
-        compressors = server.compressors;
-        logical_session_timeout_minutes = server.logical_session_timeout_minutes;
-        min_wire_version = server.min_wire_version;
-        max_wire_version = server.max_wire_version;
-        sasl_supported_mechs = server.sasl_supported_mechs;
-        speculative_authenticate = server.speculative_authenticate;
-        max_bson_object_size = search rules;
-        max_message_size_bytes = search rules;
-        max_write_batch_size = server.max_write_batch_size;
-        service_id = server.service_id;
-        topology_version = server.topology_version;
-        connection_id = server.connection_id;
-      };
+      server = search (rules, server);
       hosts = lists.0;
       passives = lists.1;
       arbiters = lists.2;

@@ -1,16 +1,13 @@
-use Rattle.std.proofs.Common.{◌≡◌, Ok, Err, rules}
 use Rattle.std.proofs.lemmas.Bool.{false≢true}
+use Rattle.std.proofs.Common.{refl}
+use Rattle.mongo_command.proofs.EndsExchange.{ends_handed, ends_replied}
 use Rattle.mongo_command.proofs.connection.Connection.exchange.Goals as goal
 
 pub unreachable-requires : goal.unreachable-requires
 unreachable-requires g c = let held = c.in-Ok.ensures.holds in false≢true (c.in-None.ensures.some held.0 held.1 held.2)
 
-answered : {T E : Type 0} (x : T) (e : E) → Ok x ≡ Err e → ⊥
-answered x e p = cc
+pub returns-in-Some-clause-ends : goal.returns-in-Some-clause-ends
+returns-in-Some-clause-ends g c = ends_replied _ _ _ _ _ _ _ _ tt c.in-Ok.ensures.ends
 
--- a connection that keeps a fault exchanges nothing
-pub returns-in-Some-clause-kept : goal.returns-in-Some-clause-kept
-returns-in-Some-clause-kept g c = λ kind is. absurd (answered _ _ (c.in-Ok.ensures.kept kind is).0)
-
-pub returns-in-Err-clause-kept : goal.returns-in-Err-clause-kept
-returns-in-Err-clause-kept g c = search rules
+pub returns-in-Err-clause-ends : goal.returns-in-Err-clause-ends
+returns-in-Err-clause-ends g c = ends_handed _ _ _ _ _ _ _ _ refl (λ cause. cause) c.in-Err.ensures.ends

@@ -3,10 +3,13 @@ use Rattle.std.proofs.lemmas.Result.{err_from_is_err_and}
 use Rattle.std.specs.Io.KnownBytes.{Consumes}
 use Rattle.mongo_wire.specs.Buffer.{IsFrameTaken}
 use Rattle.mongo_command.specs.Exchange.{frame_maximum}
+use Rattle.mongo_command.proofs.EndsExchange.{ends_kept, ends_refused, ends_answered}
 use Rattle.mongo_command.proofs.Kept.{received_kept}
 use Rattle.mongo_command.proofs.Rest.{keeps_on, none_some}
 use Rattle.mongo_command.proofs.Talked.{counts_on}
 use Rattle.mongo_command.proofs.connection.Connection.exchange_into.Goals as goal
+
+-- ---- after the reply
 
 pub returns-in-Ok-clause-exchanged : goal.returns-in-Ok-clause-exchanged
 returns-in-Ok-clause-exchanged g c = record {
@@ -29,14 +32,27 @@ returns-in-Ok-clause-taken g c =
       taken = subst (λ left. Consumes left (state c.receive_into.new.link).left read.frame) c.in_ok-send.ensures.sent.unread read.taken;
     }
 
-pub returns-in-Err-clause-refused : goal.returns-in-Err-clause-refused
-returns-in-Err-clause-refused g c unkept =
-    rw (c.keep.ensures.refused) (inr (record {
+pub returns-in-Ok-clause-ends : goal.returns-in-Ok-clause-ends
+returns-in-Ok-clause-ends g c = ends_answered _ _ _ _ _ _ (c.in_ok-without_fault.ensures.none.0 refl) c.in_ok-send.ensures.faultless c.send.ensures.connection (counts_on _ _ _ c.send.ensures.counts c.receive_into.ensures.counts)
+
+pub returns-in-Ok-clause-untouched : goal.returns-in-Ok-clause-untouched
+returns-in-Ok-clause-untouched g c = λ kind is. absurd (none_some (sym (c.in_ok-without_fault.ensures.none.0 refl) ∙ is))
+
+-- ---- where no frame is received
+
+pub keep-requires : goal.keep-requires
+keep-requires g c = received_kept _ _ _ _ c.in-Err.ensures.refused
+
+pub returns-in-Err-clause-ends : goal.returns-in-Err-clause-ends
+returns-in-Err-clause-ends g c =
+    ends_refused _ _ _ _ _ _ _ c.keep.ensures.refused (c.in_ok-without_fault.ensures.none.0 refl)
+    (inr (record {
       middle = g.L.Outside.state c.send.new.link;
       sends = c.in_ok-send.ensures.sent;
       refused = rw c.frame_maximum-maximum.ensures at c.in-Err.ensures.refused;
       kept_is = c.keep.ensures.kept;
     }))
+    (keeps_on _ _ _ c.send.ensures.connection c.keep.ensures.rest) (counts_on _ _ _ c.send.ensures.counts c.receive_into.ensures.counts)
 
 pub returns-in-Err-clause-buffer : goal.returns-in-Err-clause-buffer
 returns-in-Err-clause-buffer g c unkept =
@@ -50,33 +66,20 @@ returns-in-Err-clause-buffer g c unkept =
       c.in-Err.ensures.cleared,
     ))
 
-pub keep-requires : goal.keep-requires
-keep-requires g c = received_kept _ _ _ _ c.in-Err.ensures.refused
+pub returns-in-Err-clause-untouched : goal.returns-in-Err-clause-untouched
+returns-in-Err-clause-untouched g c = λ kind is. absurd (none_some (sym (c.in_ok-without_fault.ensures.none.0 refl) ∙ is))
 
-pub returns-in-Ok-clause-kept : goal.returns-in-Ok-clause-kept
-returns-in-Ok-clause-kept g c = λ kind is. absurd (none_some (sym (c.in_ok-without_fault.ensures.none.0 refl) ∙ is))
+-- ---- where the command isn't sent
 
-pub returns-in-Err-clause-kept : goal.returns-in-Err-clause-kept
-returns-in-Err-clause-kept g c = λ kind is. absurd (none_some (sym (c.in_ok-without_fault.ensures.none.0 refl) ∙ is))
-
-pub returns-in_err-send-clause-kept : goal.returns-in_err-send-clause-kept
-returns-in_err-send-clause-kept g c = λ kind is. absurd (none_some (sym (c.in_ok-without_fault.ensures.none.0 refl) ∙ is))
-
-pub returns-in_err-send-clause-refused : goal.returns-in_err-send-clause-refused
-returns-in_err-send-clause-refused g c unkept =
-    let e = err_from_is_err_and c.from_residual-in_err-send.result c.from_residual-in_err-send.ensures.1 in
-    rw (e.1, e.2) (inl c.in_err-send.ensures.refused)
+pub returns-in_err-send-clause-ends : goal.returns-in_err-send-clause-ends
+returns-in_err-send-clause-ends g c = ends_refused _ _ _ _ _ _ _ c.from_residual-in_err-send.ensures.1 (c.in_ok-without_fault.ensures.none.0 refl) (inl c.in_err-send.ensures.refused) c.send.ensures.connection c.send.ensures.counts
 
 pub returns-in_err-send-clause-buffer : goal.returns-in_err-send-clause-buffer
 returns-in_err-send-clause-buffer g c unkept =
     let e = err_from_is_err_and c.from_residual-in_err-send.result c.from_residual-in_err-send.ensures.1 in
     rw (e.1, e.2) (inl (c.in_err-send.ensures.refused, refl))
 
-pub returns-in-Err-clause-connection : goal.returns-in-Err-clause-connection
-returns-in-Err-clause-connection g c = keeps_on _ _ _ c.send.ensures.connection c.keep.ensures.rest
+-- ---- where a fault is kept
 
-pub returns-in-Ok-clause-counts : goal.returns-in-Ok-clause-counts
-returns-in-Ok-clause-counts g c = counts_on _ _ _ c.send.ensures.counts c.receive_into.ensures.counts
-
-pub returns-in-Err-clause-counts : goal.returns-in-Err-clause-counts
-returns-in-Err-clause-counts g c = counts_on _ _ _ c.send.ensures.counts c.receive_into.ensures.counts
+pub returns-in_err-without_fault-clause-ends : goal.returns-in_err-without_fault-clause-ends
+returns-in_err-without_fault-clause-ends g c = ends_kept _ _ _ _ _ _ c.from_residual.ensures.1 c.in_err-without_fault.ensures.kept c.in_err-without_fault.ensures.none
