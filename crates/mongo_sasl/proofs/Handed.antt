@@ -1,12 +1,10 @@
 -- What a call that hands a refusal on, and one that ends after an exchange or before one, says by its plain clauses.
-use Rattle.std.proofs.Common.{◌≡◌, ℕ, ◌≤◌, refl, sym, ◌∙◌, subst, arith, Result, Ok, Err, IfOk, IfErr, OnOk, OnErr}
+use Rattle.std.proofs.Common.{◌≡◌, sym, ◌∙◌, subst, Result, Ok, Err, IfOk, IfErr, OnOk, OnErr}
 use Rattle.std.specs.Result.{IsErrAnd}
 use Rattle.mongo_wire.specs.declared.error.Error.{Error}
 use Rattle.mongo_wire.specs.declared.error.ErrorKind.{ErrorKind}
-use Rattle.mongo_wire.specs.Outside.{State}
 use Rattle.mongo_command.specs.declared.connection.Connection.{Connection}
 use Rattle.mongo_command.specs.Connection.{KeepsRest}
-use Rattle.mongo_command.specs.Exchange.{CountsStay}
 
 -- a refusal that is handed on answers nothing
 pub no_answer_on : {T E : Type 0} (r : Result T E) (e : E) (Anything : Type 0) → IsErrAnd r (λ x. x ≡ e) → OnOk r Anything
@@ -40,13 +38,3 @@ on_refusal (Err x) Holds is = is
 -- one change after the other
 pub rest_on : (old middle new : Connection) → KeepsRest old middle → KeepsRest middle new → KeepsRest old new
 rest_on old middle new p q = record { address = q.address ∙ p.address; id = q.id ∙ p.id; description = q.description ∙ p.description; server_id = q.server_id ∙ p.server_id; token = q.token ∙ p.token }
-
--- what isn't touched
-pub rest_same : (connection : Connection) → KeepsRest connection connection
-rest_same connection = record { address = refl; id = refl; description = refl; server_id = refl; token = refl }
-
-same_count : (n : ℕ) → n ≤ n
-same_count n = omega arith
-
-pub counts_same : (state : State) → CountsStay state state
-counts_same state = record { reads = same_count state.read_faults; ends = same_count state.ends; writes = same_count state.write_faults; told = refl; told_written = refl; flushed = same_count state.flushed }

@@ -9,11 +9,10 @@ use Rattle.mongo_wire.specs.declared.fault.ArgumentFault.TheVariants.{Bson, Chec
 use Rattle.mongo_wire.specs.declared.message.Message.{Message}
 use Rattle.mongo_wire.specs.Outside.{State}
 use Rattle.mongo_command.specs.Conversation.{row_of}
-use Rattle.mongo_command.specs.Exchange.{SendRefused, ExchangeRefused}
+use Rattle.mongo_command.specs.Exchange.{DocumentRefused, SendRefused, ExchangeRefused}
 use Rattle.mongo_command.specs.Fault.{is_kept}
 use Rattle.mongo_command.proofs.Kept.{received_kept}
 use Rattle.mongo_command.proofs.Plans.{all_of}
-use Rattle.mongo_sasl.specs.Commands.{IsNotBuilt}
 use Rattle.mongo_sasl.specs.EndsByScript.{KeepsAfter}
 use Rattle.mongo_sasl.specs.Plain.{FinishedRow}
 use Rattle.mongo_sasl.specs.Reply.{SaslRow}
@@ -57,7 +56,7 @@ own_keeps kind kept (inr memory) none = subst (λ k. KeepsAfter k kept) (sym mem
 pub refused_own : (Holds : AuthFault → Type 0) (kind : ErrorKind) → row_of Authentication Holds kind → IsOwn kind
 refused_own Holds = all_of IsOwn Authentication Holds (λ fault. inl refl)
 
-pub unbuilt_own : (body : List ℕ) (kind : ErrorKind) → IsNotBuilt body kind → IsOwn kind
+pub unbuilt_own : (body : List ℕ) (kind : ErrorKind) → DocumentRefused kind body → IsOwn kind
 unbuilt_own body (InvalidArgument (Bson TooLong)) row = inl refl
 unbuilt_own body OutOfMemory row = inr refl
 unbuilt_own body kind row = absurd row

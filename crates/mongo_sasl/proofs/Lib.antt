@@ -26,5 +26,4 @@ mod SuccessRead
 mod MechanismNames
 mod Judged
 mod Negotiated
-mod FieldsPut
 mod StartBody

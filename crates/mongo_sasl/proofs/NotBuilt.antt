@@ -11,7 +11,7 @@ use Rattle.mongo_wire.specs.declared.fault.ArgumentFault.TheVariants.{Bson}
 use Rattle.mongo_command.specs.declared.command.Command.{Command}
 use Rattle.mongo_command.specs.Command.{argument_elements, command_document}
 use Rattle.mongo_command.specs.Conversation.{Said, SendRow}
-use Rattle.mongo_sasl.specs.Commands.{IsNotBuilt}
+use Rattle.mongo_command.specs.Exchange.{DocumentRefused}
 
 -- a command's document is no shorter than its body
 longer_document : (c : Command) → 5 ≤ length c.body → length c.body ≤ length (command_document c)
@@ -21,7 +21,7 @@ longer_document c least =
     omega (arith, least, cut, length-enclosed (body_of c.body ++ more), length-append (body_of c.body) more)
 
 -- why a command isn't built is why it isn't sent
-pub not_built : (said : Said) (c : Command) (kind : ErrorKind) → said.document ≡ command_document c → 5 ≤ length c.body → IsNotBuilt c.body kind → SendRow said kind ⊎ (kind ≡ OutOfMemory)
+pub not_built : (said : Said) (c : Command) (kind : ErrorKind) → said.document ≡ command_document c → 5 ≤ length c.body → DocumentRefused kind c.body → SendRow said kind ⊎ (kind ≡ OutOfMemory)
 not_built said c (InvalidArgument (Bson TooLong)) is least long = inl (omega (arith, long, longer_document c least, ap length is))
 not_built said c OutOfMemory is least long = inr refl
 not_built said c kind is least long = absurd long

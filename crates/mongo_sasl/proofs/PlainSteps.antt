@@ -7,10 +7,10 @@ use Rattle.mongo_wire.specs.declared.error.ErrorKind.{ErrorKind}
 use Rattle.mongo_wire.specs.declared.error.ErrorKind.TheVariants.{OutOfMemory}
 use Rattle.mongo_wire.specs.Outside.{State}
 use Rattle.mongo_command.specs.Conversation.{plain_message, saying, reading, ending, Stopped}
-use Rattle.mongo_command.specs.Exchange.{CountsStay, Exchanges}
+use Rattle.mongo_command.specs.Exchange.{DocumentRefused, CountsStay, Exchanges}
 use Rattle.mongo_command.proofs.Steps.{stopped_memory, stopped_row, stopped_unless, stopped_reading, stopped_later}
 use Rattle.mongo_sasl.specs.declared.mechanism.AuthMechanism.TheVariants.{Plain}
-use Rattle.mongo_sasl.specs.Commands.{start_elements, IsNotBuilt}
+use Rattle.mongo_sasl.specs.Commands.{start_elements}
 use Rattle.mongo_sasl.specs.EndsByScript.{BeginsWithCommand}
 use Rattle.mongo_sasl.specs.Login.{EndsByReply}
 use Rattle.mongo_sasl.specs.Plain.{plain_payload, PlainUser, IsPlainUser, PlainRow, plain_body, plain_command, PlainHanded, plain_said, UnfinishedRow, FinishedRow, plain_heard, plain_plan, IsFinished}
@@ -31,7 +31,7 @@ module _ (handed : PlainHanded) (user : PlainUser) (is_user : IsPlainUser handed
       stopped_unless (PlainRow handed.credential) _ kind old new before after (no_plain_row handed.credential user is_user) (stopped_reading (IsPlainUser handed.credential) (λ u. saying (plain_said handed u) plain_heard) user kind old new before after is_user r)
 
   -- the command wasn't built
-  pub plain_unbuilt : (kind : ErrorKind) (old : State) (before : ℤ) → IsNotBuilt (plain_body user) kind → Stopped (plain_plan handed) kind old old before before
+  pub plain_unbuilt : (kind : ErrorKind) (old : State) (before : ℤ) → DocumentRefused kind (plain_body user) → Stopped (plain_plan handed) kind old old before before
   plain_unbuilt kind old before unbuilt =
       user_stopped kind old old before before
       (unbuilt_stopped (plain_said handed user) plain_heard (plain_command user handed.server_api) kind old before refl

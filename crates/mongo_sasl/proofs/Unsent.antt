@@ -8,11 +8,10 @@ use Rattle.mongo_wire.specs.declared.fault.ArgumentFault.TheVariants.{Bson, Maxi
 use Rattle.mongo_wire.specs.Outside.{State}
 use Rattle.mongo_command.specs.declared.command.Command.{Command}
 use Rattle.mongo_command.specs.Command.{command_document}
-use Rattle.mongo_command.specs.Exchange.{Unsent, ExchangeRefused}
+use Rattle.mongo_command.specs.Exchange.{DocumentRefused, Unsent, ExchangeRefused}
 use Rattle.mongo_command.specs.Conversation.{Said, SendRow, Plan, saying, plain_message, Stopped}
 use Rattle.mongo_command.proofs.Talked.{nothing_said}
 use Rattle.mongo_command.proofs.Steps.{stopped_memory, stopped_saying}
-use Rattle.mongo_sasl.specs.Commands.{IsNotBuilt}
 use Rattle.mongo_sasl.proofs.NotBuilt.{not_built}
 
 nothing_done : (old : State) (before : ℤ) → Unsent old old before before None
@@ -25,7 +24,7 @@ row_refused said (InvalidArgument FrameTooLong) old before row = inl (row.0, (tt
 row_refused said kind old before row = absurd row
 
 -- a command that wasn't built
-pub unbuilt_stopped : {A : Type 0} (said : Said) (plan : List ℕ → Plan A) (c : Command) (kind : ErrorKind) (old : State) (before : ℤ) → said.document ≡ command_document c → 5 ≤ length c.body → IsNotBuilt c.body kind → Stopped (saying said plan) kind old old before before
+pub unbuilt_stopped : {A : Type 0} (said : Said) (plan : List ℕ → Plan A) (c : Command) (kind : ErrorKind) (old : State) (before : ℤ) → said.document ≡ command_document c → 5 ≤ length c.body → DocumentRefused kind c.body → Stopped (saying said plan) kind old old before before
 unbuilt_stopped said plan c kind old before is least unbuilt =
     elim (not_built said c kind is least unbuilt) [
       | inl row ↦ stopped_saying said plan kind old old before before None (row_refused said kind old before row) (nothing_said (saying said plan) old before).counts

@@ -9,11 +9,10 @@ use Rattle.mongo_wire.specs.declared.error.ErrorKind.TheVariants.{OutOfMemory}
 use Rattle.mongo_wire.specs.Outside.{State}
 use Rattle.mongo_command.specs.Command.{present}
 use Rattle.mongo_command.specs.Conversation.{plain_message, ends, saying, reading, ending, Reached, Stopped}
-use Rattle.mongo_command.specs.Exchange.{CountsStay, Exchanges}
+use Rattle.mongo_command.specs.Exchange.{DocumentRefused, CountsStay, Exchanges}
 use Rattle.mongo_command.specs.Literal.{text_element, int32_element}
 use Rattle.mongo_command.proofs.Steps.{reached_ending, stopped_memory, stopped_row, stopped_later}
 use Rattle.mongo_sasl.specs.declared.mechanism.AuthMechanism.TheVariants.{MongoDbX509}
-use Rattle.mongo_sasl.specs.Commands.{IsNotBuilt}
 use Rattle.mongo_sasl.specs.EndsByScript.{BeginsWithCommand}
 use Rattle.mongo_sasl.specs.Login.{EndsByReply}
 use Rattle.mongo_sasl.specs.X509.{Takes, IsCertificateTaken, X509Row, x509_body, x509_command, X509Handed, x509_said, x509_heard, x509_plan_from, x509_plan}
@@ -33,7 +32,7 @@ module _ (handed : X509Handed) (later : handed.speculated ≡ false) where
   x509_stopped kind old new before after r = subst (λ s. Stopped (x509_plan_from s handed) kind old new before after) (sym later) r
 
   -- the command wasn't built
-  pub x509_unbuilt : (kind : ErrorKind) (old : State) (before : ℤ) → IsNotBuilt (x509_body handed.credential.username) kind → Stopped (x509_plan handed) kind old old before before
+  pub x509_unbuilt : (kind : ErrorKind) (old : State) (before : ℤ) → DocumentRefused kind (x509_body handed.credential.username) → Stopped (x509_plan handed) kind old old before before
   x509_unbuilt kind old before unbuilt =
       x509_stopped kind old old before before
       (unbuilt_stopped (x509_said handed) x509_heard (x509_command handed.credential handed.server_api) kind old before refl

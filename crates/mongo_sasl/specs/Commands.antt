@@ -1,17 +1,8 @@
 -- The commands of a login, by the authentication specification and the server's `saslStart` and `saslContinue`.
-use Rattle.std.specs.Prelude.{ℕ, pos, ◌-◌, ◌^◌, ◌<◌, ◌==◌, ◌||◌, ◌&&◌, Bool, true, false, not, List, [], ◌∷◌, ◌++◌, length, flat_map, codes, ⊤}
-use Rattle.std.specs.Borrow.{Bor}
+use Rattle.std.specs.Prelude.{ℕ, pos, true, List, [], ◌∷◌, ◌++◌, length, codes}
 use Rattle.std.specs.Int.{to_le_bytes, w32}
-use Rattle.mongo_bson.specs.Framed.{enclosed}
-use Rattle.mongo_bson.specs.Document.{Element, spell}
-use Rattle.mongo_bson.specs.Value.{element_of}
-use Rattle.mongo_bson.specs.declared.raw_value.RawValue.{RawValue}
-use Rattle.mongo_bson.specs.declared.fault.BsonFault.{BsonFault}
-use Rattle.mongo_bson.specs.declared.fault.BsonFault.TheVariants.{TooLong, OutOfMemory as NoMemory}
+use Rattle.mongo_bson.specs.Document.{Element}
 use Rattle.mongo_bson.specs.declared.owned_value.OwnedValue.{OwnedValue}
-use Rattle.mongo_wire.specs.declared.error.ErrorKind.{ErrorKind}
-use Rattle.mongo_wire.specs.declared.error.ErrorKind.TheVariants.{InvalidArgument, OutOfMemory}
-use Rattle.mongo_wire.specs.declared.fault.ArgumentFault.TheVariants.{Bson}
 use Rattle.mongo_command.specs.Literal.{text_element, int32_element, boolean_element, document_element, document_of}
 use Rattle.mongo_sasl.specs.declared.mechanism.AuthMechanism.{AuthMechanism}
 use Rattle.mongo_sasl.specs.declared.mechanism.AuthMechanism.TheVariants.{ScramSha1, ScramSha256}
@@ -62,35 +53,6 @@ start_body mechanism payload = document_of (start_elements mechanism payload)
 
 abbrev pub continue_body : OwnedValue → List ℕ → List ℕ
 continue_body conversation_id payload = document_of (continue_elements conversation_id payload)
-
--- why a command isn't built: its body would pass 2147483647 bytes, or memory ran out
-abbrev pub IsNotBuilt : List ℕ → ErrorKind → Type 0
-IsNotBuilt body (InvalidArgument (Bson TooLong)) = 2 ^ 31 - 1 < length body
-IsNotBuilt body OutOfMemory = ⊤
-IsNotBuilt body kind = ⊥
-
--- ---- fields as they are handed in: keys and values
-
-abbrev pub field_bytes : Bor (List ℕ) × RawValue → List ℕ
-field_bytes field = spell (element_of field.0.now field.1)
-
-abbrev pub document_of_fields : List (Bor (List ℕ) × RawValue) → List ℕ
-document_of_fields fields = enclosed (flat_map field_bytes fields)
-
-abbrev pub has_zero : List ℕ → Bool
-has_zero [] = false
-has_zero (b ∷ bs) = b == 0 || has_zero bs
-
--- no key holds a zero
-abbrev pub have_plain_keys : List (Bor (List ℕ) × RawValue) → Bool
-have_plain_keys [] = true
-have_plain_keys (field ∷ fields) = not (has_zero field.0.now) && have_plain_keys fields
-
--- why a document isn't built: it would pass 2147483647 bytes, or memory ran out
-abbrev pub IsTooLong : BsonFault → List ℕ → Type 0
-IsTooLong TooLong document = 2 ^ 31 - 1 < length document
-IsTooLong NoMemory document = ⊤
-IsTooLong other document = ⊥
 
 -- ---- the commands, on the source, with the server API
 

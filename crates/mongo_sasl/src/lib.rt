@@ -15,7 +15,6 @@
 mod buffered_reply;
 mod commands;
 mod credential;
-mod documents;
 pub mod keys;
 mod login_bodies;
 mod mechanism;
@@ -34,7 +33,6 @@ pub mod x509;
 pub use buffered_reply::held_reply;
 pub use commands::AuthOptions;
 pub use credential::Credential;
-pub use documents::document_of;
 pub use mechanism::AuthMechanism;
 pub use moment::Moment;
 pub use properties::{

@@ -1,10 +1,11 @@
 ghost use Rattle.std.specs.Prelude.{◌≡◌, IfOk, IfErr};
-ghost use Rattle.mongo_sasl.specs.Commands.{start_body, continue_body, skip_empty_exchange, IsTooLong};
+ghost use Rattle.mongo_command.specs.Arguments.{TooLongFor};
+ghost use Rattle.mongo_sasl.specs.Commands.{start_body, continue_body, skip_empty_exchange};
 
-use crate::documents::document_of;
 use crate::keys::{CONVERSATION_ID, MECHANISM, OPTIONS, PAYLOAD, SASL_CONTINUE, SASL_START};
 use crate::{AuthMechanism, GENERIC};
 use mongo_bson::{BsonFault, Bytes, OwnedValue, RawDocument, RawDocumentBuf, RawValue};
+use mongo_command::document_of;
 use std::alloc::Global;
 
 // The body of a `saslStart`.
@@ -16,14 +17,14 @@ pub(crate) fn start_body(
     payload: &Bytes,
 ) -> Result<RawDocumentBuf, BsonFault>
     ensures body { IfOk result (λ body. body ≡ start_body mechanism payload.now) }
-    ensures refused { IfErr result (λ fault. IsTooLong fault (start_body mechanism payload.now)) }
+    ensures refused { IfErr result (λ fault. TooLongFor fault (start_body mechanism payload.now)) }
 {
-    let start = (SASL_START, RawValue::Int32(1));
-    let name = (MECHANISM, RawValue::Str(mechanism.as_str()));
-    let payload = (PAYLOAD, RawValue::Binary(GENERIC, payload.as_bytes()));
+    let start = Some((SASL_START, RawValue::Int32(1)));
+    let name = Some((MECHANISM, RawValue::Str(mechanism.as_str())));
+    let payload = Some((PAYLOAD, RawValue::Binary(GENERIC, payload.as_bytes())));
     match mechanism {
         AuthMechanism::ScramSha1 | AuthMechanism::ScramSha256 => {
-            let options = (OPTIONS, RawValue::Document(skip_empty_exchange()));
+            let options = Some((OPTIONS, RawValue::Document(skip_empty_exchange())));
             document_of(alloc, &[start, name, payload, options])
         }
         _ => document_of(alloc, &[start, name, payload]),
@@ -49,10 +50,10 @@ pub(crate) fn continue_body<'x>(
     payload: &'x Bytes,
 ) -> Result<RawDocumentBuf, BsonFault>
     ensures body { IfOk result (λ body. body ≡ continue_body conversation_id.now payload.now) }
-    ensures refused { IfErr result (λ fault. IsTooLong fault (continue_body conversation_id.now payload.now)) }
+    ensures refused { IfErr result (λ fault. TooLongFor fault (continue_body conversation_id.now payload.now)) }
 {
-    let start = (SASL_CONTINUE, RawValue::Int32(1));
+    let start = Some((SASL_CONTINUE, RawValue::Int32(1)));
     let id = RawValue::Other(conversation_id.kind, conversation_id.bytes.as_bytes());
-    let payload = (PAYLOAD, RawValue::Binary(GENERIC, payload.as_bytes()));
-    document_of(alloc, &[start, (CONVERSATION_ID, id), payload])
+    let payload = Some((PAYLOAD, RawValue::Binary(GENERIC, payload.as_bytes())));
+    document_of(alloc, &[start, Some((CONVERSATION_ID, id)), payload])
 }

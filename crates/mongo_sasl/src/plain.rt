@@ -2,8 +2,7 @@
 
 ghost use Rattle.std.specs.Prelude.{◌≡◌, ◌⊎◌, option_copied, IfOk, IfErr, OnOk};
 ghost use Rattle.mongo_wire.specs.declared.error.ErrorKind.TheVariants.{OutOfMemory};
-ghost use Rattle.mongo_command.specs.Exchange.{frame_maximum};
-ghost use Rattle.mongo_sasl.specs.Commands.{IsNotBuilt};
+ghost use Rattle.mongo_command.specs.Exchange.{DocumentRefused, frame_maximum};
 ghost use Rattle.mongo_sasl.specs.EndsByScript.{standing, HoldsItsReply};
 ghost use Rattle.mongo_sasl.specs.Plain.{plain_payload, IsPlainUser, PlainRow, plain_body, plain_command, plain_plan, IsFinished, FinishedRow, plain_user_of, plain_handed, EndsByPlain};
 
@@ -94,7 +93,7 @@ fn start_command(
     server_api: Option<&ServerApi>,
 ) -> Result<Command, Error>
     ensures command { IfOk result (λ command. command ≡ plain_command (plain_user_of login.entry) (option_copied server_api.entry)) }
-    ensures refused { IfErr result (λ e. IsNotBuilt (plain_body (plain_user_of login.entry)) e.kind) }
+    ensures refused { IfErr result (λ e. DocumentRefused e.kind (plain_body (plain_user_of login.entry))) }
 {
     let payload = payload_bytes(alloc, login.username, login.password)?;
     let source = Text::from_slice(alloc, login.source)?;

@@ -17,7 +17,8 @@ pub struct SaslContinue {
 
 impl SaslContinue {
     ghost use Rattle.std.specs.Prelude.{◌≡◌, IfOk, IfErr};
-    ghost use Rattle.mongo_sasl.specs.Commands.{continue_body, continue_command, IsNotBuilt};
+    ghost use Rattle.mongo_command.specs.Exchange.{DocumentRefused};
+    ghost use Rattle.mongo_sasl.specs.Commands.{continue_body, continue_command};
 
     /// The next step of a login on a database, the source of the user.
     pub fn new(
@@ -42,7 +43,7 @@ impl SaslContinue {
     /// `Bson(TooLong)` where the body would pass 2147483647 bytes.
     pub fn into_command(self, alloc: Global) -> Result<Command, Error>
         ensures command { IfOk result (λ command. command ≡ continue_command self) }
-        ensures refused { IfErr result (λ e. IsNotBuilt (continue_body self.conversation_id self.payload) e.kind) }
+        ensures refused { IfErr result (λ e. DocumentRefused e.kind (continue_body self.conversation_id self.payload)) }
     {
         let body = continue_body(alloc, &self.conversation_id, &self.payload)?;
         login_command(alloc, SASL_CONTINUE, self.source, body, self.server_api)

@@ -18,7 +18,8 @@ pub struct SaslStart {
 
 impl SaslStart {
     ghost use Rattle.std.specs.Prelude.{◌≡◌, IfOk, IfErr};
-    ghost use Rattle.mongo_sasl.specs.Commands.{start_body, start_command, IsNotBuilt};
+    ghost use Rattle.mongo_command.specs.Exchange.{DocumentRefused};
+    ghost use Rattle.mongo_sasl.specs.Commands.{start_body, start_command};
 
     /// The start of a login on a database, the source of the user.
     pub fn new(
@@ -43,7 +44,7 @@ impl SaslStart {
     /// `Bson(TooLong)` where the body would pass 2147483647 bytes.
     pub fn into_command(self, alloc: Global) -> Result<Command, Error>
         ensures command { IfOk result (λ command. command ≡ start_command self) }
-        ensures refused { IfErr result (λ e. IsNotBuilt (start_body self.mechanism self.payload) e.kind) }
+        ensures refused { IfErr result (λ e. DocumentRefused e.kind (start_body self.mechanism self.payload)) }
     {
         let body = start_body(alloc, self.mechanism, &self.payload)?;
         login_command(alloc, SASL_START, self.source, body, self.server_api)

@@ -2,20 +2,19 @@
 
 ghost use Rattle.std.specs.Prelude.{◌≡◌, ◌⊎◌, true, false, Ok, Option, option_copied, IfOk, IfErr, OnOk};
 ghost use Rattle.mongo_wire.specs.declared.error.ErrorKind.TheVariants.{OutOfMemory};
-ghost use Rattle.mongo_command.specs.Exchange.{frame_maximum};
-ghost use Rattle.mongo_sasl.specs.Commands.{IsTooLong, IsNotBuilt};
+ghost use Rattle.mongo_command.specs.Arguments.{TooLongFor};
+ghost use Rattle.mongo_command.specs.Exchange.{DocumentRefused, frame_maximum};
 ghost use Rattle.mongo_sasl.specs.EndsByScript.{standing, HoldsItsReply};
 ghost use Rattle.mongo_sasl.specs.X509.{x509_body, x509_command, IsCertificateTaken, X509Row, x509_plan, x509_handed, EndsByX509};
 
 use crate::buffered_reply::held_reply;
 use crate::commands::login_command;
-use crate::documents::document_of;
 use crate::keys::{AUTHENTICATE, MECHANISM};
 use crate::refusal::refused;
 use crate::sasl_view::unreadable_fields;
 use crate::{AuthMechanism, Credential, EXTERNAL};
 use mongo_bson::{BsonFault, RawDocument, RawDocumentBuf, RawValue, Text};
-use mongo_command::{Command, Connection, Fields, ServerApi, is_success};
+use mongo_command::{Command, Connection, Fields, ServerApi, document_of, is_success};
 use mongo_wire::{AuthFault, Error, FrameBuffer, Link, RequestIds};
 use std::alloc::Global;
 
@@ -29,7 +28,7 @@ pub fn build_client_first(
     server_api: Option<&ServerApi>,
 ) -> Result<Command, Error>
     ensures command { IfOk result (λ command. command ≡ x509_command credential.now (option_copied server_api.entry)) }
-    ensures refused { IfErr result (λ e. IsNotBuilt (x509_body credential.now.username) e.kind) }
+    ensures refused { IfErr result (λ e. DocumentRefused e.kind (x509_body credential.now.username)) }
 {
     let body = authenticate_body(alloc, &credential.username)?;
     let source = Text::from_slice(alloc, EXTERNAL)?;
@@ -75,23 +74,26 @@ pub fn authenticate_stream<L: Link>(
 // The body of the command.
 fn authenticate_body(alloc: Global, username: &Option<Text>) -> Result<RawDocumentBuf, BsonFault>
     ensures body { IfOk result (λ body. body ≡ x509_body username.now) }
-    ensures refused { IfErr result (λ fault. IsTooLong fault (x509_body username.now)) }
+    ensures refused { IfErr result (λ fault. TooLongFor fault (x509_body username.now)) }
 {
     let name = AuthMechanism::MongoDbX509.as_str();
     match username {
-        Some(username) => document_of(
-            alloc,
-            &[
-                (AUTHENTICATE, RawValue::Int32(1)),
-                (MECHANISM, RawValue::Str(name)),
-                ("username", RawValue::Str(username.as_str())),
-            ],
-        ),
+        Some(username) => {
+            let username = username.as_str();
+            document_of(
+                alloc,
+                &[
+                    Some((AUTHENTICATE, RawValue::Int32(1))),
+                    Some((MECHANISM, RawValue::Str(name))),
+                    Some(("username", RawValue::Str(username))),
+                ],
+            )
+        }
         None => document_of(
             alloc,
             &[
-                (AUTHENTICATE, RawValue::Int32(1)),
-                (MECHANISM, RawValue::Str(name)),
+                Some((AUTHENTICATE, RawValue::Int32(1))),
+                Some((MECHANISM, RawValue::Str(name))),
             ],
         ),
     }

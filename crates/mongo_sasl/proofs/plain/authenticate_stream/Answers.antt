@@ -52,9 +52,8 @@ returns-in_err-exchange_into-clause-login g c =
     let r = c.from_residual-in_err-exchange_into.result in
     let passed = c.from_residual-in_err-exchange_into.ensures.1 in
     refused_by_script _ (plain_plan handed) (IsPlainLogin handed) handed.maximum (plain_joins handed) _ _ r e passed
-    (at_exchange _ (plain_plan handed) _ _ _ _ e (plain_begins handed user c.in_ok-login.ensures.user) exchange.kept exchange.refused
-    (λ refused. user_stopped handed user c.in_ok-login.ensures.user e.kind _ _ _ _ (unanswered_as sasl_start_key user.source (plain_body user) handed.server_api handed.maximum c.in_ok-command.command plain_heard e.kind _ _ _ _ _ c.in_ok-command.ensures.command exchange.counts refused))
-    exchange.connection exchange.counts)
+    (at_exchange _ (plain_plan handed) _ _ _ e (plain_begins handed user c.in_ok-login.ensures.user) exchange.ends exchange.untouched
+    (λ refused. user_stopped handed user c.in_ok-login.ensures.user e.kind _ _ _ _ (unanswered_as sasl_start_key user.source (plain_body user) handed.server_api handed.maximum c.in_ok-command.command plain_heard e.kind _ _ _ _ _ c.in_ok-command.ensures.command exchange.ends.counts refused)))
 
 pub returns-in_err-exchange_into-clause-buffer : goal.returns-in_err-exchange_into-clause-buffer
 returns-in_err-exchange_into-clause-buffer g c = no_answer_on c.from_residual-in_err-exchange_into.result c.in_err-exchange_into.field-0.0 _ c.from_residual-in_err-exchange_into.ensures.1
@@ -70,9 +69,9 @@ returns-clause-login g c =
     let r = c.finish.result in
     let exchanged = exchanged_as sasl_start_key user.source (plain_body user) handed.server_api handed.maximum c.in_ok-command.command _ _ _ _ _ _ c.in_ok-command.ensures.command c.held_reply.ensures exchange.exchanged in
     once_by_script _ (plain_plan handed) (IsPlainLogin handed) handed.maximum (plain_joins handed) _ _ tt _ r
-    (plain_replied handed user c.in_ok-login.ensures.user r reply _ _ _ _ _ c.held_reply.ensures exchanged exchange.counts c.finish.ensures.finished) (was_faultless tt _ (λ kind is. (exchange.kept kind is).0)) exchange.faultless
-    (after_exchange _ (plain_plan handed) tt (λ kind. FinishedRow reply kind ⊎ (kind ≡ OutOfMemory)) _ _ r exchange.kept exchange.faultless exchange.connection exchange.counts (finished_own reply) c.finish.ensures.refused
-    (plain_refused handed user c.in_ok-login.ensures.user r reply _ _ _ _ exchanged exchange.counts c.finish.ensures.refused))
+    (plain_replied handed user c.in_ok-login.ensures.user r reply _ _ _ _ _ c.held_reply.ensures exchanged exchange.ends.counts c.finish.ensures.finished) (was_faultless _ _ tt _ _ exchange.ends) exchange.ends.faultless
+    (after_exchange _ (plain_plan handed) _ tt (λ kind. FinishedRow reply kind ⊎ (kind ≡ OutOfMemory)) _ _ r exchange.ends (finished_own reply) c.finish.ensures.refused
+    (plain_refused handed user c.in_ok-login.ensures.user r reply _ _ _ _ exchanged exchange.ends.counts c.finish.ensures.refused))
 
 pub returns-clause-buffer : goal.returns-clause-buffer
 returns-clause-buffer g c =
@@ -81,4 +80,4 @@ returns-clause-buffer g c =
     let exchange = c.in_ok-exchange_into.ensures in
     let exchanged = exchanged_as sasl_start_key user.source (plain_body user) handed.server_api handed.maximum c.in_ok-command.command _ _ _ _ _ _ c.in_ok-command.ensures.command c.held_reply.ensures exchange.exchanged in
     holds_its_reply _ (plain_plan handed) tt _ _ _ c.finish.result exchange.counted exchange.taken
-    (plain_replied handed user c.in_ok-login.ensures.user c.finish.result c.held_reply.result.bytes.now _ _ _ _ _ c.held_reply.ensures exchanged exchange.counts c.finish.ensures.finished)
+    (plain_replied handed user c.in_ok-login.ensures.user c.finish.result c.held_reply.result.bytes.now _ _ _ _ _ c.held_reply.ensures exchanged exchange.ends.counts c.finish.ensures.finished)

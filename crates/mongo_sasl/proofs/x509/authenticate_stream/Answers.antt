@@ -54,9 +54,8 @@ returns-in_err-exchange_into-clause-login g c =
     let r = c.from_residual-in_err-exchange_into.result in
     let passed = c.from_residual-in_err-exchange_into.ensures.1 in
     refused_by_script _ (x509_plan handed) (IsX509Login handed) handed.maximum (x509_joins handed) _ _ r e passed
-    (at_exchange _ (x509_plan handed) _ _ _ _ e (x509_begins handed c.if-speculated.false) exchange.kept exchange.refused
-    (λ refused. x509_stopped handed c.if-speculated.false e.kind _ _ _ _ (unanswered_as authenticate_key external (x509_body handed.credential.username) handed.server_api handed.maximum c.in_ok-command.command x509_heard e.kind _ _ _ _ _ c.in_ok-command.ensures.command exchange.counts refused))
-    exchange.connection exchange.counts)
+    (at_exchange _ (x509_plan handed) _ _ _ e (x509_begins handed c.if-speculated.false) exchange.ends exchange.untouched
+    (λ refused. x509_stopped handed c.if-speculated.false e.kind _ _ _ _ (unanswered_as authenticate_key external (x509_body handed.credential.username) handed.server_api handed.maximum c.in_ok-command.command x509_heard e.kind _ _ _ _ _ c.in_ok-command.ensures.command exchange.ends.counts refused)))
 
 pub returns-in_err-exchange_into-clause-buffer : goal.returns-in_err-exchange_into-clause-buffer
 returns-in_err-exchange_into-clause-buffer g c later = no_answer_on c.from_residual-in_err-exchange_into.result c.in_err-exchange_into.field-0.0 _ c.from_residual-in_err-exchange_into.ensures.1
@@ -75,9 +74,9 @@ returns-clause-login g c =
     let r = c.take.result in
     let exchanged = exchanged_as authenticate_key external (x509_body handed.credential.username) handed.server_api handed.maximum c.in_ok-command.command _ _ _ _ _ _ c.in_ok-command.ensures.command c.held_reply.ensures exchange.exchanged in
     once_by_script _ (x509_plan handed) (IsX509Login handed) handed.maximum (x509_joins handed) _ _ tt _ r
-    (x509_replied handed later r reply _ _ _ _ _ c.held_reply.ensures exchanged exchange.counts c.take.ensures.taken) (was_faultless tt _ (λ kind is. (exchange.kept kind is).0)) exchange.faultless
-    (after_exchange _ (x509_plan handed) tt (λ kind. X509Row reply kind ⊎ (kind ≡ OutOfMemory)) _ _ r exchange.kept exchange.faultless exchange.connection exchange.counts (x509_own reply) c.take.ensures.refused
-    (x509_refused handed later r reply _ _ _ _ exchanged exchange.counts c.take.ensures.refused))
+    (x509_replied handed later r reply _ _ _ _ _ c.held_reply.ensures exchanged exchange.ends.counts c.take.ensures.taken) (was_faultless _ _ tt _ _ exchange.ends) exchange.ends.faultless
+    (after_exchange _ (x509_plan handed) _ tt (λ kind. X509Row reply kind ⊎ (kind ≡ OutOfMemory)) _ _ r exchange.ends (x509_own reply) c.take.ensures.refused
+    (x509_refused handed later r reply _ _ _ _ exchanged exchange.ends.counts c.take.ensures.refused))
 
 pub returns-clause-buffer : goal.returns-clause-buffer
 returns-clause-buffer g c later =
@@ -85,7 +84,7 @@ returns-clause-buffer g c later =
     let exchange = c.in_ok-exchange_into.ensures in
     let exchanged = exchanged_as authenticate_key external (x509_body handed.credential.username) handed.server_api handed.maximum c.in_ok-command.command _ _ _ _ _ _ c.in_ok-command.ensures.command c.held_reply.ensures exchange.exchanged in
     holds_its_reply _ (x509_plan handed) tt _ _ _ c.take.result exchange.counted exchange.taken
-    (x509_replied handed later c.take.result c.held_reply.result.bytes.now _ _ _ _ _ c.held_reply.ensures exchanged exchange.counts c.take.ensures.taken)
+    (x509_replied handed later c.take.result c.held_reply.result.bytes.now _ _ _ _ _ c.held_reply.ensures exchanged exchange.ends.counts c.take.ensures.taken)
 
 pub returns-clause-at_once : goal.returns-clause-at_once
 returns-clause-at_once g c at_once = not_both_ways c.args.speculated _ at_once c.if-speculated.false
