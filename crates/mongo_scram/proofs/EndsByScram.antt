@@ -13,8 +13,8 @@ use Rattle.mongo_sasl.proofs.EndsByScript.{ends_by_script}
 use Rattle.mongo_sasl.proofs.Handed.{handed_on, on_answer}
 use Rattle.mongo_sasl.proofs.KeptAfter.{IsOwn, own_keeps, row_keeps}
 use Rattle.mongo_sasl.proofs.StopsBy.{not_both}
-use Rattle.mongo_scram.specs.Costs.{Ledgers, SameEntries, Accepted, StoppedScram, FaultCosts}
-use Rattle.mongo_scram.specs.EndsByScram.{EndsByScram}
+use Rattle.mongo_scram.specs.Costs.{Ledgers, Balance, SameEntries, Accepted, StoppedScram, FaultCosts}
+use Rattle.mongo_scram.specs.EndsByScram.{balance_at, EndsByScram}
 use Rattle.mongo_scram.specs.Plan.{Handed, Challenge, scram_plan}
 use Rattle.mongo_scram.specs.Script.{IsScramLogin}
 use Rattle.mongo_scram.proofs.LoginSteps.{stopped_still}
@@ -22,22 +22,28 @@ use Rattle.mongo_scram.proofs.ScramCosts.{accepted_reached, stopped_whole, fault
 use Rattle.mongo_scram.proofs.ScramJoins.{scram_joins}
 
 module _ {L : Type 0} (state : L → State) (handed : Handed) (document : List ℕ) (old new : Standing L) (first last : Ledgers) where
+  abbrev before : Balance
+  before = balance_at state old first
+
+  abbrev after : Balance
+  after = balance_at state new last
+
   -- nothing is done over a connection that keeps a fault
   abbrev Untouched : Type 0
   Untouched = (kind : ErrorKind) → kept_fault old.connection ≡ Some kind → (new.link ≡ old.link) × (new.id ≡ old.id) × (new.buffer ≡ old.buffer) × (kept_fault new.connection ≡ Some kind)
 
   abbrev AnswersFault : ErrorKind → ErrorKind → Type 0
-  AnswersFault reason kind = ((reason ≡ kind) × FaultCosts handed first last) ⊎ StoppedScram handed reason (state old.link) (state old.link) old.id old.id first last
+  AnswersFault reason kind = ((reason ≡ kind) × FaultCosts handed first last) ⊎ StoppedScram handed reason before (balance_at state old last)
 
   -- a refusal is handed on
-  pub refused_scram : (r : Result (Unit {0}) Error) (e : Error) → IsErrAnd r (λ x. x ≡ e) → (kept_fault old.connection ≡ None → StoppedScram handed e.kind (state old.link) (state new.link) old.id new.id first last) → ((kind : ErrorKind) → kept_fault old.connection ≡ Some kind → AnswersFault e.kind kind) → SameEntries first last
+  pub refused_scram : (r : Result (Unit {0}) Error) (e : Error) → IsErrAnd r (λ x. x ≡ e) → (kept_fault old.connection ≡ None → StoppedScram handed e.kind before after) → ((kind : ErrorKind) → kept_fault old.connection ≡ Some kind → AnswersFault e.kind kind) → SameEntries first last
       → (kept_fault old.connection ≡ None → KeepsAfter e.kind (kept_fault new.connection)) → Untouched → KeepsRest old.connection new.connection → CountsStay (state old.link) (state new.link) → EndsByScram state handed document r old new first last
   refused_scram r e passed refused answers entries keeps untouched rest counts =
       let stops : StopsBy {T = Unit {0}} state (scram_plan handed) (Err e) old new = record {
-        refused = λ faultless. stopped_whole handed e.kind (state old.link) (state new.link) old.id new.id first last (refused faultless);
+        refused = λ faultless. stopped_whole handed e.kind before after (refused faultless);
         keeps = keeps;
         untouched = untouched;
-        answers = λ kind is. elim (answers kind is) [ inl same ↦ inl (same.0, fault_begins handed first last same.1) | inr stopped ↦ inr (stopped_whole handed e.kind (state old.link) (state old.link) old.id old.id first last stopped) ];
+        answers = λ kind is. elim (answers kind is) [ inl same ↦ inl (same.0, fault_begins handed first last same.1) | inr stopped ↦ inr (stopped_whole handed e.kind before (balance_at state old last) stopped) ];
         rest = rest;
         counts = counts;
       } in
@@ -50,23 +56,23 @@ module _ {L : Type 0} (state : L → State) (handed : Handed) (document : List �
       })
 
   -- one beside the exchanges
-  pub stopped_scram : (r : Result (Unit {0}) Error) (e : Error) → IsErrAnd r (λ x. x ≡ e) → StoppedScram handed e.kind (state old.link) (state new.link) old.id new.id first last → IsOwn e.kind → (kept_fault old.connection ≡ None → kept_fault new.connection ≡ None) → SameEntries first last
+  pub stopped_scram : (r : Result (Unit {0}) Error) (e : Error) → IsErrAnd r (λ x. x ≡ e) → StoppedScram handed e.kind before after → IsOwn e.kind → (kept_fault old.connection ≡ None → kept_fault new.connection ≡ None) → SameEntries first last
       → Untouched → KeepsRest old.connection new.connection → CountsStay (state old.link) (state new.link) → EndsByScram state handed document r old new first last
   stopped_scram r e passed stopped own faultless entries untouched rest counts =
       refused_scram r e passed (λ none. stopped)
-      (λ kind is. let still = untouched kind is in inr (stopped_still handed e.kind (state old.link) (state new.link) old.id new.id first last (ap state still.0) still.1 stopped)) entries
+      (λ kind is. let still = untouched kind is in inr (stopped_still handed e.kind before after (ap state still.0) still.1 stopped)) entries
       (λ none. own_keeps e.kind (kept_fault new.connection) own (faultless none)) untouched rest counts
 
-  reached : (r : Result (Unit {0}) Error) → OnOk r (Accepted handed document (state old.link) (state new.link) old.id new.id first last) → OnOk r ((c : Challenge) × Reached (scram_plan handed) c (state old.link) (state new.link) old.id new.id)
-  reached (Ok done) accepted = (accepted.challenge, accepted_reached handed document (state old.link) (state new.link) old.id new.id first last accepted)
+  reached : (r : Result (Unit {0}) Error) → OnOk r (Accepted handed document before after) → OnOk r ((c : Challenge) × Reached (scram_plan handed) c (state old.link) (state new.link) old.id new.id)
+  reached (Ok done) accepted = (accepted.challenge, accepted_reached handed document before after accepted)
   reached (Err e) accepted = tt
 
-  stopped : (r : Result (Unit {0}) Error) → IfErr r (λ e. StoppedScram handed e.kind (state old.link) (state new.link) old.id new.id first last) → IfErr r (λ e. Stopped (scram_plan handed) e.kind (state old.link) (state new.link) old.id new.id)
+  stopped : (r : Result (Unit {0}) Error) → IfErr r (λ e. StoppedScram handed e.kind before after) → IfErr r (λ e. Stopped (scram_plan handed) e.kind (state old.link) (state new.link) old.id new.id)
   stopped (Ok done) s = tt
-  stopped (Err e) s = stopped_whole handed e.kind (state old.link) (state new.link) old.id new.id first last s
+  stopped (Err e) s = stopped_whole handed e.kind before after s
 
   -- after the last exchange it is accepted, or memory runs out
-  pub accepted_scram : (r : Result (Unit {0}) Error) → OnOk r (Accepted handed document (state old.link) (state new.link) old.id new.id first last) → IfErr r (λ e. StoppedScram handed e.kind (state old.link) (state new.link) old.id new.id first last) → OnErr r (SameEntries first last) → IfErr r (λ e. e.kind ≡ OutOfMemory)
+  pub accepted_scram : (r : Result (Unit {0}) Error) → OnOk r (Accepted handed document before after) → IfErr r (λ e. StoppedScram handed e.kind before after) → OnErr r (SameEntries first last) → IfErr r (λ e. e.kind ≡ OutOfMemory)
       → kept_fault old.connection ≡ None → kept_fault new.connection ≡ None → KeepsRest old.connection new.connection → CountsStay (state old.link) (state new.link) → EndsByScram state handed document r old new first last
   accepted_scram r accepted refused entries memory was none rest counts =
       let stops : StopsBy state (scram_plan handed) r old new = record {

@@ -12,10 +12,11 @@ use Rattle.mongo_wire.proofs.Arrays.{without_zero}
 use Rattle.mongo_command.specs.declared.command.Command.{Command}
 use Rattle.mongo_command.specs.declared.server_api.ServerApi.{ServerApi}
 use Rattle.mongo_command.specs.Command.{command_of}
+use Rattle.mongo_command.specs.Exchange.{DocumentRefused}
 use Rattle.mongo_command.specs.Literal.{text_element, document_of}
 use Rattle.mongo_sasl.specs.declared.mechanism.AuthMechanism.{AuthMechanism}
 use Rattle.mongo_sasl.specs.declared.sasl_start.SaslStart.{SaslStart}
-use Rattle.mongo_sasl.specs.Commands.{start_elements, start_body, IsNotBuilt, start_command}
+use Rattle.mongo_sasl.specs.Commands.{start_elements, start_body, start_command}
 use Rattle.mongo_sasl.specs.Keys.{sasl_start_key}
 use Rattle.mongo_scram.specs.declared.scram_version.ScramVersion.{ScramVersion}
 use Rattle.mongo_scram.specs.Commands.{mechanism_of, db_elements, first_body, first_command}
@@ -33,13 +34,6 @@ pub db_too_long : (version : ScramVersion) (source message old : List ℕ) → o
 db_too_long version source message old is long =
     let elements = start_elements (mechanism_of version) message in
     omega (arith, long, ap length is, length-enclosed (flat_map spell elements), length-enclosed (flat_map spell (elements ++ db_elements true source)), ap length (spelled elements source), length-append (flat_map spell elements) (db_bytes source))
-
--- a start that has no room has none with the database either
-pub start_too_long : (version : ScramVersion) (source message : List ℕ) (include_db : Bool) → 2 ^ 31 - 1 < length (start_body (mechanism_of version) message) → 2 ^ 31 - 1 < length (first_body version include_db source message)
-start_too_long version source message include_db long =
-    let elements = start_elements (mechanism_of version) message in
-    let more = db_elements include_db source in
-    omega (arith, long, length-enclosed (flat_map spell elements), length-enclosed (flat_map spell (elements ++ more)), ap length (flat_map-append spell elements more), length-append (flat_map spell elements) (flat_map spell more))
 
 -- the database, put behind a body that has room for it
 pub db_added : (version : ScramVersion) (source message old new : List ℕ) → old ≡ start_body (mechanism_of version) message → length old < 2 ^ 31 → new ≡ enclosed (body_of old ++ db_bytes source) → new ≡ first_body version true source message
@@ -105,7 +99,7 @@ no_fault t e is = absurd (cc)
 -- why the database isn't put behind it
 pub db_refused : (version : ScramVersion) (source text message : List ℕ) (include_db : Bool) (api : Option ServerApi) (start : SaslStart) (command : Command) → text ≡ source → start ≡ step version source message api → command ≡ start_command start → include_db ≡ true
     → (fault : BsonFault) → AppendRefuses fault → (fault ≡ KeyHasZero → Contains (codes "db") 0) → (fault ≡ TooLong → 2 ^ 31 - 1 < length command.body + length (db_bytes text))
-    → IsNotBuilt (first_body version include_db source message) (kind_of_fault fault)
+    → DocumentRefused (kind_of_fault fault) (first_body version include_db source message)
 db_refused version source text message include_db api start command said is built named_db KeyHasZero refuses holds long = absurd (plain_db (holds refl))
 db_refused version source text message include_db api start command said is built named_db TooLong refuses holds long =
     let old : command.body ≡ start_body (mechanism_of version) message = ap (λ (c : Command). c.body) (built ∙ ap start_command is) in

@@ -11,10 +11,10 @@ use Rattle.mongo_wire.specs.Outside.{State}
 use Rattle.mongo_command.specs.declared.connection.Connection.{Connection}
 use Rattle.mongo_command.specs.Connection.{kept_fault}
 use Rattle.mongo_command.specs.declared.command.Command.{Command}
-use Rattle.mongo_command.specs.Exchange.{command_message, CountsStay, Exchanges, ExchangeRefused}
+use Rattle.mongo_command.specs.Exchange.{command_message, DocumentRefused, CountsStay, Exchanges, ExchangeRefused}
 use Rattle.mongo_command.specs.Conversation.{Plan, plain_message, saying, Stopped}
 use Rattle.mongo_command.proofs.Steps.{stopped_memory, stopped_row, stopped_saying, stopped_later}
-use Rattle.mongo_sasl.specs.Commands.{start_elements, IsNotBuilt}
+use Rattle.mongo_sasl.specs.Commands.{start_elements}
 use Rattle.mongo_sasl.specs.EndsByScript.{Standing, StopsBy}
 use Rattle.mongo_sasl.proofs.Handed.{on_answer}
 use Rattle.mongo_sasl.proofs.StopsBy.{not_both, no_exchange}
@@ -59,11 +59,11 @@ same_body handed user first is =
 
 -- ---- its command
 
-pub start_unbuilt : (handed : Handed) (user : User) (first : ClientFirst) (kind : ErrorKind) (old : State) (before : ℤ) → IsStart handed user first → IsNotBuilt (first_body handed.version (includes_db first) (first_source first) (message_of first)) kind → Stopped (saying (start_said handed user) (challenged handed user)) kind old old before before
+pub start_unbuilt : (handed : Handed) (user : User) (first : ClientFirst) (kind : ErrorKind) (old : State) (before : ℤ) → IsStart handed user first → DocumentRefused kind (first_body handed.version (includes_db first) (first_source first) (message_of first)) → Stopped (saying (start_said handed user) (challenged handed user)) kind old old before before
 start_unbuilt handed user first kind old before is unbuilt =
     unbuilt_stopped (start_said handed user) (challenged handed user) (start_command handed user) kind old before refl
     (omega (arith, length-enclosed (flat_map spell (start_elements (mechanism_of handed.version) (message_by handed user) ++ []))))
-    (subst (λ body. IsNotBuilt body kind) (same_body handed user first is) unbuilt)
+    (subst (DocumentRefused kind) (same_body handed user first is) unbuilt)
 
 pub start_unanswered : (handed : Handed) (user : User) (first : ClientFirst) (command : Command) (kind : ErrorKind) (old new : State) (before after : ℤ) (kept : Option ErrorKind) → IsStart handed user first → command ≡ first_command handed.version (includes_db first) (first_source first) (message_of first) (server_api_of first) → CountsStay old new
     → ExchangeRefused kind handed.maximum (command_message command) old new before after kept → Stopped (saying (start_said handed user) (challenged handed user)) kind old new before after

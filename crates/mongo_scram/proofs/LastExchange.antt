@@ -10,10 +10,10 @@ use Rattle.mongo_wire.specs.declared.frame_buffer.FrameBuffer.{FrameBuffer}
 use Rattle.mongo_wire.specs.Buffer.{held_document}
 use Rattle.mongo_wire.specs.Outside.{State}
 use Rattle.mongo_command.specs.declared.command.Command.{Command}
-use Rattle.mongo_command.specs.Exchange.{command_message, HoldsReply, CountsStay, Exchanges, ExchangeRefused}
+use Rattle.mongo_command.specs.Exchange.{command_message, DocumentRefused, HoldsReply, CountsStay, Exchanges, ExchangeRefused}
 use Rattle.mongo_command.specs.Conversation.{Said, plain_message, Stopped, ending}
 use Rattle.mongo_command.proofs.Steps.{stopped_memory, stopped_row, stopped_unless, stopped_reading, stopped_saying, stopped_later}
-use Rattle.mongo_sasl.specs.Commands.{continue_elements, continue_body, IsNotBuilt}
+use Rattle.mongo_sasl.specs.Commands.{continue_elements, continue_body}
 use Rattle.mongo_sasl.specs.EndsByScript.{Standing}
 use Rattle.mongo_sasl.specs.Login.{EndsByReply}
 use Rattle.mongo_sasl.proofs.LastReply.{ends_by_reply}
@@ -29,7 +29,7 @@ use Rattle.mongo_sasl.proofs.Unsent.{unbuilt_stopped}
 
 -- ---- the command
 
-pub final_unbuilt : (final : ClientFinal) (maximum : ℤ) (conversation : OwnedValue) (owed : List ℕ) (c : Challenge) (kind : ErrorKind) (old : State) (before : ℤ) → IsNotBuilt (continue_body (final_conversation final) (final_of final)) kind → Stopped (last_exchange (final_said final maximum) conversation owed c) kind old old before before
+pub final_unbuilt : (final : ClientFinal) (maximum : ℤ) (conversation : OwnedValue) (owed : List ℕ) (c : Challenge) (kind : ErrorKind) (old : State) (before : ℤ) → DocumentRefused kind (continue_body (final_conversation final) (final_of final)) → Stopped (last_exchange (final_said final maximum) conversation owed c) kind old old before before
 final_unbuilt final maximum conversation owed c kind old before unbuilt =
     unbuilt_stopped (final_said final maximum) (last_heard conversation owed c) (final_command (final_conversation final) (final_source_of final) (final_of final) (final_api_of final)) kind old before refl
     (omega (arith, length-enclosed (flat_map spell (continue_elements (final_conversation final) (final_of final))))) unbuilt

@@ -4,33 +4,33 @@ use Rattle.std.proofs.lemmas.Str.Pattern.{IsSplitOnceResult, split_parts}
 use Rattle.base64.specs.GeneralPurpose.{IsBytes}
 use Rattle.mongo_wire.specs.declared.auth_fault.AuthFault.TheVariants.{Malformed}
 use Rattle.mongo_scram.specs.Base64.{base64_of}
-use Rattle.mongo_scram.specs.ServerMessages.{HasNoComma, BeginsWithParts, IsBeforeComma, ServerFirstTextRow}
+use Rattle.mongo_scram.specs.ServerMessages.{HasNo, BeginsWithParts, IsBeforeComma, ServerFirstTextRow}
 
--- ---- one comma
+-- ---- one cut
 
-no_comma : (bytes : List ℕ) → ((i : ℕ) → i < length bytes → get_or bytes i 0 ≢ 0x2C) → HasNoComma bytes
-no_comma [] none = tt
-no_comma (byte ∷ bytes) none = (none 0 (omega arith), no_comma bytes (λ i within. none (suc i) (omega arith)))
+has_no : (byte : ℕ) (bytes : List ℕ) → ((i : ℕ) → i < length bytes → get_or bytes i 0 ≢ byte) → HasNo byte bytes
+has_no byte [] none = tt
+has_no byte (other ∷ bytes) none = (none 0 (omega arith), has_no byte bytes (λ i within. none (suc i) (omega arith)))
 
-pub cut_by : (text : List ℕ) (r : Option (Bor (List ℕ) × Bor (List ℕ))) → IsSplitOnceResult 0x2C text r
-    → MatchOption r (HasNoComma text) (λ p. HasNoComma p.0.now × (text ≡ p.0.now ++ (0x2C ∷ p.1.now)))
-cut_by text None is = no_comma text (split_parts 0x2C text None is (omega arith))
-cut_by text (Some p) is = let parts = split_parts 0x2C text (Some p) is (omega arith) in (no_comma p.0.now parts.1, parts.0)
+pub cut_by : (byte : ℕ) (text : List ℕ) (r : Option (Bor (List ℕ) × Bor (List ℕ))) → byte < 128 → IsSplitOnceResult byte text r
+    → MatchOption r (HasNo byte text) (λ p. HasNo byte p.0.now × (text ≡ p.0.now ++ (byte ∷ p.1.now)))
+cut_by byte text None ascii is = has_no byte text (split_parts byte text None is ascii)
+cut_by byte text (Some p) ascii is = let parts = split_parts byte text (Some p) is ascii in (has_no byte p.0.now parts.1, parts.0)
 
-has_comma : (front rest : List ℕ) → HasNoComma (front ++ (0x2C ∷ rest)) → ⊥
+has_comma : (front rest : List ℕ) → HasNo 0x2C (front ++ (0x2C ∷ rest)) → ⊥
 has_comma [] rest none = none.0 refl
 has_comma (byte ∷ front) rest none = has_comma front rest none.1
 
-pub no_cut : (text front rest : List ℕ) → HasNoComma text → text ≡ front ++ (0x2C ∷ rest) → ⊥
-no_cut text front rest none is = has_comma front rest (subst HasNoComma is none)
+pub no_cut : (text front rest : List ℕ) → HasNo 0x2C text → text ≡ front ++ (0x2C ∷ rest) → ⊥
+no_cut text front rest none is = has_comma front rest (subst (HasNo 0x2C) is none)
 
 pub heads : (a b : ℕ) (x y : List ℕ) → a ∷ x ≡ b ∷ y → a ≡ b
 heads a b x y is = cc
 
-tails : (a b : ℕ) (x y : List ℕ) → a ∷ x ≡ b ∷ y → x ≡ y
+pub tails : (a b : ℕ) (x y : List ℕ) → a ∷ x ≡ b ∷ y → x ≡ y
 tails a b x y is = cc
 
-pub one_cut : (a b x y : List ℕ) → HasNoComma a → HasNoComma b → a ++ (0x2C ∷ x) ≡ b ++ (0x2C ∷ y) → (a ≡ b) × (x ≡ y)
+pub one_cut : (a b x y : List ℕ) → HasNo 0x2C a → HasNo 0x2C b → a ++ (0x2C ∷ x) ≡ b ++ (0x2C ∷ y) → (a ≡ b) × (x ≡ y)
 one_cut [] [] x y p q is = (refl, tails 0x2C 0x2C x y is)
 one_cut [] (c ∷ b) x y p q is = absurd (q.0 (sym (heads 0x2C c x (b ++ (0x2C ∷ y)) is)))
 one_cut (c ∷ a) [] x y p q is = absurd (p.0 (heads c 0x2C (a ++ (0x2C ∷ x)) y is))
@@ -47,7 +47,7 @@ not_ended : (c : ℕ) (b rest : List ℕ) → c ≢ 0x2C → Ends rest → rest 
 not_ended c b rest other (inl none) is = let never : [] ≡ c ∷ b = sym none ∙ is in absurd (cc)
 not_ended c b rest other (inr more) is = other (sym (heads 0x2C c more.0 b (sym more.1 ∙ is)))
 
-one_front : (a b x y : List ℕ) → HasNoComma a → HasNoComma b → Ends x → Ends y → a ++ x ≡ b ++ y → a ≡ b
+one_front : (a b x y : List ℕ) → HasNo 0x2C a → HasNo 0x2C b → Ends x → Ends y → a ++ x ≡ b ++ y → a ≡ b
 one_front [] [] x y p q m n is = refl
 one_front [] (c ∷ b) x y p q m n is = absurd (not_ended c (b ++ y) x q.0 m is)
 one_front (c ∷ a) [] x y p q m n is = absurd (not_ended c (a ++ x) y p.0 n (sym is))
@@ -72,15 +72,15 @@ one_parts message a b c x y z p q =
       third = one_front c z p.extensions q.extensions p.third_ends q.third_ends p.extensions_are q.extensions_are second.1;
     }
 
-pub none_first : (message a b c : List ℕ) → HasNoComma message → BeginsWithParts message a b c → ⊥
+pub none_first : (message a b c : List ℕ) → HasNo 0x2C message → BeginsWithParts message a b c → ⊥
 none_first message a b c none p = no_cut message a _ none p.joined
 
-pub none_second : (message front rest a b c : List ℕ) → HasNoComma front → message ≡ front ++ (0x2C ∷ rest) → HasNoComma rest → BeginsWithParts message a b c → ⊥
+pub none_second : (message front rest a b c : List ℕ) → HasNo 0x2C front → message ≡ front ++ (0x2C ∷ rest) → HasNo 0x2C rest → BeginsWithParts message a b c → ⊥
 none_second message front rest a b c ends is none p =
     let first = one_cut front a rest _ ends p.first_ends (sym is ∙ p.joined) in
     no_cut rest b _ none first.1
 
-pub three : (message first rest second more third : List ℕ) → HasNoComma first → message ≡ first ++ (0x2C ∷ rest) → HasNoComma second → rest ≡ second ++ (0x2C ∷ more) → IsBeforeComma more third → BeginsWithParts message first second third
+pub three : (message first rest second more third : List ℕ) → HasNo 0x2C first → message ≡ first ++ (0x2C ∷ rest) → HasNo 0x2C second → rest ≡ second ++ (0x2C ∷ more) → IsBeforeComma more third → BeginsWithParts message first second third
 three message first rest second more third first_ends is second_ends rest_is last = record {
   extensions = last.extensions;
   joined = is ∙ ap (λ x. first ++ (0x2C ∷ x)) (rest_is ∙ ap (λ x. second ++ (0x2C ∷ x)) last.joined);

@@ -1,25 +1,24 @@
 -- What a login that was accepted or stopped shows of its whole plan.
-use Rattle.std.proofs.Common.{ℕ, ℤ, refl, sym, subst, inl, inr, List, []}
+use Rattle.std.proofs.Common.{ℕ, refl, sym, subst, inl, inr, List, []}
 use Rattle.mongo_wire.specs.declared.error.ErrorKind.{ErrorKind}
-use Rattle.mongo_wire.specs.Outside.{State}
 use Rattle.mongo_command.specs.Conversation.{says, ends, Reached, Stopped}
 use Rattle.mongo_command.proofs.FollowedBy.{reached_both, stopped_first, stopped_second}
 use Rattle.mongo_sasl.specs.EndsByScript.{BeginsWithCommand}
 use Rattle.mongo_sasl.proofs.LastReply.{ends_reached}
 use Rattle.mongo_scram.specs.Plan.{Handed, start_said, close_said, opened, opening, closing, scram_plan}
-use Rattle.mongo_scram.specs.Costs.{Ledgers, Accepted, StoppedScram, StartUnsaid, FaultCosts}
+use Rattle.mongo_scram.specs.Costs.{Ledgers, Balance, Accepted, StoppedScram, StartUnsaid, FaultCosts}
 use Rattle.mongo_scram.proofs.OneRow.{no_credential_row}
 
-pub accepted_reached : (handed : Handed) (document : List ℕ) (old new : State) (before after : ℤ) (first last : Ledgers) → (is : Accepted handed document old new before after first last) → Reached (scram_plan handed) is.challenge old new before after
-accepted_reached handed document old new before after first last is =
-    reached_both (opening handed) (closing handed) is.challenge is.challenge old is.middle new before is.between after is.opened
-    (ends_reached (closing handed is.challenge) is.challenge document is.middle new is.between after is.closed)
+pub accepted_reached : (handed : Handed) (document : List ℕ) (old new : Balance) → (is : Accepted handed document old new) → Reached (scram_plan handed) is.challenge old.state new.state old.id new.id
+accepted_reached handed document old new is =
+    reached_both (opening handed) (closing handed) is.challenge is.challenge old.state is.middle new.state old.id is.between new.id is.opened
+    (ends_reached (closing handed is.challenge) is.challenge document is.middle new.state is.between new.id is.closed)
 
-pub stopped_whole : (handed : Handed) (kind : ErrorKind) (old new : State) (before after : ℤ) (first last : Ledgers) → StoppedScram handed kind old new before after first last → Stopped (scram_plan handed) kind old new before after
-stopped_whole handed kind old new before after first last is =
+pub stopped_whole : (handed : Handed) (kind : ErrorKind) (old new : Balance) → StoppedScram handed kind old new → Stopped (scram_plan handed) kind old.state new.state old.id new.id
+stopped_whole handed kind old new is =
     elim is [
-      | inl early ↦ stopped_first (opening handed) (closing handed) kind old new before after early.0
-      | inr late ↦ stopped_second (opening handed) (closing handed) late.challenge kind old late.middle new before late.between after late.opened late.stopped
+      | inl early ↦ stopped_first (opening handed) (closing handed) kind old.state new.state old.id new.id early.0
+      | inr late ↦ stopped_second (opening handed) (closing handed) late.challenge kind old.state late.middle new.state old.id late.between new.id late.opened late.stopped
     ]
 
 -- ---- over a connection that keeps a fault

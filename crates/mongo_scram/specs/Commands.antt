@@ -1,5 +1,5 @@
 -- The commands of a SCRAM login: the client's messages as payloads.
-use Rattle.std.specs.Prelude.{ℕ, Bool, Option, List, [], ◌∷◌, ◌++◌, codes, if◌then◌else◌}
+use Rattle.std.specs.Prelude.{ℕ, Bool, true, false, Option, Some, List, [], ◌∷◌, ◌++◌, codes, if◌then◌else◌}
 use Rattle.mongo_bson.specs.Document.{Element}
 use Rattle.mongo_bson.specs.declared.owned_value.OwnedValue.{OwnedValue}
 use Rattle.mongo_command.specs.Literal.{text_element, document_of}
@@ -16,6 +16,12 @@ use Rattle.mongo_scram.specs.declared.scram_version.ScramVersion.TheVariants.{Sh
 abbrev pub mechanism_of : ScramVersion → AuthMechanism
 mechanism_of Sha1 = ScramSha1
 mechanism_of Sha256 = ScramSha256
+
+-- it is a mechanism of SCRAM
+abbrev pub is_scram : Option AuthMechanism → Bool
+is_scram (Some ScramSha1) = true
+is_scram (Some ScramSha256) = true
+is_scram mechanism = false
 
 -- the database that is named beside the message where it goes with a hello
 abbrev pub db_elements : Bool → List ℕ → List Element

@@ -38,6 +38,15 @@ pub record Ledgers : Type 0 where
 abbrev pub ledgers : ℕ → SaltedCache → Ledgers
 ledgers steps cache = record { steps = steps; cache = cache }
 
+-- how a login stands at a moment: its link, the next id, and its counter and cache
+pub record Balance : Type 0 where
+  pub state : State
+  pub id : ℤ
+  pub ledgers : Ledgers
+
+abbrev pub balance : State → ℤ → Ledgers → Balance
+balance state id ledgers = record { state = state; id = id; ledgers = ledgers }
+
 -- so many rounds were derived and counted
 pub record Counts (rounds : ℕ) (old new : Ledgers) : Type 0 where
   pub steps : new.steps ≡ old.steps + rounds
@@ -67,31 +76,30 @@ EndsLogin handed c = TakesLastMessage c.first.conversation_id (verifier_by hande
 
 -- The opening was followed to its end and then the closing, by one exchange, whose reply this document is; the key was
 -- derived where it had no entry, and has one now.
-pub record Accepted (handed : Handed) (document : List ℕ) (old new : State) (before after : ℤ) (first last : Ledgers) : Type 0 where
+pub record Accepted (handed : Handed) (document : List ℕ) (old new : Balance) : Type 0 where
   pub challenge : Challenge
   pub middle : State
   pub between : ℤ
-  pub opened : Reached (opening handed) challenge old middle before between
-  pub closed : EndsByReply (closing handed challenge) challenge document middle new between after
+  pub opened : Reached (opening handed) challenge old.state middle old.id between
+  pub closed : EndsByReply (closing handed challenge) challenge document middle new.state between new.id
   pub ends : EndsLogin handed challenge document
-  pub derived : Derives (key_by handed challenge) first last
-  pub kept : (HasEntry first.cache (key_by handed challenge) × SameEntries first last) ⊎ Adds (entries_of first.cache) (entries_of last.cache) (key_by handed challenge, salted_of (key_by handed challenge))
+  pub derived : Derives (key_by handed challenge) old.ledgers new.ledgers
+  pub kept : (HasEntry old.ledgers.cache (key_by handed challenge) × SameEntries old.ledgers new.ledgers) ⊎ Adds (entries_of old.ledgers.cache) (entries_of new.ledgers.cache) (key_by handed challenge, salted_of (key_by handed challenge))
 
 -- the opening was followed to its end, and the closing was stopped
-pub record StoppedClosing (handed : Handed) (kind : ErrorKind) (old new : State) (before after : ℤ) (first last : Ledgers) : Type 0 where
+pub record StoppedClosing (handed : Handed) (kind : ErrorKind) (old new : Balance) : Type 0 where
   pub challenge : Challenge
   pub middle : State
   pub between : ℤ
-  pub opened : Reached (opening handed) challenge old middle before between
-  pub stopped : Stopped (closing handed challenge) kind middle new between after
+  pub opened : Reached (opening handed) challenge old.state middle old.id between
+  pub stopped : Stopped (closing handed challenge) kind middle new.state between new.id
   -- memory may have run out before the key was derived
-  pub derived : Derives (key_by handed challenge) first last ⊎ ((kind ≡ OutOfMemory) × Counts 0 first last)
-  pub entries : SameEntries first last
+  pub derived : Derives (key_by handed challenge) old.ledgers new.ledgers ⊎ ((kind ≡ OutOfMemory) × Counts 0 old.ledgers new.ledgers)
+  pub entries : SameEntries old.ledgers new.ledgers
 
 -- Where a login was stopped: in the opening, before anything was derived, or in the closing.
-abbrev pub StoppedScram : Handed → ErrorKind → State → State → ℤ → ℤ → Ledgers → Ledgers → Type 0
-StoppedScram handed kind old new before after first last =
-    (Stopped (opening handed) kind old new before after × CostsNothing first last) ⊎ StoppedClosing handed kind old new before after first last
+abbrev pub StoppedScram : Handed → ErrorKind → Balance → Balance → Type 0
+StoppedScram handed kind old new = (Stopped (opening handed) kind old.state new.state old.id new.id × CostsNothing old.ledgers new.ledgers) ⊎ StoppedClosing handed kind old new
 
 -- ---- over a connection that keeps a fault
 

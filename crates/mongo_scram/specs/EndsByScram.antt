@@ -5,19 +5,23 @@ use Rattle.mongo_wire.specs.declared.error.ErrorKind.{ErrorKind}
 use Rattle.mongo_wire.specs.Outside.{State}
 use Rattle.mongo_command.specs.Connection.{kept_fault}
 use Rattle.mongo_sasl.specs.EndsByScript.{Standing, EndsByScript}
-use Rattle.mongo_scram.specs.Costs.{Ledgers, SameEntries, Accepted, StoppedScram, FaultCosts}
+use Rattle.mongo_scram.specs.Costs.{Ledgers, Balance, balance, SameEntries, Accepted, StoppedScram, FaultCosts}
 use Rattle.mongo_scram.specs.Plan.{Handed, scram_plan}
 use Rattle.mongo_scram.specs.Script.{IsScramLogin}
+
+-- a login that stands so, with its counter and cache
+abbrev pub balance_at : {L : Type 0} → (L → State) → Standing L → Ledgers → Balance
+balance_at state standing ledgers = balance (state standing.link) standing.id ledgers
 
 -- A login that was handed this ends so. The document is what the buffer holds: of an accepted login, the last reply.
 pub record EndsByScram {L : Type 0} (state : L → State) (handed : Handed) (document : List ℕ) (result : Result (Unit {0}) Error) (old new : Standing L) (first last : Ledgers) : Type 0 where
   pub script : EndsByScript state (scram_plan handed) (IsScramLogin handed) handed.maximum result old new
   -- the server's last message was taken for its verifier, equal as a whole, and the key has an entry
-  pub accepted : OnOk result (Accepted handed document (state old.link) (state new.link) old.id new.id first last)
+  pub accepted : OnOk result (Accepted handed document (balance_at state old first) (balance_at state new last))
   -- whether the key was derived before a refusal
-  pub refused : kept_fault old.connection ≡ None → IfErr result (λ e. StoppedScram handed e.kind (state old.link) (state new.link) old.id new.id first last)
+  pub refused : kept_fault old.connection ≡ None → IfErr result (λ e. StoppedScram handed e.kind (balance_at state old first) (balance_at state new last))
   -- A fault that the connection keeps is answered in place of the first exchange, unless the login is stopped before that.
   -- Where that is its first message's, nothing was derived, counted or put in.
-  pub answers : (kind : ErrorKind) → kept_fault old.connection ≡ Some kind → IfErr result (λ e. ((e.kind ≡ kind) × FaultCosts handed first last) ⊎ StoppedScram handed e.kind (state old.link) (state old.link) old.id old.id first last)
+  pub answers : (kind : ErrorKind) → kept_fault old.connection ≡ Some kind → IfErr result (λ e. ((e.kind ≡ kind) × FaultCosts handed first last) ⊎ StoppedScram handed e.kind (balance_at state old first) (balance_at state old last))
   -- a refusal leaves the entries as they were
   pub entries : OnErr result (SameEntries first last)

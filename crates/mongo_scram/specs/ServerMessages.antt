@@ -12,17 +12,17 @@ use Rattle.mongo_scram.specs.Base64.{base64_of}
 use Rattle.mongo_scram.specs.declared.server_final.ServerFinalBody.{ServerFinalBody}
 use Rattle.mongo_scram.specs.declared.server_final.ServerFinalBody.TheVariants.{Error, Verifier}
 
--- no byte is a comma
-abbrev pub HasNoComma : List ℕ → Type 0
-HasNoComma bytes = AllByRecursion (λ byte. byte ≢ 0x2C) bytes
+-- the byte stands nowhere
+abbrev pub HasNo : ℕ → List ℕ → Type 0
+HasNo byte bytes = AllByRecursion (λ other. other ≢ byte) bytes
 
 -- the message begins with these three parts, cut at its commas; extensions may follow
 pub record BeginsWithParts (message first second third : List ℕ) : Type 0 where
   pub extensions : List ℕ
   pub joined : message ≡ first ++ (0x2C ∷ (second ++ (0x2C ∷ (third ++ extensions))))
-  pub first_ends : HasNoComma first
-  pub second_ends : HasNoComma second
-  pub third_ends : HasNoComma third
+  pub first_ends : HasNo 0x2C first
+  pub second_ends : HasNo 0x2C second
+  pub third_ends : HasNo 0x2C third
   pub extensions_are : (extensions ≡ []) ⊎ ((more : List ℕ) × (extensions ≡ 0x2C ∷ more))
 
 -- `server-first-message`: `r=` and the nonce, `s=` and the salt in base64, `i=` and the text of the iteration count
@@ -45,7 +45,7 @@ ServerFirstTextRow message =
 pub record IsBeforeComma (text part : List ℕ) : Type 0 where
   pub extensions : List ℕ
   pub joined : text ≡ part ++ extensions
-  pub part_ends : HasNoComma part
+  pub part_ends : HasNo 0x2C part
   pub extensions_are : (extensions ≡ []) ⊎ ((more : List ℕ) × (extensions ≡ 0x2C ∷ more))
 
 -- the base64 text decodes to these bytes, or to none

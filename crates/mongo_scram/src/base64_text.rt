@@ -1,16 +1,15 @@
 // Base64 (RFC 4648, section 4) of what messages carry: the salt, the proof and the verifier.
 
-ghost use Rattle.std.specs.Prelude.{◌≡◌, ◌≢◌, ℕ, List, None, IfOk, IfErr, MatchOption, string_bytes};
+ghost use Rattle.std.specs.Prelude.{◌≡◌, ◌≢◌, ℕ, List, IfOk, MatchOption, string_bytes};
 ghost use Rattle.base64.specs.GeneralPurpose.{IsBytes};
-ghost use Rattle.mongo_bson.specs.declared.fault.BsonFault.TheVariants.{OutOfMemory};
 ghost use Rattle.mongo_scram.specs.Base64.{base64_of};
 
 use base64::DecodeAllocError;
 use base64::engine::general_purpose::STANDARD;
-use mongo_bson::{BsonFault, Bytes};
+use mongo_bson::Bytes;
 use std::alloc::{AllocError, Global};
 
-/// The base64 text of `bytes`.
+/// The base64 text of `bytes`. A refusal is want of memory.
 #[tactic(auto, unfolding(crate::specs::Base64::base64_of))]
 pub fn encoded(alloc: Global, bytes: &[u8]) -> Result<String, AllocError>
     ensures { IfOk result (λ text. string_bytes text ≡ base64_of bytes.now) }
@@ -18,17 +17,16 @@ pub fn encoded(alloc: Global, bytes: &[u8]) -> Result<String, AllocError>
     STANDARD.encode(alloc, bytes)
 }
 
-/// The bytes whose base64 text this is; None where there are none.
+/// The bytes whose base64 text this is; None exactly where there are none. A refusal is want of memory.
 #[tactic(auto, unfolding(crate::specs::Base64::base64_of))]
-pub fn decoded(alloc: Global, text: &str) -> Result<Option<Bytes>, BsonFault>
-    ensures found { IfOk result (λ found. MatchOption found
+pub fn decoded(alloc: Global, text: &[u8]) -> Result<Option<Bytes>, AllocError>
+    ensures { IfOk result (λ found. MatchOption found
         ((bytes : List ℕ) → IsBytes bytes → text.now ≢ base64_of bytes)
         (λ bytes. IsBytes bytes × (text.now ≡ base64_of bytes))) }
-    ensures refused { IfErr result (λ fault. fault ≡ OutOfMemory) }
 {
-    match STANDARD.decode(alloc, text.as_bytes()) {
+    match STANDARD.decode(alloc, text) {
         Ok(bytes) => Ok(Some(Bytes::from_vec(bytes))),
-        Err(DecodeAllocError::OutOfMemory) => Err(BsonFault::OutOfMemory),
+        Err(DecodeAllocError::OutOfMemory) => Err(AllocError),
         Err(_) => Ok(None),
     }
 }

@@ -1,15 +1,13 @@
-// The texts of a client's messages (RFC 5802, sections 3 and 7), each with room for it taken first; a name with many `=` or `,`
-// grows it, and a proof's base64 has memory of its own.
+// The texts of a client's messages (RFC 5802, sections 3 and 7), each with room for it taken first; the name as a message has it,
+// and a proof's base64, have memory of their own. Each is refused for want of memory alone.
 
-ghost use Rattle.std.specs.Prelude.{◌≡◌, ◌++◌, codes, IfOk, IfErr, OnOk, string_bytes};
+ghost use Rattle.std.specs.Prelude.{◌≡◌, ◌++◌, codes, IfOk, OnOk, string_bytes};
 ghost use Rattle.mongo_scram.specs.Base64.{base64_of};
 ghost use Rattle.mongo_scram.specs.Messages.{open_message, no_proof, transcript};
-ghost use Rattle.mongo_wire.specs.declared.error.ErrorKind.TheVariants.{OutOfMemory};
 
 use crate::base64_text::encoded;
-use crate::user_name::push_user_name;
+use crate::user_name::saslname;
 use mongo_mac::Tag;
-use mongo_wire::Error;
 use std::alloc::{AllocError, Global};
 
 /// What the client says of channel binding: it has none, and names no other user (RFC 5802, section 7, `gs2-header`).
@@ -23,29 +21,29 @@ const PROOF_TEXT: usize = 44;
 
 /// `n,,n=` the user name `,r=` the nonce.
 #[tactic(auto, unfolding(crate::specs::Messages::bare_message, crate::specs::Messages::open_message))]
-pub fn open_text(alloc: Global, username: &str, nonce: &str) -> Result<String, Error>
-    ensures message { IfOk result (λ text. string_bytes text ≡ open_message username.now nonce.now) }
-    ensures refused { IfErr result (λ e. e.kind ≡ OutOfMemory) }
+pub fn open_text(alloc: Global, username: &str, nonce: &str) -> Result<String, AllocError>
+    ensures { IfOk result (λ text. string_bytes text ≡ open_message username.now nonce.now) }
 {
-    let mut text = String::with_capacity(alloc, room(username.len(), nonce.len()))?;
+    let name = saslname(alloc, username)?;
+    let mut text = String::with_capacity(alloc, room(name.as_str().len(), nonce.len()))?;
     text.push_str(GS2_HEADER)?;
     text.push_str("n=")?;
-    push_user_name(&mut text, username)?;
+    text.push_str(name.as_str())?;
     text.push_str(",r=")?;
     text.push_str(nonce)?;
     Ok(text)
 }
 
-/// The bare first message, the server's first and the last one without its proof, parted by commas.
+/// What both sides sign (RFC 5802, section 3, `AuthMessage`): the client's first message without its GS2 header, the server's
+/// first, and the client's last, of the server's nonce, without its proof, parted by commas. A refusal is want of memory.
 #[tactic(auto, unfolding(crate::specs::Messages::transcript))]
 pub fn transcript_text(
     alloc: Global,
     bare: &str,
     server_first: &str,
     nonce: &str,
-) -> Result<String, Error>
-    ensures text { IfOk result (λ text. string_bytes text ≡ transcript bare.now server_first.now nonce.now) }
-    ensures refused { IfErr result (λ e. e.kind ≡ OutOfMemory) }
+) -> Result<String, AllocError>
+    ensures { IfOk result (λ text. string_bytes text ≡ transcript bare.now server_first.now nonce.now) }
 {
     let others = server_first.len().saturating_add(nonce.len());
     let mut text = String::with_capacity(alloc, room(bare.len(), others))?;
@@ -58,9 +56,8 @@ pub fn transcript_text(
 }
 
 /// `c=biws,r=` the nonce `,p=` the proof in base64.
-pub fn close_text(alloc: Global, nonce: &str, proof: &Tag) -> Result<String, Error>
-    ensures text { IfOk result (λ text. string_bytes text ≡ no_proof nonce.now ++ (codes ",p=" ++ base64_of proof.now)) }
-    ensures refused { IfErr result (λ e. e.kind ≡ OutOfMemory) }
+pub fn close_text(alloc: Global, nonce: &str, proof: &Tag) -> Result<String, AllocError>
+    ensures { IfOk result (λ text. string_bytes text ≡ no_proof nonce.now ++ (codes ",p=" ++ base64_of proof.now)) }
 {
     let mut text = String::with_capacity(alloc, room(nonce.len(), PROOF_TEXT))?;
     push_no_proof(&mut text, nonce)?;

@@ -44,11 +44,14 @@ mod signing_key;
 mod user_name;
 
 pub use auth_info::ClientAuthInfo;
+pub use base64_text::{decoded, encoded};
 pub use cache::{SaltedCache, SaltedKey};
+pub use client_texts::transcript_text;
 pub use conversation::FirstRound;
 pub use keys::Keys;
 pub use messages::{ClientFinal, ClientFirst, nonce_text};
+pub use parse::cut;
 pub use scram_version::ScramVersion;
 pub use server_final::{ServerFinal, ServerFinalBody};
-pub use server_first::ServerFirst;
-pub use user_name::push_user_name;
+pub use server_first::{MIN_ITERATION_COUNT, ServerFirst};
+pub use user_name::saslname;

@@ -49,7 +49,7 @@ impl Drop for ClientFirst {
 
 impl ClientFirst {
     ghost use Rattle.std.specs.Prelude.{◌≡◌, codes, IfOk, IfErr};
-    ghost use Rattle.mongo_sasl.specs.Commands.{IsNotBuilt};
+    ghost use Rattle.mongo_command.specs.Exchange.{DocumentRefused};
     ghost use Rattle.mongo_scram.specs.Base64.{base64_of};
     ghost use Rattle.mongo_scram.specs.Client.{message_of, bare_of, nonce_of, first_source, includes_db, server_api_of, SameFirst};
     ghost use Rattle.mongo_scram.specs.Commands.{first_body, first_command};
@@ -159,7 +159,7 @@ impl ClientFirst {
     /// `Bson(TooLong)` where the body would pass 2147483647 bytes.
     pub fn to_command(&self, alloc: Global, version: &ScramVersion) -> Result<Command, Error>
         ensures command { IfOk result (λ command. command ≡ first_command version.now (includes_db self.now) (first_source self.now) (message_of self.now) (server_api_of self.now)) }
-        ensures refused { IfErr result (λ e. IsNotBuilt (first_body version.now (includes_db self.now) (first_source self.now) (message_of self.now)) e.kind) }
+        ensures refused { IfErr result (λ e. DocumentRefused e.kind (first_body version.now (includes_db self.now) (first_source self.now) (message_of self.now))) }
     {
         let source = self.source.try_clone(alloc)?;
         let payload = Bytes::from_slice(alloc, self.message.as_bytes())?;
@@ -223,7 +223,8 @@ impl fmt::Debug for ClientFinal {
 
 impl ClientFinal {
     ghost use Rattle.std.specs.Prelude.{◌≡◌, IfOk, IfErr};
-    ghost use Rattle.mongo_sasl.specs.Commands.{continue_body, IsNotBuilt};
+    ghost use Rattle.mongo_command.specs.Exchange.{DocumentRefused};
+    ghost use Rattle.mongo_sasl.specs.Commands.{continue_body};
     ghost use Rattle.mongo_scram.specs.Client.{bare_of, final_of, auth_message_of, final_conversation, final_source_of, final_api_of};
     ghost use Rattle.mongo_scram.specs.Commands.{final_command};
     ghost use Rattle.mongo_scram.specs.Messages.{transcript, close_message};
@@ -325,7 +326,7 @@ impl ClientFinal {
     /// `Bson(TooLong)` where the body would pass 2147483647 bytes.
     pub fn to_command(&self, alloc: Global) -> Result<Command, Error>
         ensures command { IfOk result (λ command. command ≡ final_command (final_conversation self.now) (final_source_of self.now) (final_of self.now) (final_api_of self.now)) }
-        ensures refused { IfErr result (λ e. IsNotBuilt (continue_body (final_conversation self.now) (final_of self.now)) e.kind) }
+        ensures refused { IfErr result (λ e. DocumentRefused e.kind (continue_body (final_conversation self.now) (final_of self.now))) }
     {
         let source = self.source.try_clone(alloc)?;
         let conversation_id = self.conversation_id.try_clone(alloc)?;

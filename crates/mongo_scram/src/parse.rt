@@ -1,9 +1,9 @@
 // What the server says, cut at its commas (RFC 5802, sections 5.1 and 7).
 
-ghost use Rattle.std.specs.Prelude.{◌≡◌, ◌≢◌, ℕ, ◌++◌, ◌∷◌, List, MatchOption, IfOk, IfErr};
+ghost use Rattle.std.specs.Prelude.{◌≡◌, ◌≢◌, ℕ, ◌<◌, ◌++◌, ◌∷◌, List, MatchOption, IfOk, IfErr};
 ghost use Rattle.mongo_bson.specs.declared.fault.BsonFault.TheVariants.{OutOfMemory};
 ghost use Rattle.mongo_sasl.specs.View.{sasl_response_of};
-ghost use Rattle.mongo_scram.specs.ServerMessages.{HasNoComma, BeginsWithParts, IsBeforeComma, SaysFinal};
+ghost use Rattle.mongo_scram.specs.ServerMessages.{HasNo, BeginsWithParts, IsBeforeComma, SaysFinal};
 ghost use Rattle.mongo_scram.specs.Parsed.{HoldsServerFirst, FirstRefused, ServerFinalUnread};
 
 use crate::base64_text::decoded;
@@ -42,7 +42,7 @@ pub fn read_server_first<'a>(alloc: Global, message: &'a str) -> Result<ServerFi
     let Some(salt_text) = attribute_value(parts.second, "s=") else {
         return Err(refused(AuthFault::Malformed));
     };
-    let Some(salt) = decoded(alloc, salt_text)? else {
+    let Some(salt) = decoded(alloc, salt_text.as_bytes())? else {
         return Err(refused(AuthFault::Malformed));
     };
     let Some(count) = attribute_value(parts.third, "i=") else {
@@ -66,7 +66,10 @@ pub fn read_server_final(alloc: Global, message: &str) -> Result<ServerFinalBody
         return Ok(ServerFinalBody::Error(Text::from_slice(alloc, text)?));
     }
     match attribute_value(message, "v=") {
-        Some(verifier) => Ok(ServerFinalBody::Verifier(decoded(alloc, verifier)?)),
+        Some(text) => {
+            let verifier = decoded(alloc, text.as_bytes())?;
+            Ok(ServerFinalBody::Verifier(verifier))
+        }
         None => Err(refused(AuthFault::Malformed)),
     }
 }
@@ -103,10 +106,10 @@ fn message_parts(message: &str) -> Option<Parts<'_>>
         ((first second third : List ℕ) → BeginsWithParts message.now first second third → ⊥)
         (λ parts. BeginsWithParts message.now parts.first.now parts.second.now parts.third.now) }
 {
-    let Some((first, rest)) = cut(message) else {
+    let Some((first, rest)) = cut(message, ',') else {
         return None;
     };
-    let Some((second, rest)) = cut(rest) else {
+    let Some((second, rest)) = cut(rest, ',') else {
         return None;
     };
     let third = before_comma(rest);
@@ -117,19 +120,21 @@ fn message_parts(message: &str) -> Option<Parts<'_>>
     })
 }
 
-// What stands before the first comma, and behind it.
-fn cut(text: &str) -> Option<(&str, &str)>
-    ensures { MatchOption result (HasNoComma text.now)
-        (λ p. HasNoComma p.0.now × (text.now ≡ p.0.now ++ (0x2C ∷ p.1.now))) }
+/// What stands before the first `mark`, a character of ASCII, and behind it; None exactly where there is none. It takes no
+/// memory.
+pub fn cut(text: &str, mark: char) -> Option<(&str, &str)>
+    requires { mark < 128 }
+    ensures { MatchOption result (HasNo mark text.now)
+        (λ p. HasNo mark p.0.now × (text.now ≡ p.0.now ++ (mark ∷ p.1.now))) }
 {
-    text.split_once(',')
+    text.split_once(mark)
 }
 
 // The text up to its first comma, or all of it.
 fn before_comma(text: &str) -> &str
     ensures { IsBeforeComma text.now result.now }
 {
-    match cut(text) {
+    match cut(text, ',') {
         Some((before, _)) => before,
         None => text,
     }

@@ -14,7 +14,7 @@ use std::alloc::Global;
 use std::str;
 
 /// The fewest iterations that a server may ask for (RFC 5802, section 5.1, and RFC 7677, section 4).
-const MIN_ITERATION_COUNT: u32 = 4096;
+pub const MIN_ITERATION_COUNT: u32 = 4096;
 
 /// The server's first message, and the reply that carried it.
 #[derive(Debug, Drop)]
@@ -53,7 +53,7 @@ impl ServerFirst {
     /// Whether a client whose nonce this is goes on, and derives by at most `max_iterations` iterations.
     ///
     /// In this order: `EndedEarly` where the conversation is done, `Nonce` where the server's nonce doesn't begin with the
-    /// client's, `CountLow` where the iteration count is below 4096, `CountHigh` where it is above `max_iterations`.
+    /// client's, `CountLow` where the iteration count is below [`MIN_ITERATION_COUNT`], `CountHigh` where it is above `max_iterations`.
     pub fn validate(&self, nonce: &str, max_iterations: u32) -> Result<(), Error>
         ensures valid { OnOk result (IsValidFirst self.now nonce.now max_iterations) }
         ensures refused { IfErr result (λ e. ServerFirstRow self.now nonce.now max_iterations e.kind) }

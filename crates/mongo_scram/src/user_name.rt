@@ -1,18 +1,21 @@
 // The user name in a message (RFC 5802, section 5.1, `saslname`).
 
-ghost use Rattle.std.specs.Prelude.{◌≡◌, ◌++◌, OnOk, string_bytes, encode_utf8};
+ghost use Rattle.std.specs.Prelude.{◌≡◌, ◌++◌, IfOk, OnOk, string_bytes, encode_utf8};
 ghost use Rattle.mongo_scram.specs.UserName.{escaped};
 
-use std::alloc::AllocError;
+use mongo_bson::Text;
+use std::alloc::{AllocError, Global};
 
-/// Adds the name to the text, `=` as `=3D` and `,` as `=2C`, since both have a meaning in a message.
-pub fn push_user_name(text: &mut String, name: &str) -> Result<(), AllocError>
-    ensures { OnOk result (string_bytes text.new ≡ string_bytes text.old ++ escaped name.now) }
+/// The name as a message carries it, `=` as `=3D` and `,` as `=2C`, since both have a meaning there. A refusal is want of
+/// memory.
+pub fn saslname(alloc: Global, name: &str) -> Result<Text, AllocError>
+    ensures { IfOk result (λ text. text ≡ escaped name.now) }
 {
+    let mut text = String::with_capacity(alloc, name.len())?;
     for character in name.chars() {
-        push_character(text, character)?;
+        push_character(&mut text, character)?;
     }
-    Ok(())
+    Ok(Text::from_string(text))
 }
 
 #[tactic(auto, using(crate::proofs::Escaped::other_character))]

@@ -3,6 +3,6 @@ use Rattle.std.proofs.lemmas.Grind.{common_steps}
 use Rattle.mongo_scram.specs.Messages.{bare_message, open_message}
 use Rattle.mongo_scram.proofs.client_texts.open_text.Goals as goal
 
-pub returns-clause-message : goal.returns-clause-message
+pub returns : goal.returns
 unfolding bare_message open_message
-returns-clause-message c = grind (arith, common_steps)
+returns c = grind (arith, common_steps)

@@ -42,19 +42,19 @@ returns-in_err-exchange_into-clause-stops g c challenge =
     let e = c.in_err-exchange_into.field-0.0 in
     let exchange = c.in_err-exchange_into.ensures in
     handed_stops _ _ _ _ c.from_residual-in_err-exchange_into.result e c.from_residual-in_err-exchange_into.ensures.1
-    (at_exchange _ _ _ _ _ _ e (final_said c.args.client_final.now (frame_maximum c.args.connection.now.stream_description), refl) exchange.kept exchange.refused (final_unanswered c.args.client_final.now c.in_ok-command.command _ _ _ challenge e.kind _ _ _ _ _ c.in_ok-command.ensures.command exchange.counts) exchange.connection exchange.counts)
+    (at_exchange _ _ _ _ _ e (final_said c.args.client_final.now (frame_maximum c.args.connection.now.stream_description), refl) exchange.ends exchange.untouched (final_unanswered c.args.client_final.now c.in_ok-command.command _ _ _ challenge e.kind _ _ _ _ _ c.in_ok-command.ensures.command exchange.ends.counts))
 
 -- ---- after the reply
 
 pub returns-clause-closed : goal.returns-clause-closed
 returns-clause-closed g c =
     let exchange = c.in_ok-exchange_into.ensures in
-    closes_by _ c.take_last.result _ _ _ _ _ _ _ c.held_reply.ensures (final_exchanged c.args.client_final.now c.in_ok-command.command _ _ _ _ _ _ _ c.in_ok-command.ensures.command c.held_reply.ensures exchange.exchanged) exchange.counts exchange.holds c.take_last.ensures.taken
+    closes_by _ c.take_last.result _ _ _ _ _ _ _ c.held_reply.ensures (final_exchanged c.args.client_final.now c.in_ok-command.command _ _ _ _ _ _ _ c.in_ok-command.ensures.command c.held_reply.ensures exchange.exchanged) exchange.ends.counts exchange.holds c.take_last.ensures.taken
 
 pub returns-clause-once : goal.returns-clause-once
 returns-clause-once g c =
     let exchange = c.in_ok-exchange_into.ensures in
-    on_answer c.take_last.result _ (record { was = was_faultless tt _ (λ kind is. (exchange.kept kind is).0); is = exchange.faultless; frames = exchange.counted })
+    on_answer c.take_last.result _ (record { was = was_faultless _ _ tt _ _ exchange.ends; is = exchange.ends.faultless; frames = exchange.counted })
 
 pub returns-clause-stops : goal.returns-clause-stops
 returns-clause-stops g c challenge =
@@ -64,5 +64,5 @@ returns-clause-stops g c challenge =
     let said = final_said final (frame_maximum c.args.connection.now.stream_description) in
     let reply = c.held_reply.result.bytes.now in
     let exchange = c.in_ok-exchange_into.ensures in
-    after_exchange _ (last_exchange said conversation owed challenge) tt (λ kind. LastRefusal conversation owed reply kind ⊎ (kind ≡ OutOfMemory)) _ _ c.take_last.result exchange.kept exchange.faultless exchange.connection exchange.counts (last_own conversation owed reply) c.take_last.ensures.refused
-    (refused_stopped c.take_last.result said conversation owed challenge reply _ _ _ _ (final_exchanged final c.in_ok-command.command _ _ _ _ _ _ _ c.in_ok-command.ensures.command c.held_reply.ensures exchange.exchanged) exchange.counts c.take_last.ensures.refused)
+    after_exchange _ (last_exchange said conversation owed challenge) _ tt (λ kind. LastRefusal conversation owed reply kind ⊎ (kind ≡ OutOfMemory)) _ _ c.take_last.result exchange.ends (last_own conversation owed reply) c.take_last.ensures.refused
+    (refused_stopped c.take_last.result said conversation owed challenge reply _ _ _ _ (final_exchanged final c.in_ok-command.command _ _ _ _ _ _ _ c.in_ok-command.ensures.command c.held_reply.ensures exchange.exchanged) exchange.ends.counts c.take_last.ensures.refused)

@@ -62,7 +62,7 @@ returns-in_err-exchange_into-clause-stops g c =
     let e = c.in_err-exchange_into.field-0.0 in
     let exchange = c.in_err-exchange_into.ensures in
     handed_stops _ _ _ _ c.from_residual-in_err-exchange_into.result e c.from_residual-in_err-exchange_into.ensures.1
-    (at_exchange _ _ _ _ _ _ e (start_said handed user, refl) exchange.kept exchange.refused (start_unanswered handed user first c.in_ok-command.command e.kind _ _ _ _ _ start c.in_ok-command.ensures.command exchange.counts) exchange.connection exchange.counts)
+    (at_exchange _ _ _ _ _ e (start_said handed user, refl) exchange.ends exchange.untouched (start_unanswered handed user first c.in_ok-command.command e.kind _ _ _ _ _ start c.in_ok-command.ensures.command exchange.ends.counts))
 
 -- ---- where the reply is refused
 
@@ -82,8 +82,8 @@ returns-in_err-server_first-clause-stops g c =
     let e = c.in_err-server_first.field-0.0 in
     let exchange = c.in_ok-exchange_into.ensures in
     handed_stops _ _ _ _ c.from_residual-in_err-server_first.result e c.from_residual-in_err-server_first.ensures.1
-    (after_exchange _ _ tt IsOwn _ _ _ exchange.kept exchange.faultless exchange.connection exchange.counts (λ kind is. is) (first_reply_own c.held_reply.result.bytes.now e.kind c.in_err-server_first.ensures.refused)
-    (start_refused handed user _ _ e.kind _ _ _ _ c.held_reply.ensures (start_exchanged handed user first c.in_ok-command.command _ _ _ _ _ start c.in_ok-command.ensures.command exchange.exchanged) exchange.counts c.in_err-server_first.ensures.refused))
+    (after_exchange _ _ _ tt IsOwn _ _ _ exchange.ends (λ kind is. is) (first_reply_own c.held_reply.result.bytes.now e.kind c.in_err-server_first.ensures.refused)
+    (start_refused handed user _ _ e.kind _ _ _ _ c.held_reply.ensures (start_exchanged handed user first c.in_ok-command.command _ _ _ _ _ start c.in_ok-command.ensures.command exchange.exchanged) exchange.ends.counts c.in_err-server_first.ensures.refused))
 
 -- ---- after the reply
 
@@ -95,12 +95,12 @@ returns-clause-opened g c =
     let first = c.in_ok-client_first.client_first in
     let start : IsStart handed user first = record { db = made.db; source = made.source; message = made.message; api = made.api ∙ c.copied.ensures } in
     let exchange = c.in_ok-exchange_into.ensures in
-    start_opens handed user _ _ _ _ _ _ _ refl start made.nonce c.held_reply.ensures (start_exchanged handed user first c.in_ok-command.command _ _ _ _ _ start c.in_ok-command.ensures.command exchange.exchanged) exchange.counts c.in_ok-server_first.ensures.read
+    start_opens handed user _ _ _ _ _ _ _ refl start made.nonce c.held_reply.ensures (start_exchanged handed user first c.in_ok-command.command _ _ _ _ _ start c.in_ok-command.ensures.command exchange.exchanged) exchange.ends.counts c.in_ok-server_first.ensures.read
 
 pub returns-clause-once : goal.returns-clause-once
-returns-clause-once g c = let exchange = c.in_ok-exchange_into.ensures in record { was = was_faultless tt _ (λ kind is. (exchange.kept kind is).0); is = exchange.faultless; frames = exchange.counted }
+returns-clause-once g c = let exchange = c.in_ok-exchange_into.ensures in record { was = was_faultless _ _ tt _ _ exchange.ends; is = exchange.ends.faultless; frames = exchange.counted }
 
 pub returns-clause-stops : goal.returns-clause-stops
 returns-clause-stops g c =
     let exchange = c.in_ok-exchange_into.ensures in
-    after_exchange _ _ tt IsOwn _ _ _ exchange.kept exchange.faultless exchange.connection exchange.counts (λ kind is. is) tt tt
+    after_exchange _ _ _ tt IsOwn _ _ _ exchange.ends (λ kind is. is) tt tt

@@ -1,8 +1,9 @@
 use Rattle.std.proofs.Common.{◌≡◌, ℕ, Option, List, IfOk, IfErr, ◌∙◌, subst}
 use Rattle.mongo_bson.specs.declared.owned_value.OwnedValue.{OwnedValue}
 use Rattle.mongo_command.specs.declared.server_api.ServerApi.{ServerApi}
+use Rattle.mongo_command.specs.Exchange.{DocumentRefused}
 use Rattle.mongo_sasl.specs.declared.sasl_continue.SaslContinue.{SaslContinue}
-use Rattle.mongo_sasl.specs.Commands.{continue_body, IsNotBuilt, continue_command}
+use Rattle.mongo_sasl.specs.Commands.{continue_body, continue_command}
 use Rattle.mongo_scram.specs.Client.{final_of, final_conversation, final_source_of, final_api_of}
 use Rattle.mongo_scram.proofs.messages.ClientFinal.to_command.Goals as goal
 
@@ -24,4 +25,4 @@ returns-clause-command c =
 
 pub returns-clause-refused : goal.returns-clause-refused
 returns-clause-refused c =
-    subst (λ s. IfErr c.into_command.result (λ e. IsNotBuilt (continue_body s.conversation_id s.payload) e.kind)) (step_is c) c.into_command.ensures.refused
+    subst (λ s. IfErr c.into_command.result (λ e. DocumentRefused e.kind (continue_body s.conversation_id s.payload))) (step_is c) c.into_command.ensures.refused

@@ -1,12 +1,13 @@
 use Rattle.std.proofs.Common.{option_copied, refl, ap, ◌∙◌, inl, inr}
 use Rattle.mongo_command.specs.Exchange.{frame_maximum}
 use Rattle.mongo_command.proofs.Steps.{stopped_memory}
-use Rattle.mongo_command.proofs.Talked.{counts_on}
+use Rattle.mongo_command.proofs.Rest.{keeps_all}
+use Rattle.mongo_command.proofs.Talked.{counts_on, still_counts}
 use Rattle.mongo_scram.specs.Base64.{base64_of}
 use Rattle.mongo_scram.specs.Client.{handed_to, user_of}
-use Rattle.mongo_scram.specs.Costs.{ledgers}
+use Rattle.mongo_scram.specs.Costs.{ledgers, balance}
 use Rattle.mongo_scram.specs.Plan.{closing}
-use Rattle.mongo_sasl.proofs.Handed.{no_answer_on, rest_on, rest_same, counts_same}
+use Rattle.mongo_sasl.proofs.Handed.{no_answer_on, rest_on}
 use Rattle.mongo_sasl.proofs.StopsBy.{faultless_before}
 use Rattle.mongo_scram.proofs.OwnRows.{credential_own, answer_own}
 use Rattle.mongo_scram.proofs.ScramPlan.{challenge_of}
@@ -24,7 +25,7 @@ returns-in_err-user-clause-login g c =
     let handed = handed_to c.args.self.now c.args.credential.now (option_copied c.args.server_api) c.args.first_round (base64_of c.args.nonce.now) c.args.max_iterations (frame_maximum c.args.connection.now.stream_description) in
     let e = c.in_err-user.field-0.0 in
     stopped_scram _ handed _ _ _ _ _ c.from_residual.result e c.from_residual.ensures.1
-    (inl (credential_stopped handed e.kind _ _ c.in_err-user.ensures.refused, costs_nothing c.args.steps.now c.args.salted.now)) (credential_own handed.credential e.kind c.in_err-user.ensures.refused) (λ none. none) refl (λ kind is. (refl, refl, refl, is)) (rest_same c.args.connection.now) (counts_same _)
+    (inl (credential_stopped handed e.kind _ _ c.in_err-user.ensures.refused, costs_nothing c.args.steps.now c.args.salted.now)) (credential_own handed.credential e.kind c.in_err-user.ensures.refused) (λ none. none) refl (λ kind is. (refl, refl, refl, is)) (keeps_all c.args.connection.now) (still_counts _)
 
 pub returns-in_err-user-clause-buffer : goal.returns-in_err-user-clause-buffer
 returns-in_err-user-clause-buffer g c = no_answer_on c.from_residual.result c.in_err-user.field-0.0 _ c.from_residual.ensures.1
@@ -74,10 +75,10 @@ returns-in_err-client_final-clause-login g c =
     let o = c.in_ok-opened.opened in
     let opening = c.in_ok-opened.ensures in
     let derived = c.in_ok-derived.derived in
-    let between = between_by handed user o derived.key derived.salted c.nonce.result.now _ _ _ _ (ledgers c.args.steps.now c.args.salted.now) (ledgers c.answer.new.steps c.answer.new.cache) c.in_ok-user.ensures.user opening.opened c.nonce.ensures c.in_ok-derived.ensures.key c.in_ok-derived.ensures.answered in
+    let between = between_by handed user o derived.key derived.salted c.nonce.result.now (balance _ _ (ledgers c.args.steps.now c.args.salted.now)) (balance _ _ (ledgers c.answer.new.steps c.answer.new.cache)) c.in_ok-user.ensures.user opening.opened c.nonce.ensures c.in_ok-derived.ensures.key c.in_ok-derived.ensures.answered in
     let e = c.in_err-client_final.field-0.0 in
     stopped_scram _ handed _ _ _ _ _ c.from_residual-in_err-client_final.result e c.from_residual-in_err-client_final.ensures.1
-    (stopped_late handed user o derived.key derived.salted e.kind _ _ _ _ _ _ _ _ between (stopped_memory (closing handed (challenge_of user o.server_first)) e.kind _ _ c.in_err-client_final.ensures.refused)) (inr c.in_err-client_final.ensures.refused)
+    (stopped_late handed user o derived.key derived.salted _ _ between e.kind _ _ (stopped_memory (closing handed (challenge_of user o.server_first)) e.kind _ _ c.in_err-client_final.ensures.refused)) (inr c.in_err-client_final.ensures.refused)
     opening.faultless c.in_ok-derived.ensures.answered.entries opening.stops.untouched opening.stops.rest opening.stops.counts
 
 pub returns-in_err-client_final-clause-buffer : goal.returns-in_err-client_final-clause-buffer
@@ -92,21 +93,21 @@ returns-in_err-close-clause-login g c =
     let o = c.in_ok-opened.opened in
     let opening = c.in_ok-opened.ensures in
     let derived = c.in_ok-derived.derived in
-    let between = between_by handed user o derived.key derived.salted c.nonce.result.now _ _ _ _ (ledgers c.args.steps.now c.args.salted.now) (ledgers c.answer.new.steps c.answer.new.cache) c.in_ok-user.ensures.user opening.opened c.nonce.ensures c.in_ok-derived.ensures.key c.in_ok-derived.ensures.answered in
+    let between = between_by handed user o derived.key derived.salted c.nonce.result.now (balance _ _ (ledgers c.args.steps.now c.args.salted.now)) (balance _ _ (ledgers c.answer.new.steps c.answer.new.cache)) c.in_ok-user.ensures.user opening.opened c.nonce.ensures c.in_ok-derived.ensures.key c.in_ok-derived.ensures.answered in
     let challenge = challenge_of user o.server_first in
     let made = c.in_ok-client_final.ensures in
     let final = c.in_ok-client_final.client_final in
-    let is = final_by handed challenge derived.salted o.client_first final (between_tag handed user o derived.key derived.salted _ _ _ _ _ _ between) opening.opened.message made.auth_message made.message made.conversation made.source (made.api ∙ c.copied.ensures) in
+    let is = final_by handed challenge derived.salted o.client_first final (between_tag handed user o derived.key derived.salted _ _ between) opening.opened.message made.auth_message made.message made.conversation made.source (made.api ∙ c.copied.ensures) in
     let same = ap frame_maximum opening.stops.rest.description in
     let e = c.in_err-close.field-0.0 in
     let stops = c.in_err-close.ensures.stops challenge in
     refused_scram _ handed _ _ _ _ _ c.from_residual-in_err-close.result e c.from_residual-in_err-close.ensures.1
-    (λ none. stopped_late handed user o derived.key derived.salted e.kind _ _ _ _ _ _ _ _ between (closing_stopped handed challenge derived.salted final _ e.kind _ _ _ _ same is (stops.refused (opening.faultless none))))
+    (λ none. stopped_late handed user o derived.key derived.salted _ _ between e.kind _ _ (closing_stopped handed challenge derived.salted final _ e.kind _ _ _ _ same is (stops.refused (opening.faultless none))))
     (λ kind kept.
     let still = opening.stops.untouched kind kept in
     elim (stops.answers kind still.3) [
-      | inl fault ↦ inl (fault.0, close_unsaid handed user o derived.key derived.salted _ _ _ _ _ _ (opening.alone kind kept) between)
-      | inr stopped ↦ inr (stopped_still handed e.kind _ _ _ _ _ _ (ap g.L.Outside.state still.0) still.1 (stopped_late handed user o derived.key derived.salted e.kind _ _ _ _ _ _ _ _ between (closing_stopped handed challenge derived.salted final _ e.kind _ _ _ _ same is stopped)))
+      | inl fault ↦ inl (fault.0, close_unsaid handed user o derived.key derived.salted _ _ between (opening.alone kind kept))
+      | inr stopped ↦ inr (stopped_still handed e.kind _ _ (ap g.L.Outside.state still.0) still.1 (stopped_late handed user o derived.key derived.salted _ _ between e.kind _ _ (closing_stopped handed challenge derived.salted final _ e.kind _ _ _ _ same is stopped)))
     ])
     c.in_ok-derived.ensures.answered.entries (λ none. stops.keeps (opening.faultless none))
     (λ kind kept.
@@ -127,19 +128,19 @@ returns-clause-login g c =
     let o = c.in_ok-opened.opened in
     let opening = c.in_ok-opened.ensures in
     let derived = c.in_ok-derived.derived in
-    let between = between_by handed user o derived.key derived.salted c.nonce.result.now _ _ _ _ (ledgers c.args.steps.now c.args.salted.now) (ledgers c.answer.new.steps c.answer.new.cache) c.in_ok-user.ensures.user opening.opened c.nonce.ensures c.in_ok-derived.ensures.key c.in_ok-derived.ensures.answered in
+    let between = between_by handed user o derived.key derived.salted c.nonce.result.now (balance _ _ (ledgers c.args.steps.now c.args.salted.now)) (balance _ _ (ledgers c.answer.new.steps c.answer.new.cache)) c.in_ok-user.ensures.user opening.opened c.nonce.ensures c.in_ok-derived.ensures.key c.in_ok-derived.ensures.answered in
     let challenge = challenge_of user o.server_first in
     let made = c.in_ok-client_final.ensures in
     let final = c.in_ok-client_final.client_final in
-    let is = final_by handed challenge derived.salted o.client_first final (between_tag handed user o derived.key derived.salted _ _ _ _ _ _ between) opening.opened.message made.auth_message made.message made.conversation made.source (made.api ∙ c.copied.ensures) in
+    let is = final_by handed challenge derived.salted o.client_first final (between_tag handed user o derived.key derived.salted _ _ between) opening.opened.message made.auth_message made.message made.conversation made.source (made.api ∙ c.copied.ensures) in
     let same = ap frame_maximum opening.stops.rest.description in
     let closed = c.in_ok-close.ensures in
     let stops = closed.stops challenge in
     let ended = closing_ends handed challenge derived.salted final _ _ _ _ _ _ same is (closed.closed.ends challenge) in
     let r = c.keep.result in
     accepted_scram _ handed _ _ _ _ _ r
-    (accepted_by r handed user o derived.key derived.salted _ _ _ _ _ _ _ _ c.answer.new.steps c.answer.new.cache c.keep.new.cache between ended (ends_login handed challenge derived.salted final _ is closed.closed.taken) c.keep.ensures.rounds c.keep.ensures.kept)
-    (stopped_last r handed user o derived.key derived.salted _ _ _ _ _ _ _ _ c.answer.new.steps c.answer.new.cache c.keep.new.cache between ended c.keep.ensures.rounds c.keep.ensures.unchanged c.keep.ensures.refused)
+    (accepted_by handed user o derived.key derived.salted _ _ between r _ _ _ c.keep.new.cache ended c.keep.ensures.rounds (ends_login handed challenge derived.salted final _ is closed.closed.taken) c.keep.ensures.kept)
+    (stopped_last handed user o derived.key derived.salted _ _ between r _ _ _ c.keep.new.cache ended c.keep.ensures.rounds c.keep.ensures.unchanged c.keep.ensures.refused)
     (unchanged_on r _ _ _ c.in_ok-derived.ensures.answered.entries c.keep.ensures.unchanged) c.keep.ensures.refused (faultless_before _ _ _ _ _ opening.stops closed.once.was) closed.once.is
     (rest_on _ _ _ opening.stops.rest stops.rest) (counts_on _ _ _ opening.stops.counts stops.counts)
 
