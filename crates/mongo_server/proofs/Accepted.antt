@@ -10,7 +10,7 @@ use Rattle.mongo_scram.specs.Plan.{Handed, auth_message_by, salted_by, close_by,
 use Rattle.mongo_scram.specs.User.{User}
 use Rattle.mongo_scram.specs.Version.{digest_of}
 use Rattle.mongo_server.specs.Acceptance.{IsClientOf, Accepts, challenge_of}
-use Rattle.mongo_server.specs.ClientMessages.{IsPrintable, IsNonce}
+use Rattle.mongo_server.specs.ClientMessages.{IsNonceByte, IsNonce}
 use Rattle.mongo_server.specs.Exchange.{Exchange, joined_of, salted_between, first_of, auth_message_between, close_of, server_final_of}
 use Rattle.mongo_server.specs.ServerTexts.{server_final}
 use Rattle.mongo_server.proofs.ReadFirst.{read_first, read_count}
@@ -44,7 +44,7 @@ accepts x last nonce_is suffix_is bytes within same = λ handed user conversatio
     goes_on = (refl, ((x.suffix, ap (λ nonce. nonce ++ x.suffix) (sym client.nonce)), (client.enough, (client.within, tt))));
     replied = carries.first_carried;
     count = decimal x.count;
-    is_first = read_first (joined_of x) x.salt x.count (All-append IsPrintable x.nonce x.suffix nonce_is suffix_is) bytes within;
+    is_first = read_first (joined_of x) x.salt x.count (All-append IsNonceByte x.nonce x.suffix nonce_is suffix_is) bytes within;
     is_count = read_count x.count within;
     usable = λ kind row. client.usable kind (subst (λ password. PasswordRow x.version password kind) client.password (subst (λ version. PasswordRow version user.password kind) client.version row));
     command_is = refl;

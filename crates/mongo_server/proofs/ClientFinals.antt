@@ -5,17 +5,14 @@ use Rattle.base64.specs.GeneralPurpose.{IsBytes, decode_of}
 use Rattle.base64.proofs.EngineFacts.{decode_of-encode_of}
 use Rattle.mongo_scram.specs.Base64.{base64_of}
 use Rattle.mongo_scram.specs.Messages.{no_proof}
-use Rattle.mongo_scram.specs.ServerMessages.{HasNoComma}
-use Rattle.mongo_scram.proofs.Parts.{no_cut, heads}
+use Rattle.mongo_scram.specs.ServerMessages.{HasNo}
+use Rattle.mongo_scram.proofs.Parts.{no_cut, heads, tails}
 use Rattle.mongo_server.specs.ClientMessages.{IsClientFinal}
 use Rattle.mongo_server.proofs.Base64Commas.{base64-no_comma}
 
 -- ---- the last comma
 
-tails : (a b : ℕ) (x y : List ℕ) → a ∷ x ≡ b ∷ y → x ≡ y
-tails a b x y is = cc
-
-one_last_cut : (a b x y : List ℕ) → HasNoComma x → HasNoComma y → a ++ (0x2C ∷ x) ≡ b ++ (0x2C ∷ y) → (a ≡ b) × (x ≡ y)
+one_last_cut : (a b x y : List ℕ) → HasNo 0x2C x → HasNo 0x2C y → a ++ (0x2C ∷ x) ≡ b ++ (0x2C ∷ y) → (a ≡ b) × (x ≡ y)
 one_last_cut [] [] x y p q is = (refl, tails 0x2C 0x2C x y is)
 one_last_cut [] (c ∷ b) x y p q is = absurd (no_cut x b y p (tails 0x2C c x (b ++ (0x2C ∷ y)) is))
 one_last_cut (c ∷ a) [] x y p q is = absurd (no_cut y a x q (sym (tails c 0x2C (a ++ (0x2C ∷ x)) y is)))
@@ -29,7 +26,7 @@ pub closes : (nonce proof : List ℕ) → no_proof nonce ++ (codes ",p=" ++ base
 unfolding no_proof
 closes nonce proof = refl
 
-proof_no_comma : (proof : List ℕ) → HasNoComma (codes "p=" ++ base64_of proof)
+proof_no_comma : (proof : List ℕ) → HasNo 0x2C (codes "p=" ++ base64_of proof)
 proof_no_comma proof = (λ is. absurd (cc is), (λ is. absurd (cc is), base64-no_comma proof))
 
 behind_header : (x y : List ℕ) → codes "c=biws,r=" ++ x ≡ codes "c=biws,r=" ++ y → x ≡ y
@@ -44,13 +41,13 @@ no_header message none nonce proof is = none (nonce ++ (0x2C ∷ (codes "p=" ++ 
 one_rest : (message attributes nonce proof : List ℕ) → message ≡ codes "c=biws,r=" ++ attributes → IsClientFinal message nonce proof → attributes ≡ nonce ++ (0x2C ∷ (codes "p=" ++ base64_of proof))
 one_rest message attributes nonce proof is final = behind_header attributes (nonce ++ (0x2C ∷ (codes "p=" ++ base64_of proof))) (sym is ∙ final.message_is ∙ closes nonce proof)
 
-pub no_comma : (message attributes : List ℕ) → message ≡ codes "c=biws,r=" ++ attributes → HasNoComma attributes → (nonce proof : List ℕ) → IsClientFinal message nonce proof → ⊥
+pub no_comma : (message attributes : List ℕ) → message ≡ codes "c=biws,r=" ++ attributes → HasNo 0x2C attributes → (nonce proof : List ℕ) → IsClientFinal message nonce proof → ⊥
 no_comma message attributes is none nonce proof final = no_cut attributes nonce (codes "p=" ++ base64_of proof) none (one_rest message attributes nonce proof is final)
 
 -- the message cut at its last comma
 pub record AreAttributes (message attributes value attribute : List ℕ) : Type 0 where
   pub header : message ≡ codes "c=biws,r=" ++ attributes
-  pub ends : HasNoComma attribute
+  pub ends : HasNo 0x2C attribute
   pub joined : attributes ≡ value ++ (0x2C ∷ attribute)
 
 one_attributes : (message attributes value attribute nonce proof : List ℕ) → AreAttributes message attributes value attribute → IsClientFinal message nonce proof → (value ≡ nonce) × (attribute ≡ codes "p=" ++ base64_of proof)

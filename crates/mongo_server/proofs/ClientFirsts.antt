@@ -1,18 +1,16 @@
 -- A client's first message has one reading, and none where a part of it is missing.
-use Rattle.std.proofs.Common.{◌≡◌, ◌≢◌, ◌<◌, ◌-◌, ℕ, List, [], ◌∷◌, ◌++◌, length, get_or, codes, refl, ap, sym, subst, ◌∙◌, arith, length-append}
+use Rattle.std.proofs.Common.{◌≡◌, ◌≢◌, ◌-◌, ℕ, List, [], ◌∷◌, ◌++◌, length, get_or, codes, refl, ap, sym, subst, ◌∙◌, arith, length-append}
 use Rattle.std.specs.Str.{IsUtf8}
-use Rattle.std.proofs.lemmas.Str.{IsUtf8-append, IsUtf8-from_ascii, IsUtf8-past_char, IsUtf8-take, IsCharBoundary-before_ascii}
+use Rattle.std.proofs.lemmas.Str.{IsUtf8-append, IsUtf8-from_ascii, IsUtf8-take, IsCharBoundary-before_ascii}
 use Rattle.std.proofs.lemmas.List.{take_at, get_or-append_right}
-use Rattle.std.proofs.lemmas.Bool.{lt-ltb}
-use lib.Utf8.{encode}
 use Rattle.std.proofs.lemmas.Str.Ascii.{IsAscii-nil, IsAscii-cons, IsAscii-from_all}
 use Rattle.mongo_scram.specs.Messages.{bare_message, open_message}
-use Rattle.mongo_scram.specs.ServerMessages.{HasNoComma}
+use Rattle.mongo_scram.specs.ServerMessages.{HasNo}
 use Rattle.mongo_scram.specs.UserName.{escaped}
 use Rattle.mongo_scram.proofs.Parts.{no_cut, one_cut}
 use Rattle.mongo_server.specs.ClientMessages.{IsNonce, IsClientFirst}
 use Rattle.mongo_server.specs.SaslName.{IsSaslName}
-use Rattle.mongo_server.proofs.UserNames.{escaped_same, escaped-no_comma, escaped_text, name_text}
+use Rattle.mongo_server.proofs.UserNames.{escaped_same, escaped-no_comma, escaped_text, past_ascii, name_text}
 
 -- ---- the texts
 
@@ -53,14 +51,6 @@ first_text message username nonce is =
 pub no_text : (message : List ℕ) → (IsUtf8 message → ⊥) → (username nonce : List ℕ) → IsClientFirst message username nonce → ⊥
 no_text message none username nonce is = none (first_text message username nonce is)
 
--- a byte of ASCII is its character
-encode_ascii : (byte : ℕ) → byte < 128 → encode byte ≡ byte ∷ []
-unfolding encode
-encode_ascii byte ascii = rw (lt-ltb byte 128 ascii) refl
-
-one_byte : (byte : ℕ) (rest : List ℕ) → byte < 128 → byte ∷ rest ≡ encode byte ++ rest
-one_byte byte rest ascii = ap (λ x. x ++ rest) (sym (encode_ascii byte ascii))
-
 -- what stands before a comma is a text where the whole is
 name_front : (name rest : List ℕ) → IsUtf8 (name ++ (0x2C ∷ rest)) → IsUtf8 name
 name_front name rest text =
@@ -90,13 +80,13 @@ one_rest : (message bare attributes username nonce : List ℕ) → IsOpened mess
 one_rest message bare attributes username nonce is first =
     behind_two 110 61 attributes (escaped username ++ (0x2C ∷ (codes "r=" ++ nonce))) (sym is.key ∙ one_bare message bare username nonce is.header first ∙ bares username nonce)
 
-pub no_comma : (message bare attributes : List ℕ) → IsOpened message bare attributes → HasNoComma attributes → (username nonce : List ℕ) → IsClientFirst message username nonce → ⊥
+pub no_comma : (message bare attributes : List ℕ) → IsOpened message bare attributes → HasNo 0x2C attributes → (username nonce : List ℕ) → IsClientFirst message username nonce → ⊥
 no_comma message bare attributes is none username nonce first = no_cut attributes (escaped username) (codes "r=" ++ nonce) none (one_rest message bare attributes username nonce is first)
 
 -- and its two attributes
 pub record AreAttributes (message bare attributes name attribute : List ℕ) : Type 0 where
   pub opened : IsOpened message bare attributes
-  pub ends : HasNoComma name
+  pub ends : HasNo 0x2C name
   pub joined : attributes ≡ name ++ (0x2C ∷ attribute)
 
 one_attributes : (message bare attributes name attribute username nonce : List ℕ) → AreAttributes message bare attributes name attribute → IsClientFirst message username nonce → (name ≡ escaped username) × (attribute ≡ codes "r=" ++ nonce)
@@ -128,11 +118,9 @@ module _ (message bare attributes name attribute : List ℕ) (is : AreAttributes
   -- the user name is a text, since the message is
   pub username_text : (username : List ℕ) → IsUtf8 message → name ≡ escaped username → IsUtf8 username
   username_text username text name_is =
-      let one = IsUtf8-past_char message (44 ∷ 44 ∷ (codes "n=" ++ attributes)) 110 text (is.opened.header ∙ ap (λ x. codes "n,," ++ x) is.opened.key ∙ one_byte 110 _ (omega arith)) in
-      let two = IsUtf8-past_char (44 ∷ 44 ∷ (codes "n=" ++ attributes)) (44 ∷ (codes "n=" ++ attributes)) 44 one (one_byte 44 _ (omega arith)) in
-      let three = IsUtf8-past_char (44 ∷ (codes "n=" ++ attributes)) (codes "n=" ++ attributes) 44 two (one_byte 44 _ (omega arith)) in
-      let four = IsUtf8-past_char (codes "n=" ++ attributes) (61 ∷ attributes) 110 three (one_byte 110 _ (omega arith)) in
-      let five = IsUtf8-past_char (61 ∷ attributes) attributes 61 four (one_byte 61 _ (omega arith)) in
+      let opened : IsUtf8 (110 ∷ 44 ∷ 44 ∷ 110 ∷ 61 ∷ attributes) = subst IsUtf8 (is.opened.header ∙ ap (λ x. codes "n,," ++ x) is.opened.key) text in
+      let key = past_ascii 44 _ (omega arith) (past_ascii 44 _ (omega arith) (past_ascii 110 _ (omega arith) opened)) in
+      let five = past_ascii 61 attributes (omega arith) (past_ascii 110 _ (omega arith) key) in
       name_text username (subst IsUtf8 name_is (name_front name attribute (subst IsUtf8 is.joined five)))
 
 -- ---- one reading

@@ -13,20 +13,20 @@ use Rattle.base64.specs.Engines.{standard}
 use Rattle.base64.specs.GeneralPurpose.{IsBytes}
 use Rattle.base64.proofs.EngineFacts.{IsAscii-encode_of}
 use Rattle.mongo_scram.specs.Base64.{base64_of}
-use Rattle.mongo_scram.specs.ServerMessages.{HasNoComma, IsServerFirst, IsIterationCount}
+use Rattle.mongo_scram.specs.ServerMessages.{HasNo, IsServerFirst, IsIterationCount}
 use Rattle.mongo_server.specs.ClientMessages.{IsNonce}
 use Rattle.mongo_server.specs.ServerTexts.{server_first}
 use Rattle.mongo_server.proofs.Base64Commas.{base64-no_comma}
 use Rattle.mongo_server.proofs.ClientFirsts.{nonce_text}
 
-nonce_no_comma : (nonce : List ℕ) → IsNonce nonce → HasNoComma nonce
+nonce_no_comma : (nonce : List ℕ) → IsNonce nonce → HasNo 0x2C nonce
 nonce_no_comma nonce is = recursion_from_All (λ byte. byte ≢ 0x2C) nonce (λ k d within. (is k d within).2)
 
 -- a text of ASCII
 ascii_text : (bytes : List ℕ) → AllByRecursion (λ byte. byte < 128) bytes → IsUtf8 bytes
 ascii_text bytes all = IsUtf8-from_ascii bytes (IsAscii-from_all bytes (All-from_recursion (λ byte. byte < 128) bytes all))
 
-digits_no_comma : (digits : List ℕ) → AllDigits 10 digits → HasNoComma digits
+digits_no_comma : (digits : List ℕ) → AllDigits 10 digits → HasNo 0x2C digits
 digits_no_comma [] all = tt
 digits_no_comma (digit ∷ digits) all =
     let range : IsInRange 48 57 digit = digit_at (digit ∷ digits) 0 all (omega arith) in

@@ -12,9 +12,9 @@ use Rattle.mongo_server.specs.declared.fault.ServerFault.{ServerFault}
 use Rattle.mongo_server.specs.declared.fault.ServerFault.TheVariants.{OutOfMemory}
 use Rattle.mongo_server.specs.declared.server_core.ServerConversation.{ServerConversation}
 use Rattle.mongo_server.specs.declared.server_core.ServerCore.{ServerCore}
-use Rattle.mongo_server.specs.ClientMessages.{IsPrintable, IsNonce, IsClientFirst, IsClientFinal}
+use Rattle.mongo_server.specs.ClientMessages.{IsNonceByte, IsNonce, IsClientFirst, IsClientFinal}
 use Rattle.mongo_server.specs.Exchange.{Exchange, joined_of, salted_between, open_of, first_of, auth_message_between, close_of, server_final_of, IsReadAs}
-use Rattle.mongo_server.specs.Server.{server_user, salt_of, suffix_of, username_of, held_conversation, first_by, conversation_by, ClientFirstRow, IsLastMessageTaken, FinalRefused, Serves, HasBegun}
+use Rattle.mongo_server.specs.Server.{server_user, salt_of, suffix_of, username_of, held_conversation, first_by, conversation_by, ClientFirstRow, IsClientFinalTaken, ClientFinalRefused, Serves, HasBegun}
 use Rattle.mongo_server.specs.ServerTexts.{server_first, server_final}
 use Rattle.mongo_server.proofs.ClientFirsts.{one_first}
 use Rattle.mongo_server.specs.Acceptance.{Accepts}
@@ -31,7 +31,7 @@ module _ (core : ServerCore) (x : Exchange) (serves : Serves core x) where
   suffix_printable = subst IsNonce serves.suffix core.printable
 
   joined_printable : IsNonce x.nonce → IsNonce (joined_of x)
-  joined_printable printable = All-append IsPrintable x.nonce x.suffix printable suffix_printable
+  joined_printable printable = All-append IsNonceByte x.nonce x.suffix printable suffix_printable
 
   first_is : (nonce : List ℕ) → nonce ≡ x.nonce → first_by core nonce ≡ first_of x
   first_is nonce same = λ i. server_first (same i ++ serves.suffix i) (serves.user.salt_is i) (serves.user.count_is i)
@@ -99,7 +99,7 @@ module _ (core : ServerCore) (x : Exchange) (begun : HasBegun core x) where
   client_final message is = record { message_is = is; bytes = proof_bytes x.version (salted_between x) (auth_message_between x) }
 
   -- what it takes is the client's last message
-  taken_is : (message : List ℕ) → IsLastMessageTaken core message → message ≡ close_of x
+  taken_is : (message : List ℕ) → IsClientFinalTaken core message → message ≡ close_of x
   unfolding close_message
   taken_is message is = is.2.message_is ∙ (λ i. no_proof ((held_is is.0 is.1 i).nonce) ++ (codes ",p=" ++ base64_of (owed_is is.0 is.1 i)))
 
@@ -114,7 +114,7 @@ accepts_final core held (Ok text) is text_is memory x begun = accepted_text core
 accepts_final core held (Err fault) is text_is memory x begun = memory
 
 -- a client of the exchange isn't refused
-pub takes_final : (core : ServerCore) (message : List ℕ) (fault : ServerFault) → FinalRefused core message fault → (x : Exchange) → HasBegun core x → message ≡ close_of x → fault ≡ OutOfMemory
+pub takes_final : (core : ServerCore) (message : List ℕ) (fault : ServerFault) → ClientFinalRefused core message fault → (x : Exchange) → HasBegun core x → message ≡ close_of x → fault ≡ OutOfMemory
 takes_final core message fault (inl row) x begun is =
     let held = exchange_held core x begun in
     let last = subst (λ bytes. IsClientFinal message held.nonce bytes) (sym (owed_is core x begun held begun.held)) (client_final core x begun message is) in
@@ -122,6 +122,6 @@ takes_final core message fault (inl row) x begun is =
 takes_final core message fault (inr memory) x begun is = memory.0
 
 -- and no other message is taken
-pub takes_only : {T : Type 0} (core : ServerCore) (message : List ℕ) (r : Result T ServerFault) → IsLastMessageTaken core message → (x : Exchange) → HasBegun core x → OnOk r (message ≡ close_of x)
+pub takes_only : {T : Type 0} (core : ServerCore) (message : List ℕ) (r : Result T ServerFault) → IsClientFinalTaken core message → (x : Exchange) → HasBegun core x → OnOk r (message ≡ close_of x)
 takes_only core message (Ok t) is x begun = taken_is core x begun message is
 takes_only core message (Err fault) is x begun = tt

@@ -6,12 +6,12 @@ use Rattle.mongo_scram.specs.Base64.{base64_of}
 use Rattle.mongo_scram.specs.Messages.{open_message, no_proof}
 
 -- printable ASCII, bytes 32 to 126, without a comma
-abbrev pub IsPrintable : ℕ → Type 0
-IsPrintable byte = (0x20 ≤ byte) × (byte ≤ 0x7E) × (byte ≢ 0x2C)
+abbrev pub IsNonceByte : ℕ → Type 0
+IsNonceByte byte = (0x20 ≤ byte) × (byte ≤ 0x7E) × (byte ≢ 0x2C)
 
 -- a client's nonce, or what a server adds to one
 abbrev pub IsNonce : List ℕ → Type 0
-IsNonce nonce = All IsPrintable nonce
+IsNonce nonce = All IsNonceByte nonce
 
 -- `client-first-message`: a user name and a nonce
 pub record IsClientFirst (message username nonce : List ℕ) : Type 0 where

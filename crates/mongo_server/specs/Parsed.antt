@@ -4,7 +4,7 @@ use Rattle.mongo_scram.specs.UserName.{escaped}
 use Rattle.mongo_server.specs.declared.fault.ServerFault.{ServerFault}
 use Rattle.mongo_server.specs.declared.fault.ServerFault.TheVariants.{Malformed, OutOfMemory}
 use Rattle.mongo_server.specs.declared.parse.ClientFirstParts.{ClientFirstParts}
-use Rattle.mongo_server.specs.declared.parse.FinalMessage.{FinalMessage}
+use Rattle.mongo_server.specs.declared.parse.ClientFinalParts.{ClientFinalParts}
 use Rattle.mongo_scram.specs.Messages.{bare_message}
 use Rattle.mongo_server.specs.ClientMessages.{IsClientFirst, IsClientFinal}
 
@@ -16,8 +16,8 @@ pub record HoldsClientFirst (message : List ℕ) (first : ClientFirstParts) : Ty
   pub bare_is : first.bare.now ≡ bare_message username first.nonce.now
 
 -- what the last message says
-abbrev pub HoldsFinal : List ℕ → FinalMessage → Type 0
-HoldsFinal message last = IsClientFinal message last.nonce.now last.proof
+abbrev pub HoldsClientFinal : List ℕ → ClientFinalParts → Type 0
+HoldsClientFinal message last = IsClientFinal message last.nonce.now last.proof
 
 -- why nothing was read: it is no last message, or memory ran out
 abbrev pub ClientFinalUnread : List ℕ → ServerFault → Type 0

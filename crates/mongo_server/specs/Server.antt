@@ -54,7 +54,7 @@ pub record BeginsConversation (core : ServerCore) (nonce text : List ℕ) (new :
   pub suffix : suffix_of new ≡ suffix_of core
 
 -- the client's first message, of the user, and what it says
-pub record HearsFirst (core : ServerCore) (message : List ℕ) (first : ClientFirstParts) : Type 0 where
+pub record HearsClientFirst (core : ServerCore) (message : List ℕ) (first : ClientFirstParts) : Type 0 where
   pub is_first : IsClientFirst message (username_of core) first.nonce.now
   pub bare_is : first.bare.now ≡ bare_message (username_of core) first.nonce.now
 
@@ -63,8 +63,8 @@ abbrev pub IsOwed : ServerCore → List ℕ → Type 0
 IsOwed core text = (held : ServerConversation) × (held_conversation core ≡ Some held) × (text ≡ server_final (verifier_under core.user.keys held.auth_message))
 
 -- the message is a client's last one, with the joined nonce and the proof that the client owes
-abbrev pub IsLastMessageTaken : ServerCore → List ℕ → Type 0
-IsLastMessageTaken core message = (held : ServerConversation) × (held_conversation core ≡ Some held) × IsClientFinal message held.nonce (proof_under core.user.keys held.auth_message)
+abbrev pub IsClientFinalTaken : ServerCore → List ℕ → Type 0
+IsClientFinalTaken core message = (held : ServerConversation) × (held_conversation core ≡ Some held) × IsClientFinal message held.nonce (proof_under core.user.keys held.auth_message)
 
 -- ---- why it refuses: the first row that applies
 
@@ -81,8 +81,8 @@ ClientFinalRow core message =
     (row_for Proof ((held : ServerConversation) × (held_conversation core ≡ Some held) × ((proof : List ℕ) × IsClientFinal message held.nonce proof × (proof ≢ proof_under core.user.keys held.auth_message))))))
 
 -- the same, with what is known where memory ran out: a conversation was held
-abbrev pub FinalRefused : ServerCore → List ℕ → ServerFault → Type 0
-FinalRefused core message fault = ClientFinalRow core message fault ⊎ row_for OutOfMemory (IsSome (held_conversation core)) fault
+abbrev pub ClientFinalRefused : ServerCore → List ℕ → ServerFault → Type 0
+ClientFinalRefused core message fault = ClientFinalRow core message fault ⊎ row_for OutOfMemory (IsSome (held_conversation core)) fault
 
 -- ---- the server of an exchange
 

@@ -1,16 +1,15 @@
-// What the server says (RFC 5802, sections 3 and 5.1), and what both sides sign.
+// What the server says (RFC 5802, sections 3 and 5.1).
 
 ghost use Rattle.std.specs.Prelude.{◌≡◌, ◌++◌, IfOk, IfErr, OnOk};
 ghost use Rattle.base64.specs.GeneralPurpose.{IsBytes};
-ghost use Rattle.mongo_scram.specs.Messages.{transcript};
 ghost use Rattle.mongo_server.specs.ServerTexts.{server_first, server_final};
 ghost use Rattle.mongo_server.specs.declared.fault.ServerFault.TheVariants.{OutOfMemory};
 
 use crate::fault::ServerFault;
-use base64::engine::general_purpose::STANDARD;
 use itoa::Buffer;
 use mongo_bson::Text;
 use mongo_mac::Tag;
+use mongo_scram::encoded;
 use std::alloc::Global;
 
 // How many bytes stand in a message beside the texts that it is made of, at most: letters, commas, equals signs and a count.
@@ -28,7 +27,6 @@ pub fn joined_nonce(alloc: Global, nonce: &str, suffix: &str) -> Result<Text, Se
 }
 
 /// The server's first message: `r=` nonce `,s=` salt in base64 `,i=` iteration count.
-#[tactic(auto, unfolding(mongo_scram::specs::Base64::base64_of))]
 pub fn server_first_text(
     alloc: Global,
     nonce: &str,
@@ -39,7 +37,7 @@ pub fn server_first_text(
     ensures bytes { OnOk result (IsBytes salt.now) }
     ensures refused { IfErr result (λ fault. fault ≡ OutOfMemory) }
 {
-    let salt = STANDARD.encode(alloc, salt)?;
+    let salt = encoded(alloc, salt)?;
     let mut text = String::with_capacity(alloc, room(nonce.len(), salt.len()))?;
     text.push_str("r=")?;
     text.push_str(nonce)?;
@@ -51,35 +49,12 @@ pub fn server_first_text(
     Ok(Text::from_string(text))
 }
 
-/// AuthMessage: the client's first message without its header, the server's first, and the client's last without its
-/// proof, parted by commas.
-#[tactic(auto, unfolding(mongo_scram::specs::Messages::transcript, mongo_scram::specs::Messages::no_proof))]
-pub fn auth_message_text(
-    alloc: Global,
-    bare: &str,
-    server_first: &str,
-    nonce: &str,
-) -> Result<Text, ServerFault>
-    ensures text { IfOk result (λ text. text ≡ transcript bare.now server_first.now nonce.now) }
-    ensures refused { IfErr result (λ fault. fault ≡ OutOfMemory) }
-{
-    let others = server_first.len().saturating_add(nonce.len());
-    let mut text = String::with_capacity(alloc, room(bare.len(), others))?;
-    text.push_str(bare)?;
-    text.push_str(",")?;
-    text.push_str(server_first)?;
-    text.push_str(",c=biws,r=")?;
-    text.push_str(nonce)?;
-    Ok(Text::from_string(text))
-}
-
 /// The server's last message: `v=` and the verifier in base64.
-#[tactic(auto, unfolding(mongo_scram::specs::Base64::base64_of))]
 pub fn server_final_text(alloc: Global, verifier: &Tag) -> Result<Text, ServerFault>
     ensures text { IfOk result (λ text. text ≡ server_final verifier.now) }
     ensures refused { IfErr result (λ fault. fault ≡ OutOfMemory) }
 {
-    let verifier = STANDARD.encode(alloc, verifier.as_bytes())?;
+    let verifier = encoded(alloc, verifier.as_bytes())?;
     let mut text = String::with_capacity(alloc, room(verifier.len(), 0))?;
     text.push_str("v=")?;
     text.push_str(verifier.as_str())?;

@@ -1,19 +1,15 @@
 // What the client says, cut at its commas (RFC 5802, sections 5.1 and 7).
 
 ghost use Rattle.std.specs.Prelude.{◌≡◌, ◌≢◌, ◌↔◌, ℕ, ◌++◌, ◌∷◌, List, MatchOption, IfOk, IfErr, IsTrue};
-ghost use Rattle.base64.specs.GeneralPurpose.{IsBytes};
-ghost use Rattle.mongo_scram.specs.Base64.{base64_of};
-ghost use Rattle.mongo_scram.specs.ServerMessages.{HasNoComma};
+ghost use Rattle.mongo_scram.specs.ServerMessages.{HasNo};
 ghost use Rattle.mongo_server.specs.ClientMessages.{IsNonce, IsClientFirst};
-ghost use Rattle.mongo_server.specs.Parsed.{HoldsClientFirst, HoldsFinal, ClientFinalUnread};
-ghost use Rattle.mongo_server.specs.declared.fault.ServerFault.TheVariants.{OutOfMemory};
+ghost use Rattle.mongo_server.specs.Parsed.{HoldsClientFirst, HoldsClientFinal, ClientFinalUnread};
 
 use crate::fault::ServerFault;
 use crate::user_name::is_saslname;
-use base64::DecodeAllocError;
-use base64::engine::general_purpose::STANDARD;
 use memchr::memrchr;
 use mongo_bson::Bytes;
+use mongo_scram::{cut, decoded};
 use std::alloc::Global;
 use std::str;
 
@@ -30,7 +26,7 @@ pub struct ClientFirstParts<'a> {
 
 /// What a client's last message says.
 #[derive(Drop)]
-pub struct FinalMessage<'a> {
+pub struct ClientFinalParts<'a> {
     /// The nonce.
     pub nonce: &'a [u8],
     /// The proof.
@@ -52,7 +48,7 @@ pub fn read_client_first(message: &[u8]) -> Option<ClientFirstParts<'_>>
     let Some(attributes) = bare.strip_prefix("n=") else {
         return None;
     };
-    let Some((saslname, attribute)) = cut(attributes) else {
+    let Some((saslname, attribute)) = cut(attributes, ',') else {
         return None;
     };
     let Some(nonce) = attribute.strip_prefix("r=") else {
@@ -74,8 +70,8 @@ pub fn read_client_first(message: &[u8]) -> Option<ClientFirstParts<'_>>
 /// Reads a client's last message: `c=biws,r=` nonce `,p=` proof in base64.
 ///
 /// `Malformed` where the bytes are none.
-pub fn read_client_final(alloc: Global, message: &[u8]) -> Result<FinalMessage<'_>, ServerFault>
-    ensures read { IfOk result (HoldsFinal message.now) }
+pub fn read_client_final(alloc: Global, message: &[u8]) -> Result<ClientFinalParts<'_>, ServerFault>
+    ensures read { IfOk result (HoldsClientFinal message.now) }
     ensures refused { IfErr result (ClientFinalUnread message.now) }
 {
     let Some(attributes) = after(message, b"c=biws,r=") else {
@@ -88,23 +84,8 @@ pub fn read_client_final(alloc: Global, message: &[u8]) -> Result<FinalMessage<'
         return Err(ServerFault::Malformed);
     };
     match decoded(alloc, text)? {
-        Some(proof) => Ok(FinalMessage { nonce, proof }),
+        Some(proof) => Ok(ClientFinalParts { nonce, proof }),
         None => Err(ServerFault::Malformed),
-    }
-}
-
-// The bytes whose base64 text this is; None where there are none.
-#[tactic(auto, unfolding(mongo_scram::specs::Base64::base64_of))]
-fn decoded(alloc: Global, text: &[u8]) -> Result<Option<Bytes>, ServerFault>
-    ensures found { IfOk result (λ found. MatchOption found
-        ((bytes : List ℕ) → IsBytes bytes → text.now ≢ base64_of bytes)
-        (λ bytes. IsBytes bytes × (text.now ≡ base64_of bytes))) }
-    ensures refused { IfErr result (λ fault. fault ≡ OutOfMemory) }
-{
-    match STANDARD.decode(alloc, text) {
-        Ok(bytes) => Ok(Some(Bytes::from_vec(bytes))),
-        Err(DecodeAllocError::OutOfMemory) => Err(ServerFault::OutOfMemory),
-        Err(_) => Ok(None),
     }
 }
 
@@ -116,18 +97,10 @@ fn after<'a>(bytes: &'a [u8], front: &[u8]) -> Option<&'a [u8]>
     bytes.strip_prefix(front)
 }
 
-// What stands before the first comma, and behind it.
-fn cut(text: &str) -> Option<(&str, &str)>
-    ensures { MatchOption result (HasNoComma text.now)
-        (λ p. HasNoComma p.0.now × (text.now ≡ p.0.now ++ (0x2C ∷ p.1.now))) }
-{
-    text.split_once(',')
-}
-
 // What stands before the last comma, and behind it.
 fn cut_last(bytes: &[u8]) -> Option<(&[u8], &[u8])>
-    ensures { MatchOption result (HasNoComma bytes.now)
-        (λ p. HasNoComma p.1.now × (bytes.now ≡ p.0.now ++ (0x2C ∷ p.1.now))) }
+    ensures { MatchOption result (HasNo 0x2C bytes.now)
+        (λ p. HasNo 0x2C p.1.now × (bytes.now ≡ p.0.now ++ (0x2C ∷ p.1.now))) }
 {
     match memrchr(b',', bytes) {
         Some(at) => Some((&bytes[..at], &bytes[at + 1..])),

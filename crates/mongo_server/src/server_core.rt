@@ -4,11 +4,12 @@ ghost use Rattle.mongo_scram.specs.Keys.{verifier_under};
 ghost use Rattle.mongo_server.specs.ClientMessages.{IsNonce};
 
 use crate::fault::ServerFault;
-use crate::messages::{auth_message_text, joined_nonce, server_final_text, server_first_text};
+use crate::messages::{joined_nonce, server_final_text, server_first_text};
 use crate::parse::{ClientFirstParts, read_client_final, read_client_first};
 use crate::user::ServerUser;
 use mongo_bson::Text;
 use mongo_mac::{Tag, are_same_bytes};
+use mongo_scram::transcript_text;
 use std::alloc::Global;
 use std::fmt;
 
@@ -67,7 +68,7 @@ impl ServerCore {
     ghost use Rattle.mongo_server.specs.Acceptance.{Accepts};
     ghost use Rattle.mongo_server.specs.ClientMessages.{IsNonce, IsClientFirst};
     ghost use Rattle.mongo_server.specs.Exchange.{Exchange, open_of, close_of, server_final_of, IsReadAs};
-    ghost use Rattle.mongo_server.specs.Server.{server_user, salt_of, suffix_of, username_of, held_conversation, conversation_by, first_by, BeginsConversation, HearsFirst, ClientFirstRow, IsOwed, IsLastMessageTaken, ClientFinalRow, FinalRefused, Serves, HasBegun};
+    ghost use Rattle.mongo_server.specs.Server.{server_user, salt_of, suffix_of, username_of, held_conversation, conversation_by, first_by, BeginsConversation, HearsClientFirst, ClientFirstRow, IsOwed, IsClientFinalTaken, ClientFinalRow, ClientFinalRefused, Serves, HasBegun};
     ghost use Rattle.mongo_server.specs.declared.fault.ServerFault.{ServerFault as Fault};
     ghost use Rattle.mongo_server.specs.declared.fault.ServerFault.TheVariants.{NotStarted, OutOfMemory};
 
@@ -151,7 +152,7 @@ impl ServerCore {
     /// the client owes. Want of memory may stand in the place of each but the first. The server is left as it was, and holds
     /// the conversation still.
     pub fn last(&mut self, alloc: Global, client_final: &[u8]) -> Result<Text, ServerFault>
-        ensures taken { OnOk result (IsLastMessageTaken self.old client_final.now) }
+        ensures taken { OnOk result (IsClientFinalTaken self.old client_final.now) }
         ensures answered { IfOk result (IsOwed self.old) }
         ensures refused { IfErr result (λ fault. ClientFinalRow self.old client_final.now fault ⊎ (fault ≡ OutOfMemory)) }
         ensures not_started { held_conversation self.old ≡ None → result ≡ Err NotStarted }
@@ -173,7 +174,7 @@ impl ServerCore {
 
     // What a client's first message says, where it is one of the user. It takes no memory.
     fn hear<'a>(&self, client_first: &'a [u8]) -> Result<ClientFirstParts<'a>, ServerFault>
-        ensures heard { IfOk result (HearsFirst self.now client_first.now) }
+        ensures heard { IfOk result (HearsClientFirst self.now client_first.now) }
         ensures refused { IfErr result (ClientFirstRow self.now client_first.now) }
     {
         let Some(message) = read_client_first(client_first) else {
@@ -196,7 +197,7 @@ impl ServerCore {
         let nonce = joined_nonce(alloc, message.nonce, self.suffix.as_str())?;
         let salt = self.user.salt.as_bytes();
         let server_first = server_first_text(alloc, nonce.as_str(), salt, self.user.count)?;
-        let auth_message = auth_message_text(
+        let auth_message = transcript_text(
             alloc,
             message.bare,
             server_first.as_str(),
@@ -205,7 +206,7 @@ impl ServerCore {
         Ok(Opening {
             conversation: ServerConversation {
                 nonce,
-                auth_message,
+                auth_message: Text::from_string(auth_message),
             },
             server_first,
         })
@@ -213,8 +214,8 @@ impl ServerCore {
 
     // Whether a client's last message proves the key in the conversation.
     fn check(&self, alloc: Global, client_final: &[u8]) -> Result<(), ServerFault>
-        ensures taken { OnOk result (IsLastMessageTaken self.now client_final.now) }
-        ensures refused { IfErr result (FinalRefused self.now client_final.now) }
+        ensures taken { OnOk result (IsClientFinalTaken self.now client_final.now) }
+        ensures refused { IfErr result (ClientFinalRefused self.now client_final.now) }
     {
         let Some(conversation) = &self.conversation else {
             return Err(ServerFault::NotStarted);

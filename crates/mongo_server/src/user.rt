@@ -1,10 +1,9 @@
-ghost use Rattle.std.specs.Prelude.{◌≡◌, IfOk, IfErr};
-ghost use Rattle.mongo_wire.specs.declared.error.ErrorKind.TheVariants.{OutOfMemory};
+ghost use Rattle.std.specs.Prelude.{◌≡◌};
 ghost use Rattle.mongo_scram.specs.UserName.{escaped};
 
 use mongo_bson::{Bytes, Text};
 use mongo_mac::{Steps, Tag};
-use mongo_scram::{Keys, ScramVersion, push_user_name};
+use mongo_scram::{Keys, ScramVersion, saslname};
 use mongo_wire::Error;
 use std::alloc::Global;
 use std::fmt;
@@ -91,22 +90,12 @@ impl ServerUser {
     {
         Ok(ServerUser {
             username: Text::from_slice(alloc, username)?,
-            saslname: saslname_of(alloc, username)?,
+            saslname: saslname(alloc, username)?,
             salt,
             count,
             keys: Keys::new(version, salted),
         })
     }
-}
-
-// The name as a message carries it.
-fn saslname_of(alloc: Global, username: &str) -> Result<Text, Error>
-    ensures name { IfOk result (λ name. name ≡ escaped username.now) }
-    ensures refused { IfErr result (λ e. e.kind ≡ OutOfMemory) }
-{
-    let mut name = String::new(alloc);
-    push_user_name(&mut name, username)?;
-    Ok(Text::from_slice(alloc, name.as_str())?)
 }
 
 // Keys are never shown.
