@@ -20,7 +20,7 @@ use Rattle.mongo_scram.specs.declared.conversation.FirstRound.{FirstRound as Scr
 use Rattle.mongo_scram.specs.declared.scram_version.ScramVersion.{ScramVersion}
 use Rattle.mongo_scram.specs.Base64.{base64_of}
 use Rattle.mongo_scram.specs.Client.{speculated_of, handed_to}
-use Rattle.mongo_scram.specs.Costs.{Ledgers, CostsNothing, Accepted, StoppedScram}
+use Rattle.mongo_scram.specs.Costs.{Ledgers, Balance, balance, CostsNothing, Accepted, StoppedScram}
 use Rattle.mongo_scram.specs.EndsByScram.{EndsByScram}
 use Rattle.mongo_scram.specs.Plan.{Handed, scram_plan}
 use Rattle.mongo_sasl.proofs.Handed.{on_refusal}
@@ -56,17 +56,17 @@ handed_same version asked credential greeting api round begun held p b went d =
     let q = ap speculated_of b ∙ went.scram tt in
     λ i. let h : Handed = record { version = version; credential = credential; server_api = p i; speculated = q i; nonce = base64_of asked.nonces.second; max_iterations = asked.options.max_iterations; maximum = frame_maximum (d i) } in h
 
-scram_accepted : (version : ScramVersion) (asked : Asked) (credential : Credential) (greeting : Greeting) (document : List ℕ) (old new : State) (before after : ℤ) (early late : Ledgers) → Accepted (scram_handed_by version asked credential greeting) document old new before after early late → Conversed (Scram version) asked credential greeting old new before after early late
+scram_accepted : (version : ScramVersion) (asked : Asked) (credential : Credential) (greeting : Greeting) (document : List ℕ) (old new : Balance) → Accepted (scram_handed_by version asked credential greeting) document old new → Conversed (Scram version) asked credential greeting old new
 unfolding conversation_plan
-scram_accepted version asked credential greeting document old new before after early late is = record {
-  reached = then_reached (scram_plan (scram_handed_by version asked credential greeting)) is.challenge greeting old new before after (accepted_reached (scram_handed_by version asked credential greeting) document old new before after early late is);
+scram_accepted version asked credential greeting document old new is = record {
+  reached = then_reached (scram_plan (scram_handed_by version asked credential greeting)) is.challenge greeting old.state new.state old.id new.id (accepted_reached (scram_handed_by version asked credential greeting) document old new is);
   costs = record { document = document; accepted = is };
 }
 
-scram_stopped : (version : ScramVersion) (asked : Asked) (credential : Credential) (greeting : Greeting) (kind : ErrorKind) (old new : State) (before after : ℤ) (early late : Ledgers) → StoppedScram (scram_handed_by version asked credential greeting) kind old new before after early late → ConversationStopped (Scram version) asked credential greeting kind old new before after early late
+scram_stopped : (version : ScramVersion) (asked : Asked) (credential : Credential) (greeting : Greeting) (kind : ErrorKind) (old new : Balance) → StoppedScram (scram_handed_by version asked credential greeting) kind old new → ConversationStopped (Scram version) asked credential greeting kind old new
 unfolding conversation_plan
-scram_stopped version asked credential greeting kind old new before after early late is = record {
-  stopped = then_stopped (scram_plan (scram_handed_by version asked credential greeting)) greeting kind old new before after (stopped_whole (scram_handed_by version asked credential greeting) kind old new before after early late is);
+scram_stopped version asked credential greeting kind old new is = record {
+  stopped = then_stopped (scram_plan (scram_handed_by version asked credential greeting)) greeting kind old.state new.state old.id new.id (stopped_whole (scram_handed_by version asked credential greeting) kind old new is);
   costs = is;
 }
 
@@ -74,26 +74,26 @@ module _ (version : ScramVersion) (asked : Asked) (credential : Credential) (rou
   abbrev handed : Handed
   handed = handed_to version credential api begun (base64_of asked.nonces.second) asked.options.max_iterations (frame_maximum opened.stream_description)
 
-  scram_done : (greeting : Greeting) (r : Result (Unit {0}) Error) (document : List ℕ) (old new : State) (before after : ℤ) (early late : Ledgers) → opened.stream_description ≡ Some greeting.description → IsRoundBy (Some (Scram version)) credential asked greeting round
-      → OnOk r (Accepted handed document old new before after early late) → OnOk r (Conversed (Scram version) asked credential greeting old new before after early late)
-  scram_done greeting (Ok done) document old new before after early late described went accepted =
+  scram_done : (greeting : Greeting) (r : Result (Unit {0}) Error) (document : List ℕ) (old new : Balance) → opened.stream_description ≡ Some greeting.description → IsRoundBy (Some (Scram version)) credential asked greeting round
+      → OnOk r (Accepted handed document old new) → OnOk r (Conversed (Scram version) asked credential greeting old new)
+  scram_done greeting (Ok done) document old new described went accepted =
       let is = handed_same version asked credential greeting api round begun opened.stream_description same begins went described in
-      scram_accepted version asked credential greeting document old new before after early late (subst (λ h. Accepted h document old new before after early late) is accepted)
-  scram_done greeting (Err e) document old new before after early late described went accepted = tt
+      scram_accepted version asked credential greeting document old new (subst (λ h. Accepted h document old new) is accepted)
+  scram_done greeting (Err e) document old new described went accepted = tt
 
-  scram_failed : (greeting : Greeting) (r : Result (Unit {0}) Error) (old new : State) (before after : ℤ) (early late : Ledgers) → opened.stream_description ≡ Some greeting.description → IsRoundBy (Some (Scram version)) credential asked greeting round
-      → IfErr r (λ e. StoppedScram handed e.kind old new before after early late) → IfErr r (λ e. ConversationStopped (Scram version) asked credential greeting e.kind old new before after early late)
-  scram_failed greeting (Ok done) old new before after early late described went stopped = tt
-  scram_failed greeting (Err e) old new before after early late described went stopped =
+  scram_failed : (greeting : Greeting) (r : Result (Unit {0}) Error) (old new : Balance) → opened.stream_description ≡ Some greeting.description → IsRoundBy (Some (Scram version)) credential asked greeting round
+      → IfErr r (λ e. StoppedScram handed e.kind old new) → IfErr r (λ e. ConversationStopped (Scram version) asked credential greeting e.kind old new)
+  scram_failed greeting (Ok done) old new described went stopped = tt
+  scram_failed greeting (Err e) old new described went stopped =
       let is = handed_same version asked credential greeting api round begun opened.stream_description same begins went described in
-      scram_stopped version asked credential greeting e.kind old new before after early late (subst (λ h. StoppedScram h e.kind old new before after early late) is stopped)
+      scram_stopped version asked credential greeting e.kind old new (subst (λ h. StoppedScram h e.kind old new) is stopped)
 
   -- what a login by SCRAM promises is what its conversation does
   pub scram_converses : {L : Type 0} (state : L → State) (link link' : L) (before after : ℤ) (buffer buffer' : FrameBuffer) (r : Result (Unit {0}) Error) (document : List ℕ) (early late : Ledgers) → kept_fault opened ≡ None
-      → EndsByScram state handed document r (standing opened link before buffer) (standing left link' after buffer') early late → Converses r (Scram version) asked credential round opened left (state link) (state link') before after early late
+      → EndsByScram state handed document r (standing opened link before buffer) (standing left link' after buffer') early late → Converses r (Scram version) asked credential round opened left (balance (state link) before early) (balance (state link') after late)
   scram_converses state link link' before after buffer buffer' r document early late faultless login = record {
-    accepted = λ greeting described went. scram_done greeting r document (state link) (state link') before after early late described went login.accepted;
-    refused = λ greeting described went. scram_failed greeting r (state link) (state link') before after early late described went (login.refused faultless);
+    accepted = λ greeting described went. scram_done greeting r document _ _ described went login.accepted;
+    refused = λ greeting described went. scram_failed greeting r _ _ described went (login.refused faultless);
     faultless = login.script.faultless faultless;
     keeps = login.script.stops.keeps faultless;
     rest = login.script.stops.rest;
@@ -110,36 +110,38 @@ IsPartBy plan conversation asked credential held round =
     (greeting : Greeting) → held ≡ Some greeting.description → IsRoundBy (Some conversation) credential asked greeting round → (past : List Event) (turn : Turn Greeting) → followed plan greeting past turn → conversation_plan conversation asked credential greeting past turn
 
 module _ (own conversation : Conversation) (is : conversation ≡ own) (free : scram_in (Some own) ≡ None) (asked : Asked) (credential : Credential) (round : Option AnsweredRound) (opened left : Connection) {A : Type 0} (plan : Plan A) (part : IsPartBy plan own asked credential opened.stream_description round) where
-  free_done : (greeting : Greeting) (r : Result (Unit {0}) Error) (old new : State) (before after : ℤ) (ledgers : Ledgers) → CostsNothing ledgers ledgers → opened.stream_description ≡ Some greeting.description → IsRoundBy (Some own) credential asked greeting round
-      → OnOk r ((answer : A) × Reached plan answer old new before after) → OnOk r (Conversed own asked credential greeting old new before after ledgers ledgers)
-  free_done greeting (Ok done) old new before after ledgers nothing described went reached = record {
-    reached = reached_more (followed plan greeting) (conversation_plan own asked credential greeting) greeting old new before after (part greeting described went) (then_reached plan reached.0 greeting old new before after reached.1);
-    costs = subst (λ version. AcceptedCosts version asked credential greeting old new before after ledgers ledgers) (sym free) nothing;
+  free_done : (greeting : Greeting) (r : Result (Unit {0}) Error) (old new : Balance) → CostsNothing old.ledgers new.ledgers → opened.stream_description ≡ Some greeting.description → IsRoundBy (Some own) credential asked greeting round
+      → OnOk r ((answer : A) × Reached plan answer old.state new.state old.id new.id) → OnOk r (Conversed own asked credential greeting old new)
+  free_done greeting (Ok done) old new nothing described went reached = record {
+    reached = reached_more (followed plan greeting) (conversation_plan own asked credential greeting) greeting old.state new.state old.id new.id (part greeting described went) (then_reached plan reached.0 greeting old.state new.state old.id new.id reached.1);
+    costs = subst (λ version. AcceptedCosts version asked credential greeting old new) (sym free) nothing;
   }
-  free_done greeting (Err e) old new before after ledgers nothing described went reached = tt
+  free_done greeting (Err e) old new nothing described went reached = tt
 
-  free_failed : (greeting : Greeting) (r : Result (Unit {0}) Error) (old new : State) (before after : ℤ) (ledgers : Ledgers) → CostsNothing ledgers ledgers → opened.stream_description ≡ Some greeting.description → IsRoundBy (Some own) credential asked greeting round
-      → IfErr r (λ e. Stopped plan e.kind old new before after) → IfErr r (λ e. ConversationStopped own asked credential greeting e.kind old new before after ledgers ledgers)
-  free_failed greeting (Ok done) old new before after ledgers nothing described went stopped = tt
-  free_failed greeting (Err e) old new before after ledgers nothing described went stopped = record {
-    stopped = stopped_more (followed plan greeting) (conversation_plan own asked credential greeting) e.kind old new before after (part greeting described went) (then_stopped plan greeting e.kind old new before after stopped);
-    costs = subst (λ version. StoppedCosts version asked credential greeting e.kind old new before after ledgers ledgers) (sym free) nothing;
+  free_failed : (greeting : Greeting) (r : Result (Unit {0}) Error) (old new : Balance) → CostsNothing old.ledgers new.ledgers → opened.stream_description ≡ Some greeting.description → IsRoundBy (Some own) credential asked greeting round
+      → IfErr r (λ e. Stopped plan e.kind old.state new.state old.id new.id) → IfErr r (λ e. ConversationStopped own asked credential greeting e.kind old new)
+  free_failed greeting (Ok done) old new nothing described went stopped = tt
+  free_failed greeting (Err e) old new nothing described went stopped = record {
+    stopped = stopped_more (followed plan greeting) (conversation_plan own asked credential greeting) e.kind old.state new.state old.id new.id (part greeting described went) (then_stopped plan greeting e.kind old.state new.state old.id new.id stopped);
+    costs = subst (λ version. StoppedCosts version asked credential greeting e.kind old new) (sym free) nothing;
   }
 
   -- what a login that costs nothing promises is what its conversation does
   pub free_converses : {L : Type 0} (state : L → State) (IsLogin : List (List ℕ) → List (List ℕ) → Type 0) (maximum : ℤ) (link link' : L) (before after : ℤ) (buffer buffer' : FrameBuffer) (r : Result (Unit {0}) Error) (ledgers : Ledgers) → CostsNothing ledgers ledgers → kept_fault opened ≡ None
-      → EndsByScript state plan IsLogin maximum r (standing opened link before buffer) (standing left link' after buffer') → Converses r conversation asked credential round opened left (state link) (state link') before after ledgers ledgers
+      → EndsByScript state plan IsLogin maximum r (standing opened link before buffer) (standing left link' after buffer') → Converses r conversation asked credential round opened left (balance (state link) before ledgers) (balance (state link') after ledgers)
   free_converses state IsLogin maximum link link' before after buffer buffer' r ledgers nothing faultless login =
-      let answered : Converses r own asked credential round opened left (state link) (state link') before after ledgers ledgers = record {
-        accepted = λ greeting described went. free_done greeting r (state link) (state link') before after ledgers nothing described went login.accepted;
-        refused = λ greeting described went. free_failed greeting r (state link) (state link') before after ledgers nothing described went (login.stops.refused faultless);
+      let old = balance (state link) before ledgers in
+      let new = balance (state link') after ledgers in
+      let answered : Converses r own asked credential round opened left old new = record {
+        accepted = λ greeting described went. free_done greeting r old new nothing described went login.accepted;
+        refused = λ greeting described went. free_failed greeting r old new nothing described went (login.stops.refused faultless);
         faultless = login.faultless faultless;
         keeps = login.stops.keeps faultless;
         rest = login.stops.rest;
         counts = login.stops.counts;
         entries = on_refusal r _ nothing.entries;
       } in
-      subst (λ c. Converses r c asked credential round opened left (state link) (state link') before after ledgers ledgers) (sym is) answered
+      subst (λ c. Converses r c asked credential round opened left old new) (sym is) answered
 
 -- ---- PLAIN and X.509
 

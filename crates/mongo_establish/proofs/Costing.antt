@@ -3,10 +3,9 @@ use Rattle.std.proofs.Common.{◌≡◌, ◌⊎◌, inl, inr, ℤ, subst, sym, O
 use Rattle.mongo_wire.specs.declared.error.Error.{Error}
 use Rattle.mongo_wire.specs.declared.error.ErrorKind.{ErrorKind}
 use Rattle.mongo_wire.specs.declared.error.ErrorKind.TheVariants.{IncompatibleServer}
-use Rattle.mongo_wire.specs.Outside.{State}
 use Rattle.mongo_command.specs.declared.connection.Connection.{Connection}
 use Rattle.mongo_sasl.specs.declared.credential.Credential.{Credential}
-use Rattle.mongo_scram.specs.Costs.{Ledgers}
+use Rattle.mongo_scram.specs.Costs.{Balance, balance}
 use Rattle.mongo_establish.specs.declared.establisher.EstablishError.{EstablishError}
 use Rattle.mongo_establish.specs.declared.establisher.PendingConnection.{PendingConnection}
 use Rattle.mongo_establish.specs.declared.establisher.PooledConnection.{PooledConnection}
@@ -31,33 +30,33 @@ module _ (pending : PendingConnection) (options : HandshakerOptions) (credential
   abbrev over : Asked
   over = asked_over opened options credential nonces id
 
-  pub whole_costs : (old new : State) (after : ℤ) (early late : Ledgers) → HandshakeCosts over old new after early late → HandshakeCosts wanted old new after early late
-  whole_costs old new after early late h = record {
+  pub whole_costs : (old new : Balance) → HandshakeCosts over old new → HandshakeCosts wanted old new
+  whole_costs old new h = record {
     greeting = h.greeting;
     middle = h.middle;
     between = h.between;
-    hello = hello_reached pending options credential nonces id opened same h.greeting old h.middle h.between h.hello;
-    login = costs_alike (pending_over opened) pending options credential nonces id id h.greeting h.middle new h.between after early late h.login;
+    hello = hello_reached pending options credential nonces id opened same h.greeting old.state h.middle old.id h.between h.hello;
+    login = costs_alike (pending_over opened) pending options credential nonces id id h.greeting (balance h.middle h.between old.ledgers) new h.login;
   }
 
-  stopped_costs : (kind : ErrorKind) (old new : State) (after : ℤ) (early late : Ledgers) → StoppedHandshakeCosts over kind old new after early late → StoppedHandshakeCosts wanted kind old new after early late
-  stopped_costs kind old new after early late s =
+  stopped_costs : (kind : ErrorKind) (old new : Balance) → StoppedHandshakeCosts over kind old new → StoppedHandshakeCosts wanted kind old new
+  stopped_costs kind old new s =
       elim s [
-        | inl h ↦ inl (record { hello = hello_stopped pending options credential nonces id opened same kind old new after h.hello; nothing = h.nothing })
+        | inl h ↦ inl (record { hello = hello_stopped pending options credential nonces id opened same kind old.state new.state old.id new.id h.hello; nothing = h.nothing })
         | inr l ↦ inr (record {
           greeting = l.greeting;
           middle = l.middle;
           between = l.between;
-          hello = hello_reached pending options credential nonces id opened same l.greeting old l.middle l.between l.hello;
-          login = stopped_login_costs_alike (pending_over opened) pending options credential nonces id id l.greeting kind l.middle new l.between after early late l.login;
+          hello = hello_reached pending options credential nonces id opened same l.greeting old.state l.middle old.id l.between l.hello;
+          login = stopped_login_costs_alike (pending_over opened) pending options credential nonces id id l.greeting kind (balance l.middle l.between old.ledgers) new l.login;
         })
       ]
 
   -- after a handshake the connection is ready, or its server named no service
-  pub pooled_costs : (r : Result PooledConnection EstablishError) (connection : Connection) (old new : State) (after : ℤ) (early late : Ledgers) → HandshakeCosts over old new after early late → IfErr r (UnnamedService connection pending.generation) → EstablishmentCosts r wanted old new after early late
-  pooled_costs (Ok pooled) connection old new after early late h u = record { accepted = whole_costs old new after early late h; refused = tt }
-  pooled_costs (Err e) connection old new after early late h u = record { accepted = tt; refused = inr (u.kind_is, whole_costs old new after early late h) }
+  pub pooled_costs : (r : Result PooledConnection EstablishError) (connection : Connection) (old new : Balance) → HandshakeCosts over old new → IfErr r (UnnamedService connection pending.generation) → EstablishmentCosts r wanted old new
+  pooled_costs (Ok pooled) connection old new h u = record { accepted = whole_costs old new h; refused = tt }
+  pooled_costs (Err e) connection old new h u = record { accepted = tt; refused = inr (u.kind_is, whole_costs old new h) }
 
   -- the handshake was stopped
-  pub refused_costs : (e : EstablishError) (cause : Error) (old new : State) (after : ℤ) (early late : Ledgers) → e.cause ≡ cause → StoppedHandshakeCosts over cause.kind old new after early late → EstablishmentCosts {T = PooledConnection} (Err e) wanted old new after early late
-  refused_costs e cause old new after early late is s = record { accepted = tt; refused = inl (stopped_costs e.cause.kind old new after early late (subst (λ x. StoppedHandshakeCosts over x.kind old new after early late) (sym is) s)) }
+  pub refused_costs : (e : EstablishError) (cause : Error) (old new : Balance) → e.cause ≡ cause → StoppedHandshakeCosts over cause.kind old new → EstablishmentCosts {T = PooledConnection} (Err e) wanted old new
+  refused_costs e cause old new is s = record { accepted = tt; refused = inl (stopped_costs e.cause.kind old new (subst (λ x. StoppedHandshakeCosts over x.kind old new) (sym is) s)) }

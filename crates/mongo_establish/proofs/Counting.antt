@@ -1,11 +1,10 @@
 -- What a caller concludes from what an establishment costs.
-use Rattle.std.proofs.Common.{◌≡◌, ◌⊎◌, ◌↔◌, ◌<◌, ◌≤◌, ◌^◌, ℕ, ℤ, ap, subst, sym, inl, inr, Option, None, Some, Result, Ok, Err, List, Contains, arith}
+use Rattle.std.proofs.Common.{◌≡◌, ◌⊎◌, ◌↔◌, ◌<◌, ◌≤◌, ◌^◌, ℕ, ap, subst, sym, inl, inr, Option, None, Some, Result, Ok, Err, List, Contains, arith}
 use Rattle.mongo_wire.specs.declared.error.ErrorKind.{ErrorKind}
-use Rattle.mongo_wire.specs.Outside.{State}
 use Rattle.mongo_command.specs.Conversation.{Plan}
 use Rattle.mongo_scram.specs.declared.cache.SaltedKey.{SaltedKey}
 use Rattle.mongo_scram.specs.Cache.{entries_of, rounds_of}
-use Rattle.mongo_scram.specs.Costs.{Ledgers, HasEntry, Counts, Derives, SameEntries, CostsNothing}
+use Rattle.mongo_scram.specs.Costs.{Ledgers, Balance, HasEntry, Counts, Derives, SameEntries, CostsNothing}
 use Rattle.mongo_establish.specs.declared.establisher.EstablishError.{EstablishError}
 use Rattle.mongo_establish.specs.Asked.{Asked}
 use Rattle.mongo_establish.specs.Costs.{EstablishmentCosts}
@@ -42,23 +41,23 @@ pub refused_some : (key : Option SaltedKey) (first last : Ledgers) → RefusedTa
 refused_some None first last takes = nothing_some first last takes
 refused_some (Some key) first last takes = derived_some key first last takes.derived (same_kept first last takes.entries)
 
-taken_some : (plan : Plan (Option SaltedKey)) (old : State) (before : ℤ) (first last : Ledgers) → KeyTaken plan old before first last → CostsSome first last
-taken_some plan old before first last t = accepted_some t.key first last t.takes
+taken_some : (plan : Plan (Option SaltedKey)) (old new : Balance) → KeyTaken plan old new → CostsSome old.ledgers new.ledgers
+taken_some plan old new t = accepted_some t.key old.ledgers new.ledgers t.takes
 
-spent_some : (plan : Plan (Option SaltedKey)) (kind : ErrorKind) (old new : State) (before after : ℤ) (first last : Ledgers) → KeySpent plan kind old new before after first last → CostsSome first last
-spent_some plan kind old new before after first last s =
+spent_some : (plan : Plan (Option SaltedKey)) (kind : ErrorKind) (old new : Balance) → KeySpent plan kind old new → CostsSome old.ledgers new.ledgers
+spent_some plan kind old new s =
     elim s [
-      | inl early ↦ nothing_some first last early.nothing
-      | inr late ↦ elim late.takes [ inl takes ↦ refused_some late.key first last takes | inr memory ↦ nothing_some first last memory.1 ]
+      | inl early ↦ nothing_some old.ledgers new.ledgers early.nothing
+      | inr late ↦ elim late.takes [ inl takes ↦ refused_some late.key old.ledgers new.ledgers takes | inr memory ↦ nothing_some old.ledgers new.ledgers memory.1 ]
     ]
 
 -- however an establishment came out
-pub costs_some : {T : Type 0} (r : Result T EstablishError) (asked : Asked) (old new : State) (after : ℤ) (first last : Ledgers) → EstablishmentCosts r asked old new after first last → CostsSome first last
-costs_some (Ok x) asked old new after first last costs = taken_some _ old asked.first_id first last (handshake_taken asked old new after first last costs.accepted)
-costs_some (Err e) asked old new after first last costs =
+pub costs_some : {T : Type 0} (r : Result T EstablishError) (asked : Asked) (old new : Balance) → EstablishmentCosts r asked old new → CostsSome old.ledgers new.ledgers
+costs_some (Ok x) asked old new costs = taken_some _ old new (handshake_taken asked old new costs.accepted)
+costs_some (Err e) asked old new costs =
     elim costs.refused [
-      | inl s ↦ spent_some _ e.cause.kind old new asked.first_id after first last (handshake_spent asked e.cause.kind old new after first last s)
-      | inr unnamed ↦ taken_some _ old asked.first_id first last (handshake_taken asked old new after first last unnamed.1)
+      | inl s ↦ spent_some _ e.cause.kind old new (handshake_spent asked e.cause.kind old new s)
+      | inr unnamed ↦ taken_some _ old new (handshake_taken asked old new unnamed.1)
     ]
 
 -- the counter never falls

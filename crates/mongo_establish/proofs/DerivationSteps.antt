@@ -7,34 +7,34 @@ use Rattle.mongo_command.specs.Conversation.{Event, Turn, Plan, followed_by, Rea
 use Rattle.mongo_command.proofs.Steps.{reached_more, stopped_more}
 use Rattle.mongo_command.proofs.FollowedBy.{reached_both, stopped_second}
 use Rattle.mongo_scram.specs.declared.cache.SaltedKey.{SaltedKey}
-use Rattle.mongo_scram.specs.Costs.{Ledgers, CostsNothing}
+use Rattle.mongo_scram.specs.Costs.{Balance, balance, CostsNothing}
 use Rattle.mongo_establish.specs.KeyCosts.{AcceptedTakes, RefusedTakes}
 
 -- ---- how far the plan was followed
 
 -- it was followed to its end, and what came after it was accepted
-pub record KeyTaken (plan : Plan (Option SaltedKey)) (old : State) (before : ℤ) (first last : Ledgers) : Type 0 where
+pub record KeyTaken (plan : Plan (Option SaltedKey)) (old new : Balance) : Type 0 where
   pub key : Option SaltedKey
   pub middle : State
   pub between : ℤ
-  pub reached : Reached plan key old middle before between
-  pub takes : AcceptedTakes key first last
+  pub reached : Reached plan key old.state middle old.id between
+  pub takes : AcceptedTakes key old.ledgers new.ledgers
 
 -- it was followed to its end, and what came after it was refused; memory may have run out before the key was derived
-pub record SpentAfterKey (plan : Plan (Option SaltedKey)) (kind : ErrorKind) (old : State) (before : ℤ) (first last : Ledgers) : Type 0 where
+pub record SpentAfterKey (plan : Plan (Option SaltedKey)) (kind : ErrorKind) (old new : Balance) : Type 0 where
   pub key : Option SaltedKey
   pub middle : State
   pub between : ℤ
-  pub reached : Reached plan key old middle before between
-  pub takes : RefusedTakes key first last ⊎ ((kind ≡ OutOfMemory) × CostsNothing first last)
+  pub reached : Reached plan key old.state middle old.id between
+  pub takes : RefusedTakes key old.ledgers new.ledgers ⊎ ((kind ≡ OutOfMemory) × CostsNothing old.ledgers new.ledgers)
 
 -- it was stopped, and nothing was derived
-pub record SpentBeforeKey (plan : Plan (Option SaltedKey)) (kind : ErrorKind) (old new : State) (before after : ℤ) (first last : Ledgers) : Type 0 where
-  pub stopped : Stopped plan kind old new before after
-  pub nothing : CostsNothing first last
+pub record SpentBeforeKey (plan : Plan (Option SaltedKey)) (kind : ErrorKind) (old new : Balance) : Type 0 where
+  pub stopped : Stopped plan kind old.state new.state old.id new.id
+  pub nothing : CostsNothing old.ledgers new.ledgers
 
-abbrev pub KeySpent : Plan (Option SaltedKey) → ErrorKind → State → State → ℤ → ℤ → Ledgers → Ledgers → Type 0
-KeySpent plan kind old new before after first last = SpentBeforeKey plan kind old new before after first last ⊎ SpentAfterKey plan kind old before first last
+abbrev pub KeySpent : Plan (Option SaltedKey) → ErrorKind → Balance → Balance → Type 0
+KeySpent plan kind old new = SpentBeforeKey plan kind old new ⊎ SpentAfterKey plan kind old new
 
 -- ---- a plan that tells more
 
@@ -42,38 +42,38 @@ KeySpent plan kind old new before after first last = SpentBeforeKey plan kind ol
 abbrev pub TellsMore : {A : Type 0} → Plan A → Plan A → Type 0
 TellsMore {A} plan other = (past : List Event) (turn : Turn A) → plan past turn → other past turn
 
-pub taken_more : (plan other : Plan (Option SaltedKey)) (old : State) (before : ℤ) (first last : Ledgers) → TellsMore plan other → KeyTaken plan old before first last → KeyTaken other old before first last
-taken_more plan other old before first last more a = record {
+pub taken_more : (plan other : Plan (Option SaltedKey)) (old new : Balance) → TellsMore plan other → KeyTaken plan old new → KeyTaken other old new
+taken_more plan other old new more a = record {
   key = a.key;
   middle = a.middle;
   between = a.between;
-  reached = reached_more plan other a.key old a.middle before a.between more a.reached;
+  reached = reached_more plan other a.key old.state a.middle old.id a.between more a.reached;
   takes = a.takes;
 }
 
-pub spent_more : (plan other : Plan (Option SaltedKey)) (kind : ErrorKind) (old new : State) (before after : ℤ) (first last : Ledgers) → TellsMore plan other → KeySpent plan kind old new before after first last → KeySpent other kind old new before after first last
-spent_more plan other kind old new before after first last more r =
+pub spent_more : (plan other : Plan (Option SaltedKey)) (kind : ErrorKind) (old new : Balance) → TellsMore plan other → KeySpent plan kind old new → KeySpent other kind old new
+spent_more plan other kind old new more r =
     elim r [
-      | inl early ↦ inl (record { stopped = stopped_more plan other kind old new before after more early.stopped; nothing = early.nothing })
-      | inr late ↦ inr (record { key = late.key; middle = late.middle; between = late.between; reached = reached_more plan other late.key old late.middle before late.between more late.reached; takes = late.takes })
+      | inl early ↦ inl (record { stopped = stopped_more plan other kind old.state new.state old.id new.id more early.stopped; nothing = early.nothing })
+      | inr late ↦ inr (record { key = late.key; middle = late.middle; between = late.between; reached = reached_more plan other late.key old.state late.middle old.id late.between more late.reached; takes = late.takes })
     ]
 
 -- ---- a plan, and then that of the key
 
-pub taken_after : {A : Type 0} (plan : Plan A) (next : A → Plan (Option SaltedKey)) (answer : A) (old middle : State) (before between : ℤ) (first last : Ledgers)
-    → Reached plan answer old middle before between → KeyTaken (next answer) middle between first last → KeyTaken (followed_by plan next) old before first last
-taken_after plan next answer old middle before between first last r a = record {
+pub taken_after : {A : Type 0} (plan : Plan A) (next : A → Plan (Option SaltedKey)) (answer : A) (middle : State) (between : ℤ) (old new : Balance)
+    → Reached plan answer old.state middle old.id between → KeyTaken (next answer) (balance middle between old.ledgers) new → KeyTaken (followed_by plan next) old new
+taken_after plan next answer middle between old new r a = record {
   key = a.key;
   middle = a.middle;
   between = a.between;
-  reached = reached_both plan next answer a.key old middle a.middle before between a.between r a.reached;
+  reached = reached_both plan next answer a.key old.state middle a.middle old.id between a.between r a.reached;
   takes = a.takes;
 }
 
-pub spent_after : {A : Type 0} (plan : Plan A) (next : A → Plan (Option SaltedKey)) (answer : A) (kind : ErrorKind) (old middle new : State) (before between after : ℤ) (first last : Ledgers)
-    → Reached plan answer old middle before between → KeySpent (next answer) kind middle new between after first last → KeySpent (followed_by plan next) kind old new before after first last
-spent_after plan next answer kind old middle new before between after first last r s =
+pub spent_after : {A : Type 0} (plan : Plan A) (next : A → Plan (Option SaltedKey)) (answer : A) (kind : ErrorKind) (middle : State) (between : ℤ) (old new : Balance)
+    → Reached plan answer old.state middle old.id between → KeySpent (next answer) kind (balance middle between old.ledgers) new → KeySpent (followed_by plan next) kind old new
+spent_after plan next answer kind middle between old new r s =
     elim s [
-      | inl early ↦ inl (record { stopped = stopped_second plan next answer kind old middle new before between after r early.stopped; nothing = early.nothing })
-      | inr late ↦ inr (record { key = late.key; middle = late.middle; between = late.between; reached = reached_both plan next answer late.key old middle late.middle before between late.between r late.reached; takes = late.takes })
+      | inl early ↦ inl (record { stopped = stopped_second plan next answer kind old.state middle new.state old.id between new.id r early.stopped; nothing = early.nothing })
+      | inr late ↦ inr (record { key = late.key; middle = late.middle; between = late.between; reached = reached_both plan next answer late.key old.state middle late.middle old.id between late.between r late.reached; takes = late.takes })
     ]

@@ -46,13 +46,13 @@ module _ (pending : PendingConnection) (options : HandshakerOptions) (credential
   abbrev over : Asked
   over = asked_over opened options credential nonces id
 
-  pub hello_reached : (greeting : Greeting) (old new : State) (after : ℤ) → Reached (hello_plan over) greeting old new id after → Reached (hello_plan wanted) greeting old new id after
+  pub hello_reached : (greeting : Greeting) (old new : State) (before after : ℤ) → Reached (hello_plan over) greeting old new before after → Reached (hello_plan wanted) greeting old new before after
   unfolding hello_plan
-  hello_reached greeting old new after r = subst (λ address. Reached (hello_at wanted address) greeting old new id after) same r
+  hello_reached greeting old new before after r = subst (λ address. Reached (hello_at wanted address) greeting old new before after) same r
 
-  pub hello_stopped : (kind : ErrorKind) (old new : State) (after : ℤ) → Stopped (hello_plan over) kind old new id after → Stopped (hello_plan wanted) kind old new id after
+  pub hello_stopped : (kind : ErrorKind) (old new : State) (before after : ℤ) → Stopped (hello_plan over) kind old new before after → Stopped (hello_plan wanted) kind old new before after
   unfolding hello_plan
-  hello_stopped kind old new after s = subst (λ address. Stopped (hello_at wanted address) kind old new id after) same s
+  hello_stopped kind old new before after s = subst (λ address. Stopped (hello_at wanted address) kind old new before after) same s
 
   login_reached : (greeting : Greeting) (old new : State) (before after : ℤ) → Reached (login_plan over greeting) greeting old new before after → Reached (login_plan wanted greeting) greeting old new before after
   login_reached = reached_alike (pending_over opened) pending options credential nonces id id
@@ -65,7 +65,7 @@ module _ (pending : PendingConnection) (options : HandshakerOptions) (credential
   handshake_reached : (connection : Connection) (old new : State) (after : ℤ) (reply : HelloReply) (s : ShookHands over opened connection old new after reply) → Reached (handshake_plan wanted) s.greeting old new id after
   unfolding handshake_plan
   handshake_reached connection old new after reply s =
-      reached_both (hello_plan wanted) (login_plan wanted) s.greeting s.greeting old s.middle new id s.between after (hello_reached s.greeting old s.middle s.between s.hello) (login_reached s.greeting s.middle new s.between after s.login)
+      reached_both (hello_plan wanted) (login_plan wanted) s.greeting s.greeting old s.middle new id s.between after (hello_reached s.greeting old s.middle id s.between s.hello) (login_reached s.greeting s.middle new s.between after s.login)
 
   -- is a whole establishment, where a service that has to be named is
   pub shaken_established : (connection : Connection) (old new : State) (after : ℤ) (reply : HelloReply) (s : ShookHands over opened connection old new after reply) → NamesService pending.generation s.greeting.description → Reached (establishment_plan wanted) s.greeting old new id after
@@ -102,7 +102,7 @@ module _ (pending : PendingConnection) (options : HandshakerOptions) (credential
   stopped_hello : (phase : HandshakePhase) (connection : Connection) (kind : ErrorKind) (old new : State) (after : ℤ) → phase ≡ phase_at connection.stream_description pending.generation → StoppedHello over opened connection kind old new after → StoppedIn phase wanted kind old new after
   stopped_hello phase connection kind old new after is s =
       let early : phase ≡ PreHello pending.generation = is ∙ ap (λ d. phase_at d pending.generation) s.undescribed in
-      subst (λ p. StoppedIn p wanted kind old new after) (sym early) (refl, hello_stopped kind old new after s.hello)
+      subst (λ p. StoppedIn p wanted kind old new after) (sym early) (refl, hello_stopped kind old new id after s.hello)
 
   stopped_login : (phase : HandshakePhase) (connection : Connection) (kind : ErrorKind) (old new : State) (after : ℤ) → phase ≡ phase_at connection.stream_description pending.generation → StoppedLogin over opened connection kind old new after → StoppedIn phase wanted kind old new after
   stopped_login phase connection kind old new after is s =
@@ -110,7 +110,7 @@ module _ (pending : PendingConnection) (options : HandshakerOptions) (credential
         greeting = s.greeting;
         middle = s.middle;
         between = s.between;
-        hello = hello_reached s.greeting old s.middle s.between s.hello;
+        hello = hello_reached s.greeting old s.middle id s.between s.hello;
         generation_is = refl;
         stopped = inl (login_stopped s.greeting kind s.middle new s.between after s.login);
       })
@@ -128,7 +128,7 @@ module _ (pending : PendingConnection) (options : HandshakerOptions) (credential
         greeting = s.greeting;
         middle = s.middle;
         between = s.between;
-        hello = hello_reached s.greeting old s.middle s.between s.hello;
+        hello = hello_reached s.greeting old s.middle id s.between s.hello;
         generation_is = refl;
         stopped = inr (record { login = login_reached s.greeting s.middle new s.between after s.login; unnamed = unnamed });
       })

@@ -23,7 +23,6 @@ use Rattle.mongo_meta.specs.Client.{client_of}
 use Rattle.mongo_establish.specs.Client.{followed_by_element, with_document, balanced, hello_command_of, common_hello, asking_mechanisms, speculating, introducing, hello_with}
 use Rattle.mongo_establish.specs.declared.options.HandshakerOptions.{HandshakerOptions}
 use Rattle.mongo_establish.specs.First.{IsUnmade}
-use Rattle.mongo_establish.specs.HelloBody.{HelloBodyRefused}
 
 -- what stands between a document's length and its final zero has five bytes fewer
 pub length_body : (d : List ℕ) → 5 ≤ length d → length (body_of d) + 5 ≡ length d
@@ -31,11 +30,6 @@ length_body d least = omega (arith, length-take-le (length d - 5) (drop 4 d), le
 
 pub grown : (d : List ℕ) (e : Element) → 5 ≤ length d → length (followed_by_element d e) ≡ length d + length (spell e)
 grown d e least = omega (arith, length-enclosed (body_of d ++ spell e), length-append (body_of d) (spell e), length_body d least)
-
-pub refused_longer : (d e : List ℕ) (kind : ErrorKind) → length d ≤ length e → HelloBodyRefused d kind → HelloBodyRefused e kind
-refused_longer d e (InvalidArgument (Bson TooLong)) longer r = omega (arith, longer, r)
-refused_longer d e OutOfMemory longer r = tt
-refused_longer d e kind longer r = absurd r
 
 -- nor is the document with an element more, whatever it was
 pub length_followed : (d : List ℕ) (e : Element) → length d + length (spell e) ≤ length (followed_by_element d e)
@@ -47,23 +41,23 @@ holds_document key value d =
     let e : Element = document_element key value in
     omega (arith, length-enclosed (body_of d ++ spell e), length-append (body_of d) (spell e), length-append key (0 ∷ value))
 
-pub document_refused : (kind : ErrorKind) (document body : List ℕ) → length document ≤ length body → DocumentRefused kind document → HelloBodyRefused body kind
+pub document_refused : (kind : ErrorKind) (document body : List ℕ) → length document ≤ length body → DocumentRefused kind document → DocumentRefused kind body
 document_refused (InvalidArgument (Bson TooLong)) document body longer r = omega (arith, longer, r)
 document_refused OutOfMemory document body longer r = tt
 document_refused kind document body longer r = absurd r
 
 -- why a document wasn't put under a key without a zero
-put_refused : (fault : BsonFault) (kind : ErrorKind) (key value body : List ℕ) → (Contains key 0 → ⊥) → kind ≡ kind_of_fault fault → AppendRefuses fault → (fault ≡ KeyHasZero → Contains key 0) → (fault ≡ TooLong → 2 ^ 31 - 1 < length body + length (spell (document_element key value))) → HelloBodyRefused (with_document key value body) kind
+put_refused : (fault : BsonFault) (kind : ErrorKind) (key value body : List ℕ) → (Contains key 0 → ⊥) → kind ≡ kind_of_fault fault → AppendRefuses fault → (fault ≡ KeyHasZero → Contains key 0) → (fault ≡ TooLong → 2 ^ 31 - 1 < length body + length (spell (document_element key value))) → DocumentRefused kind (with_document key value body)
 put_refused KeyHasZero kind key value body whole is refuses zero long = absurd (whole (zero refl))
-put_refused TooLong kind key value body whole is refuses zero long = subst (HelloBodyRefused (with_document key value body)) (sym is) (omega (arith, length_followed body (document_element key value), long refl))
-put_refused NoMemory kind key value body whole is refuses zero long = subst (HelloBodyRefused (with_document key value body)) (sym is) tt
+put_refused TooLong kind key value body whole is refuses zero long = subst (λ kind. DocumentRefused kind (with_document key value body)) (sym is) (omega (arith, length_followed body (document_element key value), long refl))
+put_refused NoMemory kind key value body whole is refuses zero long = subst (λ kind. DocumentRefused kind (with_document key value body)) (sym is) tt
 put_refused fault kind key value body whole is refuses zero long = absurd refuses
 
 same_fault : (a b : BsonFault) → ◌≡◌ {A = Result (Unit {0}) BsonFault} (Err a) (Err b) → a ≡ b
 same_fault a b is = cc
 
 pub append_refused : (result : Result (Unit {0}) BsonFault) (fault : BsonFault) (kind : ErrorKind) (key value body : List ℕ) → (Contains key 0 → ⊥) → kind ≡ kind_of_fault fault → result ≡ Err fault → IfErr result AppendRefuses → (result ≡ Err KeyHasZero ↔ Contains key 0)
-    → (result ≡ Err TooLong ↔ ((Contains key 0 → ⊥) × (2 ^ 31 - 1 < length body + length (spell (document_element key value))))) → HelloBodyRefused (with_document key value body) kind
+    → (result ≡ Err TooLong ↔ ((Contains key 0 → ⊥) × (2 ^ 31 - 1 < length body + length (spell (document_element key value))))) → DocumentRefused kind (with_document key value body)
 append_refused result fault kind key value body whole is err refuses zero long =
     put_refused fault kind key value body whole is (subst (λ r. IfErr r AppendRefuses) err refuses) (λ same. zero.0 (err ∙ ap Err same)) (λ same. (long.0 (err ∙ ap Err same)).1)
 
@@ -77,34 +71,33 @@ introducing_longer metadata body = omega (arith, length_followed body (document_
 
 -- ---- answers
 
-pub client_refused : {T : Type 0} (r : Result T Error) (metadata : ClientMetadata) (body : List ℕ) (count : ℕ) → count ≡ length body → IfErr r (λ e. DocumentRefused e.kind (client_of metadata count)) → IfErr r (λ e. HelloBodyRefused (introducing metadata body) e.kind)
+longer_refused : {T : Type 0} (r : Result T Error) (d e : List ℕ) → length d ≤ length e → IfErr r (λ x. DocumentRefused x.kind d) → IfErr r (λ x. DocumentRefused x.kind e)
+longer_refused (Ok x) d e longer h = tt
+longer_refused (Err x) d e longer h = document_refused x.kind d e longer h
+
+pub client_refused : {T : Type 0} (r : Result T Error) (metadata : ClientMetadata) (body : List ℕ) (count : ℕ) → count ≡ length body → IfErr r (λ e. DocumentRefused e.kind (client_of metadata count)) → IfErr r (λ e. DocumentRefused e.kind (introducing metadata body))
 client_refused (Ok x) metadata body count is h = tt
 client_refused (Err e) metadata body count is h =
     let client = client_of metadata (length body) in
     document_refused e.kind client (introducing metadata body) (holds_document (codes "client") client body) (subst (λ n. DocumentRefused e.kind (client_of metadata n)) is h)
 
-pub first_refused : {T : Type 0} (r : Result T Error) (key document body : List ℕ) → IfErr r (λ e. DocumentRefused e.kind document) → IfErr r (λ e. HelloBodyRefused (with_document key document body) e.kind)
-first_refused (Ok x) key document body h = tt
-first_refused (Err e) key document body h = document_refused e.kind document (with_document key document body) (holds_document key document body) h
-
-longer_refused : {T : Type 0} (r : Result T Error) (d e : List ℕ) → length d ≤ length e → IfErr r (λ x. HelloBodyRefused d x.kind) → IfErr r (λ x. HelloBodyRefused e x.kind)
-longer_refused (Ok x) d e longer h = tt
-longer_refused (Err x) d e longer h = refused_longer d e x.kind longer h
+pub first_refused : {T : Type 0} (r : Result T Error) (key document body : List ℕ) → IfErr r (λ e. DocumentRefused e.kind document) → IfErr r (λ e. DocumentRefused e.kind (with_document key document body))
+first_refused r key document body h = longer_refused r document (with_document key document body) (holds_document key document body) h
 
 -- a hello is no shorter than its parts
-pub asking_refused : {T : Type 0} (r : Result T Error) (options : HandshakerOptions) (credential : Option Credential) (login : Option (List ℕ)) (body : List ℕ) → body ≡ (common_hello options).body → IfErr r (λ e. HelloBodyRefused (asking_mechanisms credential body) e.kind) → IfErr r (λ e. HelloBodyRefused (hello_with options credential login).body e.kind)
+pub asking_refused : {T : Type 0} (r : Result T Error) (options : HandshakerOptions) (credential : Option Credential) (login : Option (List ℕ)) (body : List ℕ) → body ≡ (common_hello options).body → IfErr r (λ e. DocumentRefused e.kind (asking_mechanisms credential body)) → IfErr r (λ e. DocumentRefused e.kind (hello_with options credential login).body)
 asking_refused r options credential login body is h =
     let question = asking_mechanisms credential (common_hello options).body in
-    longer_refused r question (hello_with options credential login).body (omega (arith, speculating_longer login question, introducing_longer options.metadata (speculating login question))) (subst (λ b. IfErr r (λ e. HelloBodyRefused (asking_mechanisms credential b) e.kind)) is h)
+    longer_refused r question (hello_with options credential login).body (omega (arith, speculating_longer login question, introducing_longer options.metadata (speculating login question))) (subst (λ b. IfErr r (λ e. DocumentRefused e.kind (asking_mechanisms credential b))) is h)
 
-pub speculating_refused : {T : Type 0} (r : Result T Error) (options : HandshakerOptions) (credential : Option Credential) (login : Option (List ℕ)) (body : List ℕ) → body ≡ asking_mechanisms credential (common_hello options).body → IfErr r (λ e. HelloBodyRefused (speculating login body) e.kind) → IfErr r (λ e. HelloBodyRefused (hello_with options credential login).body e.kind)
+pub speculating_refused : {T : Type 0} (r : Result T Error) (options : HandshakerOptions) (credential : Option Credential) (login : Option (List ℕ)) (body : List ℕ) → body ≡ asking_mechanisms credential (common_hello options).body → IfErr r (λ e. DocumentRefused e.kind (speculating login body)) → IfErr r (λ e. DocumentRefused e.kind (hello_with options credential login).body)
 speculating_refused r options credential login body is h =
     let speculates = speculating login (asking_mechanisms credential (common_hello options).body) in
-    longer_refused r speculates (hello_with options credential login).body (introducing_longer options.metadata speculates) (subst (λ b. IfErr r (λ e. HelloBodyRefused (speculating login b) e.kind)) is h)
+    longer_refused r speculates (hello_with options credential login).body (introducing_longer options.metadata speculates) (subst (λ b. IfErr r (λ e. DocumentRefused e.kind (speculating login b))) is h)
 
 -- a login that can't be made can't be put into a hello
-pub unmade_refused : (options : HandshakerOptions) (credential : Option Credential) (login : Option (List ℕ)) (kind : ErrorKind) → IsUnmade login kind → HelloBodyRefused (hello_with options credential login).body kind
-unmade_refused options credential None kind r = subst (HelloBodyRefused (hello_with options credential None).body) (sym r) tt
+pub unmade_refused : (options : HandshakerOptions) (credential : Option Credential) (login : Option (List ℕ)) (kind : ErrorKind) → IsUnmade login kind → DocumentRefused kind (hello_with options credential login).body
+unmade_refused options credential None kind r = subst (λ kind. DocumentRefused kind (hello_with options credential None).body) (sym r) tt
 unmade_refused options credential (Some document) (InvalidArgument (Bson TooLong)) r =
     let asking = asking_mechanisms credential (common_hello options).body in
     let body = with_document speculative_authenticate_key document asking in

@@ -20,25 +20,23 @@ use Rattle.mongo_command.specs.declared.stream_description.StreamDescription.{St
 use Rattle.mongo_command.specs.Command.{argument_elements, command_document}
 use Rattle.mongo_command.specs.Connection.{kept_fault, KeepsRest}
 use Rattle.mongo_command.specs.Conversation.{Plan, AreMet, Stopped, Reached, plain_message}
-use Rattle.mongo_command.specs.Exchange.{command_message, frame_maximum, CountsStay}
+use Rattle.mongo_command.specs.Exchange.{command_message, frame_maximum, CountsStay, DocumentRefused}
 use Rattle.mongo_command.specs.Hello.{IsHelloResponse, HelloRefused, description_demands, DescriptionRefused, description_of}
 use Rattle.mongo_command.specs.HelloExchange.{RunsHello, RunHelloRefused}
+use Rattle.mongo_command.proofs.Rest.{keeps_all}
 use Rattle.mongo_command.proofs.Steps.{reached_ending, reached_unless, reached_reading, reached_saying, stopped_memory, stopped_row, stopped_saying, stopped_later}
+use Rattle.mongo_command.proofs.Talked.{still_counts}
 use Rattle.mongo_sasl.specs.declared.credential.Credential.{Credential}
 use Rattle.mongo_establish.specs.declared.options.HandshakerOptions.{HandshakerOptions}
 use Rattle.mongo_establish.specs.Client.{hello_with}
 use Rattle.mongo_establish.specs.Established.{HoldsGreeting, GreetedBy, UngreetedBy}
 use Rattle.mongo_establish.specs.Greeting.{Greeting, Greets, greeting_in}
-use Rattle.mongo_establish.specs.HelloBody.{HelloBodyRefused}
 use Rattle.mongo_establish.specs.Plan.{hello_said_with, after_hello, hello_exchange}
 use Rattle.mongo_establish.specs.Reply.{IsDescribedBy}
 use Rattle.mongo_establish.proofs.HelloBody.{length_body}
 use Rattle.mongo_establish.proofs.HelloPlan.{no_row}
 
 -- ---- nothing was said
-
-same_counts : (old : State) → CountsStay old old
-same_counts old = record { reads = omega arith; ends = omega arith; writes = omega arith; told = refl; told_written = refl; flushed = omega arith }
 
 -- a command's document is no shorter than its body
 document_longer : (c : Command) → 5 ≤ length c.body → length c.body ≤ length (command_document c)
@@ -86,22 +84,19 @@ module _ (options : HandshakerOptions) (credential : Option Credential) (login :
   ungreeted connection kind old new before after rest stopped = record { stopped = stopped; undescribed = rest.description ∙ fresh; rest = rest }
 
   -- its body would be too long, or memory ran out
-  unbuilt : (kind : ErrorKind) (old : State) (before : ℤ) → HelloBodyRefused (hello_with options credential login).body kind → Stopped plan kind old old before before
+  unbuilt : (kind : ErrorKind) (old : State) (before : ℤ) → DocumentRefused kind (hello_with options credential login).body → Stopped plan kind old old before before
   unbuilt (InvalidArgument (Bson TooLong)) old before r =
       let hello = hello_with options credential login in
       let longer = document_longer hello (omega (arith, r)) in
       let long : 2 ^ 31 - 1 < length (command_document hello) = omega (arith, longer, r) in
-      stopped_saying (hello_said_with options credential login) (after_hello opened.address) (InvalidArgument (Bson TooLong)) old old before before None (inl (long, record { link = refl; ids = refl; kept_is = refl })) (same_counts old)
+      stopped_saying (hello_said_with options credential login) (after_hello opened.address) (InvalidArgument (Bson TooLong)) old old before before None (inl (long, record { link = refl; ids = refl; kept_is = refl })) (still_counts old)
   unbuilt OutOfMemory old before r = stopped_memory plan OutOfMemory old before refl
   unbuilt kind old before r = absurd r
 
-  same_rest : KeepsRest opened opened
-  same_rest = record { address = refl; id = refl; description = refl; server_id = refl; token = refl }
+  pub unbuilt_stopped : (kind : ErrorKind) (old : State) (before : ℤ) → DocumentRefused kind (hello_with options credential login).body → UngreetedBy options credential login opened opened kind old old before before
+  unbuilt_stopped kind old before r = ungreeted opened kind old old before before (keeps_all opened) (unbuilt kind old before r)
 
-  pub unbuilt_stopped : (kind : ErrorKind) (old : State) (before : ℤ) → HelloBodyRefused (hello_with options credential login).body kind → UngreetedBy options credential login opened opened kind old old before before
-  unbuilt_stopped kind old before r = ungreeted opened kind old old before before same_rest (unbuilt kind old before r)
-
-  pub unbuilt_greeting : {T : Type 0} (r : Result T Error) (old : State) (before : ℤ) → IfErr r (λ e. HelloBodyRefused (hello_with options credential login).body e.kind) → IfErr r (λ e. UngreetedBy options credential login opened opened e.kind old old before before)
+  pub unbuilt_greeting : {T : Type 0} (r : Result T Error) (old : State) (before : ℤ) → IfErr r (λ e. DocumentRefused e.kind (hello_with options credential login).body) → IfErr r (λ e. UngreetedBy options credential login opened opened e.kind old old before before)
   unbuilt_greeting (Ok x) old before h = tt
   unbuilt_greeting (Err e) old before h = unbuilt_stopped e.kind old before h
 

@@ -23,7 +23,7 @@ use Rattle.mongo_scram.proofs.OwnRows.{credential_own}
 use Rattle.mongo_establish.specs.declared.conversation.Conversation.{Conversation}
 use Rattle.mongo_establish.specs.declared.conversation.Conversation.TheVariants.{Scram}
 use Rattle.mongo_establish.specs.First.{IsUnmade}
-use Rattle.mongo_establish.specs.HelloBody.{HelloBodyRefused}
+use Rattle.mongo_command.specs.Exchange.{DocumentRefused}
 use Rattle.mongo_establish.specs.Login.{InvalidRow}
 use Rattle.mongo_establish.specs.Speculation.{mechanism_before, ConversationRow, MechanismRow, HelloRow}
 use Rattle.mongo_establish.specs.Spoken.{conversation_of}
@@ -52,7 +52,7 @@ first_own credential document kind (inl row) = hello_row_own credential kind row
 first_own credential document kind (inr none) = unmade_own document kind none.1
 
 -- a hello that wasn't
-pub body_own : (body : List ℕ) (kind : ErrorKind) → HelloBodyRefused body kind → IsOwn kind
+pub body_own : (body : List ℕ) (kind : ErrorKind) → DocumentRefused kind body → IsOwn kind
 body_own body (InvalidArgument (Bson TooLong)) row = inl refl
 body_own body OutOfMemory row = inr refl
 body_own body kind row = absurd row

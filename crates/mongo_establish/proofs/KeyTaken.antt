@@ -16,7 +16,7 @@ use Rattle.mongo_sasl.specs.declared.mechanism.AuthMechanism.TheVariants.{MongoD
 use Rattle.mongo_scram.specs.declared.cache.SaltedKey.{SaltedKey}
 use Rattle.mongo_scram.specs.declared.scram_version.ScramVersion.{ScramVersion}
 use Rattle.mongo_scram.specs.Cache.{entries_of, Adds}
-use Rattle.mongo_scram.specs.Costs.{Ledgers, key_by, HasEntry, SameEntries, CostsNothing, Accepted, StoppedClosing, StoppedScram}
+use Rattle.mongo_scram.specs.Costs.{Ledgers, Balance, balance, key_by, HasEntry, SameEntries, CostsNothing, Accepted, StoppedClosing, StoppedScram}
 use Rattle.mongo_scram.specs.Entry.{salted_of}
 use Rattle.mongo_scram.specs.Plan.{Handed, Challenge, opening}
 use Rattle.mongo_scram.specs.User.{User, IsUser, CredentialRow}
@@ -52,16 +52,16 @@ kept_others : (key : SaltedKey) (first last : Ledgers) → (HasEntry first.cache
 kept_others key first last (inl had) = inl had.1
 kept_others key first last (inr adds) = inr adds
 
-accepted_takes : (handed : Handed) (document : List ℕ) (old new : State) (before after : ℤ) (first last : Ledgers) (is : Accepted handed document old new before after first last) → TakesKey (key_by handed is.challenge) first last
-accepted_takes handed document old new before after first last is = record {
+accepted_takes : (handed : Handed) (document : List ℕ) (old new : Balance) (is : Accepted handed document old new) → TakesKey (key_by handed is.challenge) old.ledgers new.ledgers
+accepted_takes handed document old new is = record {
   derived = is.derived;
-  entry = kept_entry (key_by handed is.challenge) first last is.kept;
-  others = kept_others (key_by handed is.challenge) first last is.kept;
+  entry = kept_entry (key_by handed is.challenge) old.ledgers new.ledgers is.kept;
+  others = kept_others (key_by handed is.challenge) old.ledgers new.ledgers is.kept;
 }
 
-closing_takes : (handed : Handed) (kind : ErrorKind) (old new : State) (before after : ℤ) (first last : Ledgers) (is : StoppedClosing handed kind old new before after first last)
-    → RefusedTakes (Some (key_by handed is.challenge)) first last ⊎ ((kind ≡ OutOfMemory) × CostsNothing first last)
-closing_takes handed kind old new before after first last is =
+closing_takes : (handed : Handed) (kind : ErrorKind) (old new : Balance) (is : StoppedClosing handed kind old new)
+    → RefusedTakes (Some (key_by handed is.challenge)) old.ledgers new.ledgers ⊎ ((kind ≡ OutOfMemory) × CostsNothing old.ledgers new.ledgers)
+closing_takes handed kind old new is =
     elim is.derived [
       | inl derived ↦ inl (record { derived = derived; entries = is.entries })
       | inr memory ↦ inr (memory.0, record { counts = memory.1; entries = is.entries })
@@ -85,25 +85,25 @@ module _ (version : ScramVersion) (mechanism : AuthMechanism) (asked : Asked) (c
   abbrev handed : Handed
   handed = scram_handed_by version asked credential greeting
 
-  scram_takes : (document : List ℕ) (old new : State) (before after : ℤ) (first last : Ledgers) → Accepted handed document old new before after first last → KeyTaken (derivation_by (Some (Scram version)) mechanism asked credential greeting) old before first last
-  scram_takes document old new before after first last is = record {
+  scram_takes : (document : List ℕ) (old new : Balance) → Accepted handed document old new → KeyTaken (derivation_by (Some (Scram version)) mechanism asked credential greeting) old new
+  scram_takes document old new is = record {
     key = Some (key_by handed is.challenge);
     middle = is.middle;
     between = is.between;
-    reached = opening_reached version mechanism asked credential greeting is.challenge old is.middle before is.between none is.opened;
-    takes = accepted_takes handed document old new before after first last is;
+    reached = opening_reached version mechanism asked credential greeting is.challenge old.state is.middle old.id is.between none is.opened;
+    takes = accepted_takes handed document old new is;
   }
 
-  scram_spends : (kind : ErrorKind) (old new : State) (before after : ℤ) (first last : Ledgers) → StoppedScram handed kind old new before after first last → KeySpent (derivation_by (Some (Scram version)) mechanism asked credential greeting) kind old new before after first last
-  scram_spends kind old new before after first last is =
+  scram_spends : (kind : ErrorKind) (old new : Balance) → StoppedScram handed kind old new → KeySpent (derivation_by (Some (Scram version)) mechanism asked credential greeting) kind old new
+  scram_spends kind old new is =
       elim is [
-        | inl early ↦ inl (record { stopped = opening_stopped version mechanism asked credential greeting kind old new before after none early.0; nothing = early.1 })
+        | inl early ↦ inl (record { stopped = opening_stopped version mechanism asked credential greeting kind old.state new.state old.id new.id none early.0; nothing = early.1 })
         | inr late ↦ inr (record {
           key = Some (key_by handed late.challenge);
           middle = late.middle;
           between = late.between;
-          reached = opening_reached version mechanism asked credential greeting late.challenge old late.middle before late.between none late.opened;
-          takes = closing_takes handed kind old new before after first last late;
+          reached = opening_reached version mechanism asked credential greeting late.challenge old.state late.middle old.id late.between none late.opened;
+          takes = closing_takes handed kind old new late;
         })
       ]
 
@@ -133,48 +133,48 @@ taken credential reply description mechanism is made scram =
 -- ---- by its mechanism
 
 -- without a key
-nothing_taken : (old : State) (before : ℤ) (first last : Ledgers) → CostsNothing first last → KeyTaken (ending None) old before first last
-nothing_taken old before first last nothing = record { key = None; middle = old; between = before; reached = reached_ending None old before; takes = nothing }
+nothing_taken : (old new : Balance) → CostsNothing old.ledgers new.ledgers → KeyTaken (ending None) old new
+nothing_taken old new nothing = record { key = None; middle = old.state; between = old.id; reached = reached_ending None old.state old.id; takes = nothing }
 
-nothing_spent : (kind : ErrorKind) (old new : State) (before after : ℤ) (first last : Ledgers) → CostsNothing first last → KeySpent (ending None) kind old new before after first last
-nothing_spent kind old new before after first last nothing = inr (record { key = None; middle = old; between = before; reached = reached_ending None old before; takes = inl nothing })
+nothing_spent : (kind : ErrorKind) (old new : Balance) → CostsNothing old.ledgers new.ledgers → KeySpent (ending None) kind old new
+nothing_spent kind old new nothing = inr (record { key = None; middle = old.state; between = old.id; reached = reached_ending None old.state old.id; takes = inl nothing })
 
-taken_by : (conversation : Option Conversation) (mechanism : AuthMechanism) (asked : Asked) (credential : Credential) (greeting : Greeting) (old new : State) (before after : ℤ) (first last : Ledgers) → (IsScram conversation → HasNone (InvalidRow (speculative_reply asked greeting) mechanism credential))
-    → AcceptedCosts (scram_in conversation) asked credential greeting old new before after first last → KeyTaken (derivation_by conversation mechanism asked credential greeting) old before first last
+taken_by : (conversation : Option Conversation) (mechanism : AuthMechanism) (asked : Asked) (credential : Credential) (greeting : Greeting) (old new : Balance) → (IsScram conversation → HasNone (InvalidRow (speculative_reply asked greeting) mechanism credential))
+    → AcceptedCosts (scram_in conversation) asked credential greeting old new → KeyTaken (derivation_by conversation mechanism asked credential greeting) old new
 unfolding derivation_by
-taken_by (Some (Scram version)) mechanism asked credential greeting old new before after first last none c = scram_takes version mechanism asked credential greeting (none tt) c.document old new before after first last c.accepted
-taken_by conversation mechanism asked credential greeting old new before after first last none c = nothing_taken old before first last c
+taken_by (Some (Scram version)) mechanism asked credential greeting old new none c = scram_takes version mechanism asked credential greeting (none tt) c.document old new c.accepted
+taken_by conversation mechanism asked credential greeting old new none c = nothing_taken old new c
 
-spent_by : (conversation : Option Conversation) (mechanism : AuthMechanism) (asked : Asked) (credential : Credential) (greeting : Greeting) (kind : ErrorKind) (old new : State) (before after : ℤ) (first last : Ledgers) → (IsScram conversation → HasNone (InvalidRow (speculative_reply asked greeting) mechanism credential))
-    → StoppedCosts (scram_in conversation) asked credential greeting kind old new before after first last → KeySpent (derivation_by conversation mechanism asked credential greeting) kind old new before after first last
+spent_by : (conversation : Option Conversation) (mechanism : AuthMechanism) (asked : Asked) (credential : Credential) (greeting : Greeting) (kind : ErrorKind) (old new : Balance) → (IsScram conversation → HasNone (InvalidRow (speculative_reply asked greeting) mechanism credential))
+    → StoppedCosts (scram_in conversation) asked credential greeting kind old new → KeySpent (derivation_by conversation mechanism asked credential greeting) kind old new
 unfolding derivation_by
-spent_by (Some (Scram version)) mechanism asked credential greeting kind old new before after first last none c = scram_spends version mechanism asked credential greeting (none tt) kind old new before after first last c
-spent_by conversation mechanism asked credential greeting kind old new before after first last none c = nothing_spent kind old new before after first last c
+spent_by (Some (Scram version)) mechanism asked credential greeting kind old new none c = scram_spends version mechanism asked credential greeting (none tt) kind old new c
+spent_by conversation mechanism asked credential greeting kind old new none c = nothing_spent kind old new c
 
 -- the mechanism doesn't take the credential
-row_spent : (conversation : Option Conversation) (mechanism : AuthMechanism) (asked : Asked) (credential : Credential) (greeting : Greeting) (kind : ErrorKind) (old new : State) (before after : ℤ) (first last : Ledgers) → (IsScram conversation → HasNone (InvalidRow (speculative_reply asked greeting) mechanism credential))
-    → InvalidRow (speculative_reply asked greeting) mechanism credential kind → CostsNothing first last → KeySpent (derivation_by conversation mechanism asked credential greeting) kind old new before after first last
+row_spent : (conversation : Option Conversation) (mechanism : AuthMechanism) (asked : Asked) (credential : Credential) (greeting : Greeting) (kind : ErrorKind) (old new : Balance) → (IsScram conversation → HasNone (InvalidRow (speculative_reply asked greeting) mechanism credential))
+    → InvalidRow (speculative_reply asked greeting) mechanism credential kind → CostsNothing old.ledgers new.ledgers → KeySpent (derivation_by conversation mechanism asked credential greeting) kind old new
 unfolding derivation_by
-row_spent (Some (Scram version)) mechanism asked credential greeting kind old new before after first last none row nothing = absurd (none tt kind row)
-row_spent conversation mechanism asked credential greeting kind old new before after first last none row nothing = nothing_spent kind old new before after first last nothing
+row_spent (Some (Scram version)) mechanism asked credential greeting kind old new none row nothing = absurd (none tt kind row)
+row_spent conversation mechanism asked credential greeting kind old new none row nothing = nothing_spent kind old new nothing
 
 -- ---- a login
 
-login_taken : (who : Option Credential) (asked : Asked) (greeting : Greeting) (old new : State) (before after : ℤ) (first last : Ledgers) → HasNone (HelloRow who) → LoginCostsOf who asked greeting old new before after first last → KeyTaken (derivation_of who asked greeting) old before first last
-login_taken None asked greeting old new before after first last made c = nothing_taken old before first last c
-login_taken (Some credential) asked greeting old new before after first last made c =
+login_taken : (who : Option Credential) (asked : Asked) (greeting : Greeting) (old new : Balance) → HasNone (HelloRow who) → LoginCostsOf who asked greeting old new → KeyTaken (derivation_of who asked greeting) old new
+login_taken None asked greeting old new made c = nothing_taken old new c
+login_taken (Some credential) asked greeting old new made c =
     let none = taken credential (speculative_reply asked greeting) greeting.description c.mechanism c.is_mechanism made in
-    taken_more (derivation_by (conversation_of c.mechanism) c.mechanism asked credential greeting) (derivation_of (Some credential) asked greeting) old before first last (λ past turn h. (c.mechanism, c.is_mechanism, h))
-    (taken_by (conversation_of c.mechanism) c.mechanism asked credential greeting old new before after first last none c.costs)
+    taken_more (derivation_by (conversation_of c.mechanism) c.mechanism asked credential greeting) (derivation_of (Some credential) asked greeting) old new (λ past turn h. (c.mechanism, c.is_mechanism, h))
+    (taken_by (conversation_of c.mechanism) c.mechanism asked credential greeting old new none c.costs)
 
-login_spent : (who : Option Credential) (asked : Asked) (greeting : Greeting) (kind : ErrorKind) (old new : State) (before after : ℤ) (first last : Ledgers) → HasNone (HelloRow who) → StoppedLoginCostsOf who asked greeting kind old new before after first last → KeySpent (derivation_of who asked greeting) kind old new before after first last
-login_spent None asked greeting kind old new before after first last made c = nothing_spent kind old new before after first last c
-login_spent (Some credential) asked greeting kind old new before after first last made c =
+login_spent : (who : Option Credential) (asked : Asked) (greeting : Greeting) (kind : ErrorKind) (old new : Balance) → HasNone (HelloRow who) → StoppedLoginCostsOf who asked greeting kind old new → KeySpent (derivation_of who asked greeting) kind old new
+login_spent None asked greeting kind old new made c = nothing_spent kind old new c
+login_spent (Some credential) asked greeting kind old new made c =
     let none = taken credential (speculative_reply asked greeting) greeting.description c.mechanism c.is_mechanism made in
-    spent_more (derivation_by (conversation_of c.mechanism) c.mechanism asked credential greeting) (derivation_of (Some credential) asked greeting) kind old new before after first last (λ past turn h. (c.mechanism, c.is_mechanism, h))
+    spent_more (derivation_by (conversation_of c.mechanism) c.mechanism asked credential greeting) (derivation_of (Some credential) asked greeting) kind old new (λ past turn h. (c.mechanism, c.is_mechanism, h))
     (elim c.costs [
-      | inl row ↦ row_spent (conversation_of c.mechanism) c.mechanism asked credential greeting kind old new before after first last none row.0 row.1
-      | inr stopped ↦ spent_by (conversation_of c.mechanism) c.mechanism asked credential greeting kind old new before after first last none stopped
+      | inl row ↦ row_spent (conversation_of c.mechanism) c.mechanism asked credential greeting kind old new none row.0 row.1
+      | inr stopped ↦ spent_by (conversation_of c.mechanism) c.mechanism asked credential greeting kind old new none stopped
     ])
 
 -- ---- a handshake
@@ -188,61 +188,61 @@ hello_made : (asked : Asked) (greeting : Greeting) (old middle : State) (before 
 hello_made asked greeting old middle before between r =
     who_made (holds_users greeting.description.initial_server_type) asked.credential (greeted asked r.events greeting (record { follows = r.talked.follows; answer_is = r.answer_is })).made
 
-pub handshake_taken : (asked : Asked) (old new : State) (after : ℤ) (first last : Ledgers) → HandshakeCosts asked old new after first last → KeyTaken (derivation_plan asked) old asked.first_id first last
+pub handshake_taken : (asked : Asked) (old new : Balance) → HandshakeCosts asked old new → KeyTaken (derivation_plan asked) old new
 unfolding derivation_plan login_derivation
-handshake_taken asked old new after first last h =
-    taken_after (hello_plan asked) (login_derivation asked) h.greeting old h.middle asked.first_id h.between first last h.hello
-    (login_taken (logging_in asked h.greeting) asked h.greeting h.middle new h.between after first last (hello_made asked h.greeting old h.middle asked.first_id h.between h.hello) h.login)
+handshake_taken asked old new h =
+    taken_after (hello_plan asked) (login_derivation asked) h.greeting h.middle h.between old new h.hello
+    (login_taken (logging_in asked h.greeting) asked h.greeting (balance h.middle h.between old.ledgers) new (hello_made asked h.greeting old.state h.middle old.id h.between h.hello) h.login)
 
-pub handshake_spent : (asked : Asked) (kind : ErrorKind) (old new : State) (after : ℤ) (first last : Ledgers) → StoppedHandshakeCosts asked kind old new after first last → KeySpent (derivation_plan asked) kind old new asked.first_id after first last
+pub handshake_spent : (asked : Asked) (kind : ErrorKind) (old new : Balance) → StoppedHandshakeCosts asked kind old new → KeySpent (derivation_plan asked) kind old new
 unfolding derivation_plan login_derivation
-handshake_spent asked kind old new after first last s =
+handshake_spent asked kind old new s =
     elim s [
-      | inl h ↦ inl (record { stopped = stopped_first (hello_plan asked) (login_derivation asked) kind old new asked.first_id after h.hello; nothing = h.nothing })
+      | inl h ↦ inl (record { stopped = stopped_first (hello_plan asked) (login_derivation asked) kind old.state new.state old.id new.id h.hello; nothing = h.nothing })
       | inr l ↦
-          spent_after (hello_plan asked) (login_derivation asked) l.greeting kind old l.middle new asked.first_id l.between after first last l.hello
-          (login_spent (logging_in asked l.greeting) asked l.greeting kind l.middle new l.between after first last (hello_made asked l.greeting old l.middle asked.first_id l.between l.hello) l.login)
+          spent_after (hello_plan asked) (login_derivation asked) l.greeting kind l.middle l.between old new l.hello
+          (login_spent (logging_in asked l.greeting) asked l.greeting kind (balance l.middle l.between old.ledgers) new (hello_made asked l.greeting old.state l.middle old.id l.between l.hello) l.login)
     ]
 
 -- ---- over told bytes
 
-takes_led : (asked : Asked) (bytes : List ℕ) (old : State) (first last : Ledgers) → KeyTaken (derivation_plan asked) old asked.first_id first last → old.left ≡ Some bytes → TakesAsLed asked bytes (λ key. AcceptedTakes key first last)
-takes_led asked bytes old first last a is =
-    let l = reached_led (derivation_plan asked) a.key old a.middle asked.first_id a.between bytes a.reached is in
+takes_led : (asked : Asked) (bytes : List ℕ) (old new : Balance) → KeyTaken (derivation_plan asked) old new → old.state.left ≡ Some bytes → TakesAsLed asked bytes (λ key. AcceptedTakes key old.ledgers new.ledgers)
+takes_led asked bytes old new a is =
+    let l = reached_led (derivation_plan asked) a.key old.state a.middle old.id a.between bytes a.reached is in
     record { key = a.key; leads = record { outcome = ends a.key; commands = l.commands; taken = l.taken; unread = l.unread; leads = l.leads; key_is = refl }; taken = a.takes }
 
 -- memory ran out, or the bytes lead to the key
-spends_led : (asked : Asked) (kind : ErrorKind) (bytes : List ℕ) (old new : State) (after : ℤ) (first last : Ledgers) → KeySpent (derivation_plan asked) kind old new asked.first_id after first last → old.left ≡ Some bytes → (Rose old.read_faults new.read_faults → ⊥) → (Rose old.write_faults new.write_faults → ⊥)
-    → (kind ≡ OutOfMemory) ⊎ TakesAsLed asked bytes (λ key. RefusedTakes key first last)
-spends_led asked kind bytes old new after first last s is unfailed unwritten =
+spends_led : (asked : Asked) (kind : ErrorKind) (bytes : List ℕ) (old new : Balance) → KeySpent (derivation_plan asked) kind old new → old.state.left ≡ Some bytes → (Rose old.state.read_faults new.state.read_faults → ⊥) → (Rose old.state.write_faults new.state.write_faults → ⊥)
+    → (kind ≡ OutOfMemory) ⊎ TakesAsLed asked bytes (λ key. RefusedTakes key old.ledgers new.ledgers)
+spends_led asked kind bytes old new s is unfailed unwritten =
     elim s [
-      | inl early ↦ elim (stopped_led (derivation_plan asked) kind old new asked.first_id after bytes early.stopped is unfailed unwritten) [
+      | inl early ↦ elim (stopped_led (derivation_plan asked) kind old.state new.state old.id new.id bytes early.stopped is unfailed unwritten) [
         | inl memory ↦ inl memory
         | inr l ↦ inr (record { key = None; leads = record { outcome = refuses kind; commands = l.commands; taken = l.taken; unread = l.unread; leads = l.leads; key_is = refl }; taken = early.nothing })
       ]
       | inr late ↦ elim late.takes [
         | inl takes ↦
-            let l = reached_led (derivation_plan asked) late.key old late.middle asked.first_id late.between bytes late.reached is in
+            let l = reached_led (derivation_plan asked) late.key old.state late.middle old.id late.between bytes late.reached is in
             inr (record { key = late.key; leads = record { outcome = ends late.key; commands = l.commands; taken = l.taken; unread = l.unread; leads = l.leads; key_is = refl }; taken = takes })
         | inr memory ↦ inl memory.0
       ]
     ]
 
 -- a handshake that was accepted: the connection is ready, or its server named no service
-pub pooled_led : (r : Result PooledConnection EstablishError) (asked : Asked) (old new : State) (after : ℤ) (first last : Ledgers) → HandshakeCosts asked old new after first last → IfErr r (λ e. e.cause.kind ≡ IncompatibleServer) → CostsAsLed r asked old new first last
-pooled_led (Ok pooled) asked old new after first last h unnamed = record { over = λ bytes is unfailed unwritten. takes_led asked bytes old first last (handshake_taken asked old new after first last h) is }
-pooled_led (Err e) asked old new after first last h unnamed = record { over = λ bytes is unfailed unwritten. inr (inl (record { kind_is = unnamed; led = takes_led asked bytes old first last (handshake_taken asked old new after first last h) is })) }
+pub pooled_led : (r : Result PooledConnection EstablishError) (asked : Asked) (old new : Balance) → HandshakeCosts asked old new → IfErr r (λ e. e.cause.kind ≡ IncompatibleServer) → CostsAsLed r asked old.state new.state old.ledgers new.ledgers
+pooled_led (Ok pooled) asked old new h unnamed = record { over = λ bytes is unfailed unwritten. takes_led asked bytes old new (handshake_taken asked old new h) is }
+pooled_led (Err e) asked old new h unnamed = record { over = λ bytes is unfailed unwritten. inr (inl (record { kind_is = unnamed; led = takes_led asked bytes old new (handshake_taken asked old new h) is })) }
 
 pub unnamed_kind : (r : Result PooledConnection EstablishError) (connection : Connection) (pool : PoolGeneration) → IfErr r (UnnamedService connection pool) → IfErr r (λ e. e.cause.kind ≡ IncompatibleServer)
 unnamed_kind (Ok pooled) connection pool u = tt
 unnamed_kind (Err e) connection pool u = u.kind_is
 
 -- one that was refused
-pub refused_led : (e : EstablishError) (asked : Asked) (old new : State) (after : ℤ) (first last : Ledgers) → EstablishmentCosts {T = PooledConnection} (Err e) asked old new after first last → (e.cause.kind ≡ IncompatibleServer → ⊥) → CostsAsLed {T = PooledConnection} (Err e) asked old new first last
-refused_led e asked old new after first last costs other = record {
+pub refused_led : (e : EstablishError) (asked : Asked) (old new : Balance) → EstablishmentCosts {T = PooledConnection} (Err e) asked old new → (e.cause.kind ≡ IncompatibleServer → ⊥) → CostsAsLed {T = PooledConnection} (Err e) asked old.state new.state old.ledgers new.ledgers
+refused_led e asked old new costs other = record {
   over = λ bytes is unfailed unwritten.
       elim costs.refused [
-        | inl s ↦ elim (spends_led asked e.cause.kind bytes old new after first last (handshake_spent asked e.cause.kind old new after first last s) is unfailed unwritten) [
+        | inl s ↦ elim (spends_led asked e.cause.kind bytes old new (handshake_spent asked e.cause.kind old new s) is unfailed unwritten) [
           | inl memory ↦ inl memory
           | inr led ↦ inr (inr (record { other = other; led = led }))
         ]

@@ -12,7 +12,7 @@ use Rattle.mongo_sasl.specs.declared.credential.Credential.{Credential}
 use Rattle.mongo_sasl.specs.declared.mechanism.AuthMechanism.{AuthMechanism}
 use Rattle.mongo_sasl.specs.declared.mechanism.AuthMechanism.TheVariants.{MongoDbCr, ScramSha1, ScramSha256}
 use Rattle.mongo_sasl.specs.Mechanism.{IsNegotiated}
-use Rattle.mongo_scram.specs.Costs.{Ledgers, CostsNothing}
+use Rattle.mongo_scram.specs.Costs.{Balance, CostsNothing}
 use Rattle.mongo_establish.specs.declared.conversation.Conversation.{Conversation}
 use Rattle.mongo_establish.specs.declared.answered_round.AnsweredRound.{AnsweredRound}
 use Rattle.mongo_establish.specs.Asked.{Asked}
@@ -33,8 +33,8 @@ pub nobody : (asked : Asked) (greeting : Greeting) (old : State) (before : ℤ) 
 unfolding login_plan
 nobody asked greeting old before is = subst (λ who. Reached (login_by who asked greeting) greeting old old before before) (sym is) (reached_ending greeting old before)
 
-pub nobody_costs : (asked : Asked) (greeting : Greeting) (old : State) (before : ℤ) (ledgers : Ledgers) → logging_in asked greeting ≡ None → CostsNothing ledgers ledgers → LoginCosts asked greeting old old before before ledgers ledgers
-nobody_costs asked greeting old before ledgers is nothing = subst (λ who. LoginCostsOf who asked greeting old old before before ledgers ledgers) (sym is) nothing
+pub nobody_costs : (asked : Asked) (greeting : Greeting) (old : Balance) → logging_in asked greeting ≡ None → CostsNothing old.ledgers old.ledgers → LoginCosts asked greeting old old
+nobody_costs asked greeting old is nothing = subst (λ who. LoginCostsOf who asked greeting old old) (sym is) nothing
 
 unasked : (holds : Bool) (credential : Option Credential) → credential ≡ None → ◌≡◌ {A = Option Credential} (if holds then credential else None) None
 unasked true credential none = none
@@ -135,32 +135,32 @@ module _ (asked : Asked) (greeting : Greeting) (credential : Credential) (round 
   pub invalid_stopped : (kind : ErrorKind) (old : State) (before : ℤ) → is_some round ≡ false → InvalidRow None mechanism credential kind → Stopped (login_plan asked greeting) kind old old before before
   invalid_stopped kind old before none row = login_stopped kind old old before before (row_stopped mechanism conversation asked credential greeting kind old before has (invalid_row kind none row))
 
-  pub invalid_costs : (kind : ErrorKind) (old : State) (before : ℤ) (ledgers : Ledgers) → is_some round ≡ false → InvalidRow None mechanism credential kind → CostsNothing ledgers ledgers → StoppedLoginCosts asked greeting kind old old before before ledgers ledgers
-  invalid_costs kind old before ledgers none row nothing =
-      subst (λ w. StoppedLoginCostsOf w asked greeting kind old old before before ledgers ledgers) (sym (a_user asked greeting credential holds who)) (record { mechanism = mechanism; is_mechanism = by_mechanism; costs = inl (invalid_row kind none row, nothing) })
+  pub invalid_costs : (kind : ErrorKind) (old : Balance) → is_some round ≡ false → InvalidRow None mechanism credential kind → CostsNothing old.ledgers old.ledgers → StoppedLoginCosts asked greeting kind old old
+  invalid_costs kind old none row nothing =
+      subst (λ w. StoppedLoginCostsOf w asked greeting kind old old) (sym (a_user asked greeting credential holds who)) (record { mechanism = mechanism; is_mechanism = by_mechanism; costs = inl (invalid_row kind none row, nothing) })
 
   module _ (taken : IsCredentialTaken (is_some round) mechanism credential) where
     no_row : HasNone (InvalidRow (speculative_reply asked greeting) mechanism credential)
     no_row = taken_no_row (speculative_reply asked greeting) mechanism credential (takes_it (speculative_reply asked greeting) (is_some round) mechanism credential went.there taken)
 
-    pub conversed_reached : (old new : State) (before after : ℤ) (early late : Ledgers) → Conversed conversation asked credential greeting old new before after early late → Reached (login_plan asked greeting) greeting old new before after
-    conversed_reached old new before after early late h = login_reached old new before after (validated_reached mechanism conversation asked credential greeting old new before after has no_row h.reached)
+    pub conversed_reached : (old new : Balance) → Conversed conversation asked credential greeting old new → Reached (login_plan asked greeting) greeting old.state new.state old.id new.id
+    conversed_reached old new h = login_reached old.state new.state old.id new.id (validated_reached mechanism conversation asked credential greeting old.state new.state old.id new.id has no_row h.reached)
 
-    pub conversed_costs : (old new : State) (before after : ℤ) (early late : Ledgers) → Conversed conversation asked credential greeting old new before after early late → LoginCosts asked greeting old new before after early late
-    conversed_costs old new before after early late h =
-        subst (λ w. LoginCostsOf w asked greeting old new before after early late) (sym (a_user asked greeting credential holds who)) (record {
+    pub conversed_costs : (old new : Balance) → Conversed conversation asked credential greeting old new → LoginCosts asked greeting old new
+    conversed_costs old new h =
+        subst (λ w. LoginCostsOf w asked greeting old new) (sym (a_user asked greeting credential holds who)) (record {
           mechanism = mechanism;
           is_mechanism = by_mechanism;
-          costs = subst (λ o. AcceptedCosts (scram_in o) asked credential greeting old new before after early late) (sym has) h.costs;
+          costs = subst (λ o. AcceptedCosts (scram_in o) asked credential greeting old new) (sym has) h.costs;
         })
 
-    pub stopped_stopped : (kind : ErrorKind) (old new : State) (before after : ℤ) (early late : Ledgers) → ConversationStopped conversation asked credential greeting kind old new before after early late → Stopped (login_plan asked greeting) kind old new before after
-    stopped_stopped kind old new before after early late h = login_stopped kind old new before after (validated_stopped mechanism conversation asked credential greeting kind old new before after has no_row h.stopped)
+    pub stopped_stopped : (kind : ErrorKind) (old new : Balance) → ConversationStopped conversation asked credential greeting kind old new → Stopped (login_plan asked greeting) kind old.state new.state old.id new.id
+    stopped_stopped kind old new h = login_stopped kind old.state new.state old.id new.id (validated_stopped mechanism conversation asked credential greeting kind old.state new.state old.id new.id has no_row h.stopped)
 
-    pub stopped_costs : (kind : ErrorKind) (old new : State) (before after : ℤ) (early late : Ledgers) → ConversationStopped conversation asked credential greeting kind old new before after early late → StoppedLoginCosts asked greeting kind old new before after early late
-    stopped_costs kind old new before after early late h =
-        subst (λ w. StoppedLoginCostsOf w asked greeting kind old new before after early late) (sym (a_user asked greeting credential holds who)) (record {
+    pub stopped_costs : (kind : ErrorKind) (old new : Balance) → ConversationStopped conversation asked credential greeting kind old new → StoppedLoginCosts asked greeting kind old new
+    stopped_costs kind old new h =
+        subst (λ w. StoppedLoginCostsOf w asked greeting kind old new) (sym (a_user asked greeting credential holds who)) (record {
           mechanism = mechanism;
           is_mechanism = by_mechanism;
-          costs = inr (subst (λ o. StoppedCosts (scram_in o) asked credential greeting kind old new before after early late) (sym has) h.costs);
+          costs = inr (subst (λ o. StoppedCosts (scram_in o) asked credential greeting kind old new) (sym has) h.costs);
         })

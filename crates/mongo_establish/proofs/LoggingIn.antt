@@ -2,7 +2,6 @@
 use Rattle.std.proofs.Common.{◌≡◌, ℕ, ℤ, ◌∙◌, refl, subst, sym, true, false, Option, None, Some, Result, Ok, Err, List, [], is_some, IfErr, OnOk}
 use Rattle.mongo_wire.specs.declared.error.Error.{Error}
 use Rattle.mongo_wire.specs.declared.error.ErrorKind.{ErrorKind}
-use Rattle.mongo_wire.specs.Outside.{State}
 use Rattle.mongo_command.specs.declared.connection.Connection.{Connection}
 use Rattle.mongo_command.specs.declared.stream_description.StreamDescription.{StreamDescription}
 use Rattle.mongo_command.specs.Conversation.{HasNone}
@@ -10,7 +9,7 @@ use Rattle.mongo_sasl.specs.declared.credential.Credential.{Credential}
 use Rattle.mongo_sasl.specs.declared.mechanism.AuthMechanism.{AuthMechanism}
 use Rattle.mongo_sasl.specs.EndsByScript.{KeepsAfter}
 use Rattle.mongo_sasl.proofs.KeptAfter.{own_keeps}
-use Rattle.mongo_scram.specs.Costs.{Ledgers, CostsNothing}
+use Rattle.mongo_scram.specs.Costs.{Balance, CostsNothing}
 use Rattle.mongo_establish.specs.declared.conversation.Conversation.{Conversation}
 use Rattle.mongo_establish.specs.declared.answered_round.AnsweredRound.{AnsweredRound}
 use Rattle.mongo_establish.specs.declared.login_state.Nonces.{Nonces}
@@ -32,20 +31,20 @@ no_row : (conversation : Conversation) → Some conversation ≡ None → ⊥
 no_row conversation is = cc
 
 -- the server holds no users
-pub empty_server : (asked : Asked) (description : StreamDescription) (held : Option StreamDescription) (round : Option AnsweredRound) (old : State) (before : ℤ) (ledgers : Ledgers) → held ≡ Some description → holds_users description.initial_server_type ≡ false → CostsNothing ledgers ledgers → LogsIn asked held round old old before before ledgers ledgers
-empty_server asked description held round old before ledgers is empty nothing =
+pub empty_server : (asked : Asked) (description : StreamDescription) (held : Option StreamDescription) (round : Option AnsweredRound) (old : Balance) → held ≡ Some description → holds_users description.initial_server_type ≡ false → CostsNothing old.ledgers old.ledgers → LogsIn asked held round old old
+empty_server asked description held round old is empty nothing =
     let none : (greeting : Greeting) → held ≡ Some greeting.description → holds_users greeting.description.initial_server_type ≡ false =
     λ greeting described. subst (λ d. holds_users d.initial_server_type ≡ false) (same_description description greeting.description (sym is ∙ described)) empty in
     record {
-      reached = λ greeting described r. nobody asked greeting old before (no_users asked greeting (none greeting described));
-      costs = λ greeting described r. nobody_costs asked greeting old before ledgers (no_users asked greeting (none greeting described)) nothing;
+      reached = λ greeting described r. nobody asked greeting old.state old.id (no_users asked greeting (none greeting described));
+      costs = λ greeting described r. nobody_costs asked greeting old (no_users asked greeting (none greeting described)) nothing;
     }
 
 -- there is no credential
-pub no_login : (asked : Asked) (held : Option StreamDescription) (round : Option AnsweredRound) (old : State) (before : ℤ) (ledgers : Ledgers) → asked.credential ≡ None → CostsNothing ledgers ledgers → LogsIn asked held round old old before before ledgers ledgers
-no_login asked held round old before ledgers none nothing = record {
-  reached = λ greeting described r. nobody asked greeting old before (no_credential asked greeting none);
-  costs = λ greeting described r. nobody_costs asked greeting old before ledgers (no_credential asked greeting none) nothing;
+pub no_login : (asked : Asked) (held : Option StreamDescription) (round : Option AnsweredRound) (old : Balance) → asked.credential ≡ None → CostsNothing old.ledgers old.ledgers → LogsIn asked held round old old
+no_login asked held round old none nothing = record {
+  reached = λ greeting described r. nobody asked greeting old.state old.id (no_credential asked greeting none);
+  costs = λ greeting described r. nobody_costs asked greeting old (no_credential asked greeting none) nothing;
 }
 
 -- a reply that is there where a first round is
@@ -83,12 +82,12 @@ module _ (opened : Connection) (options : HandshakerOptions) (given : Option Cre
   went greeting r = subst (λ c. IsRoundOf c asked greeting round) who r
 
   -- the mechanism doesn't take the credential
-  pub log_in_invalid : {T : Type 0} (r : Result T Error) (old : State) (before : ℤ) (ledgers : Ledgers) → CostsNothing ledgers ledgers → IfErr r (λ e. (is_some round ≡ false) × InvalidRow None mechanism credential e.kind)
-      → IfErr r (λ e. LoginStops asked held round e.kind old old before before ledgers ledgers)
-  log_in_invalid (Ok x) old before ledgers nothing h = tt
-  log_in_invalid (Err e) old before ledgers nothing h = record {
-    stopped = λ greeting described r. invalid_stopped asked greeting credential round mechanism who (users greeting described) (went greeting r) (mechanisms greeting described) found.0 found.1 e.kind old before h.0 h.1;
-    costs = λ greeting described r. invalid_costs asked greeting credential round mechanism who (users greeting described) (went greeting r) (mechanisms greeting described) found.0 found.1 e.kind old before ledgers h.0 h.1 nothing;
+  pub log_in_invalid : {T : Type 0} (r : Result T Error) (old : Balance) → CostsNothing old.ledgers old.ledgers → IfErr r (λ e. (is_some round ≡ false) × InvalidRow None mechanism credential e.kind)
+      → IfErr r (λ e. LoginStops asked held round e.kind old old)
+  log_in_invalid (Ok x) old nothing h = tt
+  log_in_invalid (Err e) old nothing h = record {
+    stopped = λ greeting described r. invalid_stopped asked greeting credential round mechanism who (users greeting described) (went greeting r) (mechanisms greeting described) found.0 found.1 e.kind old.state old.id h.0 h.1;
+    costs = λ greeting described r. invalid_costs asked greeting credential round mechanism who (users greeting described) (went greeting r) (mechanisms greeting described) found.0 found.1 e.kind old h.0 h.1 nothing;
   }
 
   -- and leaves a connection without a fault
@@ -104,25 +103,25 @@ module _ (opened : Connection) (options : HandshakerOptions) (given : Option Cre
     abbrev this : Option Credential → Asked
     this c = asked_over opened options c nonces id
 
-    here : (r : Result (Unit {0}) Error) (left : Connection) (old new : State) (before after : ℤ) (early late : Ledgers) → Converses r conversation (this (Some credential)) credential round opened left old new before after early late → Converses r conversation asked credential round opened left old new before after early late
-    here r left old new before after early late h = subst (λ c. Converses r conversation (this c) credential round opened left old new before after early late) (sym who) h
+    here : (r : Result (Unit {0}) Error) (left : Connection) (old new : Balance) → Converses r conversation (this (Some credential)) credential round opened left old new → Converses r conversation asked credential round opened left old new
+    here r left old new h = subst (λ c. Converses r conversation (this c) credential round opened left old new) (sym who) h
 
     -- its conversation was followed to its end
-    pub log_in_accepted : (r : Result (Unit {0}) Error) (left : Connection) (old new : State) (before after : ℤ) (early late : Ledgers) → Converses r conversation (this (Some credential)) credential round opened left old new before after early late → OnOk r (LogsIn asked held round old new before after early late)
-    log_in_accepted (Ok done) left old new before after early late h =
-        let conversed = (here (Ok done) left old new before after early late h).accepted in
+    pub log_in_accepted : (r : Result (Unit {0}) Error) (left : Connection) (old new : Balance) → Converses r conversation (this (Some credential)) credential round opened left old new → OnOk r (LogsIn asked held round old new)
+    log_in_accepted (Ok done) left old new h =
+        let conversed = (here (Ok done) left old new h).accepted in
         record {
-          reached = λ greeting described r. conversed_reached asked greeting credential round mechanism who (users greeting described) (went greeting r) (mechanisms greeting described) conversation has taken old new before after early late (conversed greeting described (by_it greeting described r));
-          costs = λ greeting described r. conversed_costs asked greeting credential round mechanism who (users greeting described) (went greeting r) (mechanisms greeting described) conversation has taken old new before after early late (conversed greeting described (by_it greeting described r));
+          reached = λ greeting described r. conversed_reached asked greeting credential round mechanism who (users greeting described) (went greeting r) (mechanisms greeting described) conversation has taken old new (conversed greeting described (by_it greeting described r));
+          costs = λ greeting described r. conversed_costs asked greeting credential round mechanism who (users greeting described) (went greeting r) (mechanisms greeting described) conversation has taken old new (conversed greeting described (by_it greeting described r));
         }
-    log_in_accepted (Err e) left old new before after early late h = tt
+    log_in_accepted (Err e) left old new h = tt
 
     -- it was stopped
-    pub log_in_stopped : (r : Result (Unit {0}) Error) (left : Connection) (old new : State) (before after : ℤ) (early late : Ledgers) → Converses r conversation (this (Some credential)) credential round opened left old new before after early late → IfErr r (λ e. LoginStops asked held round e.kind old new before after early late)
-    log_in_stopped (Ok done) left old new before after early late h = tt
-    log_in_stopped (Err e) left old new before after early late h =
-        let stopped = (here (Err e) left old new before after early late h).refused in
+    pub log_in_stopped : (r : Result (Unit {0}) Error) (left : Connection) (old new : Balance) → Converses r conversation (this (Some credential)) credential round opened left old new → IfErr r (λ e. LoginStops asked held round e.kind old new)
+    log_in_stopped (Ok done) left old new h = tt
+    log_in_stopped (Err e) left old new h =
+        let stopped = (here (Err e) left old new h).refused in
         record {
-          stopped = λ greeting described r. stopped_stopped asked greeting credential round mechanism who (users greeting described) (went greeting r) (mechanisms greeting described) conversation has taken e.kind old new before after early late (stopped greeting described (by_it greeting described r));
-          costs = λ greeting described r. stopped_costs asked greeting credential round mechanism who (users greeting described) (went greeting r) (mechanisms greeting described) conversation has taken e.kind old new before after early late (stopped greeting described (by_it greeting described r));
+          stopped = λ greeting described r. stopped_stopped asked greeting credential round mechanism who (users greeting described) (went greeting r) (mechanisms greeting described) conversation has taken e.kind old new (stopped greeting described (by_it greeting described r));
+          costs = λ greeting described r. stopped_costs asked greeting credential round mechanism who (users greeting described) (went greeting r) (mechanisms greeting described) conversation has taken e.kind old new (stopped greeting described (by_it greeting described r));
         }

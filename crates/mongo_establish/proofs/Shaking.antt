@@ -9,10 +9,11 @@ use Rattle.mongo_command.specs.declared.hello.HelloReply.{HelloReply}
 use Rattle.mongo_command.specs.Connection.{kept_fault, KeepsRest}
 use Rattle.mongo_command.specs.Conversation.{HasNone, or_else, Reached, Stopped}
 use Rattle.mongo_command.specs.Hello.{description_of}
+use Rattle.mongo_command.proofs.Rest.{keeps_all}
 use Rattle.mongo_command.proofs.Steps.{reached_unless, stopped_row, stopped_unless}
 use Rattle.mongo_sasl.specs.declared.credential.Credential.{Credential}
 use Rattle.mongo_scram.specs.Client.{speculated_of}
-use Rattle.mongo_scram.specs.Costs.{Ledgers, CostsNothing}
+use Rattle.mongo_scram.specs.Costs.{Ledgers, Balance, balance, CostsNothing}
 use Rattle.mongo_establish.specs.declared.client_first.ClientFirst.{ClientFirst}
 use Rattle.mongo_establish.specs.declared.answered_round.AnsweredRound.{AnsweredRound}
 use Rattle.mongo_establish.specs.declared.login_state.Nonces.{Nonces}
@@ -48,9 +49,9 @@ pub handed_on : {T U : Type 0} (out : Result U Error) (inner : Result T Error) (
 handed_on out inner x P same was h = handed out x P same (if_err_of inner x P was h)
 
 -- what a refusal costs
-costs_of_err : {T : Type 0} (r : Result T Error) (e : Error) (asked : Asked) (old new : State) (after : ℤ) (early late : Ledgers) → IsErrAnd r (λ x. x ≡ e) → StoppedHandshakeCosts asked e.kind old new after early late → CostsOf r asked old new after early late
-costs_of_err (Ok y) e asked old new after early late same h = absurd same
-costs_of_err (Err x) e asked old new after early late same h = record { accepted = tt; refused = subst (λ (y : Error). StoppedHandshakeCosts asked y.kind old new after early late) (sym same) h }
+costs_of_err : {T : Type 0} (r : Result T Error) (e : Error) (asked : Asked) (old new : Balance) → IsErrAnd r (λ x. x ≡ e) → StoppedHandshakeCosts asked e.kind old new → CostsOf r asked old new
+costs_of_err (Ok y) e asked old new same h = absurd same
+costs_of_err (Err x) e asked old new same h = record { accepted = tt; refused = subst (λ (y : Error). StoppedHandshakeCosts asked y.kind old new) (sym same) h }
 
 -- the reply after what it said to the login that went with the hello was taken out
 abbrev pub taken_out : HelloReply → Option (List ℕ) → HelloReply
@@ -73,15 +74,12 @@ module _ (opened : Connection) (options : HandshakerOptions) (credential : Optio
         let login = speculation credential nonces.first in
         stopped_unless _ _ kind old old id id none.0 (unbuilt_stopped options credential login opened fresh kind old id (unmade_refused options credential login kind none.1)).stopped
 
-    same_rest : KeepsRest opened opened
-    same_rest = record { address = refl; id = refl; description = refl; server_id = refl; token = refl }
-
     pub unmade_stopped : {T : Type 0} (r : Result T Error) (old : State) → IfErr r (λ e. NoFirst e.kind) → IfErr r (λ e. StoppedHandshake asked opened opened e.kind old old id)
     unmade_stopped (Ok x) old h = tt
-    unmade_stopped (Err e) old h = inl (record { hello = unmade e.kind old h; undescribed = fresh; rest = same_rest })
+    unmade_stopped (Err e) old h = inl (record { hello = unmade e.kind old h; undescribed = fresh; rest = keeps_all opened })
 
-    pub unmade_costs : {T : Type 0} (r : Result T Error) (e : Error) (old : State) (ledgers : Ledgers) → IsErrAnd r (λ x. x ≡ e) → CostsNothing ledgers ledgers → NoFirst e.kind → CostsOf r asked old old id ledgers ledgers
-    unmade_costs r e old ledgers same nothing h = costs_of_err r e asked old old id ledgers ledgers same (inl (record { hello = unmade e.kind old h; nothing = nothing }))
+    pub unmade_costs : {T : Type 0} (r : Result T Error) (e : Error) (old : State) (ledgers : Ledgers) → IsErrAnd r (λ x. x ≡ e) → CostsNothing ledgers ledgers → NoFirst e.kind → CostsOf r asked (balance old id ledgers) (balance old id ledgers)
+    unmade_costs r e old ledgers same nothing h = costs_of_err r e asked (balance old id ledgers) (balance old id ledgers) same (inl (record { hello = unmade e.kind old h; nothing = nothing }))
 
   -- ---- the hello
 
@@ -103,8 +101,8 @@ module _ (opened : Connection) (options : HandshakerOptions) (credential : Optio
     ungreeted_stopped (Ok x) connection old new after h = tt
     ungreeted_stopped (Err e) connection old new after h = inl (record { hello = stopped_so e.kind old new after h.stopped; undescribed = h.undescribed; rest = h.rest })
 
-    pub ungreeted_costs : {T : Type 0} (r : Result T Error) (e : Error) (connection : Connection) (old new : State) (after : ℤ) (ledgers : Ledgers) → IsErrAnd r (λ x. x ≡ e) → CostsNothing ledgers ledgers → UngreetedBy options credential sent opened connection e.kind old new id after → CostsOf r asked old new after ledgers ledgers
-    ungreeted_costs r e connection old new after ledgers same nothing h = costs_of_err r e asked old new after ledgers ledgers same (inl (record { hello = stopped_so e.kind old new after h.stopped; nothing = nothing }))
+    pub ungreeted_costs : {T : Type 0} (r : Result T Error) (e : Error) (connection : Connection) (old new : State) (after : ℤ) (ledgers : Ledgers) → IsErrAnd r (λ x. x ≡ e) → CostsNothing ledgers ledgers → UngreetedBy options credential sent opened connection e.kind old new id after → CostsOf r asked (balance old id ledgers) (balance new after ledgers)
+    ungreeted_costs r e connection old new after ledgers same nothing h = costs_of_err r e asked (balance old id ledgers) (balance new after ledgers) same (inl (record { hello = stopped_so e.kind old new after h.stopped; nothing = nothing }))
 
     -- ---- the login
 
@@ -135,25 +133,25 @@ module _ (opened : Connection) (options : HandshakerOptions) (credential : Optio
             token = later.token ∙ holds.token;
           }
 
-      pub login_stopped : {T : Type 0} (r : Result T Error) (connection : Connection) (new : State) (after : ℤ) (early late : Ledgers) → KeepsRest described connection
-          → IfErr r (λ e. LoginStops anew described.stream_description round e.kind middle new between after early late) → IfErr r (λ e. StoppedHandshake asked opened connection e.kind old new after)
-      login_stopped (Ok x) connection new after early late later h = tt
-      login_stopped (Err e) connection new after early late later h = inr (record {
+      pub login_stopped : {T : Type 0} (r : Result T Error) (connection : Connection) (early : Ledgers) (new : Balance) → KeepsRest described connection
+          → IfErr r (λ e. LoginStops anew described.stream_description round e.kind (balance middle between early) new) → IfErr r (λ e. StoppedHandshake asked opened connection e.kind old new.state new.id)
+      login_stopped (Ok x) connection early new later h = tt
+      login_stopped (Err e) connection early new later h = inr (record {
         greeting = greeting;
         middle = middle;
         between = between;
         hello = hello_reached;
-        login = stopped_alike (pending_over described) (pending_over opened) options credential nonces between id greeting e.kind middle new between after (h.stopped greeting greeted.described.holds.description_is held_round);
+        login = stopped_alike (pending_over described) (pending_over opened) options credential nonces between id greeting e.kind middle new.state between new.id (h.stopped greeting greeted.described.holds.description_is held_round);
         held = held connection later;
       })
 
-      pub login_stopped_costs : {T : Type 0} (r : Result T Error) (e : Error) (new : State) (after : ℤ) (early late : Ledgers) → IsErrAnd r (λ x. x ≡ e) → LoginStops anew described.stream_description round e.kind middle new between after early late → CostsOf r asked old new after early late
-      login_stopped_costs r e new after early late same h = costs_of_err r e asked old new after early late same (inr (record {
+      pub login_stopped_costs : {T : Type 0} (r : Result T Error) (e : Error) (early : Ledgers) (new : Balance) → IsErrAnd r (λ x. x ≡ e) → LoginStops anew described.stream_description round e.kind (balance middle between early) new → CostsOf r asked (balance old id early) new
+      login_stopped_costs r e early new same h = costs_of_err r e asked (balance old id early) new same (inr (record {
         greeting = greeting;
         middle = middle;
         between = between;
         hello = hello_reached;
-        login = stopped_login_costs_alike (pending_over described) (pending_over opened) options credential nonces between id greeting e.kind middle new between after early late (h.costs greeting greeted.described.holds.description_is held_round);
+        login = stopped_login_costs_alike (pending_over described) (pending_over opened) options credential nonces between id greeting e.kind (balance middle between early) new (h.costs greeting greeted.described.holds.description_is held_round);
       }))
 
       is_reply : (answer : HelloReply) → answer ≡ taken_out reply sent → IsReplyOf asked greeting answer
@@ -168,23 +166,23 @@ module _ (opened : Connection) (options : HandshakerOptions) (credential : Optio
             speculative = ap (λ login. left_in login reply.command_response.speculative_authenticate) (first_speculation credential nonces.first first is_first);
           })
 
-      pub shook : (connection : Connection) (new : State) (after : ℤ) (early late : Ledgers) (answer : HelloReply) → KeepsRest described connection → kept_fault connection ≡ None → answer ≡ taken_out reply sent
-          → LogsIn anew described.stream_description round middle new between after early late → ShookHands asked opened connection old new after answer
-      shook connection new after early late answer later faultless is h = record {
+      pub shook : (connection : Connection) (early : Ledgers) (new : Balance) (answer : HelloReply) → KeepsRest described connection → kept_fault connection ≡ None → answer ≡ taken_out reply sent
+          → LogsIn anew described.stream_description round (balance middle between early) new → ShookHands asked opened connection old new.state new.id answer
+      shook connection early new answer later faultless is h = record {
         greeting = greeting;
         middle = middle;
         between = between;
         hello = hello_reached;
-        login = reached_alike (pending_over described) (pending_over opened) options credential nonces between id greeting middle new between after (h.reached greeting greeted.described.holds.description_is held_round);
+        login = reached_alike (pending_over described) (pending_over opened) options credential nonces between id greeting middle new.state between new.id (h.reached greeting greeted.described.holds.description_is held_round);
         described = record { holds = held connection later; faultless = faultless };
         reply_is = is_reply answer is;
       }
 
-      pub shook_costs : (new : State) (after : ℤ) (early late : Ledgers) → LogsIn anew described.stream_description round middle new between after early late → HandshakeCosts asked old new after early late
-      shook_costs new after early late h = record {
+      pub shook_costs : (early : Ledgers) (new : Balance) → LogsIn anew described.stream_description round (balance middle between early) new → HandshakeCosts asked (balance old id early) new
+      shook_costs early new h = record {
         greeting = greeting;
         middle = middle;
         between = between;
         hello = hello_reached;
-        login = costs_alike (pending_over described) (pending_over opened) options credential nonces between id greeting middle new between after early late (h.costs greeting greeted.described.holds.description_is held_round);
+        login = costs_alike (pending_over described) (pending_over opened) options credential nonces between id greeting (balance middle between early) new (h.costs greeting greeted.described.holds.description_is held_round);
       }

@@ -8,7 +8,7 @@ use Rattle.mongo_command.specs.Conversation.{Reached, Stopped}
 use Rattle.mongo_sasl.specs.declared.credential.Credential.{Credential}
 use Rattle.mongo_sasl.specs.declared.mechanism.AuthMechanism.{AuthMechanism}
 use Rattle.mongo_scram.specs.declared.scram_version.ScramVersion.{ScramVersion}
-use Rattle.mongo_scram.specs.Costs.{Ledgers, CostsNothing, Accepted, StoppedScram}
+use Rattle.mongo_scram.specs.Costs.{Balance, balance, CostsNothing, Accepted, StoppedScram}
 use Rattle.mongo_establish.specs.declared.establisher.EstablishError.{EstablishError}
 use Rattle.mongo_establish.specs.Asked.{Asked}
 use Rattle.mongo_establish.specs.Greeting.{Greeting}
@@ -19,87 +19,87 @@ use Rattle.mongo_establish.specs.Spoken.{conversation_of, scram_in}
 -- ---- a login's conversation
 
 -- SCRAM's was accepted: its key was derived where it had no entry, and has one now
-pub record ScramAccepted (version : ScramVersion) (asked : Asked) (credential : Credential) (greeting : Greeting) (old new : State) (before after : ℤ) (first last : Ledgers) : Type 0 where
+pub record ScramAccepted (version : ScramVersion) (asked : Asked) (credential : Credential) (greeting : Greeting) (old new : Balance) : Type 0 where
   pub document : List ℕ
-  pub accepted : Accepted (scram_handed_by version asked credential greeting) document old new before after first last
+  pub accepted : Accepted (scram_handed_by version asked credential greeting) document old new
 
 -- what a login costs that was accepted, by its version of SCRAM if it is one
-abbrev pub AcceptedCosts : Option ScramVersion → Asked → Credential → Greeting → State → State → ℤ → ℤ → Ledgers → Ledgers → Type 0
-AcceptedCosts (Some version) asked credential greeting old new before after first last = ScramAccepted version asked credential greeting old new before after first last
-AcceptedCosts None asked credential greeting old new before after first last = CostsNothing first last
+abbrev pub AcceptedCosts : Option ScramVersion → Asked → Credential → Greeting → Balance → Balance → Type 0
+AcceptedCosts (Some version) asked credential greeting old new = ScramAccepted version asked credential greeting old new
+AcceptedCosts None asked credential greeting old new = CostsNothing old.ledgers new.ledgers
 
 -- that was stopped: SCRAM derived its key where the opening had ended and the key had no entry; the entries stay
-abbrev pub StoppedCosts : Option ScramVersion → Asked → Credential → Greeting → ErrorKind → State → State → ℤ → ℤ → Ledgers → Ledgers → Type 0
-StoppedCosts (Some version) asked credential greeting kind old new before after first last = StoppedScram (scram_handed_by version asked credential greeting) kind old new before after first last
-StoppedCosts None asked credential greeting kind old new before after first last = CostsNothing first last
+abbrev pub StoppedCosts : Option ScramVersion → Asked → Credential → Greeting → ErrorKind → Balance → Balance → Type 0
+StoppedCosts (Some version) asked credential greeting kind old new = StoppedScram (scram_handed_by version asked credential greeting) kind old new
+StoppedCosts None asked credential greeting kind old new = CostsNothing old.ledgers new.ledgers
 
 -- ---- a login
 
 -- the mechanism of a login, and what its conversation cost
-pub record MechanismCosts (credential : Credential) (asked : Asked) (greeting : Greeting) (old new : State) (before after : ℤ) (first last : Ledgers) : Type 0 where
+pub record MechanismCosts (credential : Credential) (asked : Asked) (greeting : Greeting) (old new : Balance) : Type 0 where
   pub mechanism : AuthMechanism
   pub is_mechanism : IsMechanism credential.mechanism (speculative_reply asked greeting) greeting.description mechanism
-  pub costs : AcceptedCosts (scram_in (conversation_of mechanism)) asked credential greeting old new before after first last
+  pub costs : AcceptedCosts (scram_in (conversation_of mechanism)) asked credential greeting old new
 
 -- of one that was stopped; nothing, where the mechanism didn't take the credential
-pub record StoppedMechanismCosts (credential : Credential) (asked : Asked) (greeting : Greeting) (kind : ErrorKind) (old new : State) (before after : ℤ) (first last : Ledgers) : Type 0 where
+pub record StoppedMechanismCosts (credential : Credential) (asked : Asked) (greeting : Greeting) (kind : ErrorKind) (old new : Balance) : Type 0 where
   pub mechanism : AuthMechanism
   pub is_mechanism : IsMechanism credential.mechanism (speculative_reply asked greeting) greeting.description mechanism
-  pub costs : (InvalidRow (speculative_reply asked greeting) mechanism credential kind × CostsNothing first last) ⊎ StoppedCosts (scram_in (conversation_of mechanism)) asked credential greeting kind old new before after first last
+  pub costs : (InvalidRow (speculative_reply asked greeting) mechanism credential kind × CostsNothing old.ledgers new.ledgers) ⊎ StoppedCosts (scram_in (conversation_of mechanism)) asked credential greeting kind old new
 
 -- nothing, where nobody logs in
-abbrev pub LoginCostsOf : Option Credential → Asked → Greeting → State → State → ℤ → ℤ → Ledgers → Ledgers → Type 0
-LoginCostsOf None asked greeting old new before after first last = CostsNothing first last
-LoginCostsOf (Some credential) asked greeting old new before after first last = MechanismCosts credential asked greeting old new before after first last
+abbrev pub LoginCostsOf : Option Credential → Asked → Greeting → Balance → Balance → Type 0
+LoginCostsOf None asked greeting old new = CostsNothing old.ledgers new.ledgers
+LoginCostsOf (Some credential) asked greeting old new = MechanismCosts credential asked greeting old new
 
-abbrev pub LoginCosts : Asked → Greeting → State → State → ℤ → ℤ → Ledgers → Ledgers → Type 0
-LoginCosts asked greeting old new before after first last = LoginCostsOf (logging_in asked greeting) asked greeting old new before after first last
+abbrev pub LoginCosts : Asked → Greeting → Balance → Balance → Type 0
+LoginCosts asked greeting old new = LoginCostsOf (logging_in asked greeting) asked greeting old new
 
-abbrev pub StoppedLoginCostsOf : Option Credential → Asked → Greeting → ErrorKind → State → State → ℤ → ℤ → Ledgers → Ledgers → Type 0
-StoppedLoginCostsOf None asked greeting kind old new before after first last = CostsNothing first last
-StoppedLoginCostsOf (Some credential) asked greeting kind old new before after first last = StoppedMechanismCosts credential asked greeting kind old new before after first last
+abbrev pub StoppedLoginCostsOf : Option Credential → Asked → Greeting → ErrorKind → Balance → Balance → Type 0
+StoppedLoginCostsOf None asked greeting kind old new = CostsNothing old.ledgers new.ledgers
+StoppedLoginCostsOf (Some credential) asked greeting kind old new = StoppedMechanismCosts credential asked greeting kind old new
 
-abbrev pub StoppedLoginCosts : Asked → Greeting → ErrorKind → State → State → ℤ → ℤ → Ledgers → Ledgers → Type 0
-StoppedLoginCosts asked greeting kind old new before after first last = StoppedLoginCostsOf (logging_in asked greeting) asked greeting kind old new before after first last
+abbrev pub StoppedLoginCosts : Asked → Greeting → ErrorKind → Balance → Balance → Type 0
+StoppedLoginCosts asked greeting kind old new = StoppedLoginCostsOf (logging_in asked greeting) asked greeting kind old new
 
 -- ---- a handshake
 
--- the hello was followed to its end, which costs nothing, and then the login
-pub record HandshakeCosts (asked : Asked) (old new : State) (after : ℤ) (first last : Ledgers) : Type 0 where
+-- the hello was followed to its end, with the old id, which costs nothing, and then the login
+pub record HandshakeCosts (asked : Asked) (old new : Balance) : Type 0 where
   pub greeting : Greeting
   pub middle : State
   pub between : ℤ
-  pub hello : Reached (hello_plan asked) greeting old middle asked.first_id between
-  pub login : LoginCosts asked greeting middle new between after first last
+  pub hello : Reached (hello_plan asked) greeting old.state middle old.id between
+  pub login : LoginCosts asked greeting (balance middle between old.ledgers) new
 
 -- the hello was stopped
-pub record StoppedHelloCosts (asked : Asked) (kind : ErrorKind) (old new : State) (after : ℤ) (first last : Ledgers) : Type 0 where
-  pub hello : Stopped (hello_plan asked) kind old new asked.first_id after
-  pub nothing : CostsNothing first last
+pub record StoppedHelloCosts (asked : Asked) (kind : ErrorKind) (old new : Balance) : Type 0 where
+  pub hello : Stopped (hello_plan asked) kind old.state new.state old.id new.id
+  pub nothing : CostsNothing old.ledgers new.ledgers
 
 -- the login was
-pub record LateCosts (asked : Asked) (kind : ErrorKind) (old new : State) (after : ℤ) (first last : Ledgers) : Type 0 where
+pub record LateCosts (asked : Asked) (kind : ErrorKind) (old new : Balance) : Type 0 where
   pub greeting : Greeting
   pub middle : State
   pub between : ℤ
-  pub hello : Reached (hello_plan asked) greeting old middle asked.first_id between
-  pub login : StoppedLoginCosts asked greeting kind middle new between after first last
+  pub hello : Reached (hello_plan asked) greeting old.state middle old.id between
+  pub login : StoppedLoginCosts asked greeting kind (balance middle between old.ledgers) new
 
-abbrev pub StoppedHandshakeCosts : Asked → ErrorKind → State → State → ℤ → Ledgers → Ledgers → Type 0
-StoppedHandshakeCosts asked kind old new after first last = StoppedHelloCosts asked kind old new after first last ⊎ LateCosts asked kind old new after first last
+abbrev pub StoppedHandshakeCosts : Asked → ErrorKind → Balance → Balance → Type 0
+StoppedHandshakeCosts asked kind old new = StoppedHelloCosts asked kind old new ⊎ LateCosts asked kind old new
 
 -- what a handshake costs by its answer
-pub record CostsOf {T : Type 0} (result : Result T Error) (asked : Asked) (old new : State) (after : ℤ) (first last : Ledgers) : Type 0 where
-  pub accepted : OnOk result (HandshakeCosts asked old new after first last)
-  pub refused : IfErr result (λ e. StoppedHandshakeCosts asked e.kind old new after first last)
+pub record CostsOf {T : Type 0} (result : Result T Error) (asked : Asked) (old new : Balance) : Type 0 where
+  pub accepted : OnOk result (HandshakeCosts asked old new)
+  pub refused : IfErr result (λ e. StoppedHandshakeCosts asked e.kind old new)
 
 -- ---- an establishment
 
 -- the handshake was stopped, or its server named no service
-abbrev pub StoppedEstablishmentCosts : Asked → ErrorKind → State → State → ℤ → Ledgers → Ledgers → Type 0
-StoppedEstablishmentCosts asked kind old new after first last = StoppedHandshakeCosts asked kind old new after first last ⊎ ((kind ≡ IncompatibleServer) × HandshakeCosts asked old new after first last)
+abbrev pub StoppedEstablishmentCosts : Asked → ErrorKind → Balance → Balance → Type 0
+StoppedEstablishmentCosts asked kind old new = StoppedHandshakeCosts asked kind old new ⊎ ((kind ≡ IncompatibleServer) × HandshakeCosts asked old new)
 
 -- what it costs by its answer
-pub record EstablishmentCosts {T : Type 0} (result : Result T EstablishError) (asked : Asked) (old new : State) (after : ℤ) (first last : Ledgers) : Type 0 where
-  pub accepted : OnOk result (HandshakeCosts asked old new after first last)
-  pub refused : IfErr result (λ e. StoppedEstablishmentCosts asked e.cause.kind old new after first last)
+pub record EstablishmentCosts {T : Type 0} (result : Result T EstablishError) (asked : Asked) (old new : Balance) : Type 0 where
+  pub accepted : OnOk result (HandshakeCosts asked old new)
+  pub refused : IfErr result (λ e. StoppedEstablishmentCosts asked e.cause.kind old new)

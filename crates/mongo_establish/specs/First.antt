@@ -2,9 +2,9 @@
 use Rattle.std.specs.Prelude.{◌≡◌, ℕ, Option, None, Some, is_some, option_map, List, ⊤}
 use Rattle.mongo_wire.specs.declared.error.ErrorKind.{ErrorKind}
 use Rattle.mongo_wire.specs.declared.error.ErrorKind.TheVariants.{OutOfMemory}
+use Rattle.mongo_command.specs.Exchange.{DocumentRefused}
 use Rattle.mongo_sasl.specs.declared.credential.Credential.{Credential}
 use Rattle.mongo_sasl.specs.declared.mechanism.AuthMechanism.{AuthMechanism}
-use Rattle.mongo_sasl.specs.Commands.{IsNotBuilt}
 use Rattle.mongo_sasl.specs.X509.{x509_command}
 use Rattle.mongo_scram.specs.declared.scram_version.ScramVersion.{ScramVersion}
 use Rattle.mongo_scram.specs.declared.messages.ClientFirst.{ClientFirst as ScramFirst}
@@ -63,7 +63,7 @@ IsFirstMessage (Some credential) nonce first = IsFirstMessageBy (mechanism_befor
 -- why a first message can't be made for a credential that has one: its document would be too long, or memory ran out
 abbrev pub IsUnmade : Option (List ℕ) → ErrorKind → Type 0
 IsUnmade None kind = kind ≡ OutOfMemory
-IsUnmade (Some document) kind = IsNotBuilt document kind
+IsUnmade (Some document) kind = DocumentRefused kind document
 
 -- ---- the first round
 

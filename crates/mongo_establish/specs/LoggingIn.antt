@@ -1,8 +1,7 @@
 -- What a login did over a connection that holds a description, from a first round that went with the hello or without one.
-use Rattle.std.specs.Prelude.{◌≡◌, ℤ, Bool, true, false, Option, None, Some, Result, Ok, IfErr, OnOk, OnErr, ⊤}
+use Rattle.std.specs.Prelude.{◌≡◌, Bool, true, false, Option, None, Some, Result, Ok, IfErr, OnOk, OnErr, ⊤}
 use Rattle.mongo_wire.specs.declared.error.Error.{Error}
 use Rattle.mongo_wire.specs.declared.error.ErrorKind.{ErrorKind}
-use Rattle.mongo_wire.specs.Outside.{State}
 use Rattle.mongo_command.specs.declared.connection.Connection.{Connection}
 use Rattle.mongo_command.specs.declared.stream_description.StreamDescription.{StreamDescription}
 use Rattle.mongo_command.specs.Connection.{kept_fault, KeepsRest}
@@ -12,7 +11,7 @@ use Rattle.mongo_sasl.specs.declared.credential.Credential.{Credential}
 use Rattle.mongo_sasl.specs.declared.mechanism.AuthMechanism.{AuthMechanism}
 use Rattle.mongo_sasl.specs.EndsByScript.{KeepsAfter}
 use Rattle.mongo_sasl.specs.Validation.{IsValidated}
-use Rattle.mongo_scram.specs.Costs.{Ledgers, SameEntries}
+use Rattle.mongo_scram.specs.Costs.{Balance, SameEntries}
 use Rattle.mongo_establish.specs.declared.conversation.Conversation.{Conversation}
 use Rattle.mongo_establish.specs.declared.answered_round.AnsweredRound.{AnsweredRound}
 use Rattle.mongo_establish.specs.Asked.{Asked}
@@ -25,27 +24,27 @@ use Rattle.mongo_establish.specs.Spoken.{scram_in}
 -- ---- a conversation
 
 -- it was followed to its end, and cost this
-pub record Conversed (conversation : Conversation) (asked : Asked) (credential : Credential) (greeting : Greeting) (old new : State) (before after : ℤ) (first last : Ledgers) : Type 0 where
-  pub reached : Reached (conversation_plan conversation asked credential greeting) greeting old new before after
-  pub costs : AcceptedCosts (scram_in (Some conversation)) asked credential greeting old new before after first last
+pub record Conversed (conversation : Conversation) (asked : Asked) (credential : Credential) (greeting : Greeting) (old new : Balance) : Type 0 where
+  pub reached : Reached (conversation_plan conversation asked credential greeting) greeting old.state new.state old.id new.id
+  pub costs : AcceptedCosts (scram_in (Some conversation)) asked credential greeting old new
 
 -- it was stopped
-pub record ConversationStopped (conversation : Conversation) (asked : Asked) (credential : Credential) (greeting : Greeting) (kind : ErrorKind) (old new : State) (before after : ℤ) (first last : Ledgers) : Type 0 where
-  pub stopped : Stopped (conversation_plan conversation asked credential greeting) kind old new before after
-  pub costs : StoppedCosts (scram_in (Some conversation)) asked credential greeting kind old new before after first last
+pub record ConversationStopped (conversation : Conversation) (asked : Asked) (credential : Credential) (greeting : Greeting) (kind : ErrorKind) (old new : Balance) : Type 0 where
+  pub stopped : Stopped (conversation_plan conversation asked credential greeting) kind old.state new.state old.id new.id
+  pub costs : StoppedCosts (scram_in (Some conversation)) asked credential greeting kind old new
 
 -- what an answer means and leaves, by each greeting that says what the connection holds and what the first round is
-pub record Converses (result : Result (Unit {0}) Error) (conversation : Conversation) (asked : Asked) (credential : Credential) (round : Option AnsweredRound) (opened left : Connection) (old new : State) (before after : ℤ) (first last : Ledgers) : Type 0 where
-  pub accepted : (greeting : Greeting) → opened.stream_description ≡ Some greeting.description → IsRoundBy (Some conversation) credential asked greeting round → OnOk result (Conversed conversation asked credential greeting old new before after first last)
-  pub refused : (greeting : Greeting) → opened.stream_description ≡ Some greeting.description → IsRoundBy (Some conversation) credential asked greeting round → IfErr result (λ e. ConversationStopped conversation asked credential greeting e.kind old new before after first last)
+pub record Converses (result : Result (Unit {0}) Error) (conversation : Conversation) (asked : Asked) (credential : Credential) (round : Option AnsweredRound) (opened left : Connection) (old new : Balance) : Type 0 where
+  pub accepted : (greeting : Greeting) → opened.stream_description ≡ Some greeting.description → IsRoundBy (Some conversation) credential asked greeting round → OnOk result (Conversed conversation asked credential greeting old new)
+  pub refused : (greeting : Greeting) → opened.stream_description ≡ Some greeting.description → IsRoundBy (Some conversation) credential asked greeting round → IfErr result (λ e. ConversationStopped conversation asked credential greeting e.kind old new)
   -- an accepted one leaves the connection without a fault, a refused one with the fault that `KeepsAfter` says
   pub faultless : OnOk result (kept_fault left ≡ None)
   pub keeps : IfErr result (λ e. KeepsAfter e.kind (kept_fault left))
   -- nothing else of the connection changes, and no count of the link falls
   pub rest : KeepsRest opened left
-  pub counts : CountsStay old new
+  pub counts : CountsStay old.state new.state
   -- a refusal leaves the entries of the cache as they were
-  pub entries : OnErr result (SameEntries first last)
+  pub entries : OnErr result (SameEntries old.ledgers new.ledgers)
 
 -- ---- a login
 
@@ -55,11 +54,11 @@ IsCredentialTaken true mechanism credential = ⊤
 IsCredentialTaken false mechanism credential = IsValidated mechanism credential false (Ok tt)
 
 -- the login of each greeting that says so was followed to its end
-pub record LogsIn (asked : Asked) (held : Option StreamDescription) (round : Option AnsweredRound) (old new : State) (before after : ℤ) (first last : Ledgers) : Type 0 where
-  pub reached : (greeting : Greeting) → held ≡ Some greeting.description → IsRoundOf asked.credential asked greeting round → Reached (login_plan asked greeting) greeting old new before after
-  pub costs : (greeting : Greeting) → held ≡ Some greeting.description → IsRoundOf asked.credential asked greeting round → LoginCosts asked greeting old new before after first last
+pub record LogsIn (asked : Asked) (held : Option StreamDescription) (round : Option AnsweredRound) (old new : Balance) : Type 0 where
+  pub reached : (greeting : Greeting) → held ≡ Some greeting.description → IsRoundOf asked.credential asked greeting round → Reached (login_plan asked greeting) greeting old.state new.state old.id new.id
+  pub costs : (greeting : Greeting) → held ≡ Some greeting.description → IsRoundOf asked.credential asked greeting round → LoginCosts asked greeting old new
 
 -- it was stopped
-pub record LoginStops (asked : Asked) (held : Option StreamDescription) (round : Option AnsweredRound) (kind : ErrorKind) (old new : State) (before after : ℤ) (first last : Ledgers) : Type 0 where
-  pub stopped : (greeting : Greeting) → held ≡ Some greeting.description → IsRoundOf asked.credential asked greeting round → Stopped (login_plan asked greeting) kind old new before after
-  pub costs : (greeting : Greeting) → held ≡ Some greeting.description → IsRoundOf asked.credential asked greeting round → StoppedLoginCosts asked greeting kind old new before after first last
+pub record LoginStops (asked : Asked) (held : Option StreamDescription) (round : Option AnsweredRound) (kind : ErrorKind) (old new : Balance) : Type 0 where
+  pub stopped : (greeting : Greeting) → held ≡ Some greeting.description → IsRoundOf asked.credential asked greeting round → Stopped (login_plan asked greeting) kind old.state new.state old.id new.id
+  pub costs : (greeting : Greeting) → held ≡ Some greeting.description → IsRoundOf asked.credential asked greeting round → StoppedLoginCosts asked greeting kind old new

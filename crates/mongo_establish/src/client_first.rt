@@ -25,7 +25,7 @@ pub enum ClientFirst {
 
 impl ClientFirst {
     ghost use Rattle.std.specs.Prelude.{◌≡◌, IfOk, IfErr};
-    ghost use Rattle.mongo_sasl.specs.Commands.{IsNotBuilt};
+    ghost use Rattle.mongo_command.specs.Exchange.{DocumentRefused};
     ghost use Rattle.mongo_establish.specs.First.{first_document};
 
     /// The document that carries it in a hello: the body of the command that would say it.
@@ -33,7 +33,7 @@ impl ClientFirst {
     /// `Bson(TooLong)` where it would pass 2147483647 bytes.
     pub fn to_document(&self, alloc: Global) -> Result<RawDocumentBuf, Error>
         ensures document { IfOk result (λ document. document ≡ first_document self.now) }
-        ensures refused { IfErr result (λ e. IsNotBuilt (first_document self.now) e.kind) }
+        ensures refused { IfErr result (λ e. DocumentRefused e.kind (first_document self.now)) }
     {
         match self {
             ClientFirst::Scram(version, first) => Ok(first.to_command(alloc, version)?.body),

@@ -45,17 +45,16 @@ impl Handshaker {
     ghost use Rattle.std.specs.Prelude.{◌≡◌, None, option_copied, option_map, IfOk, IfErr, OnErr};
     ghost use Rattle.mongo_wire.specs.declared.error.ErrorKind.TheVariants.{OutOfMemory};
     ghost use Rattle.mongo_command.specs.Connection.{kept_fault};
-    ghost use Rattle.mongo_command.specs.Exchange.{CountsStay};
+    ghost use Rattle.mongo_command.specs.Exchange.{CountsStay, DocumentRefused};
     ghost use Rattle.mongo_sasl.specs.EndsByScript.{KeepsAfter};
     ghost use Rattle.mongo_scram.specs.Cache.{entries_of};
-    ghost use Rattle.mongo_scram.specs.Costs.{ledgers};
+    ghost use Rattle.mongo_scram.specs.Costs.{ledgers, balance};
     ghost use Rattle.mongo_establish.specs.Asked.{asked_over};
     ghost use Rattle.mongo_establish.specs.Client.{common_hello, hello_with};
     ghost use Rattle.mongo_establish.specs.Costs.{CostsOf};
     ghost use Rattle.mongo_establish.specs.Established.{GreetedBy, UngreetedBy, ShookHands, StoppedHandshake};
     ghost use Rattle.mongo_establish.specs.First.{first_document};
     ghost use Rattle.mongo_establish.specs.Options.{options_in};
-    ghost use Rattle.mongo_establish.specs.HelloBody.{HelloBodyRefused};
     ghost use Rattle.mongo_establish.specs.Speculation.{SpeaksFor};
 
     /// A handshaker with these options. What the hellos of all logins have in common is built once.
@@ -94,7 +93,7 @@ impl Handshaker {
             (L.state link.old) (L.state link.new) state.new.ids) }
         // What was derived and which entries there are, by how the login came out.
         ensures costs { CostsOf result (asked_over connection.old (options_in self.now) (option_copied credential.entry) inputs.now.nonces state.old.ids)
-            (L.state link.old) (L.state link.new) state.new.ids (ledgers steps.old state.old.salted) (ledgers steps.new state.new.salted) }
+            (balance (L.state link.old) state.old.ids (ledgers steps.old state.old.salted)) (balance (L.state link.new) state.new.ids (ledgers steps.new state.new.salted)) }
         ensures entries { OnErr result (entries_of state.new.salted ≡ entries_of state.old.salted) }
         // After a refusal the connection keeps the fault where it is one that ends a connection, and else none. Want of memory
         // may be kept, where a command's id was drawn.
@@ -151,7 +150,7 @@ impl Handshaker {
         first: &Option<ClientFirst>,
     ) -> Result<Command, Error>
         ensures hello { IfOk result (λ hello. hello ≡ hello_with (options_in self.now) (option_copied credential.entry) (option_map first_document first.now)) }
-        ensures refused { IfErr result (λ e. HelloBodyRefused (hello_with (options_in self.now) (option_copied credential.entry) (option_map first_document first.now)).body e.kind) }
+        ensures refused { IfErr result (λ e. DocumentRefused e.kind (hello_with (options_in self.now) (option_copied credential.entry) (option_map first_document first.now)).body) }
     {
         let mut hello = self.hello.try_clone_with_room(alloc, LOGIN_ROOM)?;
         ask_mechanisms(alloc, credential, &mut hello.body)?;

@@ -2,10 +2,10 @@
 
 ghost use Rattle.std.specs.Prelude.{◌≡◌, Contains, option_map, option_copied, IfOk, IfErr, OnOk};
 ghost use Rattle.mongo_wire.specs.declared.error.ErrorKind.TheVariants.{OutOfMemory};
+ghost use Rattle.mongo_command.specs.Exchange.{DocumentRefused};
 ghost use Rattle.mongo_command.specs.Keys.{speculative_authenticate_key};
 ghost use Rattle.mongo_establish.specs.Client.{common_hello, asking_mechanisms, speculating, with_document, introducing};
 ghost use Rattle.mongo_establish.specs.First.{first_document};
-ghost use Rattle.mongo_establish.specs.HelloBody.{HelloBodyRefused};
 
 use crate::{ClientFirst, HandshakerOptions};
 use mongo_bson::{RawDocumentBuf, RawValue};
@@ -41,7 +41,7 @@ pub(crate) fn ask_mechanisms(
     body: &mut RawDocumentBuf,
 ) -> Result<(), Error>
     ensures asked { OnOk result (body.new ≡ asking_mechanisms (option_copied credential.entry) body.old) }
-    ensures refused { IfErr result (λ e. HelloBodyRefused (asking_mechanisms (option_copied credential.entry) body.old) e.kind) }
+    ensures refused { IfErr result (λ e. DocumentRefused e.kind (asking_mechanisms (option_copied credential.entry) body.old)) }
 {
     match credential {
         Some(credential) => credential.append_needed_mechanism_negotiation(alloc, body),
@@ -56,7 +56,7 @@ pub(crate) fn speculate(
     body: &mut RawDocumentBuf,
 ) -> Result<(), Error>
     ensures speculates { OnOk result (body.new ≡ speculating (option_map first_document first.now) body.old) }
-    ensures refused { IfErr result (λ e. HelloBodyRefused (speculating (option_map first_document first.now) body.old) e.kind) }
+    ensures refused { IfErr result (λ e. DocumentRefused e.kind (speculating (option_map first_document first.now) body.old)) }
 {
     match first {
         Some(first) => put_first(alloc, first, body),
@@ -66,7 +66,7 @@ pub(crate) fn speculate(
 
 fn put_first(alloc: Global, first: &ClientFirst, body: &mut RawDocumentBuf) -> Result<(), Error>
     ensures put { OnOk result (body.new ≡ with_document speculative_authenticate_key (first_document first.now) body.old) }
-    ensures refused { IfErr result (λ e. HelloBodyRefused (with_document speculative_authenticate_key (first_document first.now) body.old) e.kind) }
+    ensures refused { IfErr result (λ e. DocumentRefused e.kind (with_document speculative_authenticate_key (first_document first.now) body.old)) }
 {
     let login = first.to_document(alloc)?;
     put(body, SPECULATIVE_AUTHENTICATE, &login)
@@ -79,7 +79,7 @@ pub(crate) fn introduce_client(
     body: &mut RawDocumentBuf,
 ) -> Result<(), Error>
     ensures introduced { OnOk result (body.new ≡ introducing metadata.now body.old) }
-    ensures refused { IfErr result (λ e. HelloBodyRefused (introducing metadata.now body.old) e.kind) }
+    ensures refused { IfErr result (λ e. DocumentRefused e.kind (introducing metadata.now body.old)) }
 {
     let client = metadata.client_document(alloc, body.as_bytes().len())?;
     put(body, "client", &client)
@@ -89,7 +89,7 @@ pub(crate) fn introduce_client(
 fn put(body: &mut RawDocumentBuf, key: &str, document: &RawDocumentBuf) -> Result<(), Error>
     requires { Contains key.now 0 → ⊥ }
     ensures put { OnOk result (body.new ≡ with_document key.now document.now body.old) }
-    ensures refused { IfErr result (λ e. HelloBodyRefused (with_document key.now document.now body.old) e.kind) }
+    ensures refused { IfErr result (λ e. DocumentRefused e.kind (with_document key.now document.now body.old)) }
 {
     match body.append(key, RawValue::Document(document.borrow())) {
         Ok(()) => Ok(()),

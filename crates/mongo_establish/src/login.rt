@@ -6,7 +6,7 @@ ghost use Rattle.mongo_command.specs.Connection.{kept_fault, KeepsRest};
 ghost use Rattle.mongo_command.specs.Exchange.{CountsStay};
 ghost use Rattle.mongo_sasl.specs.EndsByScript.{KeepsAfter};
 ghost use Rattle.mongo_scram.specs.Cache.{entries_of};
-ghost use Rattle.mongo_scram.specs.Costs.{ledgers};
+ghost use Rattle.mongo_scram.specs.Costs.{ledgers, balance};
 ghost use Rattle.mongo_establish.specs.declared.conversation.Conversation.TheVariants.{Scram};
 ghost use Rattle.mongo_establish.specs.Asked.{asked_over};
 ghost use Rattle.mongo_establish.specs.Login.{holds_users, IsMechanism, InvalidRow};
@@ -40,9 +40,9 @@ pub(crate) fn log_in<L: Link, G: Ledger>(
     requires described { IsSome connection.old.stream_description }
     requires faultless { kept_fault connection.old ≡ None }
     ensures logged_in { OnOk result (LogsIn (asked_over connection.old options.now (option_copied credential.entry) inputs.now.nonces state.old.ids) connection.old.stream_description round
-        (L.state link.old) (L.state link.new) state.old.ids state.new.ids (ledgers steps.old state.old.salted) (ledgers steps.new state.new.salted)) }
+        (balance (L.state link.old) state.old.ids (ledgers steps.old state.old.salted)) (balance (L.state link.new) state.new.ids (ledgers steps.new state.new.salted))) }
     ensures refused { IfErr result (λ e. LoginStops (asked_over connection.old options.now (option_copied credential.entry) inputs.now.nonces state.old.ids) connection.old.stream_description round e.kind
-        (L.state link.old) (L.state link.new) state.old.ids state.new.ids (ledgers steps.old state.old.salted) (ledgers steps.new state.new.salted)) }
+        (balance (L.state link.old) state.old.ids (ledgers steps.old state.old.salted)) (balance (L.state link.new) state.new.ids (ledgers steps.new state.new.salted))) }
     ensures entries { OnErr result (entries_of state.new.salted ≡ entries_of state.old.salted) }
     ensures connection { KeepsRest connection.old connection.new }
     ensures faultless { OnOk result (kept_fault connection.new ≡ None) }
@@ -91,7 +91,7 @@ fn converse<L: Link, G: Ledger>(
 ) -> Result<(), Error>
     requires faultless { kept_fault connection.old ≡ None }
     ensures converses { Converses result conversation (asked_over connection.old options.now (Some credential.now) inputs.now.nonces state.old.ids) credential.now round connection.old connection.new
-        (L.state link.old) (L.state link.new) state.old.ids state.new.ids (ledgers steps.old state.old.salted) (ledgers steps.new state.new.salted) }
+        (balance (L.state link.old) state.old.ids (ledgers steps.old state.old.salted)) (balance (L.state link.new) state.new.ids (ledgers steps.new state.new.salted)) }
 {
     let api = options.auth_options.server_api.as_ref();
     let mut buffer = FrameBuffer::new(alloc);
@@ -147,7 +147,7 @@ fn by_scram<L: Link, G: Ledger>(
 ) -> Result<(), Error>
     requires faultless { kept_fault connection.old ≡ None }
     ensures converses { Converses result (Scram version) (asked_over connection.old options.now (Some credential.now) inputs.now.nonces state.old.ids) credential.now round connection.old connection.new
-        (L.state link.old) (L.state link.new) state.old.ids state.new.ids (ledgers steps.old state.old.salted) (ledgers steps.new state.new.salted) }
+        (balance (L.state link.old) state.old.ids (ledgers steps.old state.old.salted)) (balance (L.state link.new) state.new.ids (ledgers steps.new state.new.salted)) }
 {
     version.authenticate_stream(
         alloc,

@@ -32,7 +32,7 @@ impl Pool {
     ghost use Rattle.mongo_command.specs.Conversation.{Said, Turn, refuses, Leads, LeftBy};
     ghost use Rattle.mongo_command.specs.Exchange.{CountsStay};
     ghost use Rattle.mongo_scram.specs.Cache.{rounds_of};
-    ghost use Rattle.mongo_scram.specs.Costs.{ledgers, SameEntries};
+    ghost use Rattle.mongo_scram.specs.Costs.{ledgers, balance, SameEntries};
     ghost use Rattle.mongo_establish.specs.declared.generation.PoolGeneration.TheVariants.{Normal};
     ghost use Rattle.mongo_establish.specs.Costs.{EstablishmentCosts};
     ghost use Rattle.mongo_establish.specs.Established.{Established};
@@ -116,7 +116,7 @@ impl Pool {
 
         // What was derived and which keys the pool holds, by how the login came out, and by the bytes left.
         ensures costs { EstablishmentCosts result (asked_by self.old pending inputs.now.nonces)
-            (L.state link.old) (L.state link.new) self.new.state.ids (ledgers steps.old self.old.state.salted) (ledgers steps.new self.new.state.salted) }
+            (balance (L.state link.old) self.old.state.ids (ledgers steps.old self.old.state.salted)) (balance (L.state link.new) self.new.state.ids (ledgers steps.new self.new.state.salted)) }
         ensures led { CostsAsLed result (asked_by self.old pending inputs.now.nonces)
             (L.state link.old) (L.state link.new) (ledgers steps.old self.old.state.salted) (ledgers steps.new self.new.state.salted) }
         // A refusal leaves the keys as they were, unless a login had been accepted.

@@ -33,14 +33,14 @@ returns-in_err-log_in-clause-refused g c =
     login_stopped c.args.connection.now (options_in c.args.self.now) (option_copied c.args.credential) c.args.inputs.now.nonces c.args.state.now.ids
     c.in_ok-first.ensures.made c.in_ok-first.first c.in_ok-first.ensures.first _ _ _ c.in_ok-reply.reply c.say_hello.new.connection c.in_ok-reply.ensures.greeted
     c.answered_round-round.result c.answered_round-round.ensures.there c.answered_round-round.ensures.scram
-    _ c.log_in.new.connection _ _ _ _ c.log_in.ensures.connection (handed_on _ c.log_in.result c.in_err-log_in.field-0.0 _ c.from_residual-in_err-log_in.ensures.1 c.in_err-log_in.was c.log_in.ensures.refused)
+    _ c.log_in.new.connection _ _ c.log_in.ensures.connection (handed_on _ c.log_in.result c.in_err-log_in.field-0.0 _ c.from_residual-in_err-log_in.ensures.1 c.in_err-log_in.was c.log_in.ensures.refused)
 
 pub returns-in_err-log_in-clause-costs : goal.returns-in_err-log_in-clause-costs
 returns-in_err-log_in-clause-costs g c =
     login_stopped_costs c.args.connection.now (options_in c.args.self.now) (option_copied c.args.credential) c.args.inputs.now.nonces c.args.state.now.ids
     c.in_ok-first.ensures.made c.in_ok-first.first c.in_ok-first.ensures.first _ _ _ c.in_ok-reply.reply c.say_hello.new.connection c.in_ok-reply.ensures.greeted
     c.answered_round-round.result c.answered_round-round.ensures.there c.answered_round-round.ensures.scram
-    _ c.in_err-log_in.field-0.0 _ _ _ _ c.from_residual-in_err-log_in.ensures.1 (if_err_of c.log_in.result c.in_err-log_in.field-0.0 _ c.in_err-log_in.was c.log_in.ensures.refused)
+    _ c.in_err-log_in.field-0.0 _ _ c.from_residual-in_err-log_in.ensures.1 (if_err_of c.log_in.result c.in_err-log_in.field-0.0 _ c.in_err-log_in.was c.log_in.ensures.refused)
 
 pub returns-in_err-log_in-clause-entries : goal.returns-in_err-log_in-clause-entries
 returns-in_err-log_in-clause-entries g c = on_refused c.from_residual-in_err-log_in.result _ c.in_err-log_in.ensures.entries
@@ -50,7 +50,7 @@ returns-clause-shook g c =
     shook c.args.connection.now (options_in c.args.self.now) (option_copied c.args.credential) c.args.inputs.now.nonces c.args.state.now.ids
     c.in_ok-first.ensures.made c.in_ok-first.first c.in_ok-first.ensures.first _ _ _ c.in_ok-reply.reply c.say_hello.new.connection c.in_ok-reply.ensures.greeted
     c.answered_round-round.result c.answered_round-round.ensures.there c.answered_round-round.ensures.scram
-    c.log_in.new.connection _ _ _ _ c.answered_round-round.new.reply c.log_in.ensures.connection c.in_ok-log_in.ensures.faultless c.answered_round-round.ensures.reply (ok_of c.log_in.result c.in_ok-log_in.field-0 c.in_ok-log_in.was c.log_in.ensures.logged_in)
+    c.log_in.new.connection _ _ c.answered_round-round.new.reply c.log_in.ensures.connection c.in_ok-log_in.ensures.faultless c.answered_round-round.ensures.reply (ok_of c.log_in.result c.in_ok-log_in.field-0 c.in_ok-log_in.was c.log_in.ensures.logged_in)
 
 pub returns-clause-costs : goal.returns-clause-costs
 returns-clause-costs g c = record {
@@ -58,7 +58,7 @@ returns-clause-costs g c = record {
       shook_costs c.args.connection.now (options_in c.args.self.now) (option_copied c.args.credential) c.args.inputs.now.nonces c.args.state.now.ids
       c.in_ok-first.ensures.made c.in_ok-first.first c.in_ok-first.ensures.first _ _ _ c.in_ok-reply.reply c.say_hello.new.connection c.in_ok-reply.ensures.greeted
       c.answered_round-round.result c.answered_round-round.ensures.there c.answered_round-round.ensures.scram
-      _ _ _ _ (ok_of c.log_in.result c.in_ok-log_in.field-0 c.in_ok-log_in.was c.log_in.ensures.logged_in);
+      _ _ (ok_of c.log_in.result c.in_ok-log_in.field-0 c.in_ok-log_in.was c.log_in.ensures.logged_in);
   refused = tt;
 }
 
