@@ -1,5 +1,5 @@
 -- What the ends of a run mean, from what its steps answer.
-use Rattle.std.proofs.Common.{◌≡◌, ℕ, ◌+◌, ◌^◌, ◌<◌, ◌≤◌, ◌∙◌, refl, ap, subst, sym, inl, inr, arith, Some, Result, Ok, Err, List, length}
+use Rattle.std.proofs.Common.{◌≡◌, ℕ, ◌+◌, ◌^◌, ◌<◌, ◌≤◌, ◌∙◌, refl, ap, subst, sym, arith, Some, Ok, Err, List, length}
 use Rattle.std.proofs.Common.{length-drop}
 use Rattle.std.proofs.lemmas.Bool.Decides.{nat_tests}
 use Rattle.std.specs.Io.KnownBytes.{Appends, Consumes}
@@ -7,7 +7,6 @@ use Rattle.std.specs.List.{concat, position_or_len}
 use Rattle.mongo_wire.specs.Outside.{State, Rose, ReadsOn, IsFlushed}
 use Rattle.mongo_settings.specs.declared.settings.Settings.{Settings}
 use Rattle.mongo_settings.specs.declared.settings.SettingsError.{SettingsError}
-use Rattle.mongo_settings.specs.declared.settings.SettingsError.TheVariants.{BadSettings as Bad, NotBuilt as Unbuilt, OutOfMemory}
 use Rattle.mongo_settings.specs.declared.rehearsal.Rehearsal.{Rehearsal}
 use Rattle.mongo_settings.specs.declared.rehearsal.RehearsalStatus.{RehearsalStatus}
 use Rattle.mongo_settings.specs.declared.rehearsal.RehearsalStatus.TheVariants as rehearsal
@@ -15,7 +14,8 @@ use Rattle.mongo_settings.specs.Run.{Run}
 use Rattle.mongo_settings.specs.Settings.{maximum_settings_length}
 use Rattle.mongo_settings.specs.Status.{status_after, JudgementDecides}
 use Rattle.mongo_settings.specs.Outcome.{taken_by}
-use Rattle.mongo_settings.specs.Task.{StepsTaken, LoginComesOut}
+use Rattle.mongo_settings.specs.Task.{StepsTaken}
+use Rattle.mongo_settings.proofs.Endings.{decides_asked, decides_bad, decides_unbuilt, decides_memory}
 use Rattle.mongo_settings.proofs.Outcomes.{one_status}
 use Rattle.mongo_settings.specs.declared.status.Status.{Status}
 use Rattle.mongo_settings.specs.declared.status.Status.TheVariants.{Done, Refused, BadSettings, Usage, SourceFault, SinkFault, NoMemory, NotBuilt}
@@ -77,17 +77,6 @@ attempt line settings steps old middle new x on line_is left judged told rehears
       connected = λ input is f. connected input line settings steps old middle new x read judged rehearses is f;
     }
 
--- ---- judgements
-
-one_settings : (judgement : Result Settings SettingsError) (settings others : Settings) → judgement ≡ Ok settings → judgement ≡ Ok others → others ≡ settings
-one_settings judgement settings others p q = cc
-
-ok_error : (judgement : Result Settings SettingsError) (settings : Settings) (error : SettingsError) → judgement ≡ Ok settings → judgement ≡ Err error → ⊥
-ok_error judgement settings error p q = cc
-
-bad_unbuilt : (judgement : Result Settings SettingsError) → judgement ≡ Err Bad → judgement ≡ Err Unbuilt → ⊥
-bad_unbuilt judgement p q = cc
-
 module _ {L K : Type 0} (link : L → State) (sink : K → State) (steps : StepsTaken) (run : Run L K) where
   -- ---- each end
 
@@ -109,44 +98,27 @@ module _ {L K : Type 0} (link : L → State) (sink : K → State) (steps : Steps
 
   -- an end on the line is an end of a run without words
   pub run_ends : (words : ℕ) (status : Status) → words ≡ 0 → Ends link sink steps run status → RunEnds link sink words steps run status
-  run_ends words Done is e = record { none = is; ends = e }
-  run_ends words Refused is e = record { none = is; ends = e }
-  run_ends words BadSettings is e = record { none = is; ends = e }
   run_ends words Usage is e = absurd e
-  run_ends words SourceFault is e = record { none = is; ends = e }
-  run_ends words SinkFault is e = record { none = is; ends = e }
-  run_ends words NoMemory is e = record { none = is; ends = e }
-  run_ends words NotBuilt is e = record { none = is; ends = e }
+  run_ends words status is e = record { none = is; ends = e }
 
   -- ---- what decides
 
-  reported_decides : (status : RehearsalStatus) (settings : Settings) (input : List ℕ) (r : ConnectReported link sink steps status run) → Connected input steps r.rehearsal (link run.source) (link run.source_after) → line_judged (line_of input) ≡ Ok settings
-      → JudgementDecides (LineComesOut (after_line input)) (Ok settings) (status_after status)
-  reported_decides status settings input r c known other out =
-      let same : c.settings ≡ settings = one_settings (line_judged (line_of input)) settings c.settings known c.settings_are in
-      let replied = with_replies c.settings (after_line input) in
-      let out_so : LoginComesOut replied other = subst (λ s. LoginComesOut (with_replies s (after_line input)) other) (sym same) out in
-      let ends : status ≡ other = sym r.status_is ∙ c.status_is ∙ one_status replied r.rehearsal.report.items c.report other out_so in
-      inl (ap status_after ends)
+  module _ (input : List ℕ) (told : TellsBytes (link run.source) input) (u : ConnectUnfailed link sink run) where
+    reported_decides : (status : RehearsalStatus) → ConnectReported link sink steps status run → JudgementDecides (LineComesOut (after_line input)) (line_judged (line_of input)) (status_after status)
+    reported_decides status r =
+        let c = r.attempt.connected input told u.link_faultless in
+        decides_asked _ _ c.settings status c.settings_are
+        (λ other out. sym r.status_is ∙ c.status_is ∙ one_status (with_replies c.settings (after_line input)) r.rehearsal.report.items c.report other out)
 
-  settle : (result : Status) (input : List ℕ) (judgement : Result Settings SettingsError) → Ends link sink steps run result → ConnectUnfailed link sink run → TellsBytes (link run.source) input → line_judged (line_of input) ≡ judgement → JudgementDecides (LineComesOut (after_line input)) judgement result
-  settle Done input (Ok settings) e u told known = reported_decides rehearsal.Accepted settings input e (e.attempt.connected input told u.link_faultless) known
-  settle Done input (Err error) e u told known = absurd (ok_error _ _ error (e.attempt.connected input told u.link_faultless).settings_are known)
-  settle Refused input (Ok settings) e u told known = reported_decides rehearsal.Refused settings input e (e.attempt.connected input told u.link_faultless) known
-  settle Refused input (Err error) e u told known = absurd (ok_error _ _ error (e.attempt.connected input told u.link_faultless).settings_are known)
-  settle BadSettings input (Ok settings) e u told known = absurd (ok_error _ settings Bad known (e.judged_so input told.left))
-  settle BadSettings input (Err Bad) e u told known = inl refl
-  settle BadSettings input (Err Unbuilt) e u told known = absurd (bad_unbuilt _ (e.judged_so input told.left) known)
-  settle NotBuilt input (Ok settings) e u told known = absurd (ok_error _ settings Unbuilt known (e.judged_so input told.left))
-  settle NotBuilt input (Err Bad) e u told known = absurd (bad_unbuilt _ known (e.judged_so input told.left))
-  settle NotBuilt input (Err Unbuilt) e u told known = inl refl
-  settle NoMemory input (Ok settings) e u told known = λ status out. inr refl
-  settle NoMemory input (Err Bad) e u told known = inr refl
-  settle NoMemory input (Err Unbuilt) e u told known = inr refl
-  settle result input (Err OutOfMemory) e u told known = tt
-  settle Usage input judgement e u told known = absurd e
-  settle SourceFault input judgement e u told known = absurd (u.link_faultless.reads e.rose)
-  settle SinkFault input judgement e u told known = absurd (u.writes e.rose)
+    settle : (result : Status) → Ends link sink steps run result → JudgementDecides (LineComesOut (after_line input)) (line_judged (line_of input)) result
+    settle Done e = reported_decides rehearsal.Accepted e
+    settle Refused e = reported_decides rehearsal.Refused e
+    settle BadSettings e = decides_bad _ _ (e.judged_so input told.left)
+    settle NotBuilt e = decides_unbuilt _ _ (e.judged_so input told.left)
+    settle NoMemory e = decides_memory _ _
+    settle Usage e = absurd e
+    settle SourceFault e = absurd (u.link_faultless.reads e.rose)
+    settle SinkFault e = absurd (u.writes e.rose)
 
   pub decided : (words : ℕ) (result : Status) → Ends link sink steps run result → ConnectDecided link sink words run result
-  decided words result e none u input told = settle result input (line_judged (line_of input)) e u told refl
+  decided words result e none u input told = settle input told u result e

@@ -12,7 +12,7 @@ use Rattle.mongo_settings.specs.declared.rehearsal.RehearsalStatus.TheVariants a
 use Rattle.mongo_settings.specs.declared.status.Status.{Status}
 use Rattle.mongo_settings.specs.declared.status.Status.TheVariants.{Done, Refused, BadSettings, Usage, SourceFault, SinkFault, NoMemory, NotBuilt}
 use Rattle.mongo_settings.specs.Run.{Run, GaveInput}
-use Rattle.mongo_settings.specs.Status.{JudgementDecides}
+use Rattle.mongo_settings.specs.Status.{JudgementDecides, UnlessUsage}
 use Rattle.mongo_settings.specs.Outcome.{taken_by, status_of}
 use Rattle.mongo_settings.specs.Rehearsal.{IsReport}
 use Rattle.mongo_settings.specs.Task.{StepsTaken, CountsKey, LoginComesOut}
@@ -113,21 +113,14 @@ module _ {L K : Type 0} (link : L → State) (sink : K → State) where
   Ends steps run NoMemory = IsSilent steps run ⊎ (Unreported steps run ⊎ ReportedFront steps run)
   Ends steps run NotBuilt = IsRefusedLine Unbuilt run
 
-  -- there are words: nothing is read or written
-  pub record ConnectUsage (words : ℕ) (run : Run L K) : Type 0 where
-    pub some : 0 < words
-    pub unread : run.source_after ≡ run.source
-    pub unreported : run.sink_after ≡ run.sink
-
-  -- there are none, and it ends so
+  -- there are no words, and it ends so
   pub record RanLine (words : ℕ) (steps : StepsTaken) (run : Run L K) (status : Status) : Type 0 where
     pub none : words ≡ 0
     pub ends : Ends steps run status
 
-  -- how a run with so many words ends
+  -- how a run with so many words ends: on a line without any, and having done nothing with some
   abbrev pub RunEnds : ℕ → StepsTaken → Run L K → Status → Type 0
-  RunEnds words steps run Usage = ConnectUsage words run
-  RunEnds words steps run status = RanLine words steps run status
+  RunEnds words steps run status = UnlessUsage (0 < words) run (RanLine words steps run) status
 
   -- ---- what decides
 

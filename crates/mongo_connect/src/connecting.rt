@@ -67,5 +67,5 @@ fn tell_over<L: Link, O: Origin, G: Ledger>(
     let (login, _replies) = prepare(alloc, settings)?;
     let mut state = new_state(alloc);
     let ended = connect(alloc, login, recording, &mut state, steps);
-    report_outcome(alloc, recording.written(), recording.taken(), &ended)
+    report_outcome(alloc, recording.written(), recording.taken(), ended)
 }

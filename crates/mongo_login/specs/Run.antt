@@ -10,7 +10,7 @@ use Rattle.mongo_settings.specs.declared.status.Status.{Status}
 use Rattle.mongo_settings.specs.declared.status.Status.TheVariants.{Done, Refused, BadSettings, Usage, SourceFault, SinkFault, NoMemory, NotBuilt}
 use Rattle.mongo_settings.specs.Run.{Run, GaveInput}
 use Rattle.mongo_settings.specs.Settings.{maximum_settings_length}
-use Rattle.mongo_settings.specs.Status.{EndsAs, JudgementDecides}
+use Rattle.mongo_settings.specs.Status.{EndsAs, JudgementDecides, UnlessUsage}
 use Rattle.mongo_settings.specs.Task.{Asks, judged_as, StepsTaken, Reports, ComesOut}
 use Rattle.mongo_login.specs.declared.words.Subcommand.{Subcommand}
 use Rattle.mongo_login.specs.declared.words.Subcommand.TheVariants.{Rehearse, Generate}
@@ -115,22 +115,15 @@ module _ {S K : Type 0} (source : S → State) (sink : K → State) where
   SubcommandEnds (Rehearse task) steps run status = TaskEnds task steps run status
   SubcommandEnds (Generate count) steps run status = RanGenerate count steps run status
 
-  -- the words name no subcommand: nothing is read or written
-  pub record IsUsage (words : List (List ℕ)) (run : Run S K) : Type 0 where
-    pub no_subcommand : NamesNone words
-    pub unread : run.source_after ≡ run.source
-    pub unwritten : run.sink_after ≡ run.sink
-
   -- the words name a subcommand that ends so
   pub record RanSubcommand (words : List (List ℕ)) (steps : StepsTaken) (run : Run S K) (status : Status) : Type 0 where
     pub command : Subcommand
     pub named : NamesSubcommand words command
     pub ends : SubcommandEnds command steps run status
 
-  -- how a run ends
+  -- how a run ends: as the subcommand that its words name, or having done nothing where they name none
   abbrev pub RunEnds : List (List ℕ) → StepsTaken → Run S K → Status → Type 0
-  RunEnds words steps run Usage = IsUsage words run
-  RunEnds words steps run status = RanSubcommand words steps run status
+  RunEnds words steps run status = UnlessUsage (NamesNone words) run (RanSubcommand words steps run) status
 
   -- ---- what decides
 

@@ -3,7 +3,7 @@ use Rattle.std.proofs.Common.{◌≡◌, ◌⊎◌, ℤ, subst, Option, Result, 
 use Rattle.mongo_wire.specs.declared.error.ErrorKind.TheVariants.{IncompatibleServer}
 use Rattle.mongo_wire.specs.Outside.{State}
 use Rattle.mongo_sasl.specs.declared.credential.Credential.{Credential}
-use Rattle.mongo_scram.specs.Costs.{Ledgers, SameEntries}
+use Rattle.mongo_scram.specs.Costs.{Ledgers, balance, SameEntries}
 use Rattle.mongo_establish.specs.declared.establisher.EstablishError.{EstablishError}
 use Rattle.mongo_establish.specs.declared.establisher.PooledConnection.{PooledConnection}
 use Rattle.mongo_establish.specs.Asked.{Asked, asked_for}
@@ -26,7 +26,7 @@ same_asked login credential P same p = subst (λ x. P (asked_with login x)) same
 pub ended : (login : Login) (credential : Option Credential) (old new : State) (after : ℤ) (first last : Ledgers) (r : Result PooledConnection EstablishError) → credential ≡ login.credential
     → IfOk r (Established (asked_with login credential) old new after)
     → IfErr r (λ e. StoppedIn e.handshake_phase (asked_with login credential) e.cause.kind old new after)
-    → EstablishmentCosts r (asked_with login credential) old new after first last
+    → EstablishmentCosts r (asked_with login credential) (balance old login.ids first) (balance new after last)
     → CostsAsLed r (asked_with login credential) old new first last
     → IfErr r (λ e. (e.cause.kind ≡ IncompatibleServer) ⊎ SameEntries first last)
     → Ended (asked_by login) old new after first last r

@@ -3,7 +3,7 @@ use Rattle.std.proofs.Common.{◌≡◌, ℕ, suc, ◌+◌, ◌<◌, Option, Non
 use Rattle.std.specs.Prelude.{String, string_bytes}
 use Rattle.std.specs.Fmt.{decimal}
 use Rattle.std.specs.declared.alloc.Global.{Global}
-use Rattle.serde_json.specs.Data.{Data, null, boolean, number, string, array, object}
+use Rattle.serde_json.specs.Data.{Data, number, array}
 use Rattle.serde_json.specs.Find.{as_array}
 use Rattle.serde_json.specs.View.{view, items_view, members_view}
 use Rattle.serde_json.specs.declared.value.Value.{Value}
@@ -31,12 +31,8 @@ member_elements-step members others name key x next named =
 
 -- a property that is no array is a text or a number
 pub property_element-plain : (key : List ℕ) (d : Data) → as_array d ≡ None → property_element key d ≡ plain_element key d
-property_element-plain key null none = refl
-property_element-plain key (boolean _) none = refl
-property_element-plain key (number n) none = refl
-property_element-plain key (string s) none = refl
 property_element-plain key (array items) none = cc
-property_element-plain key (object _) none = refl
+property_element-plain key d none = refl
 
 -- what has no element isn't put, under no key
 pub without_element : (error : SettingsError) (key old : List ℕ) (element : Option Element) → MeansNothing error element → CannotPut error (keyed key element) old

@@ -8,11 +8,8 @@ use Rattle.mongo_settings.specs.Report.{CountsItself, fitting_length, front_leng
 
 -- what follows four bytes doesn't change their number
 from_le_bytes-front : (frame more : List ℕ) → 16 ≤ length frame → from_le_bytes w32 (frame ++ more) ≡ from_le_bytes w32 frame
-from_le_bytes-front [] more long = absurd (omega arith)
-from_le_bytes-front (a ∷ []) more long = absurd (omega arith)
-from_le_bytes-front (a ∷ b ∷ []) more long = absurd (omega arith)
-from_le_bytes-front (a ∷ b ∷ c ∷ []) more long = absurd (omega arith)
 from_le_bytes-front (a ∷ b ∷ c ∷ d ∷ rest) more long = refl
+from_le_bytes-front short more long = absurd (omega arith)
 
 fitting_length-fits : (room n : ℕ) → 16 ≤ n → n ≤ room → fitting_length room n ≡ Some n
 fitting_length-fits room n header fits = grind (arith, nat_tests)

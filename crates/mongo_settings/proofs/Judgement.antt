@@ -1,5 +1,5 @@
 -- What is known of a value that is settings.
-use Rattle.std.proofs.Common.{◌≡◌, Option, None, Some, Result, Ok, Err, refl}
+use Rattle.std.proofs.Common.{◌≡◌, Option, Some, Result, Ok, refl}
 use Rattle.std.specs.Prelude.{⊤}
 use Rattle.serde_json.specs.Data.{Data}
 use Rattle.mongo_settings.specs.Credential.{named_mechanism}
@@ -11,9 +11,7 @@ use Rattle.mongo_settings.specs.declared.settings.SettingsError.{SettingsError}
 -- the steps of a judgement, each of which passed
 passed : (keys login : Result ⊤ SettingsError) (found : Option Settings) (s : Settings) → (keys >>= (λ k. login >>= (λ l. needed found))) ≡ Ok s → (login ≡ Ok tt) × (found ≡ Some s)
 passed (Ok k) (Ok l) (Some settings) s is = (refl, cc)
-passed (Ok k) (Ok l) None s is = cc
-passed (Ok k) (Err e) found s is = cc
-passed (Err e) login found s is = cc
+passed keys login found s is = cc
 
 pub settings_of-ok : (d : Data) (s : Settings) → settings_of d ≡ Ok s → (mechanism_judged (named_mechanism d) ≡ Ok tt) × (settings_in d ≡ Some s)
 unfolding settings_of

@@ -11,12 +11,12 @@ mod Sent
 mod Spaced
 mod Spoken
 mod Connecting
-mod Counting
 mod Ready
 pub mod Rehearsing
 pub mod OneReport
 mod Sharing
 mod Shrinking
 mod LoginsRead
+pub mod Endings
 pub mod Outcomes
 pub mod Taking

@@ -59,12 +59,7 @@ credential_of_parts object username source password mechanism properties = do
 its_mechanism : (object : Option ⊤) (username source password : Option (Option (List ℕ))) (mechanism : Option (Option AuthMechanism)) (properties : Option (Option (List ℕ))) (credential : Credential)
     → credential_of_parts object username source password mechanism properties ≡ Some credential → mechanism ≡ Some credential.mechanism
 its_mechanism (Some o) (Some u) (Some s) (Some p) (Some m) (Some x) credential is = ap (option_map (λ (c : Credential). c.mechanism)) is
-its_mechanism None u s p m x credential is = cc
-its_mechanism (Some o) None s p m x credential is = cc
-its_mechanism (Some o) (Some u) None p m x credential is = cc
-its_mechanism (Some o) (Some u) (Some s) None m x credential is = cc
-its_mechanism (Some o) (Some u) (Some s) (Some p) None x credential is = cc
-its_mechanism (Some o) (Some u) (Some s) (Some p) (Some m) None credential is = cc
+its_mechanism o u s p m x credential is = cc
 
 mechanism_of : (d : Data) (credential : Credential) → credential_in d ≡ Some credential → optional credential_mechanism_key mechanism_in d ≡ Some credential.mechanism
 unfolding credential_in
@@ -109,13 +104,7 @@ settings_of_parts nonces first_id iterations replies pending credential options 
 their_credential : (nonces : Option (Option Nonces)) (first_id : Option (Option ℤ)) (iterations : Option (Option ℕ)) (replies : Option (Option (List ℕ))) (pending : Option PendingConnection) (credential : Option (Option Credential)) (options : Option ClientOptions) (s : Settings)
     → settings_of_parts nonces first_id iterations replies pending credential options ≡ Some s → credential ≡ Some s.credential
 their_credential (Some n) (Some f) (Some i) (Some r) (Some p) (Some c) (Some o) s is = ap (option_map (λ (x : Settings). x.credential)) is
-their_credential None f i r p c o s is = cc
-their_credential (Some n) None i r p c o s is = cc
-their_credential (Some n) (Some f) None r p c o s is = cc
-their_credential (Some n) (Some f) (Some i) None p c o s is = cc
-their_credential (Some n) (Some f) (Some i) (Some r) None c o s is = cc
-their_credential (Some n) (Some f) (Some i) (Some r) (Some p) None o s is = cc
-their_credential (Some n) (Some f) (Some i) (Some r) (Some p) (Some c) None s is = cc
+their_credential n f i r p c o s is = cc
 
 credential_of : (d : Data) (s : Settings) → settings_in d ≡ Some s → optional credential_key credential_in d ≡ Some s.credential
 unfolding settings_in

@@ -2,7 +2,7 @@
 use Rattle.std.specs.Prelude.{◌≡◌, ℤ, ◌⊎◌, Result, IfOk, IfErr}
 use Rattle.mongo_wire.specs.declared.error.ErrorKind.TheVariants.{IncompatibleServer}
 use Rattle.mongo_wire.specs.Outside.{State}
-use Rattle.mongo_scram.specs.Costs.{Ledgers, SameEntries}
+use Rattle.mongo_scram.specs.Costs.{Ledgers, balance, SameEntries}
 use Rattle.mongo_establish.specs.declared.establisher.PooledConnection.{PooledConnection}
 use Rattle.mongo_establish.specs.declared.establisher.EstablishError.{EstablishError}
 use Rattle.mongo_establish.specs.Asked.{Asked, asked_for}
@@ -30,6 +30,6 @@ pub record AsksForSettings (settings : Settings) (login : Login) : Type 0 where
 pub record Ended (asked : Asked) (old new : State) (after : ℤ) (first last : Ledgers) (result : Result PooledConnection EstablishError) : Type 0 where
   pub made : IfOk result (Established asked old new after)
   pub stopped : IfErr result (λ e. StoppedIn e.handshake_phase asked e.cause.kind old new after)
-  pub costs : EstablishmentCosts result asked old new after first last
+  pub costs : EstablishmentCosts result asked (balance old asked.first_id first) (balance new after last)
   pub led : CostsAsLed result asked old new first last
   pub entries : IfErr result (λ e. (e.cause.kind ≡ IncompatibleServer) ⊎ SameEntries first last)

@@ -6,6 +6,7 @@ use Rattle.mongo_settings.specs.declared.rehearsal.RehearsalStatus.{RehearsalSta
 use Rattle.mongo_settings.specs.declared.rehearsal.RehearsalStatus.TheVariants as rehearsal
 use Rattle.mongo_settings.specs.declared.status.Status.{Status}
 use Rattle.mongo_settings.specs.declared.status.Status.TheVariants.{Done, Refused, BadSettings, Usage, SourceFault, SinkFault, NoMemory, NotBuilt}
+use Rattle.mongo_settings.specs.Run.{Run}
 
 -- the number that the process ends with
 abbrev pub code_of_status : Status → ℕ
@@ -44,3 +45,13 @@ StepsAfter Done before after = before ≤ after
 StepsAfter Refused before after = before ≤ after
 StepsAfter SinkFault before after = before ≤ after
 StepsAfter NoMemory before after = before ≤ after
+
+-- nothing was read or written
+pub record IsUntouched {S K : Type 0} (run : Run S K) : Type 0 where
+  pub unread : run.source_after ≡ run.source
+  pub unwritten : run.sink_after ≡ run.sink
+
+-- A run whose words name no command ends with 3, and did nothing. With any other status a command ends.
+abbrev pub UnlessUsage : {S K : Type 0} → Type 0 → Run S K → (Status → Type 0) → Status → Type 0
+UnlessUsage misused run CommandEnds Usage = misused × IsUntouched run
+UnlessUsage misused run CommandEnds status = CommandEnds status

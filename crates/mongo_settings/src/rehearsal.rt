@@ -84,5 +84,5 @@ pub(crate) fn rehearse_with<G: Ledger>(
     let total = link.left().len();
     let ended = connect(alloc, login, &mut link, state, steps);
     let taken = total - link.left().len();
-    report_outcome(alloc, link.written(), taken, &ended)
+    report_outcome(alloc, link.written(), taken, ended)
 }

@@ -14,6 +14,19 @@ pub fn report_outcome(
     alloc: Global,
     written: &[u8],
     taken: usize,
+    ended: Result<PooledConnection, EstablishError>,
+) -> Result<Rehearsal, AllocError>
+    requires described { IfOk ended (λ pooled. IsSome pooled.connection.stream_description) }
+    ensures told { IfOk result (Tells written.now taken ended) }
+{
+    report_ended(alloc, written, taken, &ended)
+}
+
+// The same by reference: what owns the end lets all of its parts go once.
+fn report_ended(
+    alloc: Global,
+    written: &[u8],
+    taken: usize,
     ended: &Result<PooledConnection, EstablishError>,
 ) -> Result<Rehearsal, AllocError>
     requires described { IfOk ended.now (λ pooled. IsSome pooled.connection.stream_description) }

@@ -8,12 +8,10 @@ use crate::settings::reading::{SettingValue, two_in};
 use hex::FromHex;
 use mongo_bson::{Bytes, Text};
 use mongo_establish::Nonces;
+use mongo_scram::MIN_ITERATION_COUNT;
 use serde_json::Value;
 use std::alloc::Global;
 use std::marker::Model;
-
-// The fewest iterations that RFC 7677 asks for.
-const LEAST_ITERATIONS: u64 = 4096;
 
 /// A text.
 impl SettingValue for Text {
@@ -119,7 +117,7 @@ impl SettingValue for Iterations {
     ghost meaning = { iterations_in };
 
     fn read(_alloc: Global, value: &Value) -> Result<Iterations, SettingsError> {
-        match number_from(value, LEAST_ITERATIONS, u32::MAX as u64) {
+        match number_from(value, MIN_ITERATION_COUNT as u64, u32::MAX as u64) {
             Some(count) => Ok(Iterations {
                 count: count as u32,
             }),

@@ -1,6 +1,6 @@
 use Rattle.mongo_scram.specs.Costs.{ledgers}
+use Rattle.mongo_establish.proofs.Counting.{costs_some, some_rise}
 use Rattle.mongo_settings.proofs.Connecting.{ended}
-use Rattle.mongo_settings.proofs.Counting.{no_fewer}
 use Rattle.mongo_settings.proofs.rehearsal.login.connect.Goals as goal
 
 pub returns-clause-ended : goal.returns-clause-ended
@@ -10,4 +10,4 @@ returns-clause-ended g c =
     c.establish_connection.result c.as_ref.ensures.value made.established made.refused made.costs made.led made.entries
 
 pub returns-clause-steps : goal.returns-clause-steps
-returns-clause-steps g c = no_fewer _ _ c.establish_connection.result _ _ _ _ c.establish_connection.ensures.costs
+returns-clause-steps g c = some_rise _ _ (costs_some c.establish_connection.result _ _ _ c.establish_connection.ensures.costs)
