@@ -8,7 +8,7 @@ use Rattle.mongo_scram.proofs.Derived.{costs_nothing}
 use Rattle.mongo_scram.specs.declared.cache.SaltedCache.{SaltedCache}
 use Rattle.mongo_scram.specs.declared.cache.SaltedKey.{SaltedKey}
 use Rattle.mongo_scram.specs.Cache.{entries_of, Adds}
-use Rattle.mongo_scram.specs.Costs.{Ledgers, ledgers, SameEntries}
+use Rattle.mongo_scram.specs.Costs.{Ledgers, ledgers, Balance, SameEntries}
 use Rattle.mongo_scram.specs.Entry.{salted_of}
 use Rattle.mongo_establish.specs.declared.establisher.EstablishError.{EstablishError}
 use Rattle.mongo_establish.specs.declared.establisher.PendingConnection.{PendingConnection}
@@ -108,11 +108,11 @@ entries_keep : (ended : Result PooledConnection EstablishError) (request : Asked
 entries_keep (Ok pooled) request bytes first last costs entries = accepted_keeps costs.key first last costs.taken
 entries_keep (Err e) request bytes first last costs entries = elim entries [ inl incompatible ↦ refused_keeps e request bytes first last costs incompatible | inr same ↦ inl same ]
 
-pub keeps_entries : (ended : Result PooledConnection EstablishError) (request : Asked) (bytes : List ℕ) (old new : State) (after : ℤ) (first last : Ledgers) → EstablishmentCosts ended request old new after first last → CostsOver ended request bytes first last
-    → IfErr ended (λ e. (e.cause.kind ≡ IncompatibleServer) ⊎ SameEntries first last) → KeepsEntries first last
-keeps_entries ended request bytes old new after first last costs over entries =
-    let some = costs_some ended request old new after first last costs in
-    record { rounds = some.rounds; counts = some.counts; entries = entries_keep ended request bytes first last over entries }
+pub keeps_entries : (ended : Result PooledConnection EstablishError) (request : Asked) (bytes : List ℕ) (old new : Balance) → EstablishmentCosts ended request old new → CostsOver ended request bytes old.ledgers new.ledgers
+    → IfErr ended (λ e. (e.cause.kind ≡ IncompatibleServer) ⊎ SameEntries old.ledgers new.ledgers) → KeepsEntries old.ledgers new.ledgers
+keeps_entries ended request bytes old new costs over entries =
+    let some = costs_some ended request old new costs in
+    record { rounds = some.rounds; counts = some.counts; entries = entries_keep ended request bytes old.ledgers new.ledgers over entries }
 
 -- where nobody says hello
 pub keeps_still : (steps : ℕ) (cache : SaltedCache) → KeepsEntries (ledgers steps cache) (ledgers steps cache)

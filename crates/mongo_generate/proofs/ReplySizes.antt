@@ -1,11 +1,8 @@
 -- The messages of a possible exchange fit into replies, so that only memory can be wanting where these are made.
-use Rattle.std.proofs.Common.{◌≡◌, ℕ, ℤ, pos, ◌+◌, ◌-◌, ◌^◌, ◌<◌, ◌≤◌, None, Result, Ok, Err, IfErr, List, [], ◌∷◌, ◌++◌, length, length-append, map, codes, decimal, refl, sym, ap, subst, arith}
+use Rattle.std.proofs.Common.{◌≡◌, ℕ, ℤ, pos, ◌+◌, ◌-◌, ◌^◌, ◌<◌, ◌≤◌, None, Result, Ok, Err, IfErr, List, [], ◌∷◌, ◌++◌, length, length-append, map, codes, decimal, refl, sym, subst, arith}
 use Rattle.std.specs.List.{AllByRecursion, flat_map}
 use Rattle.std.proofs.lemmas.Fmt.{length-decimal-le}
 use Rattle.std.proofs.lemmas.Int.{ints}
-use Rattle.mongo_bson.specs.declared.fault.BsonFault.{BsonFault}
-use Rattle.mongo_bson.specs.declared.fault.BsonFault.TheVariants.{TooLong as DocumentTooLong, OutOfMemory as NoMemory}
-use Rattle.mongo_bson.specs.Document.{Element}
 use Rattle.mongo_wire.specs.declared.document_sequence.DocumentSequence.{DocumentSequence}
 use Rattle.mongo_wire.specs.declared.error.Error.{Error}
 use Rattle.mongo_wire.specs.declared.error.ErrorKind.{ErrorKind}
@@ -15,9 +12,6 @@ use Rattle.mongo_wire.specs.declared.message.Message.{Message}
 use Rattle.mongo_wire.specs.Frame.{body, sequence, section_bytes}
 use Rattle.mongo_wire.specs.Outside.{State}
 use Rattle.mongo_wire.specs.Message.{WriteRefused, checksum_bytes, frame_length}
-use Rattle.mongo_command.specs.Keys.{max_bson_object_size_key, max_message_size_bytes_key, speculative_authenticate_key}
-use Rattle.mongo_command.specs.Literal.{document_element, int32_element, ok_element, document_of}
-use Rattle.mongo_sasl.specs.Commands.{IsTooLong}
 use Rattle.mongo_scram.specs.Base64.{base64_of}
 use Rattle.mongo_scram.specs.Messages.{verifier}
 use Rattle.mongo_scram.specs.Version.{digest_of}
@@ -25,7 +19,7 @@ use Rattle.mongo_scram.specs.declared.scram_version.ScramVersion.{ScramVersion}
 use Rattle.mongo_mac.specs.Hmac.{hmac_of}
 use Rattle.mongo_server.specs.Exchange.{Exchange, joined_of, salted_between, auth_message_between, first_of, server_final_of}
 use Rattle.mongo_generate.specs.Login.{IsPossible}
-use Rattle.mongo_generate.specs.Replies.{server_maximum, speculative_elements, standalone_elements, final_elements, hello_reply, final_reply}
+use Rattle.mongo_generate.specs.Replies.{speculative_elements, standalone_elements, final_elements, hello_reply, final_reply}
 use Rattle.mongo_generate.proofs.Documents.{length-document_of}
 use Rattle.mongo_generate.proofs.Texts.{length_base64, length_digest}
 
@@ -63,21 +57,6 @@ length_hello payload short = omega (arith, length-document_of (standalone_elemen
 pub length_final : (payload : List ℕ) → length payload < 2 ^ 24 → length (final_reply payload) < 2 ^ 25
 unfolding final_reply
 length_final payload short = omega (arith, length-document_of (final_elements payload))
-
--- a document that is short enough is made
-pub document_fits : {T : Type 0} (r : Result T BsonFault) (document : List ℕ) → length document < 2 ^ 31 → IfErr r (λ fault. IsTooLong fault document) → IfErr r (λ fault. fault ≡ NoMemory)
-document_fits (Ok made) document short refused = tt
-document_fits (Err DocumentTooLong) document short refused = let long : 2 ^ 31 - 1 < length document = refused in absurd (omega (arith, long))
-document_fits (Err NoMemory) document short refused = refl
-document_fits (Err fault) document short refused = absurd refused
-
--- the reply to a hello that answers its login so
-abbrev answering : List ℕ → List Element
-answering answer = ok_element ∷ int32_element max_bson_object_size_key (pos 16777216) ∷ int32_element max_message_size_bytes_key server_maximum ∷ document_element speculative_authenticate_key answer ∷ []
-
-pub hello_fits : {T : Type 0} (r : Result T BsonFault) (payload answer : List ℕ) → length payload < 2 ^ 24 → answer ≡ document_of (speculative_elements payload) → IfErr r (λ fault. IsTooLong fault (document_of (answering answer))) → IfErr r (λ fault. fault ≡ NoMemory)
-hello_fits r payload answer short is refused =
-    document_fits r (document_of (answering answer)) (omega (arith, length-document_of (answering answer), ap length is, length-document_of (speculative_elements payload))) refused
 
 -- ---- frames
 

@@ -15,7 +15,7 @@ use Rattle.mongo_scram.specs.Base64.{base64_of}
 use Rattle.mongo_scram.specs.Messages.{bare_message, open_message, no_proof, client_key, proof, close_message}
 use Rattle.mongo_scram.specs.UserName.{escaped_byte, escaped}
 use Rattle.mongo_scram.specs.Version.{digest_of}
-use Rattle.mongo_server.specs.ClientMessages.{IsPrintable, IsNonce}
+use Rattle.mongo_server.specs.ClientMessages.{IsNonceByte, IsNonce}
 use Rattle.mongo_server.specs.Exchange.{Exchange, salted_between, auth_message_between, close_of}
 
 -- ---- base64
@@ -35,10 +35,10 @@ unfolding base64_of
 length_base64 bytes =
     omega (arith, length-append (encode_symbols symbols bytes) (replicate (padding_len (length bytes)) 61), length-replicate {A = ℕ} (padding_len (length bytes)) 61, length_symbols symbols bytes)
 
-symbol : (i : ℕ) → i < 64 → IsPrintable (slice_index symbols i)
+symbol : (i : ℕ) → i < 64 → IsNonceByte (slice_index symbols i)
 symbol i below = let is = is_alphabet_symbol symbols 0x2C i refl below in (is.0, is.1, is.2)
 
-symbols_printable : (bytes : List ℕ) → AllByRecursion (λ b. b < 256) bytes → AllByRecursion IsPrintable (encode_symbols symbols bytes)
+symbols_printable : (bytes : List ℕ) → AllByRecursion (λ b. b < 256) bytes → AllByRecursion IsNonceByte (encode_symbols symbols bytes)
 unfolding encode_symbols
 symbols_printable [] all = tt
 symbols_printable (a ∷ []) all = let x = all.0 in (symbol (a / 4) (omega arith), (symbol (a % 4 * 16) (omega arith), tt))
@@ -47,11 +47,11 @@ symbols_printable (a ∷ b ∷ c ∷ rest) all =
     let x = all.0 in let y = all.1.0 in let z = all.1.1.0 in
     (symbol (a / 4) (omega arith), (symbol (a % 4 * 16 + b / 16) (omega arith), (symbol (b % 16 * 4 + c / 64) (omega arith), (symbol (c % 64) (omega arith), symbols_printable rest all.1.1.1))))
 
-all_joined : (xs ys : List ℕ) → AllByRecursion IsPrintable xs → AllByRecursion IsPrintable ys → AllByRecursion IsPrintable (xs ++ ys)
+all_joined : (xs ys : List ℕ) → AllByRecursion IsNonceByte xs → AllByRecursion IsNonceByte ys → AllByRecursion IsNonceByte (xs ++ ys)
 all_joined [] ys p q = q
 all_joined (x ∷ xs) ys p q = (p.0, all_joined xs ys p.1 q)
 
-padding : (n : ℕ) → AllByRecursion IsPrintable (replicate n 61)
+padding : (n : ℕ) → AllByRecursion IsNonceByte (replicate n 61)
 padding zero = tt
 padding (suc n) = ((omega arith, omega arith, λ is. absurd (omega arith)), padding n)
 
@@ -59,13 +59,13 @@ alike : (n b : ℕ) → b < 256 → AllByRecursion (λ x. x < 256) (replicate n 
 alike zero b small = tt
 alike (suc n) b small = (small, alike n b small)
 
-base64_printable : (bytes : List ℕ) → AllByRecursion (λ b. b < 256) bytes → AllByRecursion IsPrintable (base64_of bytes)
+base64_printable : (bytes : List ℕ) → AllByRecursion (λ b. b < 256) bytes → AllByRecursion IsNonceByte (base64_of bytes)
 unfolding base64_of
 base64_printable bytes all = all_joined (encode_symbols symbols bytes) (replicate (padding_len (length bytes)) 61) (symbols_printable bytes all) (padding (padding_len (length bytes)))
 
 -- so many bytes that are alike
 pub alike_nonce : (n b : ℕ) → b < 256 → IsNonce (base64_of (replicate n b))
-alike_nonce n b small = All-from_recursion IsPrintable (base64_of (replicate n b)) (base64_printable (replicate n b) (alike n b small))
+alike_nonce n b small = All-from_recursion IsNonceByte (base64_of (replicate n b)) (base64_printable (replicate n b) (alike n b small))
 
 -- ---- the client's first message
 

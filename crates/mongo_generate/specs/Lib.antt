@@ -1,5 +1,4 @@
 pub mod Options
-pub mod Scram
 pub mod Login
 pub mod Replies
 pub mod Acceptance

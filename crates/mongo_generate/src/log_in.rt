@@ -1,10 +1,10 @@
 //! One login: a client against a server.
-ghost use Rattle.std.specs.Prelude.{◌≡◌, IfOk, OnOk, MatchOption};
+ghost use Rattle.std.specs.Prelude.{◌≡◌, Some, IfSome, IfOk, OnOk, MatchOption};
 ghost use Rattle.mongo_wire.specs.declared.error.ErrorKind.TheVariants.{OutOfMemory};
 ghost use Rattle.mongo_establish.specs.declared.generation.PoolGeneration.TheVariants.{Normal};
-ghost use Rattle.mongo_server.specs.Exchange.{Exchange};
+ghost use Rattle.mongo_server.specs.Exchange.{Exchange, close_of};
 ghost use Rattle.mongo_server.specs.Server.{Serves, HasBegun};
-ghost use Rattle.mongo_generate.specs.Acceptance.{IsAcceptedAs, AreExchangeReplies};
+ghost use Rattle.mongo_generate.specs.Acceptance.{acceptance_of, IsAcceptedAs, IsTakenBy, AreExchangeReplies};
 ghost use Rattle.mongo_generate.specs.Login.{IsExchangeClient};
 
 use crate::replies::replies_of;
@@ -59,19 +59,29 @@ impl Client {
         let Some(replies) = heard(alloc, login, server)? else {
             return Ok(None);
         };
-        let Some(written) = self.establish(alloc, login, replies, state, steps)? else {
+        let Some(client_final) = self.close(alloc, login, replies, state, steps)? else {
             return Ok(None);
         };
-        let Some(client_final) = client_final(alloc, written)? else {
-            return Ok(None);
-        };
-        match server.last(alloc, client_final.as_bytes()) {
-            Ok(server_final) => Ok(Some(Acceptance {
-                client_final,
-                server_final,
-            })),
-            Err(ServerFault::OutOfMemory) => Err(AllocError),
-            Err(_) => Ok(None),
+        acceptance(alloc, server, client_final)
+    }
+
+    // Logs in over a link that gives these replies. The client's last message, or None where the client refuses.
+    fn close<G: Ledger>(
+        &self,
+        alloc: Global,
+        login: &UserLogin,
+        replies: Bytes,
+        state: &mut LoginState,
+        steps: &mut Steps<G>,
+    ) -> Result<Option<Bytes>, AllocError>
+        ensures closes { (x : Exchange) → IsExchangeClient x login.now → AreExchangeReplies x replies → IfOk result (λ client_final. client_final ≡ Some (close_of x)) }
+        ensures takes { (x : Exchange) → IsExchangeClient x login.now → AreExchangeReplies x replies → OnOk result (TakesKey (key_of x) (ledgers steps.old state.old.salted) (ledgers steps.new state.new.salted)) }
+        ensures keeps { KeepsEntries (ledgers steps.old state.old.salted) (ledgers steps.new state.new.salted) }
+        ensures steps { steps.old ≤ steps.new }
+    {
+        match self.establish(alloc, login, replies, state, steps)? {
+            Some(written) => client_final(alloc, written),
+            None => Ok(None),
         }
     }
 
@@ -105,6 +115,26 @@ impl Client {
             return Ok(None);
         }
         Ok(Some(link.into_written()))
+    }
+}
+
+// Both last messages where the server takes the client's, and None where it refuses that.
+fn acceptance(
+    alloc: Global,
+    server: &mut ServerCore,
+    client_final: Bytes,
+) -> Result<Option<Acceptance>, AllocError>
+    ensures accepted { (x : Exchange) → HasBegun server.old x → client_final ≡ close_of x → IfOk result (λ met. met ≡ Some (acceptance_of x)) }
+    ensures taken { IfOk result (λ met. IfSome met (IsTakenBy server.new)) }
+    ensures unchanged { server.new ≡ server.old }
+{
+    match server.last(alloc, client_final.as_bytes()) {
+        Ok(server_final) => Ok(Some(Acceptance {
+            client_final,
+            server_final,
+        })),
+        Err(ServerFault::OutOfMemory) => Err(AllocError),
+        Err(_) => Ok(None),
     }
 }
 

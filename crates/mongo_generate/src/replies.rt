@@ -9,7 +9,7 @@ use mongo_bson::{BsonFault, Bytes, RawDocumentBuf, RawValue};
 use mongo_command::keys::{
     MAX_BSON_OBJECT_SIZE, MAX_MESSAGE_SIZE_BYTES, OK, SPECULATIVE_AUTHENTICATE,
 };
-use mongo_sasl::document_of;
+use mongo_command::{boolean_field, document_field, document_of, int32_field};
 use mongo_sasl::keys::{CONVERSATION_ID, DONE, PAYLOAD};
 use mongo_wire::{Error, MemoryLink, Message, MessageFlags, RequestIds, Sequences};
 use std::alloc::Global;
@@ -69,13 +69,10 @@ fn hello_reply(alloc: Global, server_first: &[u8]) -> Result<RawDocumentBuf, Bso
     ensures short { length server_first.now < 2 ^ 24 → IfErr result (λ fault. fault ≡ BsonFault.OutOfMemory) }
 {
     let answer = answer_to_login(alloc, server_first)?;
-    let ok = (OK, RawValue::Double(ONE));
-    let size = (MAX_BSON_OBJECT_SIZE, RawValue::Int32(16_777_216));
-    let frame = (MAX_MESSAGE_SIZE_BYTES, RawValue::Int32(MAXIMUM));
-    let answer = (
-        SPECULATIVE_AUTHENTICATE,
-        RawValue::Document(answer.borrow()),
-    );
+    let ok = Some((OK, RawValue::Double(ONE)));
+    let size = Some((MAX_BSON_OBJECT_SIZE, RawValue::Int32(16_777_216)));
+    let frame = Some((MAX_MESSAGE_SIZE_BYTES, RawValue::Int32(MAXIMUM)));
+    let answer = document_field(SPECULATIVE_AUTHENTICATE, &answer);
     document_of(alloc, &[ok, size, frame, answer])
 }
 
@@ -84,9 +81,9 @@ fn answer_to_login(alloc: Global, server_first: &[u8]) -> Result<RawDocumentBuf,
     ensures answer { IfOk result (λ document. document ≡ document_of (speculative_elements server_first.now)) }
     ensures short { length server_first.now < 2 ^ 24 → IfErr result (λ fault. fault ≡ BsonFault.OutOfMemory) }
 {
-    let id = (CONVERSATION_ID, RawValue::Int32(CONVERSATION));
-    let done = (DONE, RawValue::Bool(false));
-    let payload = (PAYLOAD, RawValue::Binary(GENERIC, server_first));
+    let id = int32_field(CONVERSATION_ID, CONVERSATION);
+    let done = boolean_field(DONE, false);
+    let payload = Some((PAYLOAD, RawValue::Binary(GENERIC, server_first)));
     document_of(alloc, &[id, done, payload])
 }
 
@@ -96,9 +93,9 @@ fn final_reply(alloc: Global, server_final: &[u8]) -> Result<RawDocumentBuf, Bso
     ensures reply { IfOk result (λ document. document ≡ final_reply server_final.now) }
     ensures short { length server_final.now < 2 ^ 24 → IfErr result (λ fault. fault ≡ BsonFault.OutOfMemory) }
 {
-    let ok = (OK, RawValue::Double(ONE));
-    let id = (CONVERSATION_ID, RawValue::Int32(CONVERSATION));
-    let done = (DONE, RawValue::Bool(true));
-    let payload = (PAYLOAD, RawValue::Binary(GENERIC, server_final));
+    let ok = Some((OK, RawValue::Double(ONE)));
+    let id = int32_field(CONVERSATION_ID, CONVERSATION);
+    let done = boolean_field(DONE, true);
+    let payload = Some((PAYLOAD, RawValue::Binary(GENERIC, server_final)));
     document_of(alloc, &[ok, id, done, payload])
 }

@@ -1,10 +1,9 @@
-ghost use Rattle.std.specs.Prelude.{◌≡◌, Some, IsTrue};
-ghost use Rattle.mongo_scram.specs.Commands.{mechanism_of};
-ghost use Rattle.mongo_generate.specs.Scram.{is_scram};
+ghost use Rattle.std.specs.Prelude.{◌≡◌, IsTrue};
+ghost use Rattle.mongo_scram.specs.Commands.{is_scram};
 
 use mongo_bson::Text;
 use mongo_establish::{
-    AuthMechanism, Credential, Error, LoginInputs, Moment, Nonces, ScramVersion, want_of_memory,
+    Credential, Error, LoginInputs, Moment, Nonces, ScramVersion, want_of_memory,
 };
 use mongo_scram::ClientFirst;
 use std::alloc::{AllocError, Global};
@@ -83,22 +82,12 @@ impl UserLogin {
         let credential = Credential::new()
             .username(Some(username))
             .password(Some(password))
-            .mechanism(Some(mechanism_of(version)));
+            .mechanism(Some(version.mechanism()));
         UserLogin {
             credential,
             inputs: inputs_of(nonces),
             client_first,
         }
-    }
-}
-
-fn mechanism_of(version: ScramVersion) -> AuthMechanism
-    ensures mechanism { result ≡ mechanism_of version }
-    ensures scram { IsTrue (is_scram (Some result)) }
-{
-    match version {
-        ScramVersion::Sha1 => AuthMechanism::ScramSha1,
-        ScramVersion::Sha256 => AuthMechanism::ScramSha256,
     }
 }
 

@@ -1,9 +1,13 @@
-use Rattle.std.proofs.Common.{arith}
-use Rattle.mongo_generate.specs.Replies.{final_reply}
-use Rattle.mongo_generate.proofs.ReplySizes.{length_final, document_fits}
+use Rattle.std.proofs.Common.{◌∷◌, refl, ap, arith}
+use Rattle.mongo_command.specs.Literal.{ok_element}
+use Rattle.mongo_command.proofs.CommandDocument.{joined}
+use Rattle.mongo_command.proofs.HelloShort.{only_memory}
+use Rattle.mongo_generate.specs.Replies.{final_elements, final_reply}
+use Rattle.mongo_generate.proofs.ReplySizes.{length_final}
 use Rattle.mongo_generate.proofs.replies.final_reply.Goals as goal
 
 pub returns-clause-short : goal.returns-clause-short
 unfolding final_reply
 returns-clause-short c = λ short.
-    document_fits c.document_of.result (final_reply c.args.server_final.now) (let size = length_final c.args.server_final.now short in omega (arith, size)) c.document_of.ensures.refused
+    let fields = ap (λ es. ok_element ∷ es) (joined _ _ _ _ c.int32_field-id.ensures.elements (joined _ _ _ _ c.boolean_field-done.ensures.elements refl)) in
+    only_memory c.document_of.result _ (final_elements c.args.server_final.now) fields (let size = length_final c.args.server_final.now short in omega (arith, size)) c.document_of.ensures.refused
