@@ -165,12 +165,7 @@ query_front head rest wanted sixteen code counted within short =
 pub document_cause : (too_long : Type 0) (document : List ℕ) (fault : ServeFault) (old new : State) → (2 ^ 31 - 1 < length document → too_long) → IsOfDocument document fault → WriteCause too_long fault old new
 document_cause too_long document ReplyTooLong old new long is = long is
 document_cause too_long document OutOfMemory old new long is = tt
-document_cause too_long document ReadFault old new long is = absurd is
-document_cause too_long document WriteFault old new long is = absurd is
-document_cause too_long document CutFrame old new long is = absurd is
-document_cause too_long document NoFrame old new long is = absurd is
-document_cause too_long document NoHello old new long is = absurd is
-document_cause too_long document TooManyRequests old new long is = absurd is
+document_cause too_long document fault old new long is = absurd is
 
 -- the cause of a reply that is too long
 pub long_cause : (too_long : Type 0) (fault : ServeFault) (old new : State) → WriteCause too_long fault old new → Some fault ≡ Some ReplyTooLong → too_long
@@ -180,11 +175,7 @@ pub write_cause : (too_long : Type 0) (fault : ServeFault) (old mid new : State)
 write_cause too_long WriteFault old mid new cut one lasts w = (rose_after old.write_faults mid.write_faults new.write_faults lasts.writes w, (one, refl))
 write_cause too_long ReplyTooLong old mid new cut one lasts w = (one, refl)
 write_cause too_long OutOfMemory old mid new cut one lasts w = tt
-write_cause too_long ReadFault old mid new cut one lasts w = absurd w
-write_cause too_long CutFrame old mid new cut one lasts w = absurd w
-write_cause too_long NoFrame old mid new cut one lasts w = absurd w
-write_cause too_long NoHello old mid new cut one lasts w = absurd w
-write_cause too_long TooManyRequests old mid new cut one lasts w = absurd w
+write_cause too_long fault old mid new cut one lasts w = absurd w
 
 -- ---- after the turns before
 
@@ -192,11 +183,9 @@ pub cause_after : (fault : ServeFault) (count : ℕ) (old mid new : State) (take
 cause_after ReadFault count old mid new taken cut more lasts before c = (rose_after old.read_faults mid.read_faults new.read_faults lasts.reads c.0, c.1, c.2)
 cause_after WriteFault count old mid new taken cut more lasts before c = (rose_after old.write_faults mid.write_faults new.write_faults lasts.writes c.0, c.1)
 cause_after CutFrame count old mid new taken cut more lasts before c = (rose_after old.ends mid.ends new.ends lasts.ends c.0, c.1, c.2, told_some old.left mid.left taken more before c.3, c.4)
-cause_after NoFrame count old mid new taken cut more lasts before c = c
-cause_after NoHello count old mid new taken cut more lasts before c = c
-cause_after ReplyTooLong count old mid new taken cut more lasts before c = c
 cause_after TooManyRequests count old mid new taken cut more lasts before c = absurd c
 cause_after OutOfMemory count old mid new taken cut more lasts before c = tt
+cause_after fault count old mid new taken cut more lasts before c = c
 
 -- ---- an OP_QUERY that isn't answered
 

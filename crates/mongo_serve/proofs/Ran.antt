@@ -5,29 +5,20 @@ use Rattle.std.proofs.lemmas.List.{take_all}
 use Rattle.std.specs.Io.KnownBytes.{Appends, Keeps}
 use Rattle.mongo_wire.specs.Outside.{AppendsFront}
 use Rattle.mongo_serve.specs.declared.fault.ServeFault.{ServeFault}
+use Rattle.mongo_serve.specs.declared.fault.ServeFault.TheVariants.{OutOfMemory}
 use Rattle.mongo_serve.specs.declared.status.ServeStatus.{ServeStatus}
-use Rattle.mongo_serve.specs.declared.status.ServeStatus.TheVariants.{Ended, Broken, BadSettings, Usage, NoMemory}
-use Rattle.mongo_serve.specs.declared.fault.ServeFault.TheVariants.{ReadFault, WriteFault, CutFrame, NoFrame, NoHello, ReplyTooLong, TooManyRequests, OutOfMemory}
+use Rattle.mongo_serve.specs.declared.status.ServeStatus.TheVariants.{Usage}
 use Rattle.mongo_serve.specs.Run.{ServeRun, status_of_fault, Ran, ServingEnds, RunEnds}
 
 pub ran_ends : (run : ServeRun) (fault : Option ServeFault) → Ran run (status_of_fault fault) → ServingEnds run (status_of_fault fault)
 ran_ends run None h = h
 ran_ends run (Some OutOfMemory) h = inl h
-ran_ends run (Some ReadFault) h = inl h
-ran_ends run (Some WriteFault) h = inl h
-ran_ends run (Some CutFrame) h = inl h
-ran_ends run (Some NoFrame) h = inl h
-ran_ends run (Some NoHello) h = inl h
-ran_ends run (Some ReplyTooLong) h = inl h
-ran_ends run (Some TooManyRequests) h = inl h
+ran_ends run (Some cause) h = inl h
 
 -- a run without words ends as serving does
 pub served_ends : (words : ℕ) (run : ServeRun) (status : ServeStatus) → words ≡ 0 → ServingEnds run status → RunEnds words run status
-served_ends words run Ended none ends = (none, ends)
-served_ends words run Broken none ends = (none, ends)
-served_ends words run BadSettings none ends = (none, ends)
 served_ends words run Usage none ends = absurd ends
-served_ends words run NoMemory none ends = (none, ends)
+served_ends words run status none ends = (none, ends)
 
 -- all of the text was written, and kept
 pub all_said : (old mid new : Option (List ℕ)) (text : List ℕ) → Appends old mid text → Keeps mid new → AppendsFront old new text

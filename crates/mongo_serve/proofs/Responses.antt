@@ -9,7 +9,7 @@ use Rattle.mongo_wire.specs.Message.{ArgumentRow, IsFrameOf, WriteRefused, id_of
 use Rattle.mongo_wire.specs.Outside.{State, AppendsFront}
 use Rattle.mongo_wire.specs.declared.document_sequence.DocumentSequence.{DocumentSequence}
 use Rattle.mongo_wire.specs.declared.error.ErrorKind.{ErrorKind}
-use Rattle.mongo_wire.specs.declared.error.ErrorKind.TheVariants.{InvalidArgument, InvalidResponse, Command, Authentication, IncompatibleServer, Write, InsertMany, ReadFault, WriteFault, EndOfInput, Callback, PasswordNotAscii, OutOfMemory}
+use Rattle.mongo_wire.specs.declared.error.ErrorKind.TheVariants.{InvalidArgument, WriteFault, OutOfMemory}
 use Rattle.mongo_wire.specs.declared.message.Message.{Message}
 use Rattle.mongo_wire.specs.declared.message_flags.MessageFlags.{MessageFlags}
 use Rattle.mongo_serve.specs.declared.fault.ServeFault.{ServeFault}
@@ -65,16 +65,7 @@ pub refused_front : (kind : ErrorKind) (maximum : ℤ) (m : Message) (old new : 
 refused_front (InvalidArgument fault) maximum m old new before after h = nothing_kept old.written new.written (written_frame (id_of m before) m) h.1
 refused_front WriteFault maximum m old new before after h = h.1.front
 refused_front OutOfMemory maximum m old new before after h = h.front
-refused_front ReadFault maximum m old new before after h = absurd h
-refused_front EndOfInput maximum m old new before after h = absurd h
-refused_front (InvalidResponse _) maximum m old new before after h = absurd h
-refused_front (Command _) maximum m old new before after h = absurd h
-refused_front (Authentication _) maximum m old new before after h = absurd h
-refused_front IncompatibleServer maximum m old new before after h = absurd h
-refused_front (Write _) maximum m old new before after h = absurd h
-refused_front (InsertMany _) maximum m old new before after h = absurd h
-refused_front (Callback _) maximum m old new before after h = absurd h
-refused_front PasswordNotAscii maximum m old new before after h = absurd h
+refused_front kind maximum m old new before after h = absurd h
 
 -- a message that has its document alone is refused only where it is too long
 long_alone : (document : List ℕ) (to : ℤ) (flags : MessageFlags) (fault : ArgumentFault)
@@ -94,16 +85,7 @@ pub refused_cause : (too_long : Type 0) (kind : ErrorKind) (maximum : ℤ) (m : 
 refused_cause too_long (InvalidArgument fault) maximum m old new before after long h = long fault h.0
 refused_cause too_long WriteFault maximum m old new before after long h = h.0
 refused_cause too_long OutOfMemory maximum m old new before after long h = tt
-refused_cause too_long ReadFault maximum m old new before after long h = absurd h
-refused_cause too_long EndOfInput maximum m old new before after long h = absurd h
-refused_cause too_long (InvalidResponse _) maximum m old new before after long h = absurd h
-refused_cause too_long (Command _) maximum m old new before after long h = absurd h
-refused_cause too_long (Authentication _) maximum m old new before after long h = absurd h
-refused_cause too_long IncompatibleServer maximum m old new before after long h = absurd h
-refused_cause too_long (Write _) maximum m old new before after long h = absurd h
-refused_cause too_long (InsertMany _) maximum m old new before after long h = absurd h
-refused_cause too_long (Callback _) maximum m old new before after long h = absurd h
-refused_cause too_long PasswordNotAscii maximum m old new before after long h = absurd h
+refused_cause too_long kind maximum m old new before after long h = absurd h
 
 -- ---- an OP_MSG was answered
 

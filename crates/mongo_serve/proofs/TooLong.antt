@@ -11,7 +11,7 @@ use Rattle.mongo_wire.proofs.Arrays.{without_zero}
 use Rattle.mongo_serve.specs.Faults.{IsOfDocument}
 use Rattle.mongo_serve.specs.Replies.{description, hello_reply_elements, mechanism_elements, names_document, sasl_document, speculation_elements, writable_key}
 use Rattle.mongo_serve.specs.declared.fault.ServeFault.{ServeFault}
-use Rattle.mongo_serve.specs.declared.fault.ServeFault.TheVariants.{ReadFault, WriteFault, CutFrame, NoFrame, NoHello, ReplyTooLong, TooManyRequests, OutOfMemory}
+use Rattle.mongo_serve.specs.declared.fault.ServeFault.TheVariants.{ReplyTooLong, OutOfMemory}
 use Rattle.mongo_serve.specs.declared.reply.HelloAnswer.{HelloAnswer}
 use Rattle.mongo_serve.specs.declared.reply.Mechanisms.{Mechanisms}
 use Rattle.mongo_serve.specs.declared.reply.SaslReply.{SaslReply}
@@ -43,12 +43,7 @@ writable_plain is_legacy key is = subst (λ k. Contains k 0 → ⊥) (sym is) (l
 longer : (fault : ServeFault) (document whole : List ℕ) → length document ≤ length whole → IsOfDocument document fault → IsOfDocument whole fault
 longer ReplyTooLong document whole less is = omega (arith, less, is)
 longer OutOfMemory document whole less is = tt
-longer ReadFault document whole less is = absurd is
-longer WriteFault document whole less is = absurd is
-longer CutFrame document whole less is = absurd is
-longer NoFrame document whole less is = absurd is
-longer NoHello document whole less is = absurd is
-longer TooManyRequests document whole less is = absurd is
+longer fault document whole less is = absurd is
 
 pub handed : {T : Type 0} (r : Result T ServeFault) (given : ServeFault) (document whole : List ℕ) → IsErrAnd r (λ fault. fault ≡ given) → length document ≤ length whole → IsOfDocument document given → IfErr r (IsOfDocument whole)
 handed (Ok t) given document whole is less cause = tt

@@ -16,7 +16,7 @@ use mongo_command::keys::{
     MAX_BSON_OBJECT_SIZE, MAX_MESSAGE_SIZE_BYTES, MAX_WIRE_VERSION, MAX_WRITE_BATCH_SIZE,
     MIN_WIRE_VERSION, OK, SASL_SUPPORTED_MECHS, SPECULATIVE_AUTHENTICATE,
 };
-use mongo_sasl::document_of;
+use mongo_command::{boolean_field, document_of, int32_field};
 use std::alloc::Global;
 
 /// The document of a hello's reply.
@@ -49,16 +49,16 @@ fn description(alloc: Global) -> Result<RawDocumentBuf, ServeFault>
     Ok(document_of(
         alloc,
         &[
-            (HELLO_OK, RawValue::Bool(true)),
-            (MAX_BSON_OBJECT_SIZE, RawValue::Int32(DOCUMENT_MAXIMUM)),
-            (MAX_MESSAGE_SIZE_BYTES, RawValue::Int32(MESSAGE_MAXIMUM)),
-            (MAX_WRITE_BATCH_SIZE, RawValue::Int32(100_000)),
-            ("localTime", RawValue::DateTime(0)),
-            (LOGICAL_SESSION_TIMEOUT_MINUTES, RawValue::Int32(30)),
-            (CONNECTION_ID, RawValue::Int32(1)),
-            (MIN_WIRE_VERSION, RawValue::Int32(0)),
-            (MAX_WIRE_VERSION, RawValue::Int32(21)),
-            ("readOnly", RawValue::Bool(false)),
+            boolean_field(HELLO_OK, true),
+            int32_field(MAX_BSON_OBJECT_SIZE, DOCUMENT_MAXIMUM),
+            int32_field(MAX_MESSAGE_SIZE_BYTES, MESSAGE_MAXIMUM),
+            int32_field(MAX_WRITE_BATCH_SIZE, 100_000),
+            Some(("localTime", RawValue::DateTime(0))),
+            int32_field(LOGICAL_SESSION_TIMEOUT_MINUTES, 30),
+            int32_field(CONNECTION_ID, 1),
+            int32_field(MIN_WIRE_VERSION, 0),
+            int32_field(MAX_WIRE_VERSION, 21),
+            boolean_field("readOnly", false),
         ],
     )?)
 }

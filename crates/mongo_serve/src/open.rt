@@ -12,7 +12,7 @@ use crate::serve_settings::{Account, ServeSettings};
 use crate::session::OpenLogin;
 use mongo_bson::Text;
 use mongo_mac::Steps;
-use mongo_scram::{ScramVersion, push_user_name};
+use mongo_scram::{ScramVersion, saslname};
 use mongo_server::{ServerCore, ServerFault, ServerUser};
 use mongo_wire::{Error, ErrorKind};
 use std::alloc::{AllocError, Global};
@@ -91,8 +91,9 @@ fn suits(
 fn names(alloc: Global, name: &str, payload: &[u8]) -> Result<bool, AllocError>
     ensures { IfOk result (λ is. IsTrue is ↔ NamesUser payload.now name.now) }
 {
+    let carried = saslname(alloc, name)?;
     let mut front = String::from_str(alloc, "n,,n=")?;
-    push_user_name(&mut front, name)?;
+    front.push_str(carried.as_str())?;
     front.push_str(",r=")?;
     Ok(payload.starts_with(front.as_bytes()))
 }

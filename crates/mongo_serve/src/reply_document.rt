@@ -9,7 +9,7 @@ use crate::hello_document::hello_reply_document;
 use crate::reply::{RefusedCommand, Reply, SaslReply};
 use mongo_bson::{RawDocument, RawDocumentBuf, RawValue, Text};
 use mongo_command::keys::{CODE, CODE_NAME, ERRMSG, MAX_BSON_OBJECT_SIZE, OK};
-use mongo_sasl::document_of;
+use mongo_command::{boolean_field, document_of, int32_field};
 use mongo_sasl::keys::{CONVERSATION_ID, DONE, PAYLOAD};
 use std::alloc::Global;
 
@@ -51,7 +51,7 @@ fn done_document(alloc: Global) -> Result<RawDocumentBuf, ServeFault>
     ensures document { IfOk result (λ document. document ≡ done_document) }
     ensures refused { IfErr result (IsOfDocument done_document) }
 {
-    Ok(document_of(alloc, &[(OK, RawValue::Double(ONE))])?)
+    Ok(document_of(alloc, &[Some((OK, RawValue::Double(ONE)))])?)
 }
 
 fn refusal_document(alloc: Global, refusal: &RefusedCommand) -> Result<RawDocumentBuf, ServeFault>
@@ -84,10 +84,10 @@ fn error_document<'x>(
     ensures document { IfOk result (λ document. document ≡ error_document message.now code name.now) }
     ensures refused { IfErr result (IsOfDocument (error_document message.now code name.now)) }
 {
-    let ok = (OK, RawValue::Double(ZERO));
-    let message = (ERRMSG, RawValue::Str(message));
-    let code = (CODE, RawValue::Int32(code));
-    let name = (CODE_NAME, RawValue::Str(name));
+    let ok = Some((OK, RawValue::Double(ZERO)));
+    let message = Some((ERRMSG, RawValue::Str(message)));
+    let code = Some((CODE, RawValue::Int32(code)));
+    let name = Some((CODE_NAME, RawValue::Str(name)));
     Ok(document_of(alloc, &[ok, message, code, name])?)
 }
 
@@ -96,22 +96,22 @@ pub fn sasl_document(alloc: Global, message: &SaslReply) -> Result<RawDocumentBu
     ensures document { IfOk result (λ document. document ≡ sasl_document message.now) }
     ensures refused { IfErr result (IsOfDocument (sasl_document message.now)) }
 {
-    let id = (CONVERSATION_ID, RawValue::Int32(CONVERSATION));
-    let done = (DONE, RawValue::Bool(message.is_done));
+    let id = int32_field(CONVERSATION_ID, CONVERSATION);
+    let done = boolean_field(DONE, message.is_done);
     let payload = RawValue::Binary(GENERIC, message.payload.as_bytes());
-    let ok = (OK, RawValue::Double(ONE));
-    Ok(document_of(alloc, &[id, done, (PAYLOAD, payload), ok])?)
+    let ok = Some((OK, RawValue::Double(ONE)));
+    Ok(document_of(alloc, &[id, done, Some((PAYLOAD, payload)), ok])?)
 }
 
 fn build_info_document(alloc: Global) -> Result<RawDocumentBuf, ServeFault>
     ensures document { IfOk result (λ document. document ≡ build_info_document) }
     ensures refused { IfErr result (IsOfDocument build_info_document) }
 {
-    let version = ("version", RawValue::Str("7.0.0"));
-    let git = ("gitVersion", RawValue::Str(""));
-    let numbers = ("versionArray", RawValue::Array(version_numbers()));
-    let size = (MAX_BSON_OBJECT_SIZE, RawValue::Int32(DOCUMENT_MAXIMUM));
-    let ok = (OK, RawValue::Double(ONE));
+    let version = Some(("version", RawValue::Str("7.0.0")));
+    let git = Some(("gitVersion", RawValue::Str("")));
+    let numbers = Some(("versionArray", RawValue::Array(version_numbers())));
+    let size = int32_field(MAX_BSON_OBJECT_SIZE, DOCUMENT_MAXIMUM);
+    let ok = Some((OK, RawValue::Double(ONE)));
     Ok(document_of(alloc, &[version, git, numbers, size, ok])?)
 }
 

@@ -1,6 +1,7 @@
 //! What the server is told: who may log in, and what it adds to a client's nonce.
 
 ghost use Rattle.std.specs.Prelude.{◌≤◌};
+ghost use Rattle.mongo_scram.specs.Validity.{least_count};
 ghost use Rattle.mongo_server.specs.ClientMessages.{IsNonce};
 
 mod reading;
@@ -23,7 +24,7 @@ pub struct Account {
     /// The iteration count of the key.
     pub count: u32,
     // as many as RFC 7677 asks for at least
-    pub ghost enough: { 4096 ≤ count },
+    pub ghost enough: { least_count ≤ count },
 }
 
 /// Who may log in, and what the server adds to a client's nonce.

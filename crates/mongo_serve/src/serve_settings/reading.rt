@@ -11,6 +11,7 @@
 
 ghost use Rattle.std.specs.Prelude.{◌≡◌, ◌≤◌, [], ◌∷◌, ◌++◌, map, IfSome, IfOk, IfErr, OnOk, IsTrue};
 ghost use Rattle.serde_json.specs.View.{view, items_view};
+ghost use Rattle.mongo_scram.specs.Validity.{least_count};
 ghost use Rattle.mongo_server.specs.ClientMessages.{IsNonce};
 ghost use Rattle.mongo_serve.specs.ServeSettings.{text_under, items_in, count_in, scram_version_in, salt_in, is_suffix, suffix_in, json_in, as_said, account_in, accounts_of_user, accounts_of, settings_as_said, settings_said, HaveAtEnd, AnswersSaid, SaysNothing};
 ghost use Rattle.mongo_serve.specs.declared.serve_settings.reading.ServeSettingsError.TheVariants.{OutOfMemory};
@@ -19,13 +20,10 @@ use super::{Account, ServeSettings};
 use crate::request::version_named;
 use hex::FromHexError;
 use mongo_bson::{Bytes, Text};
-use mongo_scram::ScramVersion;
+use mongo_scram::{MIN_ITERATION_COUNT, ScramVersion};
 use mongo_server::is_nonce;
 use serde_json::{Category, Value};
 use std::alloc::{AllocError, AllocFailed, Global};
-
-// The fewest iterations that RFC 7677 asks for.
-const LEAST_COUNT: u64 = 4096;
 
 /// Why a text is no settings.
 #[derive(Clone, Copy, Debug, PartialEq, Eq)]
@@ -209,11 +207,13 @@ fn items_in<'a>(value: &'a Value, key: &str) -> Result<&'a [Value], ServeSetting
 // A user's iteration count.
 fn count_in(user: &Value) -> Option<u32>
     ensures count { result ≡ count_in (view user.now) }
-    ensures least { IfSome result (λ count. 4096 ≤ count) }
+    ensures least { IfSome result (λ count. least_count ≤ count) }
 {
     match user.get("count") {
         Some(count) => match count.as_u64() {
-            Some(count) if LEAST_COUNT <= count && count <= u32::MAX as u64 => Some(count as u32),
+            Some(count) if MIN_ITERATION_COUNT as u64 <= count && count <= u32::MAX as u64 => {
+                Some(count as u32)
+            }
             _ => None,
         },
         None => None,

@@ -3,20 +3,20 @@ use Rattle.std.specs.List.{list_all}
 use Rattle.std.proofs.lemmas.Bool.Decides.{same_from_decides}
 use Rattle.std.proofs.lemmas.List.Elements.{All-weaker}
 use Rattle.std.proofs.lemmas.List.Sums.{AllPass-from_list_all, list_all-from_AllPass}
-use Rattle.mongo_server.specs.ClientMessages.{IsPrintable, IsNonce}
+use Rattle.mongo_server.specs.ClientMessages.{IsNonceByte, IsNonce}
 use Rattle.mongo_serve.specs.ServeSettings.{is_printable, is_suffix}
 use Rattle.mongo_serve.proofs.serve_settings.reading.is_suffix.Goals as goal
 
-printable_if : (byte : ℕ) → is_printable byte ≡ true → IsPrintable byte
+printable_if : (byte : ℕ) → is_printable byte ≡ true → IsNonceByte byte
 printable_if byte is = search (rules, tests)
 
-if_printable : (byte : ℕ) → IsPrintable byte → is_printable byte ≡ true
+if_printable : (byte : ℕ) → IsNonceByte byte → is_printable byte ≡ true
 if_printable byte is = search (rules, tests)
 
 all_printable : (bytes : List ℕ) → IsTrue (list_all is_printable bytes) ↔ IsNonce bytes
 all_printable bytes = (
-  λ all. All-weaker (λ byte. is_printable byte ≡ true) IsPrintable printable_if bytes (AllPass-from_list_all is_printable bytes all),
-  λ all. list_all-from_AllPass is_printable bytes (All-weaker IsPrintable (λ byte. is_printable byte ≡ true) if_printable bytes all),
+  λ all. All-weaker (λ byte. is_printable byte ≡ true) IsNonceByte printable_if bytes (AllPass-from_list_all is_printable bytes all),
+  λ all. list_all-from_AllPass is_printable bytes (All-weaker IsNonceByte (λ byte. is_printable byte ≡ true) if_printable bytes all),
 )
 
 same_test : (nonce : List ℕ) (test : Bool) → (nonce ≡ [] → ⊥) → IsTrue test ↔ IsNonce nonce → test ≡ is_suffix nonce
