@@ -61,14 +61,29 @@ fn leaf(alloc: Global) -> Result<RawDocumentBuf, BsonFault> {
 
 // A document that holds another, and an array of four copies of it.
 fn around(alloc: Global, inner: &RawDocumentBuf) -> Result<RawDocumentBuf, BsonFault> {
+    let copies = four_of(alloc, inner)?;
+    with_copies(alloc, inner, &copies)
+}
+
+// An array of four copies of a document.
+fn four_of(alloc: Global, inner: &RawDocumentBuf) -> Result<RawArrayBuf, BsonFault> {
     let mut array = RawArrayBuf::new(alloc)?;
     for _ in 0..4 {
         array.push(RawValue::Document(inner.borrow()))?;
     }
+    Ok(array)
+}
+
+// A document that holds another, and the copies of it.
+fn with_copies(
+    alloc: Global,
+    inner: &RawDocumentBuf,
+    copies: &RawArrayBuf,
+) -> Result<RawDocumentBuf, BsonFault> {
     let mut document = RawDocumentBuf::new(alloc)?;
     document.append("number", RawValue::Int32(4))?;
     document.append("first", RawValue::Document(inner.borrow()))?;
-    document.append("values", RawValue::Array(array.borrow()))?;
+    document.append("values", RawValue::Array(copies.borrow()))?;
     document.append("note", RawValue::Str("four more of them"))?;
     Ok(document)
 }

@@ -20,8 +20,6 @@ mod login;
 mod peers;
 mod run;
 mod task;
-#[cfg(test)]
-mod tests;
 mod walking;
 mod work;
 
