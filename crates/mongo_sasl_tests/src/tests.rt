@@ -1,6 +1,7 @@
 mod credentials;
 mod logins;
 mod messages;
+mod rows;
 mod rules;
 
 use mongo_bson::{BsonFault, Bytes, Text};
@@ -22,13 +23,9 @@ fn text(alloc: Global, given: Option<&str>) -> Result<Option<Text>, BsonFault> {
 }
 
 /// A user name, a source and a password.
-type CredentialTexts = (
-    Option<&'static str>,
-    Option<&'static str>,
-    Option<&'static str>,
-);
+type CredentialTexts<'a> = (Option<&'a str>, Option<&'a str>, Option<&'a str>);
 
-fn credential(alloc: Global, parts: CredentialTexts) -> Result<Credential, BsonFault> {
+fn credential(alloc: Global, parts: CredentialTexts<'_>) -> Result<Credential, BsonFault> {
     let (username, source, password) = parts;
     let username = text(alloc, username)?;
     let source = text(alloc, source)?;

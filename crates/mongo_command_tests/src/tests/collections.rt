@@ -178,15 +178,27 @@ const BESIDE: &[u8] =
 const INSIDE: &[u8] =
     b"\x4b\0\0\0\0\0\0\0\0\0\0\0\xdd\x07\0\0\0\0\0\0\0\x36\0\0\0\x02insert\0\x02\0\0\0c\0\x04documents\0\x0d\0\0\0\x030\0\x05\0\0\0\0\0\x02$db\0\x02\0\0\0d\0\0";
 
-// Fails where a frame that was made so has other bytes than these.
-fn wants_frame(name: &str, frame: Bytes, wanted: &[u8]) -> Result<(), Fail> {
+// Fails where the frame that was made so has other bytes than these.
+fn wants_frame(name: &str, frame: Result<Bytes, Fail>, wanted: &[u8]) -> Result<(), Fail> {
+    let frame = frame?;
     wants(name, frame.as_bytes() == wanted, "another frame")
+}
+
+// The frame alone.
+fn frame_in(carried: Result<(Bytes, usize), Fail>) -> Result<Bytes, Fail> {
+    let (frame, _sum) = carried?;
+    Ok(frame)
 }
 
 #[test]
 fn a_sequence_stands_behind_the_document_and_an_array_in_it(rt: HostRuntime) -> Result<(), Fail> {
-    wants_frame("a collection beside", in_sequence(rt.alloc(), 1)?.0, BESIDE)?;
-    let named = frame_with_one(rt.alloc(), insert(rt.alloc()))?;
+    let alloc = rt.alloc();
+    wants_frame(
+        "a collection beside",
+        frame_in(in_sequence(alloc, 1)),
+        BESIDE,
+    )?;
+    let named = frame_with_one(alloc, insert(alloc));
     wants_frame("a sequence by its name", named, BESIDE)?;
-    wants_frame("a collection inside", in_array(rt.alloc(), 1)?.0, INSIDE)
+    wants_frame("a collection inside", frame_in(in_array(alloc, 1)), INSIDE)
 }

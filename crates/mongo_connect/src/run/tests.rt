@@ -3,7 +3,7 @@ ghost use Rattle.std.specs.Prelude.{◌<◌};
 mod logins;
 
 use super::run_counted;
-use logins::{PLAIN, RecordedLogin, SCRAM, fault_at};
+use logins::{By, fault_at, recorded};
 use mongo_bson::Bytes;
 use mongo_settings::Status;
 use mongo_wire::FailingLink;
@@ -12,38 +12,34 @@ use std::marker::Brand;
 use std::sync::ledger::Blank;
 use std::test::Fail;
 
-// What a run leaves: how it ended, its report, and how many bytes of the link are unread.
+// What a run leaves: how it ended, the sink of its report, and how many bytes of the link are unread.
 #[derive(Drop)]
 struct Left {
     status: Status,
-    report: Vec<u8>,
+    sink: FailingLink,
     unread: usize,
 }
 
-// Runs over a link that gives these pieces one after another, moves so many bytes at a time, and fails at the call of this
-// number; the report's sink does at the call of the other.
+// Runs over a link that gives these bytes, moves so many at a time, and fails at the call of this number; the report's sink does at
+// the call of the other.
 fn run_over(
     alloc: Global,
-    pieces: &[&[u8]],
+    input: Bytes,
     most: usize,
     link_fails: usize,
     sink_fails: usize,
-) -> Result<Left, Fail>
+) -> Result<Left, AllocError>
     requires { 0 < most }
 {
-    let mut input = Vec::new(alloc);
-    for piece in pieces {
-        input.extend_from_slice(piece)?;
-    }
-    let failing = failing_at(alloc, link_fails)?;
-    let link = FailingLink::new(alloc, Bytes::from_vec(input), failing, most);
-    let failing = failing_at(alloc, sink_fails)?;
-    let mut sink = FailingLink::new(alloc, Bytes::new(alloc), failing, 4096);
+    let (link_fails, sink_fails) = schedules(alloc, link_fails, sink_fails)?;
+    let link = FailingLink::new(alloc, input, link_fails, most);
+    let mut sink = FailingLink::new(alloc, Bytes::new(alloc), sink_fails, 4096);
     let (status, link) = run_at(alloc, Vec::new(alloc), link, &mut sink);
+    let unread = link.left().len();
     Ok(Left {
         status,
-        report: Vec::from_slice(alloc, sink.written())?,
-        unread: link.left().len(),
+        sink,
+        unread,
     })
 }
 
@@ -56,13 +52,23 @@ fn run_at(
     run_counted::<_, _, Brand>(alloc, words, link, sink, Blank::new(1))
 }
 
+// The schedules of a link and of a sink that fail at the calls of these numbers.
+fn schedules(
+    alloc: Global,
+    link_fails: usize,
+    sink_fails: usize,
+) -> Result<(Bytes, Bytes), AllocError> {
+    let link_fails = failing_at(alloc, link_fails)?;
+    Ok((link_fails, failing_at(alloc, sink_fails)?))
+}
+
 // No call, or that of this number.
 fn failing_at(alloc: Global, call: usize) -> Result<Bytes, AllocError> {
-    let mut calls = Vec::new(alloc);
-    if call < NEVER {
-        calls.extend_from_slice(&vec![in alloc; 0u8; call]?)?;
-        calls.extend_from_slice(&[1])?;
+    if call >= NEVER {
+        return Ok(Bytes::new(alloc));
     }
+    let mut calls = vec![in alloc; 0u8; call]?;
+    calls.push(1)?;
     Ok(Bytes::from_vec(calls))
 }
 
@@ -77,173 +83,211 @@ struct Ended {
     unread: usize,
 }
 
+// Whether a report is just these parts, one after another.
+fn are_parts(report: &[u8], parts: [&'static str; 3]) -> bool {
+    let mut rest = report;
+    for part in parts {
+        match rest.strip_prefix(part.as_bytes()) {
+            Some(after) => rest = after,
+            None => return false,
+        }
+    }
+    rest.is_empty()
+}
+
+// The line of a login, padded with blanks to so many bytes, its replies, and what follows them.
+fn input_of(alloc: Global, by: By, length: usize, followed_by: &[u8]) -> Result<Bytes, AllocError> {
+    let login = recorded(by);
+    let mut input = Vec::from_slice(alloc, login.line.as_bytes())?;
+    input.resize(login.line.len().max(length), b' ')?;
+    input.push(b'\n')?;
+    input.extend_from_slice(login.replies)?;
+    input.extend_from_slice(followed_by)?;
+    Ok(Bytes::from_vec(input))
+}
+
 // Logs in over a link that moves so many bytes at a time and fails at the call of this number, and compares the report with these
 // parts.
 fn log_in(
     alloc: Global,
-    login: RecordedLogin,
+    by: By,
     most: usize,
     link_fails: usize,
     report: [&'static str; 3],
-) -> Result<Ended, Fail>
+) -> Result<Ended, AllocError>
     requires { 0 < most }
 {
-    let mut wanted = Vec::new(alloc);
-    for part in report {
-        wanted.extend_from_slice(part.as_bytes())?;
-    }
-    let pieces = [login.line.as_bytes(), b"\n".as_slice(), login.replies];
-    let left = run_over(alloc, &pieces, most, link_fails, NEVER)?;
+    let input = input_of(alloc, by, 0, b"")?;
+    let left = run_over(alloc, input, most, link_fails, NEVER)?;
     Ok(Ended {
         status: left.status,
-        is_told: left.report.as_slice() == wanted.as_slice(),
+        is_told: are_parts(left.sink.written(), report),
         unread: left.unread,
     })
 }
 
-#[test]
-fn the_report_is_that_of_a_rehearsal(rt: HostRuntime) -> Result<(), Fail> {
-    for (login, most) in [(PLAIN, 1), (PLAIN, 7), (SCRAM, 1), (SCRAM, 7)] {
-        let report = [login.sent_hello, login.sent_login, login.told];
-        let ended = log_in(rt.alloc(), login, most, NEVER, report)?;
-        assert_eq!(rt;
-            ended,
-            Ended {
-                status: Status::Done,
-                is_told: true,
-                unread: 0,
-            }
-        );
+// Fails where a login over such a link doesn't end as a fault at that call does.
+fn check_login(alloc: Global, by: By, most: usize, link_fails: usize) -> Result<(), Fail>
+    requires { 0 < most }
+{
+    let wanted = fault_at(recorded(by), link_fails);
+    let ended = log_in(alloc, by, most, link_fails, wanted.report)?;
+    let as_wanted = Ended {
+        status: wanted.status,
+        is_told: true,
+        unread: wanted.unread,
+    };
+    if ended == as_wanted {
+        Ok(())
+    } else {
+        Err(Fail::new(format_args!("{by:?} by {most}, failing at {link_fails}: {ended:?}")))
+    }
+}
+
+// The same at each call of a login, and where none fails.
+fn check_faults(alloc: Global, by: By) -> Result<(), Fail> {
+    for call in 0..recorded(by).line.len().saturating_add(14) {
+        check_login(alloc, by, 4096, call)?;
     }
     Ok(())
 }
 
 #[test]
+fn the_report_is_that_of_a_rehearsal(rt: HostRuntime) -> Result<(), Fail> {
+    check_login(rt.alloc(), By::Plain, 1, NEVER)?;
+    check_login(rt.alloc(), By::Plain, 7, NEVER)?;
+    check_login(rt.alloc(), By::Scram, 1, NEVER)?;
+    check_login(rt.alloc(), By::Scram, 7, NEVER)
+}
+
+// How a login by PLAIN ends, whose line is so long and whose replies are followed by this, and how many bytes are unread.
+fn plain_end(
+    alloc: Global,
+    most: usize,
+    length: usize,
+    followed_by: &[u8],
+) -> Result<(Status, usize), AllocError>
+    requires { 0 < most }
+{
+    let input = input_of(alloc, By::Plain, length, followed_by)?;
+    let left = run_over(alloc, input, most, NEVER, NEVER)?;
+    Ok((left.status, left.unread))
+}
+
+#[test]
 fn nothing_past_the_last_reply_is_read(rt: HostRuntime) -> Result<(), Fail> {
-    for most in [1, 7, 4096] {
-        let pieces = [
-            PLAIN.line.as_bytes(),
-            b"\n".as_slice(),
-            PLAIN.replies,
-            b"more".as_slice(),
-        ];
-        let left = run_over(rt.alloc(), &pieces, most, NEVER, NEVER)?;
-        assert_eq!(rt; left.status, Status::Done);
-        assert_eq!(rt; left.unread, 4);
-    }
+    let alloc = rt.alloc();
+    assert!(rt; plain_end(alloc, 1, 0, b"more")? == (Status::Done, 4));
+    assert!(rt; plain_end(alloc, 7, 0, b"more")? == (Status::Done, 4));
+    assert!(rt; plain_end(alloc, 4096, 0, b"more")? == (Status::Done, 4));
     Ok(())
 }
 
 #[test]
 fn a_fault_at_each_call_of_plain_is_told(rt: HostRuntime) -> Result<(), Fail> {
-    for call in 0..PLAIN.line.len() + 14 {
-        let wanted = fault_at(PLAIN, call);
-        let ended = log_in(rt.alloc(), PLAIN, 4096, call, wanted.report)?;
-        assert_eq!(rt;
-            ended,
-            Ended {
-                status: wanted.status,
-                is_told: true,
-                unread: wanted.unread,
-            },
-            "at {call}"
-        );
-    }
-    Ok(())
+    check_faults(rt.alloc(), By::Plain)
 }
 
 #[test]
 fn a_fault_at_each_call_of_scram_is_told(rt: HostRuntime) -> Result<(), Fail> {
-    for call in 0..SCRAM.line.len() + 14 {
-        let wanted = fault_at(SCRAM, call);
-        let ended = log_in(rt.alloc(), SCRAM, 4096, call, wanted.report)?;
-        assert_eq!(rt;
-            ended,
-            Ended {
-                status: wanted.status,
-                is_told: true,
-                unread: wanted.unread,
-            },
-            "at {call}"
-        );
+    check_faults(rt.alloc(), By::Scram)
+}
+
+// Bytes of which each bar ends a line, the call of the report's sink that fails, the status, and whether an end is told or nothing.
+const LINES: &str = r#" => none => BadSettings => nothing
+|{"host":"a"} => none => BadSettings => nothing
+{"host":"a","replies":["00"]}| => none => BadSettings => nothing
+{"host":"a","moment":1}| => none => NotBuilt => nothing
+{"host":"a","replies":[]}| => none => Refused => end
+{"host":"a"} => none => Refused => end
+{"host":"a"} => first => SinkFault => nothing
+{"host":"a"} => second => SinkFault => end"#;
+
+const END: &str = "read 0\nrefused\nphase PreHello\nkind EndOfInput\nreason -\ncode -\ntext -\n";
+
+// What stands before the first arrow of a row and behind it.
+fn parts<'a>(row: &'a str) -> (&'a str, &'a str) {
+    row.split_once(" => ").unwrap_or((row, "no arrow"))
+}
+
+fn bytes_of(alloc: Global, text: &str) -> Result<Bytes, AllocError> {
+    let mut bytes = Vec::new(alloc);
+    for byte in text.bytes() {
+        bytes.push(if byte == b'|' { b'\n' } else { byte })?;
     }
-    Ok(())
+    Ok(Bytes::from_vec(bytes))
+}
+
+fn call_of(word: &str) -> usize {
+    match word {
+        "first" => 0,
+        "second" => 1,
+        _ => NEVER,
+    }
+}
+
+fn status_of(word: &str) -> Status {
+    match word {
+        "BadSettings" => Status::BadSettings,
+        "NotBuilt" => Status::NotBuilt,
+        "Refused" => Status::Refused,
+        _ => Status::SinkFault,
+    }
+}
+
+// Whether a report ends with that end, or has nothing.
+fn tells(report: &[u8], word: &str) -> bool {
+    match word {
+        "end" => report.ends_with(END.as_bytes()),
+        _ => report.is_empty(),
+    }
+}
+
+// Whether a run ends as a row says.
+fn is_ended_so(alloc: Global, row: &str) -> Result<bool, AllocError> {
+    let (text, rest) = parts(row);
+    let (sink_fails, rest) = parts(rest);
+    let (status, told) = parts(rest);
+    let left = run_over(
+        alloc,
+        bytes_of(alloc, text)?,
+        4096,
+        NEVER,
+        call_of(sink_fails),
+    )?;
+    Ok(left.status == status_of(status) && tells(left.sink.written(), told))
 }
 
 #[test]
 fn the_line_and_the_sink_decide_too(rt: HostRuntime) -> Result<(), Fail> {
-    for (text, sink_fails, status, report) in [
-        ("", NEVER, Status::BadSettings, ""),
-        ("\n{\"host\":\"a\"}", NEVER, Status::BadSettings, ""),
-        (
-            "{\"host\":\"a\",\"replies\":[\"00\"]}\n",
-            NEVER,
-            Status::BadSettings,
-            "",
-        ),
-        (
-            "{\"host\":\"a\",\"moment\":1}\n",
-            NEVER,
-            Status::NotBuilt,
-            "",
-        ),
-        (
-            "{\"host\":\"a\",\"replies\":[]}\n",
-            NEVER,
-            Status::Refused,
-            ENDED,
-        ),
-        ("{\"host\":\"a\"}", NEVER, Status::Refused, ENDED),
-        ("{\"host\":\"a\"}", 0, Status::SinkFault, ""),
-        ("{\"host\":\"a\"}", 1, Status::SinkFault, ENDED),
-    ] {
-        let left = run_over(rt.alloc(), &[text.as_bytes()], 4096, NEVER, sink_fails)?;
-        assert_eq!(rt; left.status, status, "at {text}");
-        assert!(rt;
-            left.report.as_slice().ends_with(report.as_bytes()),
-            "at {text}"
-        );
-        assert_eq!(rt; left.report.is_empty(), report.is_empty(), "at {text}");
+    for row in LINES.lines() {
+        assert!(rt; is_ended_so(rt.alloc(), row)?, "{row}");
     }
     Ok(())
-}
-
-const ENDED: &str = "read 0\nrefused\nphase PreHello\nkind EndOfInput\nreason -\ncode -\ntext -\n";
-
-// Runs on the line with so many blanks after it.
-fn run_padded(alloc: Global, blanks: usize) -> Result<Left, Fail> {
-    let mut text = Vec::from_slice(alloc, PLAIN.line.as_bytes())?;
-    text.extend_from_slice(&vec![in alloc; b' '; blanks]?)?;
-    text.extend_from_slice(b"\n")?;
-    text.extend_from_slice(PLAIN.replies)?;
-    run_over(alloc, &[text.as_slice()], 4096, NEVER, NEVER)
 }
 
 #[test]
 fn blanks_to_the_limit_are_settings(rt: HostRuntime) -> Result<(), Fail> {
-    for (blanks, status, unread) in [
-        (4_194_304 - PLAIN.line.len(), Status::Done, 0),
-        (
-            4_194_305 - PLAIN.line.len(),
-            Status::BadSettings,
-            PLAIN.replies.len() + 1,
-        ),
-    ] {
-        let left = run_padded(rt.alloc(), blanks)?;
-        assert_eq!(rt; left.status, status);
-        assert_eq!(rt; left.unread, unread);
-    }
+    let unread = recorded(By::Plain).replies.len().saturating_add(1);
+    let most = plain_end(rt.alloc(), 4096, 4_194_304, b"")?;
+    assert!(rt; most == (Status::Done, 0));
+    let more = plain_end(rt.alloc(), 4096, 4_194_305, b"")?;
+    assert!(rt; more == (Status::BadSettings, unread));
     Ok(())
+}
+
+// How a run with a word ends.
+fn end_with_word(alloc: Global, word: &str) -> Result<Status, AllocError> {
+    let mut words = Vec::new(alloc);
+    words.push(String::from_str(alloc, word)?)?;
+    let link = FailingLink::new(alloc, Bytes::new(alloc), Bytes::new(alloc), 1);
+    let mut sink = FailingLink::new(alloc, Bytes::new(alloc), Bytes::new(alloc), 1);
+    let (status, _link) = run_at(alloc, words, link, &mut sink);
+    Ok(status)
 }
 
 #[test]
 fn words_are_refused(rt: HostRuntime) -> Result<(), Fail> {
-    let alloc = rt.alloc();
-    let link = FailingLink::new(alloc, Bytes::new(alloc), Bytes::new(alloc), 1);
-    let mut sink = FailingLink::new(alloc, Bytes::new(alloc), Bytes::new(alloc), 1);
-    let mut words = Vec::new(alloc);
-    words.push(String::from_str(alloc, "rehearse")?)?;
-    let (status, _link) = run_at(alloc, words, link, &mut sink);
-    assert_eq!(rt; status, Status::Usage);
+    assert!(rt; end_with_word(rt.alloc(), "rehearse")? == Status::Usage);
     Ok(())
 }

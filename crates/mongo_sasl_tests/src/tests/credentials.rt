@@ -5,7 +5,7 @@ use mongo_wire::ArgumentFault;
 use std::alloc::Global;
 use std::test::Fail;
 
-const ANN: CredentialTexts = (Some("ann"), Some("orders"), Some("pencil"));
+const ANN: CredentialTexts<'static> = (Some("ann"), Some("orders"), Some("pencil"));
 
 fn is_shown_as(alloc: Global, user: &Credential, text: &str) -> bool {
     match format!(in alloc; "{user:?}") {
@@ -60,7 +60,7 @@ fn asking(alloc: Global, user: &Credential) -> Result<RawDocumentBuf, Fail> {
 // Whether a credential of these parts and this mechanism makes a hello of an empty document this.
 fn asks(
     alloc: Global,
-    parts: CredentialTexts,
+    parts: CredentialTexts<'_>,
     mechanism: Option<AuthMechanism>,
     wanted: &[u8],
 ) -> Result<bool, Fail> {

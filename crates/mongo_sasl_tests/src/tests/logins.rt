@@ -1,3 +1,4 @@
+use super::rows::{RowCheck, check_rows, given_text, parts, spelled, words};
 use super::{Answered, CredentialTexts, bytes, credential, fault_of, given};
 use mongo_bson::{BsonFault, Text};
 use mongo_command::{Connection, ServerAddress};
@@ -23,141 +24,39 @@ enum By {
 
 /// A login: what it is by, who logs in, what it hears, the fault that it ends with, and all that it says.
 #[derive(Clone, Copy)]
-struct Row {
+struct Row<'a> {
     by: By,
-    user: CredentialTexts,
-    heard: &'static [u8],
-    fault: &'static str,
+    user: CredentialTexts<'a>,
+    heard: &'a [u8],
+    fault: &'a str,
     said: &'static [u8],
 }
 
-fn row_at(place: u8) -> Row {
-    match place {
-        // PLAIN: a reply that ends the conversation and one that doesn't, a failure, a key that stands twice, a success without its fields, and none
-        0 => Row {
-            by: By::Plain,
-            user: (Some("user"), None, Some("pencil")),
-            heard: b"O\0\0\0\x01\0\0\0\0\0\0\0\xdd\x07\0\0\0\0\0\0\0:\0\0\0\x01ok\0\0\0\0\0\0\0\xf0?\x10conversationId\0\x01\0\0\0\x08done\0\x01\x05payload\0\0\0\0\0\0\0",
-            fault: "none",
-            said: START,
-        },
-        1 => Row {
-            by: By::Plain,
-            user: (Some("user"), None, Some("pencil")),
-            heard: b"O\0\0\0\x01\0\0\0\0\0\0\0\xdd\x07\0\0\0\0\0\0\0:\0\0\0\x01ok\0\0\0\0\0\0\0\xf0?\x10conversationId\0\x01\0\0\0\x08done\0\0\x05payload\0\0\0\0\0\0\0",
-            fault: "Malformed",
-            said: START,
-        },
-        2 => Row {
-            by: By::Plain,
-            user: (Some("user"), None, Some("pencil")),
-            heard: b"5\0\0\0\x01\0\0\0\0\0\0\0\xdd\x07\0\0\0\0\0\0\0 \0\0\0\x01ok\0\0\0\0\0\0\0\0\0\x02errmsg\0\x03\0\0\0no\0\0",
-            fault: "no",
-            said: START,
-        },
-        3 => Row {
-            by: By::Plain,
-            user: (Some("user"), None, Some("pencil")),
-            heard: b"2\0\0\0\x01\0\0\0\0\0\0\0\xdd\x07\0\0\0\0\0\0\0\x1d\0\0\0\x01ok\0\0\0\0\0\0\0\xf0?\x01ok\0\0\0\0\0\0\0\xf0?\0",
-            fault: "Malformed",
-            said: START,
-        },
-        4 => Row {
-            by: By::Plain,
-            user: (Some("user"), None, Some("pencil")),
-            heard: b"&\0\0\0\x01\0\0\0\0\0\0\0\xdd\x07\0\0\0\0\0\0\0\x11\0\0\0\x01ok\0\0\0\0\0\0\0\xf0?\0",
-            fault: "Malformed",
-            said: START,
-        },
-        5 => Row {
-            by: By::Plain,
-            user: (Some("user"), None, Some("pencil")),
-            heard: b"",
-            fault: "EndOfInput",
-            said: START,
-        },
-        // credentials that lack a part, of which the name is missed first
-        6 => Row {
-            by: By::Plain,
-            user: (None, None, Some("pencil")),
-            heard: b"",
-            fault: "NoUsername",
-            said: b"",
-        },
-        7 => Row {
-            by: By::Plain,
-            user: (None, None, None),
-            heard: b"",
-            fault: "NoUsername",
-            said: b"",
-        },
-        8 => Row {
-            by: By::Plain,
-            user: (Some("user"), None, None),
-            heard: b"",
-            fault: "NoPassword",
-            said: b"",
-        },
-        // X.509, by `ok`: the double 1.0, the int32 1, none, 0.0, 1.5, a text, and 1.0 twice
-        9 => Row {
-            by: By::X509,
-            user: (Some("CN=a"), None, None),
-            heard: b"&\0\0\0\x01\0\0\0\0\0\0\0\xdd\x07\0\0\0\0\0\0\0\x11\0\0\0\x01ok\0\0\0\0\0\0\0\xf0?\0",
-            fault: "none",
-            said: AUTHENTICATE,
-        },
-        10 => Row {
-            by: By::X509,
-            user: (Some("CN=a"), None, None),
-            heard: b"\"\0\0\0\x01\0\0\0\0\0\0\0\xdd\x07\0\0\0\0\0\0\0\x0d\0\0\0\x10ok\0\x01\0\0\0\0",
-            fault: "none",
-            said: AUTHENTICATE,
-        },
-        11 => Row {
-            by: By::X509,
-            user: (Some("CN=a"), None, None),
-            heard: b"\x1a\0\0\0\x01\0\0\0\0\0\0\0\xdd\x07\0\0\0\0\0\0\0\x05\0\0\0\0",
-            fault: "X509Failed",
-            said: AUTHENTICATE,
-        },
-        12 => Row {
-            by: By::X509,
-            user: (Some("CN=a"), None, None),
-            heard: b"&\0\0\0\x01\0\0\0\0\0\0\0\xdd\x07\0\0\0\0\0\0\0\x11\0\0\0\x01ok\0\0\0\0\0\0\0\0\0\0",
-            fault: "X509Failed",
-            said: AUTHENTICATE,
-        },
-        13 => Row {
-            by: By::X509,
-            user: (Some("CN=a"), None, None),
-            heard: b"&\0\0\0\x01\0\0\0\0\0\0\0\xdd\x07\0\0\0\0\0\0\0\x11\0\0\0\x01ok\0\0\0\0\0\0\0\xf8?\0",
-            fault: "X509Failed",
-            said: AUTHENTICATE,
-        },
-        14 => Row {
-            by: By::X509,
-            user: (Some("CN=a"), None, None),
-            heard: b"$\0\0\0\x01\0\0\0\0\0\0\0\xdd\x07\0\0\0\0\0\0\0\x0f\0\0\0\x02ok\0\x02\0\0\0\x31\0\0",
-            fault: "X509Failed",
-            said: AUTHENTICATE,
-        },
-        15 => Row {
-            by: By::X509,
-            user: (Some("CN=a"), None, None),
-            heard: b"2\0\0\0\x01\0\0\0\0\0\0\0\xdd\x07\0\0\0\0\0\0\0\x1d\0\0\0\x01ok\0\0\0\0\0\0\0\xf0?\x01ok\0\0\0\0\0\0\0\xf0?\0",
-            fault: "Malformed",
-            said: AUTHENTICATE,
-        },
-        // after an answer in the hello nothing is said
-        _ => Row {
-            by: By::Answered,
-            user: (Some("CN=a"), None, None),
-            heard: b"",
-            fault: "none",
-            said: b"",
-        },
-    }
-}
+// PLAIN: a reply that ends the conversation and one that doesn't, a failure, a key that stands twice, a success without its fields,
+// and none; and credentials that lack a part, of which the name is missed first.
+//
+// A row has what the login is by, the user and the password, what is heard, what is said, and the fault.
+const BY_PLAIN: &str =
+    r#"plain user pencil => O\0\0\0\x01\0\0\0\0\0\0\0\xdd\x07\0\0\0\0\0\0\0:\0\0\0\x01ok\0\0\0\0\0\0\0\xf0?\x10conversationId\0\x01\0\0\0\x08done\0\x01\x05payload\0\0\0\0\0\0\0 => start => none
+plain user pencil => O\0\0\0\x01\0\0\0\0\0\0\0\xdd\x07\0\0\0\0\0\0\0:\0\0\0\x01ok\0\0\0\0\0\0\0\xf0?\x10conversationId\0\x01\0\0\0\x08done\0\0\x05payload\0\0\0\0\0\0\0 => start => Malformed
+plain user pencil => 5\0\0\0\x01\0\0\0\0\0\0\0\xdd\x07\0\0\0\0\0\0\0 \0\0\0\x01ok\0\0\0\0\0\0\0\0\0\x02errmsg\0\x03\0\0\0no\0\0 => start => no
+plain user pencil => 2\0\0\0\x01\0\0\0\0\0\0\0\xdd\x07\0\0\0\0\0\0\0\x1d\0\0\0\x01ok\0\0\0\0\0\0\0\xf0?\x01ok\0\0\0\0\0\0\0\xf0?\0 => start => Malformed
+plain user pencil => &\0\0\0\x01\0\0\0\0\0\0\0\xdd\x07\0\0\0\0\0\0\0\x11\0\0\0\x01ok\0\0\0\0\0\0\0\xf0?\0 => start => Malformed
+plain user pencil =>  => start => EndOfInput
+plain - pencil =>  => nothing => NoUsername
+plain - - =>  => nothing => NoUsername
+plain user - =>  => nothing => NoPassword"#;
+
+// X.509, by `ok`: the double 1.0, the int32 1, none, 0.0, 1.5, a text, and 1.0 twice; and after an answer in the hello nothing is said.
+const BY_X509: &str =
+    r#"x509 CN=a - => &\0\0\0\x01\0\0\0\0\0\0\0\xdd\x07\0\0\0\0\0\0\0\x11\0\0\0\x01ok\0\0\0\0\0\0\0\xf0?\0 => authenticate => none
+x509 CN=a - => "\0\0\0\x01\0\0\0\0\0\0\0\xdd\x07\0\0\0\0\0\0\0\x0d\0\0\0\x10ok\0\x01\0\0\0\0 => authenticate => none
+x509 CN=a - => \x1a\0\0\0\x01\0\0\0\0\0\0\0\xdd\x07\0\0\0\0\0\0\0\x05\0\0\0\0 => authenticate => X509Failed
+x509 CN=a - => &\0\0\0\x01\0\0\0\0\0\0\0\xdd\x07\0\0\0\0\0\0\0\x11\0\0\0\x01ok\0\0\0\0\0\0\0\0\0\0 => authenticate => X509Failed
+x509 CN=a - => &\0\0\0\x01\0\0\0\0\0\0\0\xdd\x07\0\0\0\0\0\0\0\x11\0\0\0\x01ok\0\0\0\0\0\0\0\xf8?\0 => authenticate => X509Failed
+x509 CN=a - => $\0\0\0\x01\0\0\0\0\0\0\0\xdd\x07\0\0\0\0\0\0\0\x0f\0\0\0\x02ok\0\x02\0\0\01\0\0 => authenticate => X509Failed
+x509 CN=a - => 2\0\0\0\x01\0\0\0\0\0\0\0\xdd\x07\0\0\0\0\0\0\0\x1d\0\0\0\x01ok\0\0\0\0\0\0\0\xf0?\x01ok\0\0\0\0\0\0\0\xf0?\0 => authenticate => Malformed
+answered CN=a - =>  => nothing => none"#;
 
 /// A connection, its link and what else a login changes.
 #[derive(Drop)]
@@ -229,7 +128,7 @@ fn is_fault<E: NamesFault + Drop>(answer: Result<(), E>, fault: &str) -> bool {
 }
 
 // Whether the user's login ends with the row's fault.
-fn ends_so(alloc: Global, row: &Row, session: &mut Session, user: &Credential) -> bool {
+fn ends_so(alloc: Global, row: &Row<'_>, session: &mut Session, user: &Credential) -> bool {
     match row.by {
         By::Plain => is_fault(plain_answer(alloc, session, user), row.fault),
         By::X509 => is_fault(x509_answer(alloc, session, user, false), row.fault),
@@ -248,28 +147,79 @@ fn holds(buffer: &FrameBuffer, heard: &[u8]) -> bool {
 }
 
 // Whether a session has said just that, and has heard all, which its buffer holds.
-fn is_left_so(session: &Session, row: &Row) -> bool {
+fn is_left_so(session: &Session, row: &Row<'_>) -> bool {
     session.link.written() == row.said
         && session.link.left().is_empty()
         && holds(&session.buffer, row.heard)
 }
 
 // Whether a login ends so, says just that and hears all.
-fn is_so(alloc: Global, row: &Row) -> Result<bool, BsonFault> {
+fn is_so(alloc: Global, row: &Row<'_>) -> Result<bool, BsonFault> {
     let user = credential(alloc, row.user)?;
     let mut session = new_session(alloc, row.heard)?;
     let ends = ends_so(alloc, row, &mut session, &user);
     Ok(ends && is_left_so(&session, row))
 }
 
-#[test]
-fn logins_of_one_command(rt: HostRuntime) {
-    for place in 0..17 {
-        assert!(rt;
-            matches!(is_so(rt.alloc(), &row_at(place)), Ok(true)),
-            "{place}"
-        );
+fn way_of(word: &str) -> By {
+    match word {
+        "plain" => By::Plain,
+        "x509" => By::X509,
+        _ => By::Answered,
     }
+}
+
+fn said(word: &str) -> &'static [u8] {
+    match word {
+        "start" => START,
+        "authenticate" => AUTHENTICATE,
+        _ => b"",
+    }
+}
+
+// Whether the login of these words ends with a fault, says just that and hears all.
+fn is_login<'a>(
+    alloc: Global,
+    who: &'a str,
+    heard: &'a [u8],
+    said: &'static [u8],
+    fault: &'a str,
+) -> Result<bool, BsonFault> {
+    let (way, user) = words(who);
+    let (username, password) = words(user);
+    let row = Row {
+        by: way_of(way),
+        user: (given_text(username), None, given_text(password)),
+        heard,
+        fault,
+        said,
+    };
+    is_so(alloc, &row)
+}
+
+/// A login goes as its row says.
+#[derive(Clone, Copy)]
+struct Logins;
+
+impl RowCheck for Logins {
+    fn told(self, alloc: Global, row: &str) -> Result<String, Fail> {
+        let (who, rest) = parts(row);
+        let (heard, rest) = parts(rest);
+        let (said_word, fault) = parts(rest);
+        let heard = spelled(alloc, heard)?;
+        let told = if is_login(alloc, who, heard.as_slice(), said(said_word), fault)? {
+            fault
+        } else {
+            "otherwise"
+        };
+        Ok(String::from_str(alloc, told)?)
+    }
+}
+
+#[test]
+fn logins_of_one_command(rt: HostRuntime) -> Result<(), Fail> {
+    check_rows(rt.alloc(), Logins, BY_PLAIN)?;
+    check_rows(rt.alloc(), Logins, BY_X509)
 }
 
 // Whether the message of a user is this, RFC 4616.

@@ -1,10 +1,10 @@
 use super::{bytes, fault_of};
 use mongo_bson::{BsonFault, OwnedValue, RawDocument, RawValue, Text};
-use mongo_command::{Command, ServerApi, ServerApiVersion};
-use mongo_sasl::x509::build_client_first;
-use mongo_sasl::{
-    AuthMechanism, Credential, SaslContinue, SaslResponse, SaslStart, SaslView, document_of,
+use mongo_command::{
+    Command, ServerApi, ServerApiVersion, boolean_field, document_of, int64_field,
 };
+use mongo_sasl::x509::build_client_first;
+use mongo_sasl::{AuthMechanism, Credential, SaslContinue, SaslResponse, SaslStart, SaslView};
 use mongo_wire::Error;
 use std::alloc::Global;
 
@@ -190,9 +190,9 @@ fn response_said(alloc: Global, reply: RawDocument<'_>) -> (Option<Said>, Option
 // Whether the fields of the reply make its document.
 fn is_built(alloc: Global) -> bool {
     let fields = [
-        ("conversationId", RawValue::Int64(258)),
-        ("done", RawValue::Bool(false)),
-        ("payload", RawValue::Binary(0, MESSAGE)),
+        int64_field("conversationId", 258),
+        boolean_field("done", false),
+        Some(("payload", RawValue::Binary(0, MESSAGE))),
     ];
     match document_of(alloc, &fields) {
         Ok(document) => document.as_bytes() == REPLY,

@@ -1,3 +1,4 @@
+use super::rows::{RowCheck, check_rows, given_text, parts, printed, spelled, words};
 use super::{CredentialTexts, bytes, credential};
 use mongo_bson::{BsonFault, RawDocumentBuf};
 use mongo_sasl::{AuthMechanism, Credential};
@@ -8,118 +9,68 @@ use std::test::Fail;
 /// What a mechanism answers of a credential.
 type Judged = Result<(), ArgumentFault>;
 
-fn answer_of(mechanism: AuthMechanism, given: &Credential, callback_given: bool) -> Judged {
+fn answer_of(name: &str, given: &Credential, callback_given: bool) -> Judged {
+    let mechanism: AuthMechanism = name.parse()?;
     mechanism.validate_credential(given, callback_given)
 }
 
 fn parts_judged(
     alloc: Global,
-    mechanism: AuthMechanism,
-    parts: CredentialTexts,
+    mechanism: &str,
+    parts: CredentialTexts<'_>,
 ) -> Result<Judged, BsonFault> {
     let given = credential(alloc, parts)?;
     Ok(answer_of(mechanism, &given, true))
 }
 
 // A mechanism, a user name, a source and a password, and the first rule that they break.
-fn parts_at(place: u8) -> (AuthMechanism, CredentialTexts, Judged) {
-    match place {
-        0 => (AuthMechanism::MongoDbCr, (None, None, None), Ok(())),
-        1 => (
-            AuthMechanism::ScramSha1,
-            (None, None, Some("pencil")),
-            Err(ArgumentFault::ScramUsername),
-        ),
-        2 => (AuthMechanism::ScramSha256, (Some(""), None, None), Ok(())),
-        3 => (
-            AuthMechanism::MongoDbX509,
-            (Some("ann"), Some("$external"), None),
-            Ok(()),
-        ),
-        4 => (
-            AuthMechanism::MongoDbX509,
-            (None, Some("orders"), None),
-            Err(ArgumentFault::X509Source),
-        ),
-        5 => (
-            AuthMechanism::MongoDbX509,
-            (None, Some("orders"), Some("pencil")),
-            Err(ArgumentFault::X509Password),
-        ),
-        6 => (
-            AuthMechanism::Plain,
-            (Some("ann"), Some("orders"), Some("pencil")),
-            Ok(()),
-        ),
-        7 => (
-            AuthMechanism::Plain,
-            (None, None, None),
-            Err(ArgumentFault::PlainUsername),
-        ),
-        8 => (
-            AuthMechanism::Plain,
-            (Some(""), None, None),
-            Err(ArgumentFault::PlainUsernameEmpty),
-        ),
-        9 => (
-            AuthMechanism::Plain,
-            (Some("ann"), None, None),
-            Err(ArgumentFault::PlainPassword),
-        ),
-        10 => (
-            AuthMechanism::MongoDbAws,
-            (None, Some("orders"), None),
-            Ok(()),
-        ),
-        11 => (
-            AuthMechanism::MongoDbAws,
-            (Some("ann"), None, None),
-            Err(ArgumentFault::AwsUriCredentials),
-        ),
-        12 => (
-            AuthMechanism::MongoDbAws,
-            (None, None, Some("pencil")),
-            Err(ArgumentFault::AwsUriCredentials),
-        ),
-        13 => (
-            AuthMechanism::MongoDbOidc,
-            (Some("ann"), Some("$external"), None),
-            Ok(()),
-        ),
-        14 => (
-            AuthMechanism::MongoDbOidc,
-            (None, Some("orders"), Some("pencil")),
-            Err(ArgumentFault::OidcSource),
-        ),
-        _ => (
-            AuthMechanism::MongoDbOidc,
-            (None, None, Some("pencil")),
-            Err(ArgumentFault::OidcPassword),
-        ),
+const PARTS: &str = "MONGODB-CR - - - => Ok(())
+SCRAM-SHA-1 - - pencil => Err(ScramUsername)
+SCRAM-SHA-256 '' - - => Ok(())
+MONGODB-X509 ann $external - => Ok(())
+MONGODB-X509 - orders - => Err(X509Source)
+MONGODB-X509 - orders pencil => Err(X509Password)
+PLAIN ann orders pencil => Ok(())
+PLAIN - - - => Err(PlainUsername)
+PLAIN '' - - => Err(PlainUsernameEmpty)
+PLAIN ann - - => Err(PlainPassword)
+MONGODB-AWS - orders - => Ok(())
+MONGODB-AWS ann - - => Err(AwsUriCredentials)
+MONGODB-AWS - - pencil => Err(AwsUriCredentials)
+MONGODB-OIDC ann $external - => Ok(())
+MONGODB-OIDC - orders pencil => Err(OidcSource)
+MONGODB-OIDC - - pencil => Err(OidcPassword)";
+
+/// What a mechanism answers of the parts of a row.
+#[derive(Clone, Copy)]
+struct GivenParts;
+
+impl RowCheck for GivenParts {
+    fn told(self, alloc: Global, row: &str) -> Result<String, Fail> {
+        let (who, _) = parts(row);
+        let (mechanism, who) = words(who);
+        let (username, who) = words(who);
+        let (source, password) = words(who);
+        let texts = (
+            given_text(username),
+            given_text(source),
+            given_text(password),
+        );
+        printed(alloc, &parts_judged(alloc, mechanism, texts)?)
     }
 }
 
 #[test]
 fn parts_are_judged_in_their_order(rt: HostRuntime) -> Result<(), Fail> {
-    for place in 0..16 {
-        let (mechanism, parts, wanted) = parts_at(place);
-        assert_eq!(rt;
-            parts_judged(rt.alloc(), mechanism, parts)?,
-            wanted,
-            "{place}"
-        );
-    }
-    Ok(())
+    check_rows(rt.alloc(), GivenParts, PARTS)
 }
 
-// What a mechanism answers of these properties alone, or of a source and a password that break rules behind them.
-fn properties_judged(
+// A credential of these properties alone, or of a source and a password that break rules behind them.
+fn with_properties(
     alloc: Global,
-    mechanism: AuthMechanism,
     properties: &[u8],
-    callback_given: bool,
     broken_behind: bool,
-) -> Result<Judged, BsonFault> {
+) -> Result<Credential, BsonFault> {
     let properties = RawDocumentBuf::from_bytes(bytes(alloc, properties)?)?;
     let parts = if broken_behind {
         (None, Some("orders"), Some("pencil"))
@@ -128,173 +79,68 @@ fn properties_judged(
     };
     let mut given = credential(alloc, parts)?;
     given.mechanism_properties = Some(properties);
+    Ok(given)
+}
+
+fn properties_judged(
+    alloc: Global,
+    mechanism: &str,
+    properties: &[u8],
+    callback_given: bool,
+    broken_behind: bool,
+) -> Result<Judged, BsonFault> {
+    let given = with_properties(alloc, properties, broken_behind)?;
     Ok(answer_of(mechanism, &given, callback_given))
 }
 
-// A mechanism, its properties, whether a callback is given, whether source and password break rules too, and the first
-// rule that is broken.
-fn properties_at(place: u8) -> (AuthMechanism, &'static [u8], bool, bool, Judged) {
-    match place {
-        // of AWS
-        0 => (
-            AuthMechanism::MongoDbAws,
-            b"\x1b\0\0\0\x02TOKEN_RESOURCE\0\x02\0\0\0r\0\0",
-            false,
-            false,
-            Ok(()),
-        ),
-        1 => (
-            AuthMechanism::MongoDbAws,
-            b"4\0\0\0\x02TOKEN_RESOURCE\0\x02\0\0\0r\0\x02AWS_SESSION_TOKEN\0\x02\0\0\0t\0\0",
-            false,
-            false,
-            Err(ArgumentFault::AwsUriCredentials),
-        ),
-        // those that OIDC has
-        2 => (
-            AuthMechanism::MongoDbOidc,
-            b"\x05\0\0\0\0",
-            true,
-            false,
-            Ok(()),
-        ),
-        3 => (
-            AuthMechanism::MongoDbOidc,
-            b"2\0\0\0\x02ENVIRONMENT\0\x06\0\0\0azure\0\x02TOKEN_RESOURCE\0\x02\0\0\0r\0\0",
-            false,
-            false,
-            Ok(()),
-        ),
-        4 => (
-            AuthMechanism::MongoDbOidc,
-            b"0\0\0\0\x02TOKEN_RESOURCE\0\x02\0\0\0r\0\x02ENVIRONMENT\0\x04\0\0\0gcp\0\0",
-            false,
-            false,
-            Ok(()),
-        ),
-        5 => (
-            AuthMechanism::MongoDbOidc,
-            b"\x1a\0\0\0\x02ENVIRONMENT\0\x04\0\0\0k8s\0\0",
-            false,
-            false,
-            Ok(()),
-        ),
-        6 => (
-            AuthMechanism::MongoDbOidc,
-            b"\x16\0\0\0\x10ENVIRONMENT\0\x01\0\0\0\0",
-            true,
-            false,
-            Ok(()),
-        ),
-        // each rule before those behind it
-        7 => (
-            AuthMechanism::MongoDbOidc,
-            b"_\0\0\0\x02ALLOWED_HOSTS\0\x02\0\0\0h\0\x02ENVIRONMENT\0\x05\0\0\0test\0\x02TOKEN_RESOURCE\0\x02\0\0\0r\0\x02AWS_SESSION_TOKEN\0\x02\0\0\0t\0\0",
-            true,
-            true,
-            Err(ArgumentFault::OidcProperty),
-        ),
-        8 => (
-            AuthMechanism::MongoDbOidc,
-            b"F\0\0\0\x02ALLOWED_HOSTS\0\x02\0\0\0h\0\x02ENVIRONMENT\0\x05\0\0\0test\0\x02TOKEN_RESOURCE\0\x02\0\0\0r\0\0",
-            true,
-            true,
-            Err(ArgumentFault::OidcCallbackWithEnvironment),
-        ),
-        9 => (
-            AuthMechanism::MongoDbOidc,
-            b"/\0\0\0\x02ENVIRONMENT\0\x04\0\0\0gcp\0\x02ALLOWED_HOSTS\0\x02\0\0\0h\0\0",
-            false,
-            true,
-            Err(ArgumentFault::OidcResourceMissing),
-        ),
-        10 => (
-            AuthMechanism::MongoDbOidc,
-            b"\x1c\0\0\0\x02ENVIRONMENT\0\x06\0\0\0azure\0\0",
-            false,
-            false,
-            Err(ArgumentFault::OidcResourceMissing),
-        ),
-        11 => (
-            AuthMechanism::MongoDbOidc,
-            b"F\0\0\0\x02ALLOWED_HOSTS\0\x02\0\0\0h\0\x02ENVIRONMENT\0\x05\0\0\0test\0\x02TOKEN_RESOURCE\0\x02\0\0\0r\0\0",
-            false,
-            true,
-            Err(ArgumentFault::OidcResourceGiven),
-        ),
-        12 => (
-            AuthMechanism::MongoDbOidc,
-            b"\x1b\0\0\0\x02TOKEN_RESOURCE\0\x02\0\0\0r\0\0",
-            true,
-            false,
-            Err(ArgumentFault::OidcResourceGiven),
-        ),
-        13 => (
-            AuthMechanism::MongoDbOidc,
-            b"0\0\0\0\x02ALLOWED_HOSTS\0\x02\0\0\0h\0\x02ENVIRONMENT\0\x05\0\0\0test\0\0",
-            false,
-            true,
-            Err(ArgumentFault::OidcSource),
-        ),
-        14 => (
-            AuthMechanism::MongoDbOidc,
-            b"0\0\0\0\x02ALLOWED_HOSTS\0\x02\0\0\0h\0\x02ENVIRONMENT\0\x05\0\0\0test\0\0",
-            false,
-            false,
-            Err(ArgumentFault::OidcEnvironment),
-        ),
-        15 => (
-            AuthMechanism::MongoDbOidc,
-            b"\x1a\0\0\0\x02ALLOWED_HOSTS\0\x02\0\0\0h\0\0",
-            false,
-            false,
-            Err(ArgumentFault::OidcHostsNotArray),
-        ),
-        // the first of two properties of one name
-        16 => (
-            AuthMechanism::MongoDbOidc,
-            b"0\0\0\0\x02ENVIRONMENT\0\x04\0\0\0k8s\0\x02ENVIRONMENT\0\x05\0\0\0test\0\0",
-            false,
-            false,
-            Ok(()),
-        ),
-        // a truth value that is neither 0 nor 1
-        17 => (
-            AuthMechanism::MongoDbAws,
-            b"\x09\0\0\0\x08f\0\x02\0",
-            true,
-            true,
-            Err(ArgumentFault::PropertiesMalformed),
-        ),
-        18 => (
-            AuthMechanism::MongoDbOidc,
-            b"\x09\0\0\0\x08f\0\x02\0",
-            true,
-            true,
-            Err(ArgumentFault::PropertiesMalformed),
-        ),
-        _ => (
-            AuthMechanism::MongoDbX509,
-            b"\x09\0\0\0\x08f\0\x02\0",
-            true,
-            true,
-            Err(ArgumentFault::X509Password),
-        ),
+// A mechanism, whether a callback is given, whether source and password break rules too, the properties, and the first rule that is
+// broken: of AWS; properties that OIDC has; each rule before those behind it; the first of two properties of one name; and a truth
+// value that is neither 0 nor 1.
+const PROPERTIES: &str =
+    r#"MONGODB-AWS - - => \x1b\0\0\0\x02TOKEN_RESOURCE\0\x02\0\0\0r\0\0 => Ok(())
+MONGODB-AWS - - => 4\0\0\0\x02TOKEN_RESOURCE\0\x02\0\0\0r\0\x02AWS_SESSION_TOKEN\0\x02\0\0\0t\0\0 => Err(AwsUriCredentials)
+MONGODB-OIDC callback - => \x05\0\0\0\0 => Ok(())
+MONGODB-OIDC - - => 2\0\0\0\x02ENVIRONMENT\0\x06\0\0\0azure\0\x02TOKEN_RESOURCE\0\x02\0\0\0r\0\0 => Ok(())
+MONGODB-OIDC - - => 0\0\0\0\x02TOKEN_RESOURCE\0\x02\0\0\0r\0\x02ENVIRONMENT\0\x04\0\0\0gcp\0\0 => Ok(())
+MONGODB-OIDC - - => \x1a\0\0\0\x02ENVIRONMENT\0\x04\0\0\0k8s\0\0 => Ok(())
+MONGODB-OIDC callback - => \x16\0\0\0\x10ENVIRONMENT\0\x01\0\0\0\0 => Ok(())
+MONGODB-OIDC callback broken => _\0\0\0\x02ALLOWED_HOSTS\0\x02\0\0\0h\0\x02ENVIRONMENT\0\x05\0\0\0test\0\x02TOKEN_RESOURCE\0\x02\0\0\0r\0\x02AWS_SESSION_TOKEN\0\x02\0\0\0t\0\0 => Err(OidcProperty)
+MONGODB-OIDC callback broken => F\0\0\0\x02ALLOWED_HOSTS\0\x02\0\0\0h\0\x02ENVIRONMENT\0\x05\0\0\0test\0\x02TOKEN_RESOURCE\0\x02\0\0\0r\0\0 => Err(OidcCallbackWithEnvironment)
+MONGODB-OIDC - broken => /\0\0\0\x02ENVIRONMENT\0\x04\0\0\0gcp\0\x02ALLOWED_HOSTS\0\x02\0\0\0h\0\0 => Err(OidcResourceMissing)
+MONGODB-OIDC - - => \x1c\0\0\0\x02ENVIRONMENT\0\x06\0\0\0azure\0\0 => Err(OidcResourceMissing)
+MONGODB-OIDC - broken => F\0\0\0\x02ALLOWED_HOSTS\0\x02\0\0\0h\0\x02ENVIRONMENT\0\x05\0\0\0test\0\x02TOKEN_RESOURCE\0\x02\0\0\0r\0\0 => Err(OidcResourceGiven)
+MONGODB-OIDC callback - => \x1b\0\0\0\x02TOKEN_RESOURCE\0\x02\0\0\0r\0\0 => Err(OidcResourceGiven)
+MONGODB-OIDC - broken => 0\0\0\0\x02ALLOWED_HOSTS\0\x02\0\0\0h\0\x02ENVIRONMENT\0\x05\0\0\0test\0\0 => Err(OidcSource)
+MONGODB-OIDC - - => 0\0\0\0\x02ALLOWED_HOSTS\0\x02\0\0\0h\0\x02ENVIRONMENT\0\x05\0\0\0test\0\0 => Err(OidcEnvironment)
+MONGODB-OIDC - - => \x1a\0\0\0\x02ALLOWED_HOSTS\0\x02\0\0\0h\0\0 => Err(OidcHostsNotArray)
+MONGODB-OIDC - - => 0\0\0\0\x02ENVIRONMENT\0\x04\0\0\0k8s\0\x02ENVIRONMENT\0\x05\0\0\0test\0\0 => Ok(())
+MONGODB-AWS callback broken => \x09\0\0\0\x08f\0\x02\0 => Err(PropertiesMalformed)
+MONGODB-OIDC callback broken => \x09\0\0\0\x08f\0\x02\0 => Err(PropertiesMalformed)
+MONGODB-X509 callback broken => \x09\0\0\0\x08f\0\x02\0 => Err(X509Password)"#;
+
+/// What a mechanism answers of the properties of a row.
+#[derive(Clone, Copy)]
+struct GivenProperties;
+
+impl RowCheck for GivenProperties {
+    fn told(self, alloc: Global, row: &str) -> Result<String, Fail> {
+        let (who, rest) = parts(row);
+        let (mechanism, who) = words(who);
+        let (callback, broken) = words(who);
+        let (properties, _) = parts(rest);
+        let properties = spelled(alloc, properties)?;
+        let judged = properties_judged(
+            alloc,
+            mechanism,
+            properties.as_slice(),
+            callback == "callback",
+            broken == "broken",
+        )?;
+        printed(alloc, &judged)
     }
 }
 
 #[test]
 fn properties_are_judged_in_their_order(rt: HostRuntime) -> Result<(), Fail> {
-    for place in 0..20 {
-        let (mechanism, properties, callback_given, broken_behind, wanted) = properties_at(place);
-        let answer = properties_judged(
-            rt.alloc(),
-            mechanism,
-            properties,
-            callback_given,
-            broken_behind,
-        )?;
-        assert_eq!(rt; answer, wanted, "{place}");
-    }
-    Ok(())
+    check_rows(rt.alloc(), GivenProperties, PROPERTIES)
 }

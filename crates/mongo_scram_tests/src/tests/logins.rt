@@ -357,35 +357,43 @@ fn end_where_one_fails(
     Ok((refusal.fault, refusal.kept, cache.rounds(), cache.len()))
 }
 
-#[test]
-fn logins_with_one_cache(rt: HostRuntime) -> Result<(), Fail> {
-    let mut cache = SaltedCache::new(rt.alloc());
-    assert!(rt; cache.is_empty() && cache.rounds() == 0);
+// Fails where a cache isn't new, or one of the logins with it ends otherwise.
+fn check_logins(alloc: Global, cache: &mut SaltedCache) -> Result<(), Fail> {
+    if !cache.is_empty() || cache.rounds() != 0 {
+        return Err(Fail::from("no new cache"));
+    }
     for place in 0..10 {
-        let ends = ends_so(rt.alloc(), &login_at(place), &end_at(place), &mut cache)?;
-        assert!(rt; ends, "{place}");
+        if !ends_so(alloc, &login_at(place), &end_at(place), cache)? {
+            return Err(Fail::new(format_args!("{place}")));
+        }
     }
     Ok(())
 }
 
-// Of the calls to a link that moves one byte a call, the first and the last of their kind: 187 writes and a flush, 162
-// reads, 180 writes and a flush, 109 reads. What the login is refused for where just this one fails, which is what its
-// connection keeps, and the rounds and entries of the cache after it.
+#[test]
+fn logins_with_one_cache(rt: HostRuntime) -> Result<(), Fail> {
+    let mut cache = SaltedCache::new(rt.alloc());
+    check_logins(rt.alloc(), &mut cache)
+}
+
+// What the login is refused for where just this call fails, which is what its connection keeps, and the rounds and entries of the
+// cache after it: calls to a link that moves one byte a call are 187 writes and a flush, 162 reads, 180 writes and a flush, 109 reads.
+fn end_at_call(call: usize) -> (&'static str, &'static str, u64, usize) {
+    match call {
+        0..=187 => ("WriteFault", "WriteFault", 0, 0),
+        188..=349 => ("ReadFault", "ReadFault", 0, 0),
+        350..=530 => ("WriteFault", "WriteFault", 4096, 0),
+        531..=639 => ("ReadFault", "ReadFault", 4096, 0),
+        _ => ("none", "none", 4096, 1),
+    }
+}
+
+// The first and the last of each kind of call.
 #[test]
 fn a_link_that_fails(rt: HostRuntime) -> Result<(), Fail> {
-    for (call, fault, rounds, entries) in [
-        (0, "WriteFault", 0, 0),
-        (187, "WriteFault", 0, 0),
-        (188, "ReadFault", 0, 0),
-        (349, "ReadFault", 0, 0),
-        (350, "WriteFault", 4096, 0),
-        (530, "WriteFault", 4096, 0),
-        (531, "ReadFault", 4096, 0),
-        (639, "ReadFault", 4096, 0),
-        (640, "none", 4096, 1),
-    ] {
+    for call in [0, 187, 188, 349, 350, 530, 531, 639, 640] {
         let end = end_where_one_fails(rt.alloc(), call)?;
-        assert_eq!(rt; end, (fault, fault, rounds, entries), "at {call}");
+        assert!(rt; end == end_at_call(call), "at {call}: {end:?}");
     }
     Ok(())
 }
@@ -405,18 +413,25 @@ fn is_copied(alloc: Global, key: &SaltedKey) -> bool {
 }
 
 // No text of a key is shown, its copy is the same key, and a new cache has no entry.
-#[test]
-fn a_key_is_not_shown(rt: HostRuntime) -> Result<(), Fail> {
-    let alloc = rt.alloc();
-    let key = SaltedKey {
+fn is_hidden(alloc: Global, key: &SaltedKey) -> bool {
+    is_shown_as(alloc, key, "SaltedKey { .. }")
+        && is_copied(alloc, key)
+        && SaltedCache::new(alloc).get(key).is_none()
+}
+
+fn one_key(alloc: Global) -> Result<SaltedKey, BsonFault> {
+    Ok(SaltedKey {
         version: ScramVersion::Sha256,
         username: Text::from_slice(alloc, "user")?,
         password: Text::from_slice(alloc, "pencil")?,
         salt: Bytes::from_slice(alloc, b"\x01")?,
         count: 4096,
-    };
-    assert!(rt; is_shown_as(alloc, &key, "SaltedKey { .. }"));
-    assert!(rt; is_copied(alloc, &key));
-    assert!(rt; SaltedCache::new(alloc).get(&key).is_none());
+    })
+}
+
+#[test]
+fn a_key_is_not_shown(rt: HostRuntime) -> Result<(), Fail> {
+    let key = one_key(rt.alloc())?;
+    assert!(rt; is_hidden(rt.alloc(), &key));
     Ok(())
 }

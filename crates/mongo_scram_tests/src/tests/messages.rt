@@ -5,8 +5,7 @@ use base64::engine::general_purpose::STANDARD;
 use mongo_command::{Command, ServerApi, ServerApiVersion};
 use mongo_mac::{Sha1Fn, Steps, Tag, hi};
 use mongo_scram::{
-    ClientFinal, ClientFirst, Keys, ScramVersion, ServerFinal, ServerFirst, nonce_text,
-    push_user_name,
+    ClientFinal, ClientFirst, Keys, ScramVersion, ServerFinal, ServerFirst, nonce_text, saslname,
 };
 use mongo_wire::Error;
 use std::alloc::{AllocError, Global};
@@ -25,77 +24,50 @@ enum Prepared {
 
 /// A whole conversation.
 #[derive(Clone, Copy)]
-struct Exchange {
+struct Exchange<'a> {
     version: ScramVersion,
     prepared: Prepared,
-    username: &'static str,
-    password: &'static str,
-    nonce: &'static str,
-    open: &'static str,
-    server_first: &'static str,
-    close: &'static str,
-    verifier: &'static str,
+    username: &'a str,
+    password: &'a str,
+    nonce: &'a str,
+    open: &'a str,
+    server_first: &'a str,
+    close: &'a str,
+    verifier: &'a str,
 }
 
 // The conversations of RFC 5802, section 5, of RFC 7677, section 3, of SCRAM-SHA-1 in the MongoDB authentication
 // specification, and, by Python's hashlib and hmac, one whose user name is escaped and one with a nonce of 32 bytes of 1.
-fn row_at(place: u8) -> Exchange {
-    match place {
-        0 => Exchange {
-            version: ScramVersion::Sha1,
-            prepared: Prepared::Plain,
-            username: "user",
-            password: "pencil",
-            nonce: "fyko+d2lbbFgONRv9qkxdawL",
-            open: "n,,n=user,r=fyko+d2lbbFgONRv9qkxdawL",
-            server_first: "r=fyko+d2lbbFgONRv9qkxdawL3rfcNHYJY1ZVvWVs7j,s=QSXCR+Q6sek8bf92,i=4096",
-            close: "c=biws,r=fyko+d2lbbFgONRv9qkxdawL3rfcNHYJY1ZVvWVs7j,p=v0X8v3Bz2T0CJGbJQyF0X+HI4Ts=",
-            verifier: "v=rmF9pqV8S7suAoZWja4dJRkFsKQ=",
-        },
-        1 => Exchange {
-            version: ScramVersion::Sha256,
-            prepared: Prepared::Mechanism,
-            username: "user",
-            password: "pencil",
-            nonce: "rOprNGfwEbeRWgbNEkqO",
-            open: "n,,n=user,r=rOprNGfwEbeRWgbNEkqO",
-            server_first: "r=rOprNGfwEbeRWgbNEkqO%hvYDpWUa2RaTCAfuxFIlj)hNlF$k0,s=W22ZaJ0SNY7soEsUEjb6gQ==,i=4096",
-            close: "c=biws,r=rOprNGfwEbeRWgbNEkqO%hvYDpWUa2RaTCAfuxFIlj)hNlF$k0,p=dHzbZapWIk4jUhN+Ute9ytag9zjfMHgsqmmiz7AndVQ=",
-            verifier: "v=6rriTRBi23WpRR/wtup+mMhUZUn/dB5nLTJRsjl95G4=",
-        },
-        2 => Exchange {
-            version: ScramVersion::Sha1,
-            prepared: Prepared::Mechanism,
-            username: "user",
-            password: "pencil",
-            nonce: "fyko+d2lbbFgONRv9qkxdawL",
-            open: "n,,n=user,r=fyko+d2lbbFgONRv9qkxdawL",
-            server_first: "r=fyko+d2lbbFgONRv9qkxdawLHo+Vgk7qvUOKUwuWLIWg4l/9SraGMHEE,s=rQ9ZY3MntBeuP3E1TDVC4w==,i=10000",
-            close: "c=biws,r=fyko+d2lbbFgONRv9qkxdawLHo+Vgk7qvUOKUwuWLIWg4l/9SraGMHEE,p=MC2T8BvbmWRckDw8oWl5IVghwCY=",
-            verifier: "v=UMWeI25JD1yNYZRMpZ4VHvhZ9e0=",
-        },
-        3 => Exchange {
-            version: ScramVersion::Sha256,
-            prepared: Prepared::Mechanism,
-            username: "a=b,c",
-            password: "pw",
-            nonce: "nonce",
-            open: "n,,n=a=3Db=2Cc,r=nonce",
-            server_first: "r=nonceserver,s=W22ZaJ0SNY7soEsUEjb6gQ==,i=4096",
-            close: "c=biws,r=nonceserver,p=Z1JRkER3nOOZexlGyu4OxqClSWkPose2EwBQOKDKMv8=",
-            verifier: "v=AAmyEJy9Yddx+Mmy5GVpjuTBbLVFkaFfA34muj/pbpQ=",
-        },
-        _ => Exchange {
-            version: ScramVersion::Sha1,
-            prepared: Prepared::Mechanism,
-            username: "user",
-            password: "pencil",
-            nonce: "AQEBAQEBAQEBAQEBAQEBAQEBAQEBAQEBAQEBAQEBAQE=",
-            open: "n,,n=user,r=AQEBAQEBAQEBAQEBAQEBAQEBAQEBAQEBAQEBAQEBAQE=",
-            server_first: "r=AQEBAQEBAQEBAQEBAQEBAQEBAQEBAQEBAQEBAQEBAQE=srv,s=W22ZaJ0SNY7soEsUEjb6gQ==,i=4096",
-            close: "c=biws,r=AQEBAQEBAQEBAQEBAQEBAQEBAQEBAQEBAQEBAQEBAQE=srv,p=BFzm0muAQtwQOjURMMJFxMR5D7Q=",
-            verifier: "v=aUCtyleaGTvV5HNlYplfkdpArKI=",
-        },
+//
+// A row has the version, how the password is prepared, the user name, the password and the nonce, and the messages.
+const CONVERSATIONS: &str =
+    "sha1 plain user pencil fyko+d2lbbFgONRv9qkxdawL n,,n=user,r=fyko+d2lbbFgONRv9qkxdawL r=fyko+d2lbbFgONRv9qkxdawL3rfcNHYJY1ZVvWVs7j,s=QSXCR+Q6sek8bf92,i=4096 c=biws,r=fyko+d2lbbFgONRv9qkxdawL3rfcNHYJY1ZVvWVs7j,p=v0X8v3Bz2T0CJGbJQyF0X+HI4Ts= v=rmF9pqV8S7suAoZWja4dJRkFsKQ=
+sha256 mechanism user pencil rOprNGfwEbeRWgbNEkqO n,,n=user,r=rOprNGfwEbeRWgbNEkqO r=rOprNGfwEbeRWgbNEkqO%hvYDpWUa2RaTCAfuxFIlj)hNlF$k0,s=W22ZaJ0SNY7soEsUEjb6gQ==,i=4096 c=biws,r=rOprNGfwEbeRWgbNEkqO%hvYDpWUa2RaTCAfuxFIlj)hNlF$k0,p=dHzbZapWIk4jUhN+Ute9ytag9zjfMHgsqmmiz7AndVQ= v=6rriTRBi23WpRR/wtup+mMhUZUn/dB5nLTJRsjl95G4=
+sha1 mechanism user pencil fyko+d2lbbFgONRv9qkxdawL n,,n=user,r=fyko+d2lbbFgONRv9qkxdawL r=fyko+d2lbbFgONRv9qkxdawLHo+Vgk7qvUOKUwuWLIWg4l/9SraGMHEE,s=rQ9ZY3MntBeuP3E1TDVC4w==,i=10000 c=biws,r=fyko+d2lbbFgONRv9qkxdawLHo+Vgk7qvUOKUwuWLIWg4l/9SraGMHEE,p=MC2T8BvbmWRckDw8oWl5IVghwCY= v=UMWeI25JD1yNYZRMpZ4VHvhZ9e0=
+sha256 mechanism a=b,c pw nonce n,,n=a=3Db=2Cc,r=nonce r=nonceserver,s=W22ZaJ0SNY7soEsUEjb6gQ==,i=4096 c=biws,r=nonceserver,p=Z1JRkER3nOOZexlGyu4OxqClSWkPose2EwBQOKDKMv8= v=AAmyEJy9Yddx+Mmy5GVpjuTBbLVFkaFfA34muj/pbpQ=
+sha1 mechanism user pencil AQEBAQEBAQEBAQEBAQEBAQEBAQEBAQEBAQEBAQEBAQE= n,,n=user,r=AQEBAQEBAQEBAQEBAQEBAQEBAQEBAQEBAQEBAQEBAQE= r=AQEBAQEBAQEBAQEBAQEBAQEBAQEBAQEBAQEBAQEBAQE=srv,s=W22ZaJ0SNY7soEsUEjb6gQ==,i=4096 c=biws,r=AQEBAQEBAQEBAQEBAQEBAQEBAQEBAQEBAQEBAQEBAQE=srv,p=BFzm0muAQtwQOjURMMJFxMR5D7Q= v=aUCtyleaGTvV5HNlYplfkdpArKI=";
+
+// The conversation of these words.
+fn exchange_of<'a>(row: &'a str) -> Exchange<'a> {
+    let mut words = row.split_whitespace();
+    let version = match words.next() {
+        Some("sha1") => ScramVersion::Sha1,
+        _ => ScramVersion::Sha256,
+    };
+    let prepared = match words.next() {
+        Some("plain") => Prepared::Plain,
+        _ => Prepared::Mechanism,
+    };
+    Exchange {
+        version,
+        prepared,
+        username: words.next().unwrap_or(""),
+        password: words.next().unwrap_or(""),
+        nonce: words.next().unwrap_or(""),
+        open: words.next().unwrap_or(""),
+        server_first: words.next().unwrap_or(""),
+        close: words.next().unwrap_or(""),
+        verifier: words.next().unwrap_or(""),
     }
 }
 
@@ -122,47 +94,46 @@ fn with_copied_body(alloc: Global, last: ServerFinal) -> Result<ServerFinal, Err
     Ok(ServerFinal { body, ..last })
 }
 
-// A server's first message, `ok` and `done` of the reply that carries it, and what a client with the nonce `nonce` and the
-// ceiling 10000000 answers it.
-fn first_message(place: u8) -> (&'static [u8], i32, bool, &'static str) {
-    match place {
-        // nothing is wrong with these
-        0 => (
-            b"r=nonceserver,s=W22ZaJ0SNY7soEsUEjb6gQ==,i=4096",
-            1,
-            false,
-            "none",
-        ),
-        1 => (b"r=nonce,s=,i=+4096,x=more", 1, false, "none"),
-        2 => (b"r=nonce,s=,i=10000000", 1, false, "none"),
-        // of two faults the one that stands first is named
-        3 => (b"r=nonce,s=,i=x", 0, false, "Refused"),
-        4 => (b"", 1, false, "Malformed"),
-        5 => (b"v=", 1, false, "Malformed"),
-        6 => (b"e=no such user", 1, false, "Malformed"),
-        7 => (b"r=n\xff,s=,i=4096", 1, false, "Malformed"),
-        8 => (b"r=nonce,s=W22ZaJ0SNY7soEsUEjb6gQ==", 1, false, "Malformed"),
-        9 => (b"n=nonce,s=,i=4096", 1, false, "Malformed"),
-        10 => (b"r=nonce,t=,i=4096", 1, false, "Malformed"),
-        11 => (
-            b"r=nonce,s=W22ZaJ0SNY7soEsUEjb6gR==,i=4096",
-            1,
-            false,
-            "Malformed",
-        ),
-        12 => (b"r=nonce,s=,j=4096", 1, false, "Malformed"),
-        13 => (b"r=nonce,s=*,i=x", 1, false, "Malformed"),
-        14 => (b"r=nonce,s=,i=", 1, false, "CountUnreadable"),
-        15 => (b"r=nonce,s=,i=4096x", 1, false, "CountUnreadable"),
-        16 => (b"r=nonce,s=,i=-4096", 1, false, "CountUnreadable"),
-        17 => (b"r=nonce,s=,i=4294967296", 1, false, "CountUnreadable"),
-        18 => (b"r=other,s=,i=1", 1, true, "EndedEarly"),
-        19 => (b"r=other,s=,i=1", 1, false, "Nonce"),
-        20 => (b"r=nonc,s=,i=4096", 1, false, "Nonce"),
-        21 => (b"r=nonce,s=,i=42", 1, false, "CountLow"),
-        22 => (b"r=nonce,s=,i=4095", 1, false, "CountLow"),
-        _ => (b"r=nonce,s=,i=10000001", 1, false, "CountHigh"),
+// What carries a server's first message, the message, and what a client with the nonce `nonce` and the ceiling 10000000 answers it:
+// messages with which nothing is wrong, and then those of two faults, of which the one that stands first is named. `~` stands for
+// a byte that is no text.
+const FIRST_MESSAGES: &str = "ok => r=nonceserver,s=W22ZaJ0SNY7soEsUEjb6gQ==,i=4096 => none
+ok => r=nonce,s=,i=+4096,x=more => none
+ok => r=nonce,s=,i=10000000 => none
+failed => r=nonce,s=,i=x => Refused
+ok =>  => Malformed
+ok => v= => Malformed
+ok => e=no such user => Malformed
+ok => r=n~,s=,i=4096 => Malformed
+ok => r=nonce,s=W22ZaJ0SNY7soEsUEjb6gQ== => Malformed
+ok => n=nonce,s=,i=4096 => Malformed
+ok => r=nonce,t=,i=4096 => Malformed
+ok => r=nonce,s=W22ZaJ0SNY7soEsUEjb6gR==,i=4096 => Malformed
+ok => r=nonce,s=,j=4096 => Malformed
+ok => r=nonce,s=*,i=x => Malformed
+ok => r=nonce,s=,i= => CountUnreadable
+ok => r=nonce,s=,i=4096x => CountUnreadable
+ok => r=nonce,s=,i=-4096 => CountUnreadable
+ok => r=nonce,s=,i=4294967296 => CountUnreadable
+ended => r=other,s=,i=1 => EndedEarly
+ok => r=other,s=,i=1 => Nonce
+ok => r=nonc,s=,i=4096 => Nonce
+ok => r=nonce,s=,i=42 => CountLow
+ok => r=nonce,s=,i=4095 => CountLow
+ok => r=nonce,s=,i=10000001 => CountHigh";
+
+// What stands before the first arrow of a row and behind it.
+fn parts<'a>(row: &'a str) -> (&'a str, &'a str) {
+    row.split_once(" => ").unwrap_or((row, "no arrow"))
+}
+
+// The bytes of a message of a row.
+fn message_of(alloc: Global, text: &str) -> Result<Vec<u8>, AllocError> {
+    let mut message = Vec::new(alloc);
+    for byte in text.bytes() {
+        message.push(if byte == b'~' { 0xff } else { byte })?;
     }
+    Ok(message)
 }
 
 // What a client with that nonce and that ceiling answers the message.
@@ -172,21 +143,38 @@ impl NamesFault for ServerFirst {
     }
 }
 
-// What the client answers the message.
-fn first_is_answered(alloc: Global, ok: i32, done: bool, message: &[u8]) -> &'static str {
-    fault_of(server_first(alloc, ok, done, message))
+// What the client answers the message, by what carries it: a reply of `ok`, one of a failure, or one that ends the conversation.
+fn first_is_answered(alloc: Global, carrier: &str, message: &[u8]) -> &'static str {
+    let ok = if carrier == "failed" { 0 } else { 1 };
+    fault_of(server_first(alloc, ok, carrier == "ended", message))
+}
+
+// Fails where the client answers the message of a row otherwise.
+fn check_first(alloc: Global, row: &str) -> Result<(), Fail> {
+    let (carrier, rest) = parts(row);
+    let (message, fault) = parts(rest);
+    let message = message_of(alloc, message)?;
+    wants(
+        row,
+        first_is_answered(alloc, carrier, message.as_slice()),
+        fault,
+    )
+}
+
+fn wants(row: &str, told: &str, fault: &str) -> Result<(), Fail> {
+    if told == fault {
+        Ok(())
+    } else {
+        Err(Fail::new(format_args!("{row}: told {told}")))
+    }
 }
 
 #[test]
-fn server_first_messages(rt: HostRuntime) {
-    for place in 0..24 {
-        let (message, ok, done, fault) = first_message(place);
-        assert_eq!(rt;
-            first_is_answered(rt.alloc(), ok, done, message),
-            fault,
-            "{place}"
-        );
+fn server_first_messages(rt: HostRuntime) -> Result<(), Fail> {
+    for row in FIRST_MESSAGES.lines() {
+        check_first(rt.alloc(), row)?;
     }
+    Ok(())
 }
 
 fn is_read(first: &ServerFirst) -> bool {
@@ -222,7 +210,11 @@ fn client_first(alloc: Global, username: &str, nonce: &str) -> Result<ClientFirs
 }
 
 // The salted password of a row, with a counter of its own, of the ledger that `blank` opens.
-fn salted_with<G: Ledger>(blank: Blank, row: &Exchange, first: &ServerFirst) -> Result<Tag, Error>
+fn salted_with<G: Ledger>(
+    blank: Blank,
+    row: &Exchange<'_>,
+    first: &ServerFirst,
+) -> Result<Tag, Error>
     requires name { blank.name ≡ G.name }
     requires parts { blank.parts ≡ G.parts }
     requires has_a_part { 0 < G.parts }
@@ -239,7 +231,7 @@ fn salted_with<G: Ledger>(blank: Blank, row: &Exchange, first: &ServerFirst) -> 
 }
 
 // The same; None where the count is 0 or the password is refused.
-fn salted_of(row: &Exchange, first: &ServerFirst) -> Option<Tag> {
+fn salted_of(row: &Exchange<'_>, first: &ServerFirst) -> Option<Tag> {
     if first.i == 0 {
         return None;
     }
@@ -248,7 +240,7 @@ fn salted_of(row: &Exchange, first: &ServerFirst) -> Option<Tag> {
 
 fn closed(
     alloc: Global,
-    row: &Exchange,
+    row: &Exchange<'_>,
     salted: &Tag,
     open: ClientFirst,
     first: &ServerFirst,
@@ -261,13 +253,17 @@ fn closed(
 type Held = (Tag, ClientSide);
 
 // A row's conversation up to the client's last message.
-fn conversation_of(alloc: Global, row: &Exchange) -> Result<Held, Fail> {
+fn conversation_of(alloc: Global, row: &Exchange<'_>) -> Result<Held, Fail> {
     let first = given(server_first(alloc, 1, false, row.server_first.as_bytes()))?;
     conversation_after(alloc, row, &first)
 }
 
 // The same where the server's first message was read.
-fn conversation_after(alloc: Global, row: &Exchange, first: &ServerFirst) -> Result<Held, Fail> {
+fn conversation_after(
+    alloc: Global,
+    row: &Exchange<'_>,
+    first: &ServerFirst,
+) -> Result<Held, Fail> {
     let Some(salted) = salted_of(row, first) else {
         return Err(Fail::from("no salted password"));
     };
@@ -284,7 +280,7 @@ fn is_encoded(alloc: Global, tag: &Tag, text: Option<&str>) -> bool {
 }
 
 // Whether the keys sign what the messages of the row hold.
-fn signs_so(alloc: Global, row: &Exchange, keys: &Keys, transcript: &[u8]) -> bool {
+fn signs_so(alloc: Global, row: &Exchange<'_>, keys: &Keys, transcript: &[u8]) -> bool {
     let proof = match row.close.split_once(",p=") {
         Some((_, proof)) => Some(proof),
         None => None,
@@ -309,24 +305,33 @@ fn final_answer(
     copied_final(alloc, number, message)?.validate(salted, &conversation.close, version)
 }
 
-// Whether it answers so.
-fn final_is_answered(
+// The fault of that answer.
+fn final_fault(
     alloc: Global,
     version: &ScramVersion,
     held: &Held,
     number: i32,
     message: &[u8],
-    fault: &str,
-) -> bool {
-    fault_of(final_answer(alloc, version, held, number, message)) == fault
+) -> &'static str {
+    fault_of(final_answer(alloc, version, held, number, message))
+}
+
+// Fails where a row's conversation isn't as it stands.
+fn check_conversation(alloc: Global, row: &str) -> Result<(), Fail> {
+    let exchange = exchange_of(row);
+    let held = conversation_of(alloc, &exchange)?;
+    let stands = if is_as_it_stands(alloc, &exchange, &held)? {
+        "so"
+    } else {
+        "otherwise"
+    };
+    wants(row, stands, "so")
 }
 
 #[test]
 fn conversations_of_the_standards(rt: HostRuntime) -> Result<(), Fail> {
-    for place in 0..5 {
-        let row = row_at(place);
-        let held = conversation_of(rt.alloc(), &row)?;
-        assert!(rt; is_as_it_stands(rt.alloc(), &row, &held)?, "{place}");
+    for row in CONVERSATIONS.lines() {
+        check_conversation(rt.alloc(), row)?;
     }
     Ok(())
 }
@@ -336,64 +341,63 @@ fn copy_closes(alloc: Global, close: &ClientFinal, message: &str) -> Result<bool
 }
 
 // Whether the messages are the row's, the client's last in its copy too, and the server's last is taken.
-fn is_as_it_stands(alloc: Global, row: &Exchange, held: &Held) -> Result<bool, Fail> {
+fn is_as_it_stands(alloc: Global, row: &Exchange<'_>, held: &Held) -> Result<bool, Fail> {
     let (salted, conversation) = held;
     let transcript = conversation.close.auth_message().as_bytes();
     let stands = conversation.open.message() == row.open
         && conversation.close.message() == row.close
         && signs_so(alloc, row, &Keys::new(row.version, salted), transcript)
-        && final_is_answered(
-            alloc,
-            &row.version,
-            held,
-            1,
-            row.verifier.as_bytes(),
-            "none",
-        );
+        && final_fault(alloc, &row.version, held, 1, row.verifier.as_bytes()) == "none";
     Ok(stands && copy_closes(alloc, &conversation.close, row.close)?)
 }
 
-// A server's last message, the conversation that it names, and what the client of the first conversation answers it.
-fn final_message(place: u8) -> (&'static [u8], i32, &'static str) {
-    match place {
-        0 => (b"v=rmF9pqV8S7suAoZWja4dJRkFsKQ=", 1, "none"),
-        1 => (b"v=rmF9pqV8S7suAoZWja4dJRkFsKU=", 1, "Verifier"),
-        2 => (b"v=rmF9", 1, "Verifier"),
-        3 => (b"v=rmF9pqV8S7suAoZWja4dJRkFsKQ", 1, "Malformed"),
-        4 => (b"e=other-error", 1, "ServerError"),
-        5 => (b"v=rmF9pqV8S7suAoZWja4dJRkFsKQ=", 2, "Conversation"),
-        6 => (b"e=other-error", 2, "Conversation"),
-        7 => (b"", 2, "Malformed"),
-        8 => (b"e", 2, "Malformed"),
-        9 => (b"v", 2, "Malformed"),
-        10 => (b"x=", 2, "Malformed"),
-        11 => (b"=v", 2, "Malformed"),
-        12 => (b"ve=", 2, "Malformed"),
-        13 => (b"v=\xff", 2, "Malformed"),
-        _ => (b"r=n,s=,i=4096", 2, "Malformed"),
+// The conversation that a server's last message names, the message, and what the client of the first conversation answers it.
+const FINAL_MESSAGES: &str = "1 => v=rmF9pqV8S7suAoZWja4dJRkFsKQ= => none
+1 => v=rmF9pqV8S7suAoZWja4dJRkFsKU= => Verifier
+1 => v=rmF9 => Verifier
+1 => v=rmF9pqV8S7suAoZWja4dJRkFsKQ => Malformed
+1 => e=other-error => ServerError
+2 => v=rmF9pqV8S7suAoZWja4dJRkFsKQ= => Conversation
+2 => e=other-error => Conversation
+2 =>  => Malformed
+2 => e => Malformed
+2 => v => Malformed
+2 => x= => Malformed
+2 => =v => Malformed
+2 => ve= => Malformed
+2 => v=~ => Malformed
+2 => r=n,s=,i=4096 => Malformed";
+
+// Fails where the client answers the message of a row otherwise.
+fn check_final(alloc: Global, held: &Held, row: &str) -> Result<(), Fail> {
+    let (number, rest) = parts(row);
+    let (message, fault) = parts(rest);
+    let number = if number == "1" { 1 } else { 2 };
+    let message = message_of(alloc, message)?;
+    let told = final_fault(alloc, &ScramVersion::Sha1, held, number, message.as_slice());
+    wants(row, told, fault)
+}
+
+// What has to hold of the client of the first conversation.
+fn check_held(alloc: Global, held: &Held) -> Result<(), Fail> {
+    for row in FINAL_MESSAGES.lines() {
+        check_final(alloc, held, row)?;
+    }
+    let (_, conversation) = held;
+    if is_shown_as(alloc, &conversation.close, "ClientFinal { .. }")
+        && is_continued(alloc, &conversation.close, CLOSING)?
+    {
+        Ok(())
+    } else {
+        Err(Fail::from("shown, or another command"))
     }
 }
 
 #[test]
 fn server_final_messages(rt: HostRuntime) -> Result<(), Fail> {
-    let held = conversation_of(rt.alloc(), &row_at(0))?;
-    for place in 0..15 {
-        let (message, number, fault) = final_message(place);
-        assert!(rt;
-            final_is_answered(
-                rt.alloc(),
-                &ScramVersion::Sha1,
-                &held,
-                number,
-                message,
-                fault
-            ),
-            "{place}"
-        );
-    }
-    assert!(rt; is_shown_as(rt.alloc(), &held.1.close, "ClientFinal { .. }"));
-    assert!(rt; is_continued(rt.alloc(), &held.1.close, CLOSING)?);
-    Ok(())
+    let first = CONVERSATIONS.lines().next().unwrap_or("");
+    let held = conversation_of(rt.alloc(), &exchange_of(first))?;
+    check_held(rt.alloc(), &held)
 }
 
 // A proof is never shown.
@@ -424,15 +428,6 @@ fn is_continued(alloc: Global, close: &ClientFinal, document: &[u8]) -> Result<b
     ends_with(alloc, &given(close.to_command(alloc))?, document)
 }
 
-fn is_sent(
-    alloc: Global,
-    first: &ClientFirst,
-    version: ScramVersion,
-    end: &[u8],
-) -> Result<bool, Fail> {
-    ends_with(alloc, &given(first.to_command(alloc, &version))?, end)
-}
-
 // The first message of `user` with this source, by a nonce of 32 bytes of 0.
 fn first_of_user(
     alloc: Global,
@@ -443,18 +438,28 @@ fn first_of_user(
     given(ClientFirst::new(alloc, source, "user", with_hello, api, &[0; 32]))
 }
 
+// Whether the command of that message ends so. One that declares no server API goes with a hello.
+fn is_sent(
+    alloc: Global,
+    source: &str,
+    api: Option<ServerApi>,
+    version: ScramVersion,
+    end: &[u8],
+) -> Result<bool, Fail> {
+    let with_hello = api.is_none();
+    let first = first_of_user(alloc, source, with_hello, api)?;
+    ends_with(alloc, &given(first.to_command(alloc, &version))?, end)
+}
+
 #[test]
 fn commands_of_a_first_message(rt: HostRuntime) -> Result<(), Fail> {
-    let api = ServerApi {
+    let api = Some(ServerApi {
         version: ServerApiVersion::V1,
         strict: None,
         deprecation_errors: None,
-    };
-    let alloc = rt.alloc();
-    let first = first_of_user(alloc, "orders", false, Some(api))?;
-    assert!(rt; is_sent(alloc, &first, ScramVersion::Sha1, DECLARED)?);
-    let first = first_of_user(alloc, "admin", true, None)?;
-    assert!(rt; is_sent(alloc, &first, ScramVersion::Sha256, WITH_HELLO)?);
+    });
+    assert!(rt; is_sent(rt.alloc(), "orders", api, ScramVersion::Sha1, DECLARED)?);
+    assert!(rt; is_sent(rt.alloc(), "admin", None, ScramVersion::Sha256, WITH_HELLO)?);
     Ok(())
 }
 
@@ -468,10 +473,8 @@ fn is_message(alloc: Global, username: &str, message: &str) -> Result<bool, Fail
     Ok(first.message() == message && copy_is(alloc, &first, message)?)
 }
 
-fn is_pushed(alloc: Global, username: &str, escaped: &str) -> Result<bool, AllocError> {
-    let mut text = String::new(alloc);
-    push_user_name(&mut text, username)?;
-    Ok(text.as_str() == escaped)
+fn is_saslname(alloc: Global, username: &str, escaped: &str) -> Result<bool, AllocError> {
+    Ok(saslname(alloc, username)?.as_str() == escaped)
 }
 
 fn is_nonce(alloc: Global, nonce: &[u8; 32], text: &str) -> bool {
@@ -483,7 +486,7 @@ fn is_nonce(alloc: Global, nonce: &[u8; 32], text: &str) -> bool {
 
 #[test]
 fn user_names_are_escaped(rt: HostRuntime) -> Result<(), Fail> {
-    assert!(rt; matches!(is_pushed(rt.alloc(), "a=b,c", "a=3Db=2Cc"), Ok(true)));
+    assert!(rt; matches!(is_saslname(rt.alloc(), "a=b,c", "a=3Db=2Cc"), Ok(true)));
     assert!(rt;
         is_nonce(
             rt.alloc(),

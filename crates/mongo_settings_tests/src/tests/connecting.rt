@@ -1,10 +1,11 @@
 ghost use Rattle.std.specs.Prelude.{◌≡◌, ◌<◌};
 ghost use Rattle.mongo_establish.specs.Speculation.{SpeaksFor};
 
-use mongo_establish::{Bytes, MemoryLink};
+use mongo_establish::{Bytes, LoginState, MemoryLink};
 use mongo_mac::Steps;
 use mongo_settings::{
-    Rehearsal, Settings, connect, new_state, prepare, report_outcome, settings_of, write_report,
+    Login, Rehearsal, Settings, connect, new_state, prepare, report_outcome, settings_of,
+    write_report,
 };
 use serde_json::Value;
 use std::alloc::{AllocError, Global};
@@ -27,8 +28,27 @@ const TOLD: [(&str, &str); 2] = [
     ),
 ];
 
-// Makes the connection that settings ask for over a link that holds their reply bytes, with a counter of its own, of the ledger
-// that `blank` opens, and reports it.
+// Makes the connection of a login over a link, with a counter of its own, of the ledger that `blank` opens, and reports it.
+fn told_over<G: Ledger>(
+    blank: Blank,
+    alloc: Global,
+    login: Login,
+    link: &mut MemoryLink,
+    state: &mut LoginState,
+) -> Result<Rehearsal, AllocError>
+    requires name { blank.name ≡ G.name }
+    requires parts { blank.parts ≡ G.parts }
+    requires has_a_part { 0 < G.parts }
+    requires spoken { SpeaksFor login.credential }
+{
+    let total = link.left().len();
+    let mut steps = Steps::<G>::new(blank);
+    let ended = connect(alloc, login, link, state, &mut steps);
+    let taken = total.saturating_sub(link.left().len());
+    report_outcome(alloc, link.written(), taken, ended)
+}
+
+// Makes the connection that settings ask for over a link that holds their reply bytes, and reports it.
 fn connected_with<G: Ledger>(
     blank: Blank,
     alloc: Global,
@@ -41,12 +61,8 @@ fn connected_with<G: Ledger>(
 {
     let (login, replies) = prepare(alloc, settings)?;
     let mut link = MemoryLink::new(alloc, replies);
-    let total = link.left().len();
     let mut state = new_state(alloc);
-    let mut steps = Steps::<G>::new(blank);
-    let ended = connect(alloc, login, &mut link, &mut state, &mut steps);
-    let taken = total.saturating_sub(link.left().len());
-    report_outcome(alloc, link.written(), taken, &ended)
+    told_over::<G>(blank, alloc, login, &mut link, &mut state)
 }
 
 // Whether a report that is written to a sink tells this after the hello.

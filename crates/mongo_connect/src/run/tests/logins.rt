@@ -21,8 +21,21 @@ pub(super) struct RecordedLogin {
     pub(super) after_last_header: usize,
 }
 
-// By PLAIN.
-pub(super) const PLAIN: RecordedLogin = RecordedLogin {
+// What a login is by: PLAIN, or SCRAM-SHA-256, begun with hello, and done with the server's last message.
+#[derive(Clone, Copy, Debug)]
+pub(super) enum By {
+    Plain,
+    Scram,
+}
+
+pub(super) fn recorded(by: By) -> RecordedLogin {
+    match by {
+        By::Plain => PLAIN,
+        By::Scram => SCRAM,
+    }
+}
+
+const PLAIN: RecordedLogin = RecordedLogin {
     line: PLAIN_LINE,
     replies: PLAIN_REPLIES,
     sent_hello: PLAIN_SENT_HELLO,
@@ -36,10 +49,10 @@ pub(super) const PLAIN: RecordedLogin = RecordedLogin {
     after_last_header: 63,
 };
 
-pub(super) const PLAIN_LINE: &str =
+const PLAIN_LINE: &str =
     "{\"host\": \"localhost\", \"credential\": {\"username\": \"user\", \"password\": \"pencil\", \"mechanism\": \"PLAIN\"}}";
 
-pub(super) const PLAIN_REPLIES: &[u8] =
+const PLAIN_REPLIES: &[u8] =
     b"V\0\0\0\x01\0\0\0\0\0\0\0\xdd\x07\0\0\0\0\0\0\0A\0\0\0\x01ok\0\0\0\0\0\0\0\xf0?\x10maxBsonObjectSize\0\0\0\0\x01\x10maxMessageSizeBytes\0\0l\xdc\x02\0O\0\0\0\x01\0\0\0\0\0\0\0\xdd\x07\0\0\0\0\0\0\0:\0\0\0\x01ok\0\0\0\0\0\0\0\xf0?\x10conversationId\0\x01\0\0\0\x08done\0\x01\x05payload\0\0\0\0\0\0\0";
 
 const PLAIN_SENT_HELLO: &str =
@@ -51,8 +64,7 @@ const PLAIN_SENT_LOGIN: &str =
 const PLAIN_TOLD: &str =
     "read 165\nok\ntype Standalone\nwire - -\nmechs -\nsession -\nsizes 16777216 100000 48000000\nhello-ok false\nservice -\ngeneration normal 0\nserver-id -\n";
 
-// By SCRAM-SHA-256, begun with hello, and done with the server's last message.
-pub(super) const SCRAM: RecordedLogin = RecordedLogin {
+const SCRAM: RecordedLogin = RecordedLogin {
     line: SCRAM_LINE,
     replies: SCRAM_REPLIES,
     sent_hello: SCRAM_SENT_HELLO,

@@ -34,6 +34,10 @@ const GIVES: &str = "the link failed to give bytes\n";
 
 const TAKES: &str = "the link failed to take bytes\n";
 
+const CUT: &str = "the stream ended within a frame\n";
+
+const NO_FRAME: &str = "what came is no frame of this protocol\n";
+
 // How a run is to end.
 #[derive(Clone, Copy)]
 pub(super) struct Wanted {
@@ -86,11 +90,27 @@ fn broken(user: &'static str, end: &'static str, written: usize) -> Wanted {
     }
 }
 
-// Nothing fails: the whole login and the ping are answered.
-pub(super) fn whole() -> Wanted {
+fn ended(user: &'static str, written: usize) -> Wanted {
     Wanted {
         status: ServeStatus::Ended,
-        report: [USER, "the client ended its stream\n"],
-        written: 383,
+        report: [user, "the client ended its stream\n"],
+        written,
+    }
+}
+
+// Nothing fails: the whole login and the ping are answered.
+pub(super) fn whole() -> Wanted {
+    ended(USER, 383)
+}
+
+// What a client sends that isn't done, by number, and how it is left: it ends its stream after the first reply; within the header of
+// its second frame, and within its document; after its key is proved; and it speaks another protocol after the login.
+pub(super) fn left_at(place: usize) -> (&'static str, Wanted) {
+    match place {
+        0 => ("users first", ended(NOBODY, 157)),
+        1 => ("users first cut-last-header", broken(NOBODY, CUT, 157)),
+        2 => ("users first cut-last", broken(NOBODY, CUT, 157)),
+        3 => ("users first last", ended(NOBODY, 266)),
+        _ => ("users first last empty get", broken(USER, NO_FRAME, 345)),
     }
 }

@@ -26,3 +26,14 @@ pub(super) const ANSWERED: [&[u8]; 6] = [
     b"}\0\0\0\x05\0\0\0\x05\0\0\0\xdd\x07\0\0\0\0\0\0\0h\0\0\0\x10conversationId\0\x01\0\0\0\x08done\0\x01\x05payload\0.\0\0\0\0v=WUyKGLR6jLSqEAIu0Dx7mO1YBbXbCh/pn1hT5BWIRbY=\x01ok\0\0\0\0\0\0\0\xf0?\0",
     b"&\0\0\0\x06\0\0\0\x06\0\0\0\xdd\x07\0\0\0\0\0\0\0\x11\0\0\0\x01ok\0\0\0\0\0\0\0\xf0?\0",
 ];
+
+// What is told of a client that sent the first so many of these: the mechanisms of the second user, the first one's, and none where
+// there is no such user; the login begins, is proved, and a ping is answered.
+pub(super) fn report_of_two(pieces: usize) -> [&'static str; 2] {
+    let user = if pieces < 5 {
+        "nobody was logged in\n"
+    } else {
+        "logged in: \"second\"\n"
+    };
+    [user, "the client ended its stream\n"]
+}

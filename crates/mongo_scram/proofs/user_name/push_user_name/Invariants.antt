@@ -1,9 +1,0 @@
-use Rattle.std.proofs.Common.{◌≡◌, ◌++◌, string_bytes}
-use Rattle.std.specs.Str.Iter.{chars_rest}
-use Rattle.mongo_scram.specs.UserName.{escaped}
-use Rattle.mongo_scram.proofs.user_name.push_user_name.Given as goal
-
-abbrev pub invariant-loop-character : goal.invariant-loop-character
-invariant-loop-character l =
-    string_bytes l.text ++ escaped (chars_rest l.character-iterator)
-    ≡ string_bytes l.fn.text ++ escaped l.fn.name
