@@ -149,7 +149,15 @@ fn no_login(error: Error) -> Result<Option<OpenedLogin>, ServeFault>
     ensures none { IfOk result (λ found. (found ≡ None) × (error.kind ≢ WantOfMemory)) }
     ensures memory { IfErr result (λ fault. fault ≡ OutOfMemory) }
 {
-    match &error.kind {
+    no_login_by(&error.kind)
+}
+
+// The same by reference.
+fn no_login_by(kind: &ErrorKind) -> Result<Option<OpenedLogin>, ServeFault>
+    ensures none { IfOk result (λ found. (found ≡ None) × (kind.now ≢ WantOfMemory)) }
+    ensures memory { IfErr result (λ fault. fault ≡ OutOfMemory) }
+{
+    match kind {
         ErrorKind::OutOfMemory => Err(ServeFault::OutOfMemory),
         _ => Ok(None),
     }
