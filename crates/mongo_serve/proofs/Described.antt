@@ -1,10 +1,12 @@
 -- The documents of replies, as their elements are put.
-use Rattle.std.proofs.Common.{◌≡◌, ℕ, ℤ, true, Option, Some, Result, Ok, Err, OnOk, OnErr, List, [], ◌∷◌, ◌++◌, length, sym, ap, ◌∙◌, subst, append_assoc}
+use Rattle.std.proofs.Common.{◌≡◌, ℕ, ℤ, true, Option, None, Some, option_map, Result, Ok, Err, OnOk, OnErr, List, [], ◌∷◌, ◌++◌, length, refl, ap, ◌∙◌, subst}
 use Rattle.std.specs.Prelude.{⊤}
 use Rattle.std.specs.Io.KnownBytes.{Appends}
 use Rattle.mongo_bson.specs.Document.{Element}
-use Rattle.mongo_command.specs.Literal.{boolean_element, document_element, ok_element, document_of}
+use Rattle.mongo_command.specs.Command.{present}
+use Rattle.mongo_command.specs.Literal.{boolean_element, document_element, ok_element}
 use Rattle.mongo_command.specs.Keys.{speculative_authenticate_key}
+use Rattle.mongo_command.proofs.CommandDocument.{joined}
 use Rattle.mongo_wire.specs.Bytes.{next_id}
 use Rattle.mongo_wire.specs.Header.{header_bytes}
 use Rattle.mongo_wire.specs.Outside.{State, AppendsFront, IsFlushed}
@@ -16,20 +18,16 @@ use Rattle.mongo_serve.specs.declared.reply.SaslReply.{SaslReply}
 use Rattle.mongo_serve.specs.Replies.{description, hello_reply_elements, mechanism_elements, speculation_elements, sasl_document, writable_key, document_of_served}
 use Rattle.mongo_serve.specs.Sent.{query_header, query_fields, query_reply, IsSentToQuery}
 
-pub speculated : (elements : List Element) (new : List ℕ) (speculation : Option SaslReply) (message : SaslReply) (bytes : List ℕ) (r : Result ⊤ ServeFault) → speculation ≡ Some message → bytes ≡ sasl_document message
-    → OnOk r (new ≡ document_of (elements ++ document_element speculative_authenticate_key bytes ∷ [])) → OnOk r (new ≡ document_of (elements ++ speculation_elements speculation))
-speculated elements new speculation message bytes r given same h =
-    subst (λ s. OnOk r (new ≡ document_of (elements ++ speculation_elements s))) (sym given) (subst (λ b. OnOk r (new ≡ document_of (elements ++ document_element speculative_authenticate_key b ∷ []))) same h)
+-- what is said of a login that came with the hello
+pub speculation_said : (speculation : Option SaslReply) → present (document_element speculative_authenticate_key) (option_map sasl_document speculation) ≡ speculation_elements speculation
+speculation_said None = refl
+speculation_said (Some message) = refl
 
-regroup : (d : List Element) (a : Element) (m s : List Element) (o : Element) → (((d ++ a ∷ []) ++ m) ++ s) ++ o ∷ [] ≡ d ++ (a ∷ (m ++ (s ++ o ∷ [])))
-regroup d a m s o = append_assoc ((d ++ a ∷ []) ++ m) s (o ∷ []) ∙ append_assoc (d ++ a ∷ []) m (s ++ o ∷ []) ∙ append_assoc d (a ∷ []) (m ++ (s ++ o ∷ []))
-
-pub hello_described : (hello : HelloAnswer) (key : List ℕ) → key ≡ writable_key hello.is_legacy
-    → document_of ((((description ++ boolean_element key true ∷ []) ++ mechanism_elements hello.mechanisms) ++ speculation_elements hello.speculation) ++ ok_element ∷ []) ≡ document_of (hello_reply_elements hello)
-hello_described hello key named =
-    let m = mechanism_elements hello.mechanisms in
-    let s = speculation_elements hello.speculation in
-    ap document_of (regroup description (boolean_element key true) m s ok_element ∙ ap (λ k. description ++ (boolean_element k true ∷ (m ++ (s ++ ok_element ∷ [])))) named)
+-- a hello's elements, by those that not every hello has
+pub around : (hello : HelloAnswer) (key : List ℕ) (m s : List Element) → key ≡ writable_key hello.is_legacy → m ≡ mechanism_elements hello.mechanisms → s ≡ speculation_elements hello.speculation
+    → description ++ (boolean_element key true ∷ (m ++ (s ++ ok_element ∷ []))) ≡ hello_reply_elements hello
+around hello key m s named listed said =
+    ap (λ es. description ++ es) (joined (boolean_element key true ∷ []) _ _ _ (ap (λ k. boolean_element k true ∷ []) named) (joined m _ _ _ listed (joined s _ _ _ said refl)))
 
 -- the parts of a reply's frame, put after one another
 pub query_framed : (header : Header) (id to : ℤ) (document : List ℕ) → header ≡ query_header id to (length document)

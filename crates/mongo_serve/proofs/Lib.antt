@@ -10,7 +10,7 @@ pub mod Carried
 pub mod Prepended
 pub mod Queried
 pub mod Described
-pub mod TooLong
+pub mod PlainKeys
 pub mod Responses
 pub mod Parts
 pub mod Stream

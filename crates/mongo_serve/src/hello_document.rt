@@ -1,22 +1,21 @@
 //! The document that says what a server is.
 
-ghost use Rattle.std.specs.Prelude.{◌≡◌, List, [], ◌∷◌, ◌++◌, IfOk, IfErr, OnOk, Contains};
-ghost use Rattle.mongo_bson.specs.Document.{Element};
-ghost use Rattle.mongo_bson.specs.Value.{element_of};
+ghost use Rattle.std.specs.Prelude.{◌≡◌, option_map, IfOk, IfErr};
+ghost use Rattle.mongo_command.specs.Arguments.{field_elements, IsNamed, TooLongFor};
 ghost use Rattle.mongo_command.specs.Literal.{document_of};
 ghost use Rattle.mongo_serve.specs.Faults.{IsOfDocument};
-ghost use Rattle.mongo_serve.specs.Replies.{description, hello_reply_elements, mechanism_elements, speculation_elements, names_document, writable_key};
+ghost use Rattle.mongo_serve.specs.Replies.{hello_reply_elements, mechanism_elements, names_document, sasl_document, writable_key};
 
 use crate::fault::ServeFault;
-use crate::reply::{HelloAnswer, Mechanisms, SaslReply};
+use crate::reply::{HelloAnswer, Mechanisms};
 use crate::reply_document::{DOCUMENT_MAXIMUM, MESSAGE_MAXIMUM, ONE, sasl_document};
-use mongo_bson::{RawDocument, RawDocumentBuf, RawValue};
+use mongo_bson::{BsonFault, RawDocument, RawDocumentBuf, RawValue};
 use mongo_command::keys::{
     CONNECTION_ID, HELLO_OK, IS_MASTER, IS_WRITABLE_PRIMARY, LOGICAL_SESSION_TIMEOUT_MINUTES,
     MAX_BSON_OBJECT_SIZE, MAX_MESSAGE_SIZE_BYTES, MAX_WIRE_VERSION, MAX_WRITE_BATCH_SIZE,
     MIN_WIRE_VERSION, OK, SASL_SUPPORTED_MECHS, SPECULATIVE_AUTHENTICATE,
 };
-use mongo_command::{boolean_field, document_of, int32_field};
+use mongo_command::{ArgumentField, document_of, optional_document_field};
 use std::alloc::Global;
 
 /// The document of a hello's reply.
@@ -29,38 +28,42 @@ pub fn hello_reply_document(
     ensures document { IfOk result (λ document. document ≡ document_of (hello_reply_elements hello.now)) }
     ensures refused { IfErr result (IsOfDocument (document_of (hello_reply_elements hello.now))) }
 {
-    let mut document = description(alloc)?;
-    put(
-        &mut document,
-        writable_key(hello.is_legacy),
-        RawValue::Bool(true),
-    )?;
-    put_mechanisms(&mut document, hello.mechanisms)?;
-    put_speculation(alloc, &mut document, &hello.speculation)?;
-    put(&mut document, OK, RawValue::Double(ONE))?;
-    Ok(document)
+    let speculation = match &hello.speculation {
+        Some(message) => Some(sasl_document(alloc, message)?),
+        None => None,
+    };
+    Ok(document_around(alloc, hello, &speculation)?)
 }
 
-// What a hello says of the server, whoever asks.
-fn description(alloc: Global) -> Result<RawDocumentBuf, ServeFault>
-    ensures document { IfOk result (λ document. document ≡ document_of description) }
-    ensures refused { IfErr result (IsOfDocument (document_of description)) }
+// The document of a hello's reply, around that of the answer to the login that came with the hello.
+fn document_around(
+    alloc: Global,
+    hello: &HelloAnswer,
+    speculation: &Option<RawDocumentBuf>,
+) -> Result<RawDocumentBuf, BsonFault>
+    requires { speculation.now ≡ option_map sasl_document hello.now.speculation }
+    ensures document { IfOk result (λ document. document ≡ document_of (hello_reply_elements hello.now)) }
+    ensures refused { IfErr result (λ fault. TooLongFor fault (document_of (hello_reply_elements hello.now))) }
 {
-    Ok(document_of(
+    document_of(
         alloc,
         &[
-            boolean_field(HELLO_OK, true),
-            int32_field(MAX_BSON_OBJECT_SIZE, DOCUMENT_MAXIMUM),
-            int32_field(MAX_MESSAGE_SIZE_BYTES, MESSAGE_MAXIMUM),
-            int32_field(MAX_WRITE_BATCH_SIZE, 100_000),
+            Some((HELLO_OK, RawValue::Bool(true))),
+            Some((MAX_BSON_OBJECT_SIZE, RawValue::Int32(DOCUMENT_MAXIMUM))),
+            Some((MAX_MESSAGE_SIZE_BYTES, RawValue::Int32(MESSAGE_MAXIMUM))),
+            Some((MAX_WRITE_BATCH_SIZE, RawValue::Int32(100_000))),
             Some(("localTime", RawValue::DateTime(0))),
-            int32_field(LOGICAL_SESSION_TIMEOUT_MINUTES, 30),
-            int32_field(CONNECTION_ID, 1),
-            int32_field(MIN_WIRE_VERSION, 0),
-            int32_field(MAX_WIRE_VERSION, 21),
-            boolean_field("readOnly", false),
+            Some((LOGICAL_SESSION_TIMEOUT_MINUTES, RawValue::Int32(30))),
+            Some((CONNECTION_ID, RawValue::Int32(1))),
+            Some((MIN_WIRE_VERSION, RawValue::Int32(0))),
+            Some((MAX_WIRE_VERSION, RawValue::Int32(21))),
+            Some(("readOnly", RawValue::Bool(false))),
+            Some((writable_key(hello.is_legacy), RawValue::Bool(true))),
+            mechanisms_field(hello.mechanisms),
+            optional_document_field(SPECULATIVE_AUTHENTICATE, speculation),
+            Some((OK, RawValue::Double(ONE))),
         ],
-    )?)
+    )
 }
 
 // The key that says that writes are taken.
@@ -74,29 +77,14 @@ fn writable_key(is_legacy: bool) -> &'static str
     }
 }
 
-// Puts an element at the end of a document.
-fn put(document: &mut RawDocumentBuf, key: &str, value: RawValue<'_>) -> Result<(), ServeFault>
-    ensures added { (elements : List Element) → document.old ≡ document_of elements → OnOk result (document.new ≡ document_of (elements ++ element_of key.now value.entry ∷ [])) }
-    ensures refused { (elements : List Element) → document.old ≡ document_of elements → (Contains key.now 0 → ⊥) → IfErr result (IsOfDocument (document_of (elements ++ element_of key.now value.entry ∷ []))) }
-{
-    document.append(key, value)?;
-    Ok(())
-}
-
-// Puts the mechanisms at the end, where there are any.
-fn put_mechanisms(
-    document: &mut RawDocumentBuf,
-    mechanisms: Option<Mechanisms>,
-) -> Result<(), ServeFault>
-    ensures added { (elements : List Element) → document.old ≡ document_of elements → OnOk result (document.new ≡ document_of (elements ++ mechanism_elements mechanisms)) }
-    ensures refused { (elements : List Element) → document.old ≡ document_of elements → IfErr result (IsOfDocument (document_of (elements ++ mechanism_elements mechanisms))) }
+// The mechanisms of a user, where they are asked for.
+fn mechanisms_field(mechanisms: Option<Mechanisms>) -> ArgumentField<'static>
+    ensures elements { field_elements result ≡ mechanism_elements mechanisms }
+    ensures named { IsNamed result }
 {
     match mechanisms {
-        Some(mechanisms) => {
-            let names = RawValue::Array(names_of(mechanisms));
-            put(document, SASL_SUPPORTED_MECHS, names)
-        }
-        None => Ok(()),
+        Some(mechanisms) => Some((SASL_SUPPORTED_MECHS, RawValue::Array(names_of(mechanisms)))),
+        None => None,
     }
 }
 
@@ -116,24 +104,5 @@ fn names_of(mechanisms: Mechanisms) -> RawDocument<'static>
     match names {
         Ok(names) => names,
         Err(_) => unreachable!(),
-    }
-}
-
-// Puts the answer to a login at the end, where there is one.
-fn put_speculation(
-    alloc: Global,
-    document: &mut RawDocumentBuf,
-    speculation: &Option<SaslReply>,
-) -> Result<(), ServeFault>
-    ensures added { (elements : List Element) → document.old ≡ document_of elements → OnOk result (document.new ≡ document_of (elements ++ speculation_elements speculation.now)) }
-    ensures refused { (elements : List Element) → document.old ≡ document_of elements → IfErr result (IsOfDocument (document_of (elements ++ speculation_elements speculation.now))) }
-{
-    match speculation {
-        Some(message) => {
-            let message = sasl_document(alloc, message)?;
-            let message = RawValue::Document(message.borrow());
-            put(document, SPECULATIVE_AUTHENTICATE, message)
-        }
-        None => Ok(()),
     }
 }
