@@ -1,4 +1,4 @@
-"""What the benchmarks share: building the proved program, and measuring it and its peers in processor time."""
+"""What the benchmarks share: the build of the proved programs, and measuring them and their peers in processor time."""
 
 import os
 import resource
@@ -8,21 +8,11 @@ import sys
 
 HERE = os.path.dirname(os.path.abspath(__file__))
 sys.path.insert(0, os.path.dirname(HERE))
-import streams
+from streams import built, whole_number
 
 # How often something may be asked for; the program takes no number of 2^32, and a run of many is one more.
-TIMES = streams.whole_number(1, 1_000_000_000)
-CRATE = os.path.join(os.path.dirname(HERE), "crates", "mongo_bench")
+TIMES = whole_number(1, 1_000_000_000)
 LIBBSON = ("libbson-1.0", "bson2", "libbson-2.0")
-
-
-def build():
-    """Proves and builds the program, and returns its path."""
-    command = ["rt", "run", "--", "hi-sha1", "1"]
-    made = subprocess.run(command, cwd=CRATE, capture_output=True, text=True)
-    if made.returncode != 0:
-        sys.exit(f"the program was not built:\n{made.stdout}{made.stderr}")
-    return os.path.join(CRATE, "out", "mongo_bench")
 
 
 def children_seconds():
