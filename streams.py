@@ -13,7 +13,7 @@ TOP = os.path.dirname(os.path.realpath(__file__))
 
 
 def built(name):
-    """The path of a proved program, which is proved and built first where a source changed. Ends with 70 where it can't be."""
+    """The path of a proved program, which is proved and built first where it isn't current. Ends with 70 where it can't be."""
     if subprocess.run([os.path.join(TOP, 'build'), name], stdout=sys.stderr).returncode:
         sys.exit(70)
     return os.path.join(TOP, 'crates', name, 'out', name)
