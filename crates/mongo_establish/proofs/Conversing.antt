@@ -56,11 +56,11 @@ handed_same version asked credential greeting api round begun held p b went d =
     let q = ap speculated_of b ∙ went.scram tt in
     λ i. let h : Handed = record { version = version; credential = credential; server_api = p i; speculated = q i; nonce = base64_of asked.nonces.second; max_iterations = asked.options.max_iterations; maximum = frame_maximum (d i) } in h
 
-scram_accepted : (version : ScramVersion) (asked : Asked) (credential : Credential) (greeting : Greeting) (document : List ℕ) (old new : Balance) → Accepted (scram_handed_by version asked credential greeting) document old new → Conversed (Scram version) asked credential greeting old new
+scram_accepted : (version : ScramVersion) (asked : Asked) (credential : Credential) (greeting : Greeting) (buffer : FrameBuffer) (old new : Balance) → Accepted (scram_handed_by version asked credential greeting) buffer old new → Conversed (Scram version) asked credential greeting old new
 unfolding conversation_plan
-scram_accepted version asked credential greeting document old new is = record {
-  reached = then_reached (scram_plan (scram_handed_by version asked credential greeting)) is.challenge greeting old.state new.state old.id new.id (accepted_reached (scram_handed_by version asked credential greeting) document old new is);
-  costs = record { document = document; accepted = is };
+scram_accepted version asked credential greeting buffer old new is = record {
+  reached = then_reached (scram_plan (scram_handed_by version asked credential greeting)) is.challenge greeting old.state new.state old.id new.id (accepted_reached (scram_handed_by version asked credential greeting) buffer old new is);
+  costs = record { buffer = buffer; accepted = is };
 }
 
 scram_stopped : (version : ScramVersion) (asked : Asked) (credential : Credential) (greeting : Greeting) (kind : ErrorKind) (old new : Balance) → StoppedScram (scram_handed_by version asked credential greeting) kind old new → ConversationStopped (Scram version) asked credential greeting kind old new
@@ -74,12 +74,12 @@ module _ (version : ScramVersion) (asked : Asked) (credential : Credential) (rou
   abbrev handed : Handed
   handed = handed_to version credential api begun (base64_of asked.nonces.second) asked.options.max_iterations (frame_maximum opened.stream_description)
 
-  scram_done : (greeting : Greeting) (r : Result (Unit {0}) Error) (document : List ℕ) (old new : Balance) → opened.stream_description ≡ Some greeting.description → IsRoundBy (Some (Scram version)) credential asked greeting round
-      → OnOk r (Accepted handed document old new) → OnOk r (Conversed (Scram version) asked credential greeting old new)
-  scram_done greeting (Ok done) document old new described went accepted =
+  scram_done : (greeting : Greeting) (r : Result (Unit {0}) Error) (buffer : FrameBuffer) (old new : Balance) → opened.stream_description ≡ Some greeting.description → IsRoundBy (Some (Scram version)) credential asked greeting round
+      → OnOk r (Accepted handed buffer old new) → OnOk r (Conversed (Scram version) asked credential greeting old new)
+  scram_done greeting (Ok done) buffer old new described went accepted =
       let is = handed_same version asked credential greeting api round begun opened.stream_description same begins went described in
-      scram_accepted version asked credential greeting document old new (subst (λ h. Accepted h document old new) is accepted)
-  scram_done greeting (Err e) document old new described went accepted = tt
+      scram_accepted version asked credential greeting buffer old new (subst (λ h. Accepted h buffer old new) is accepted)
+  scram_done greeting (Err e) buffer old new described went accepted = tt
 
   scram_failed : (greeting : Greeting) (r : Result (Unit {0}) Error) (old new : Balance) → opened.stream_description ≡ Some greeting.description → IsRoundBy (Some (Scram version)) credential asked greeting round
       → IfErr r (λ e. StoppedScram handed e.kind old new) → IfErr r (λ e. ConversationStopped (Scram version) asked credential greeting e.kind old new)
@@ -89,10 +89,10 @@ module _ (version : ScramVersion) (asked : Asked) (credential : Credential) (rou
       scram_stopped version asked credential greeting e.kind old new (subst (λ h. StoppedScram h e.kind old new) is stopped)
 
   -- what a login by SCRAM promises is what its conversation does
-  pub scram_converses : {L : Type 0} (state : L → State) (link link' : L) (before after : ℤ) (buffer buffer' : FrameBuffer) (r : Result (Unit {0}) Error) (document : List ℕ) (early late : Ledgers) → kept_fault opened ≡ None
-      → EndsByScram state handed document r (standing opened link before buffer) (standing left link' after buffer') early late → Converses r (Scram version) asked credential round opened left (balance (state link) before early) (balance (state link') after late)
-  scram_converses state link link' before after buffer buffer' r document early late faultless login = record {
-    accepted = λ greeting described went. scram_done greeting r document _ _ described went login.accepted;
+  pub scram_converses : {L : Type 0} (state : L → State) (link link' : L) (before after : ℤ) (buffer buffer' : FrameBuffer) (r : Result (Unit {0}) Error) (early late : Ledgers) → kept_fault opened ≡ None
+      → EndsByScram state handed r (standing opened link before buffer) (standing left link' after buffer') early late → Converses r (Scram version) asked credential round opened left (balance (state link) before early) (balance (state link') after late)
+  scram_converses state link link' before after buffer buffer' r early late faultless login = record {
+    accepted = λ greeting described went. scram_done greeting r buffer' _ _ described went login.accepted;
     refused = λ greeting described went. scram_failed greeting r _ _ described went (login.refused faultless);
     faultless = login.script.faultless faultless;
     keeps = login.script.stops.keeps faultless;

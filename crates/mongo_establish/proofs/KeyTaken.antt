@@ -3,6 +3,7 @@ use Rattle.std.proofs.Common.{◌≡◌, ◌⊎◌, ◌∙◌, ℕ, ℤ, refl, a
 use Rattle.mongo_wire.specs.declared.error.Error.{Error}
 use Rattle.mongo_wire.specs.declared.error.ErrorKind.{ErrorKind}
 use Rattle.mongo_wire.specs.declared.error.ErrorKind.TheVariants.{IncompatibleServer, OutOfMemory}
+use Rattle.mongo_wire.specs.declared.frame_buffer.FrameBuffer.{FrameBuffer}
 use Rattle.mongo_wire.specs.Outside.{State, Rose}
 use Rattle.mongo_command.specs.declared.connection.Connection.{Connection}
 use Rattle.mongo_command.specs.declared.stream_description.StreamDescription.{StreamDescription}
@@ -52,8 +53,8 @@ kept_others : (key : SaltedKey) (first last : Ledgers) → (HasEntry first.cache
 kept_others key first last (inl had) = inl had.1
 kept_others key first last (inr adds) = inr adds
 
-accepted_takes : (handed : Handed) (document : List ℕ) (old new : Balance) (is : Accepted handed document old new) → TakesKey (key_by handed is.challenge) old.ledgers new.ledgers
-accepted_takes handed document old new is = record {
+accepted_takes : (handed : Handed) (buffer : FrameBuffer) (old new : Balance) (is : Accepted handed buffer old new) → TakesKey (key_by handed is.challenge) old.ledgers new.ledgers
+accepted_takes handed buffer old new is = record {
   derived = is.derived;
   entry = kept_entry (key_by handed is.challenge) old.ledgers new.ledgers is.kept;
   others = kept_others (key_by handed is.challenge) old.ledgers new.ledgers is.kept;
@@ -85,13 +86,13 @@ module _ (version : ScramVersion) (mechanism : AuthMechanism) (asked : Asked) (c
   abbrev handed : Handed
   handed = scram_handed_by version asked credential greeting
 
-  scram_takes : (document : List ℕ) (old new : Balance) → Accepted handed document old new → KeyTaken (derivation_by (Some (Scram version)) mechanism asked credential greeting) old new
-  scram_takes document old new is = record {
+  scram_takes : (buffer : FrameBuffer) (old new : Balance) → Accepted handed buffer old new → KeyTaken (derivation_by (Some (Scram version)) mechanism asked credential greeting) old new
+  scram_takes buffer old new is = record {
     key = Some (key_by handed is.challenge);
     middle = is.middle;
     between = is.between;
     reached = opening_reached version mechanism asked credential greeting is.challenge old.state is.middle old.id is.between none is.opened;
-    takes = accepted_takes handed document old new is;
+    takes = accepted_takes handed buffer old new is;
   }
 
   scram_spends : (kind : ErrorKind) (old new : Balance) → StoppedScram handed kind old new → KeySpent (derivation_by (Some (Scram version)) mechanism asked credential greeting) kind old new
@@ -142,7 +143,7 @@ nothing_spent kind old new nothing = inr (record { key = None; middle = old.stat
 taken_by : (conversation : Option Conversation) (mechanism : AuthMechanism) (asked : Asked) (credential : Credential) (greeting : Greeting) (old new : Balance) → (IsScram conversation → HasNone (InvalidRow (speculative_reply asked greeting) mechanism credential))
     → AcceptedCosts (scram_in conversation) asked credential greeting old new → KeyTaken (derivation_by conversation mechanism asked credential greeting) old new
 unfolding derivation_by
-taken_by (Some (Scram version)) mechanism asked credential greeting old new none c = scram_takes version mechanism asked credential greeting (none tt) c.document old new c.accepted
+taken_by (Some (Scram version)) mechanism asked credential greeting old new none c = scram_takes version mechanism asked credential greeting (none tt) c.buffer old new c.accepted
 taken_by conversation mechanism asked credential greeting old new none c = nothing_taken old new c
 
 spent_by : (conversation : Option Conversation) (mechanism : AuthMechanism) (asked : Asked) (credential : Credential) (greeting : Greeting) (kind : ErrorKind) (old new : Balance) → (IsScram conversation → HasNone (InvalidRow (speculative_reply asked greeting) mechanism credential))

@@ -55,7 +55,7 @@ module _ (first second : PendingConnection) (options : HandshakerOptions) (crede
   -- ---- and so is what it costs
 
   scram_costs_alike : (version : ScramVersion) (c : Credential) (greeting : Greeting) (old new : Balance) → ScramAccepted version this c greeting old new → ScramAccepted version that c greeting old new
-  scram_costs_alike version c greeting old new h = record { document = h.document; accepted = h.accepted }
+  scram_costs_alike version c greeting old new h = record { buffer = h.buffer; accepted = h.accepted }
 
   accepted_costs_alike : (version : Option ScramVersion) (c : Credential) (greeting : Greeting) (old new : Balance) → AcceptedCosts version this c greeting old new → AcceptedCosts version that c greeting old new
   accepted_costs_alike (Some version) c greeting old new h = scram_costs_alike version c greeting old new h

@@ -1,8 +1,9 @@
 -- What an establishment takes of the counter and of the cache of salted passwords: what its SCRAM login takes, and nothing else.
-use Rattle.std.specs.Prelude.{◌≡◌, ℕ, ℤ, ◌⊎◌, Option, None, Some, Result, List, IfErr, OnOk}
+use Rattle.std.specs.Prelude.{◌≡◌, ℤ, ◌⊎◌, Option, None, Some, Result, IfErr, OnOk}
 use Rattle.mongo_wire.specs.declared.error.Error.{Error}
 use Rattle.mongo_wire.specs.declared.error.ErrorKind.{ErrorKind}
 use Rattle.mongo_wire.specs.declared.error.ErrorKind.TheVariants.{IncompatibleServer}
+use Rattle.mongo_wire.specs.declared.frame_buffer.FrameBuffer.{FrameBuffer}
 use Rattle.mongo_wire.specs.Outside.{State}
 use Rattle.mongo_command.specs.Conversation.{Reached, Stopped}
 use Rattle.mongo_sasl.specs.declared.credential.Credential.{Credential}
@@ -20,8 +21,8 @@ use Rattle.mongo_establish.specs.Spoken.{conversation_of, scram_in}
 
 -- SCRAM's was accepted: its key was derived where it had no entry, and has one now
 pub record ScramAccepted (version : ScramVersion) (asked : Asked) (credential : Credential) (greeting : Greeting) (old new : Balance) : Type 0 where
-  pub document : List ℕ
-  pub accepted : Accepted (scram_handed_by version asked credential greeting) document old new
+  pub buffer : FrameBuffer
+  pub accepted : Accepted (scram_handed_by version asked credential greeting) buffer old new
 
 -- what a login costs that was accepted, by its version of SCRAM if it is one
 abbrev pub AcceptedCosts : Option ScramVersion → Asked → Credential → Greeting → Balance → Balance → Type 0

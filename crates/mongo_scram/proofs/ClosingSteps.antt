@@ -2,6 +2,8 @@
 use Rattle.std.proofs.Common.{◌≡◌, ℕ, ℤ, refl, ap, ◌∙◌, subst, List, drop}
 use Rattle.mongo_bson.specs.declared.owned_value.OwnedValue.{OwnedValue}
 use Rattle.mongo_wire.specs.declared.error.ErrorKind.{ErrorKind}
+use Rattle.mongo_wire.specs.declared.frame_buffer.FrameBuffer.{FrameBuffer}
+use Rattle.mongo_wire.specs.Buffer.{IsFrameTaken}
 use Rattle.mongo_wire.specs.Outside.{State}
 use Rattle.mongo_command.specs.Conversation.{Said, Stopped}
 use Rattle.mongo_sasl.specs.Login.{EndsByReply}
@@ -61,6 +63,9 @@ same_closing handed c tag final maximum same is =
 pub closing_ends : (handed : Handed) (c : Challenge) (tag : List ℕ) (final : ClientFinal) (maximum : ℤ) (document : List ℕ) (old new : State) (before after : ℤ) → maximum ≡ handed.maximum → IsFinal handed c tag final
     → EndsByReply (last_exchange (final_said final maximum) (final_conversation final) (verifier (digest_of handed.version) tag (auth_message_of final)) c) c document old new before after → EndsByReply (closing handed c) c document old new before after
 closing_ends handed c tag final maximum document old new before after same is = subst (λ (x : Closing). EndsByReply (last_exchange x.0 x.1 x.2 c) c document old new before after) (same_closing handed c tag final maximum same is)
+
+pub closing_taken : (handed : Handed) (maximum : ℤ) (old new : State) (buffer : FrameBuffer) → maximum ≡ handed.maximum → IsFrameTaken maximum old new buffer → IsFrameTaken handed.maximum old new buffer
+closing_taken handed maximum old new buffer same = subst (λ m. IsFrameTaken m old new buffer) same
 
 pub closing_stopped : (handed : Handed) (c : Challenge) (tag : List ℕ) (final : ClientFinal) (maximum : ℤ) (kind : ErrorKind) (old new : State) (before after : ℤ) → maximum ≡ handed.maximum → IsFinal handed c tag final
     → Stopped (last_exchange (final_said final maximum) (final_conversation final) (verifier (digest_of handed.version) tag (auth_message_of final)) c) kind old new before after → Stopped (closing handed c) kind old new before after

@@ -6,11 +6,10 @@ use Rattle.mongo_bson.proofs.Enclosed.{length-enclosed}
 use Rattle.mongo_wire.specs.declared.error.Error.{Error}
 use Rattle.mongo_wire.specs.declared.error.ErrorKind.{ErrorKind}
 use Rattle.mongo_wire.specs.declared.error.ErrorKind.TheVariants.{OutOfMemory}
-use Rattle.mongo_wire.specs.declared.frame_buffer.FrameBuffer.{FrameBuffer}
-use Rattle.mongo_wire.specs.Buffer.{held_document}
+use Rattle.mongo_wire.specs.Buffer.{held_document, IsFrameTaken}
 use Rattle.mongo_wire.specs.Outside.{State}
 use Rattle.mongo_command.specs.declared.command.Command.{Command}
-use Rattle.mongo_command.specs.Exchange.{command_message, DocumentRefused, HoldsReply, CountsStay, Exchanges, ExchangeRefused}
+use Rattle.mongo_command.specs.Exchange.{command_message, DocumentRefused, CountsStay, Exchanges, ExchangeRefused}
 use Rattle.mongo_command.specs.Conversation.{Said, plain_message, Stopped, ending}
 use Rattle.mongo_command.proofs.Steps.{stopped_memory, stopped_row, stopped_unless, stopped_reading, stopped_saying, stopped_later}
 use Rattle.mongo_sasl.specs.Commands.{continue_elements, continue_body}
@@ -70,11 +69,11 @@ refused_stopped (Err x) said conversation owed c reply old new before after e co
     stopped_later said (last_heard conversation owed c) reply x.kind old new new before after after e counts (heard_stopped conversation owed c reply x.kind new after h)
 
 -- what the exchange promises where the reply is taken
-pub closes_by : {L T : Type 0} (state : L → State) (r : Result T Error) (said : Said) (conversation : OwnedValue) (owed reply : List ℕ) (buffer : FrameBuffer) (old new : Standing L) → reply ≡ held_document buffer
-    → Exchanges said.maximum (plain_message said.document) (state old.link) (state new.link) old.id new.id reply → CountsStay (state old.link) (state new.link) → HoldsReply buffer → OnOk r (TakesLastMessage conversation owed reply) → OnOk r (EndsLastExchange state said conversation owed buffer old new)
-closes_by state (Ok x) said conversation owed reply buffer old new same e counts holds is = record {
-  ends = λ c. taken_ends (Ok x) said conversation owed c reply (held_document buffer) (state old.link) (state new.link) old.id new.id same e counts is;
-  taken = subst (TakesLastMessage conversation owed) same is;
-  holds = holds;
+pub closes_by : {L T : Type 0} (state : L → State) (r : Result T Error) (said : Said) (conversation : OwnedValue) (owed reply : List ℕ) (old new : Standing L) → reply ≡ held_document new.buffer
+    → Exchanges said.maximum (plain_message said.document) (state old.link) (state new.link) old.id new.id reply → CountsStay (state old.link) (state new.link) → IsFrameTaken said.maximum (state old.link) (state new.link) new.buffer → OnOk r (TakesLastMessage conversation owed reply) → OnOk r (EndsLastExchange state said conversation owed old new)
+closes_by state (Ok x) said conversation owed reply old new same e counts taken is = record {
+  taken = taken;
+  ends = λ c. taken_ends (Ok x) said conversation owed c reply (held_document new.buffer) (state old.link) (state new.link) old.id new.id same e counts is;
+  message = subst (TakesLastMessage conversation owed) same is;
 }
-closes_by state (Err x) said conversation owed reply buffer old new same e counts holds is = tt
+closes_by state (Err x) said conversation owed reply old new same e counts taken is = tt

@@ -3,6 +3,8 @@ use Rattle.std.proofs.Common.{◌≡◌, ◌⊎◌, ℕ, ℤ, refl, ap, ◌∙�
 use Rattle.mongo_wire.specs.declared.error.Error.{Error}
 use Rattle.mongo_wire.specs.declared.error.ErrorKind.{ErrorKind}
 use Rattle.mongo_wire.specs.declared.error.ErrorKind.TheVariants.{OutOfMemory}
+use Rattle.mongo_wire.specs.declared.frame_buffer.FrameBuffer.{FrameBuffer}
+use Rattle.mongo_wire.specs.Buffer.{held_document, IsFrameTaken}
 use Rattle.mongo_wire.specs.Outside.{State, risen}
 use Rattle.mongo_command.specs.Conversation.{Plan, Reached, Stopped}
 use Rattle.mongo_sasl.specs.Login.{EndsByReply}
@@ -103,30 +105,27 @@ module _ (handed : Handed) (user : User) (o : Opened) (key : SaltedKey) (tag : L
         entries = entries ∙ is.answered.entries;
       })
 
-  pub accepted_by : {T : Type 0} (r : Result T Error) (document : List ℕ) (new : State) (after : ℤ) (kept : SaltedCache) → EndsByReply (closing handed challenge) challenge document middle.state new middle.id after → rounds_of kept ≡ rounds_of middle.ledgers.cache
-      → EndsLogin handed challenge document → OnOk r (Kept key middle.ledgers.cache kept) → OnOk r (Accepted handed document old (balance new after (ledgers middle.ledgers.steps kept)))
-  accepted_by (Ok x) document new after kept closed rounds ends entries =
+  pub accepted_by : {T : Type 0} (r : Result T Error) (buffer : FrameBuffer) (new : State) (after : ℤ) (kept : SaltedCache) → IsFrameTaken handed.maximum middle.state new buffer → EndsByReply (closing handed challenge) challenge (held_document buffer) middle.state new middle.id after
+      → rounds_of kept ≡ rounds_of middle.ledgers.cache → EndsLogin handed challenge (held_document buffer) → OnOk r (Kept key middle.ledgers.cache kept) → OnOk r (Accepted handed buffer old (balance new after (ledgers middle.ledgers.steps kept)))
+  accepted_by (Ok x) buffer new after kept taken closed rounds ends entries =
       record {
         challenge = challenge;
         middle = middle.state;
         between = middle.id;
         opened = opened;
+        taken = taken;
         closed = closed;
         ends = ends;
         derived = kept_derives (key_by handed challenge) old.ledgers middle.ledgers kept rounds derived;
         kept = kept_entries (key_by handed challenge) old.ledgers middle.ledgers kept is.answered.entries (subst (λ k. Kept k middle.ledgers.cache kept) is.key_is entries);
       }
-  accepted_by (Err e) document new after kept closed rounds ends entries = tt
+  accepted_by (Err e) buffer new after kept taken closed rounds ends entries = tt
 
 -- ---- the buffer, and a fault that is kept
 
-frames_both : (round : Option FirstRound) (old middle new : ℕ) → middle ≡ frames_opened round old → new ≡ risen middle → new ≡ frames_after round old
+pub frames_both : (round : Option FirstRound) (old middle new : ℕ) → middle ≡ frames_opened round old → new ≡ risen middle → new ≡ frames_after round old
 frames_both None old middle new p q = q ∙ ap risen p
 frames_both (Some round) old middle new p q = q ∙ ap risen p
-
-pub frames_holds : {T : Type 0} (r : Result T Error) (round : Option FirstRound) (old middle new : ℕ) (Holds : Type 0) → middle ≡ frames_opened round old → new ≡ risen middle → Holds → OnOk r ((new ≡ frames_after round old) × Holds)
-frames_holds (Ok x) round old middle new Holds p q holds = (frames_both round old middle new p q, holds)
-frames_holds (Err e) round old middle new Holds p q holds = tt
 
 -- the entries, where the last step leaves them
 pub unchanged_on : {T E : Type 0} {A : Type 0} (r : Result T E) (old middle new : A) → middle ≡ old → OnErr r (new ≡ middle) → OnErr r (new ≡ old)

@@ -1,6 +1,8 @@
 -- What a login that was accepted or stopped shows of its whole plan.
-use Rattle.std.proofs.Common.{ℕ, refl, sym, subst, inl, inr, List, []}
+use Rattle.std.proofs.Common.{refl, sym, subst, inl, inr, []}
 use Rattle.mongo_wire.specs.declared.error.ErrorKind.{ErrorKind}
+use Rattle.mongo_wire.specs.declared.frame_buffer.FrameBuffer.{FrameBuffer}
+use Rattle.mongo_wire.specs.Buffer.{held_document}
 use Rattle.mongo_command.specs.Conversation.{says, ends, Reached, Stopped}
 use Rattle.mongo_command.proofs.FollowedBy.{reached_both, stopped_first, stopped_second}
 use Rattle.mongo_sasl.specs.EndsByScript.{BeginsWithCommand}
@@ -9,10 +11,10 @@ use Rattle.mongo_scram.specs.Plan.{Handed, start_said, close_said, opened, openi
 use Rattle.mongo_scram.specs.Costs.{Ledgers, Balance, Accepted, StoppedScram, StartUnsaid, FaultCosts}
 use Rattle.mongo_scram.proofs.OneRow.{no_credential_row}
 
-pub accepted_reached : (handed : Handed) (document : List ℕ) (old new : Balance) → (is : Accepted handed document old new) → Reached (scram_plan handed) is.challenge old.state new.state old.id new.id
-accepted_reached handed document old new is =
+pub accepted_reached : (handed : Handed) (buffer : FrameBuffer) (old new : Balance) → (is : Accepted handed buffer old new) → Reached (scram_plan handed) is.challenge old.state new.state old.id new.id
+accepted_reached handed buffer old new is =
     reached_both (opening handed) (closing handed) is.challenge is.challenge old.state is.middle new.state old.id is.between new.id is.opened
-    (ends_reached (closing handed is.challenge) is.challenge document is.middle new.state is.between new.id is.closed)
+    (ends_reached (closing handed is.challenge) is.challenge (held_document buffer) is.middle new.state is.between new.id is.closed)
 
 pub stopped_whole : (handed : Handed) (kind : ErrorKind) (old new : Balance) → StoppedScram handed kind old new → Stopped (scram_plan handed) kind old.state new.state old.id new.id
 stopped_whole handed kind old new is =
@@ -23,13 +25,13 @@ stopped_whole handed kind old new is =
 
 -- ---- over a connection that keeps a fault
 
-start_turn : (handed : Handed) (first last : Ledgers) → (unsaid : StartUnsaid handed first last) → opening handed [] (says (start_said handed unsaid.user))
-start_turn handed first last unsaid =
+start_turn : (handed : Handed) (earlier later : Ledgers) → (unsaid : StartUnsaid handed earlier later) → opening handed [] (says (start_said handed unsaid.user))
+start_turn handed earlier later unsaid =
     let said = start_said handed unsaid.user in
     let turn : opened handed.speculated handed unsaid.user [] (says said) = subst (λ s. opened s handed unsaid.user [] (says said)) (sym unsaid.anew) refl in
     inr (no_credential_row handed.credential unsaid.user unsaid.is_user, (unsaid.user, unsaid.is_user, turn))
 
 -- where the fault is answered, a command is next
-pub fault_begins : (handed : Handed) (first last : Ledgers) → FaultCosts handed first last → BeginsWithCommand (scram_plan handed)
-fault_begins handed first last (inl unsaid) = let said = start_said handed unsaid.user in (said, (says said, start_turn handed first last unsaid, refl))
-fault_begins handed first last (inr unsaid) = (close_said handed unsaid.challenge, (ends unsaid.challenge, unsaid.opened, refl))
+pub fault_begins : (handed : Handed) (earlier later : Ledgers) → FaultCosts handed earlier later → BeginsWithCommand (scram_plan handed)
+fault_begins handed earlier later (inl unsaid) = let said = start_said handed unsaid.user in (said, (says said, start_turn handed earlier later unsaid, refl))
+fault_begins handed earlier later (inr unsaid) = (close_said handed unsaid.challenge, (ends unsaid.challenge, unsaid.opened, refl))

@@ -4,6 +4,8 @@ use Rattle.std.specs.Prelude.{◌≡◌, ℕ, ℤ, ◌+◌, ◌-◌, ◌^◌, �
 use Rattle.mongo_bson.specs.declared.owned_value.OwnedValue.{OwnedValue}
 use Rattle.mongo_wire.specs.declared.error.ErrorKind.{ErrorKind}
 use Rattle.mongo_wire.specs.declared.error.ErrorKind.TheVariants.{OutOfMemory}
+use Rattle.mongo_wire.specs.declared.frame_buffer.FrameBuffer.{FrameBuffer}
+use Rattle.mongo_wire.specs.Buffer.{held_document, IsFrameTaken}
 use Rattle.mongo_wire.specs.Outside.{State}
 use Rattle.mongo_command.specs.Conversation.{ends, HasNone, Reached, Stopped}
 use Rattle.mongo_sasl.specs.Login.{EndsByReply}
@@ -74,15 +76,16 @@ pub record TakesLastMessage (conversation : OwnedValue) (owed document : List �
 abbrev pub EndsLogin : Handed → Challenge → List ℕ → Type 0
 EndsLogin handed c = TakesLastMessage c.first.conversation_id (verifier_by handed c)
 
--- The opening was followed to its end and then the closing, by one exchange, whose reply this document is; the key was
--- derived where it had no entry, and has one now.
-pub record Accepted (handed : Handed) (document : List ℕ) (old new : Balance) : Type 0 where
+-- The opening was followed to its end and then the closing, by one exchange, whose reply the buffer holds, the very frame that
+-- was taken; the key was derived where it had no entry, and has one now.
+pub record Accepted (handed : Handed) (buffer : FrameBuffer) (old new : Balance) : Type 0 where
   pub challenge : Challenge
   pub middle : State
   pub between : ℤ
   pub opened : Reached (opening handed) challenge old.state middle old.id between
-  pub closed : EndsByReply (closing handed challenge) challenge document middle new.state between new.id
-  pub ends : EndsLogin handed challenge document
+  pub taken : IsFrameTaken handed.maximum middle new.state buffer
+  pub closed : EndsByReply (closing handed challenge) challenge (held_document buffer) middle new.state between new.id
+  pub ends : EndsLogin handed challenge (held_document buffer)
   pub derived : Derives (key_by handed challenge) old.ledgers new.ledgers
   pub kept : (HasEntry old.ledgers.cache (key_by handed challenge) × SameEntries old.ledgers new.ledgers) ⊎ Adds (entries_of old.ledgers.cache) (entries_of new.ledgers.cache) (key_by handed challenge, salted_of (key_by handed challenge))
 
@@ -104,20 +107,20 @@ StoppedScram handed kind old new = (Stopped (opening handed) kind old.state new.
 -- ---- over a connection that keeps a fault
 
 -- the credential names a user, whose first message wasn't said yet, and nothing was derived
-pub record StartUnsaid (handed : Handed) (first last : Ledgers) : Type 0 where
+pub record StartUnsaid (handed : Handed) (earlier later : Ledgers) : Type 0 where
   pub user : User
   pub is_user : IsUser handed.credential user
   pub anew : handed.speculated ≡ None
-  pub costs : CostsNothing first last
+  pub costs : CostsNothing earlier later
 
 -- the opening ended without an exchange, and the key was derived where it had no entry
-pub record CloseUnsaid (handed : Handed) (first last : Ledgers) : Type 0 where
+pub record CloseUnsaid (handed : Handed) (earlier later : Ledgers) : Type 0 where
   pub challenge : Challenge
   pub opened : opening handed [] (ends challenge)
-  pub derived : Derives (key_by handed challenge) first last
-  pub entries : SameEntries first last
+  pub derived : Derives (key_by handed challenge) earlier later
+  pub entries : SameEntries earlier later
 
 -- What a login takes before it answers the fault in place of an exchange: nothing, where that is its first message's; with
 -- a first round that went with the hello, what it takes up to its last message.
 abbrev pub FaultCosts : Handed → Ledgers → Ledgers → Type 0
-FaultCosts handed first last = StartUnsaid handed first last ⊎ CloseUnsaid handed first last
+FaultCosts handed earlier later = StartUnsaid handed earlier later ⊎ CloseUnsaid handed earlier later

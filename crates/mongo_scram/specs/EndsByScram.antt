@@ -1,5 +1,5 @@
 -- A SCRAM login: it ends by its script, and takes so much of the counter and of the cache.
-use Rattle.std.specs.Prelude.{◌≡◌, ℕ, ◌⊎◌, Result, None, Some, List, IfErr, OnOk, OnErr}
+use Rattle.std.specs.Prelude.{◌≡◌, ◌⊎◌, Result, None, Some, IfErr, OnOk, OnErr}
 use Rattle.mongo_wire.specs.declared.error.Error.{Error}
 use Rattle.mongo_wire.specs.declared.error.ErrorKind.{ErrorKind}
 use Rattle.mongo_wire.specs.Outside.{State}
@@ -13,15 +13,15 @@ use Rattle.mongo_scram.specs.Script.{IsScramLogin}
 abbrev pub balance_at : {L : Type 0} → (L → State) → Standing L → Ledgers → Balance
 balance_at state standing ledgers = balance (state standing.link) standing.id ledgers
 
--- A login that was handed this ends so. The document is what the buffer holds: of an accepted login, the last reply.
-pub record EndsByScram {L : Type 0} (state : L → State) (handed : Handed) (document : List ℕ) (result : Result (Unit {0}) Error) (old new : Standing L) (first last : Ledgers) : Type 0 where
+-- A login that was handed this ends so.
+pub record EndsByScram {L : Type 0} (state : L → State) (handed : Handed) (result : Result (Unit {0}) Error) (old new : Standing L) (earlier later : Ledgers) : Type 0 where
   pub script : EndsByScript state (scram_plan handed) (IsScramLogin handed) handed.maximum result old new
-  -- the server's last message was taken for its verifier, equal as a whole, and the key has an entry
-  pub accepted : OnOk result (Accepted handed document (balance_at state old first) (balance_at state new last))
+  -- the server's last message was taken for its verifier, equal as a whole; the buffer holds its frame, and the key has an entry
+  pub accepted : OnOk result (Accepted handed new.buffer (balance_at state old earlier) (balance_at state new later))
   -- whether the key was derived before a refusal
-  pub refused : kept_fault old.connection ≡ None → IfErr result (λ e. StoppedScram handed e.kind (balance_at state old first) (balance_at state new last))
+  pub refused : kept_fault old.connection ≡ None → IfErr result (λ e. StoppedScram handed e.kind (balance_at state old earlier) (balance_at state new later))
   -- A fault that the connection keeps is answered in place of the first exchange, unless the login is stopped before that.
   -- Where that is its first message's, nothing was derived, counted or put in.
-  pub answers : (kind : ErrorKind) → kept_fault old.connection ≡ Some kind → IfErr result (λ e. ((e.kind ≡ kind) × FaultCosts handed first last) ⊎ StoppedScram handed e.kind (balance_at state old first) (balance_at state old last))
+  pub answers : (kind : ErrorKind) → kept_fault old.connection ≡ Some kind → IfErr result (λ e. ((e.kind ≡ kind) × FaultCosts handed earlier later) ⊎ StoppedScram handed e.kind (balance_at state old earlier) (balance_at state old later))
   -- a refusal leaves the entries as they were
-  pub entries : OnErr result (SameEntries first last)
+  pub entries : OnErr result (SameEntries earlier later)

@@ -3,12 +3,12 @@ use Rattle.std.specs.Prelude.{◌≡◌, ℕ, ℤ, ◌⊎◌, Option, None, Some
 use Rattle.mongo_bson.specs.declared.owned_value.OwnedValue.{OwnedValue}
 use Rattle.mongo_wire.specs.declared.error.ErrorKind.{ErrorKind}
 use Rattle.mongo_wire.specs.declared.frame_buffer.FrameBuffer.{FrameBuffer}
-use Rattle.mongo_wire.specs.Buffer.{frames_taken, held_document}
+use Rattle.mongo_wire.specs.Buffer.{frames_taken, held_document, IsFrameTaken}
 use Rattle.mongo_wire.specs.Outside.{State, risen}
 use Rattle.mongo_command.specs.declared.connection.Connection.{Connection}
 use Rattle.mongo_command.specs.Command.{command_document}
 use Rattle.mongo_command.specs.Connection.{kept_fault}
-use Rattle.mongo_command.specs.Exchange.{Exchanges, HoldsReply, CountsStay}
+use Rattle.mongo_command.specs.Exchange.{Exchanges, CountsStay}
 use Rattle.mongo_command.specs.Conversation.{Said, plain_message}
 use Rattle.mongo_sasl.specs.EndsByScript.{Standing}
 use Rattle.mongo_sasl.specs.Login.{EndsByReply}
@@ -78,11 +78,11 @@ pub record IsAnswered (first : ServerFirst) (nonce : List ℕ) (max_iterations :
 abbrev pub final_said : ClientFinal → ℤ → Said
 final_said final maximum = record { maximum = maximum; document = command_document (final_command (final_conversation final) (final_source_of final) (final_of final) (final_api_of final)) }
 
--- the last exchange was made, whatever the challenge: its reply, which the buffer holds, carries a message that is taken
-pub record EndsLastExchange {L : Type 0} (state : L → State) (said : Said) (conversation : OwnedValue) (owed : List ℕ) (buffer : FrameBuffer) (old new : Standing L) : Type 0 where
-  pub ends : (c : Challenge) → EndsByReply (last_exchange said conversation owed c) c (held_document buffer) (state old.link) (state new.link) old.id new.id
-  pub taken : TakesLastMessage conversation owed (held_document buffer)
-  pub holds : HoldsReply buffer
+-- The last exchange was made, whatever the challenge: its reply, whose frame the buffer holds, carries a message that is taken.
+pub record EndsLastExchange {L : Type 0} (state : L → State) (said : Said) (conversation : OwnedValue) (owed : List ℕ) (old new : Standing L) : Type 0 where
+  pub taken : IsFrameTaken said.maximum (state old.link) (state new.link) new.buffer
+  pub ends : (c : Challenge) → EndsByReply (last_exchange said conversation owed c) c (held_document new.buffer) (state old.link) (state new.link) old.id new.id
+  pub message : TakesLastMessage conversation owed (held_document new.buffer)
 
 -- why it carries none that is: the row of the reply, else that of the message
 abbrev pub LastRefusal : OwnedValue → List ℕ → List ℕ → ErrorKind → Type 0

@@ -20,16 +20,16 @@ pub struct FirstRound {
 
 impl ScramVersion {
     ghost use Rattle.std.specs.Prelude.{◌≡◌, OnOk, option_copied};
-    ghost use Rattle.mongo_wire.specs.Buffer.{frames_taken, held_document};
-    ghost use Rattle.mongo_command.specs.Exchange.{frame_maximum, HoldsReply};
+    ghost use Rattle.mongo_wire.specs.Buffer.{frames_taken};
+    ghost use Rattle.mongo_command.specs.Exchange.{frame_maximum};
     ghost use Rattle.mongo_sasl.specs.EndsByScript.{standing};
     ghost use Rattle.mongo_scram.specs.Base64.{base64_of};
     ghost use Rattle.mongo_scram.specs.Client.{handed_to, frames_after};
     ghost use Rattle.mongo_scram.specs.Costs.{ledgers};
     ghost use Rattle.mongo_scram.specs.EndsByScram.{EndsByScram};
 
-    /// Logs a connection in as the credential's user, by a nonce for a message of its own and at most
-    /// `max_iterations` iterations.
+    /// Logs a connection in as the credential's user: `nonce` is for the client's first message, where none went with the hello;
+    /// `max_iterations` is the most that it derives by.
     ///
     /// With a first round that went with the hello, the login goes on from the server's answer in it. Else the client's
     /// first message is sent with the nonce. The salted password is looked up by its whole key, derived where it has no
@@ -62,12 +62,12 @@ impl ScramVersion {
         steps: &mut Steps<G>,
     ) -> Result<(), Error>
         // It ends by its script, and takes so much of the counter and of the cache; the verifier of an accepted login was equal
-        // as a whole.
-        ensures login { EndsByScram L.state (handed_to self.now credential.now (option_copied server_api.entry) first_round (base64_of nonce.now) max_iterations (frame_maximum connection.old.stream_description)) (held_document buffer.new) result
+        // as a whole, and the buffer holds the frame of its last reply.
+        ensures login { EndsByScram L.state (handed_to self.now credential.now (option_copied server_api.entry) first_round (base64_of nonce.now) max_iterations (frame_maximum connection.old.stream_description)) result
             (standing connection.old link.old ids.old buffer.old) (standing connection.new link.new ids.new buffer.new) (ledgers steps.old salted.old) (ledgers steps.new salted.new) }
 
-        // The replies passed through the buffer, which holds a frame: by `login` its document is the last reply.
-        ensures buffer { OnOk result ((frames_taken buffer.new ≡ frames_after first_round (frames_taken buffer.old)) × HoldsReply buffer.new) }
+        // The replies passed through the buffer.
+        ensures buffer { OnOk result (frames_taken buffer.new ≡ frames_after first_round (frames_taken buffer.old)) }
     {
         let login = ScramLogin {
             version: *self,

@@ -158,8 +158,8 @@ pub fn close<L: Link>(
     salted: &SaltedPassword,
     client_final: &ClientFinal,
 ) -> Result<(), Error>
-    // By one exchange, whose reply the buffer holds.
-    ensures closed { OnOk result (EndsLastExchange L.state (final_said client_final.now (frame_maximum connection.old.stream_description)) (final_conversation client_final.now) (verifier (digest_of version) salted.now (auth_message_of client_final.now)) buffer.new
+    // By one exchange, whose frame the buffer holds.
+    ensures closed { OnOk result (EndsLastExchange L.state (final_said client_final.now (frame_maximum connection.old.stream_description)) (final_conversation client_final.now) (verifier (digest_of version) salted.now (auth_message_of client_final.now))
         (standing connection.old link.old ids.old buffer.old) (standing connection.new link.new ids.new buffer.new)) }
     ensures stops { (c : Challenge) → StopsBy L.state (last_exchange (final_said client_final.now (frame_maximum connection.old.stream_description)) (final_conversation client_final.now) (verifier (digest_of version) salted.now (auth_message_of client_final.now)) c) result
         (standing connection.old link.old ids.old buffer.old) (standing connection.new link.new ids.new buffer.new) }

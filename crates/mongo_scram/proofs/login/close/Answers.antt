@@ -49,7 +49,7 @@ returns-in_err-exchange_into-clause-stops g c challenge =
 pub returns-clause-closed : goal.returns-clause-closed
 returns-clause-closed g c =
     let exchange = c.in_ok-exchange_into.ensures in
-    closes_by _ c.take_last.result _ _ _ _ _ _ _ c.held_reply.ensures (final_exchanged c.args.client_final.now c.in_ok-command.command _ _ _ _ _ _ _ c.in_ok-command.ensures.command c.held_reply.ensures exchange.exchanged) exchange.ends.counts exchange.holds c.take_last.ensures.taken
+    closes_by _ c.take_last.result _ _ _ _ _ _ c.held_reply.ensures (final_exchanged c.args.client_final.now c.in_ok-command.command _ _ _ _ _ _ _ c.in_ok-command.ensures.command c.held_reply.ensures exchange.exchanged) exchange.ends.counts exchange.taken c.take_last.ensures.taken
 
 pub returns-clause-once : goal.returns-clause-once
 returns-clause-once g c =

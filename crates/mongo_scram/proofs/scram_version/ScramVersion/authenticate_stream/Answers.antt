@@ -7,15 +7,15 @@ use Rattle.mongo_scram.specs.Base64.{base64_of}
 use Rattle.mongo_scram.specs.Client.{handed_to, user_of}
 use Rattle.mongo_scram.specs.Costs.{ledgers, balance}
 use Rattle.mongo_scram.specs.Plan.{closing}
-use Rattle.mongo_sasl.proofs.Handed.{no_answer_on, rest_on}
+use Rattle.mongo_sasl.proofs.Handed.{no_answer_on, on_answer, rest_on}
 use Rattle.mongo_sasl.proofs.StopsBy.{faultless_before}
 use Rattle.mongo_scram.proofs.OwnRows.{credential_own, answer_own}
 use Rattle.mongo_scram.proofs.ScramPlan.{challenge_of}
 use Rattle.mongo_scram.proofs.Derived.{costs_nothing}
 use Rattle.mongo_scram.proofs.EndsByScram.{refused_scram, stopped_scram, accepted_scram}
 use Rattle.mongo_scram.proofs.OpeningSteps.{credential_stopped, user_stopped, start_unsaid, answer_stopped}
-use Rattle.mongo_scram.proofs.ClosingSteps.{final_by, closing_ends, closing_stopped, ends_login}
-use Rattle.mongo_scram.proofs.LoginSteps.{between_by, between_tag, stopped_late, stopped_last, accepted_by, frames_holds, unchanged_on, stopped_still, close_unsaid}
+use Rattle.mongo_scram.proofs.ClosingSteps.{final_by, closing_ends, closing_taken, closing_stopped, ends_login}
+use Rattle.mongo_scram.proofs.LoginSteps.{between_by, between_tag, stopped_late, stopped_last, accepted_by, frames_both, unchanged_on, stopped_still, close_unsaid}
 use Rattle.mongo_scram.proofs.scram_version.ScramVersion.authenticate_stream.Goals as goal
 
 -- ---- where the credential has no login
@@ -24,7 +24,7 @@ pub returns-in_err-user-clause-login : goal.returns-in_err-user-clause-login
 returns-in_err-user-clause-login g c =
     let handed = handed_to c.args.self.now c.args.credential.now (option_copied c.args.server_api) c.args.first_round (base64_of c.args.nonce.now) c.args.max_iterations (frame_maximum c.args.connection.now.stream_description) in
     let e = c.in_err-user.field-0.0 in
-    stopped_scram _ handed _ _ _ _ _ c.from_residual.result e c.from_residual.ensures.1
+    stopped_scram _ handed _ _ _ _ c.from_residual.result e c.from_residual.ensures.1
     (inl (credential_stopped handed e.kind _ _ c.in_err-user.ensures.refused, costs_nothing c.args.steps.now c.args.salted.now)) (credential_own handed.credential e.kind c.in_err-user.ensures.refused) (λ none. none) refl (λ kind is. (refl, refl, refl, is)) (keeps_all c.args.connection.now) (still_counts _)
 
 pub returns-in_err-user-clause-buffer : goal.returns-in_err-user-clause-buffer
@@ -39,7 +39,7 @@ returns-in_err-opened-clause-login g c =
     let e = c.in_err-opened.field-0.0 in
     let stops = c.in_err-opened.ensures.stops in
     let nothing = costs_nothing c.args.steps.now c.args.salted.now in
-    refused_scram _ handed _ _ _ _ _ c.from_residual-in_err-opened.result e c.from_residual-in_err-opened.ensures.1
+    refused_scram _ handed _ _ _ _ c.from_residual-in_err-opened.result e c.from_residual-in_err-opened.ensures.1
     (λ none. inl (user_stopped handed user e.kind _ _ _ _ c.in_ok-user.ensures.user (stops.refused none), nothing))
     (λ kind is. elim (stops.answers kind is) [
       | inl same ↦ inl (same.0, start_unsaid handed user _ _ c.in_ok-user.ensures.user same.1 nothing)
@@ -59,7 +59,7 @@ returns-in_err-derived-clause-login g c =
     let opening = c.in_ok-opened.ensures in
     let e = c.in_err-derived.field-0.0 in
     let refused = c.in_err-derived.ensures in
-    stopped_scram _ handed _ _ _ _ _ c.from_residual-in_err-derived.result e c.from_residual-in_err-derived.ensures.1
+    stopped_scram _ handed _ _ _ _ c.from_residual-in_err-derived.result e c.from_residual-in_err-derived.ensures.1
     (inl (answer_stopped handed user o c.nonce.result.now e.kind _ _ _ _ c.in_ok-user.ensures.user opening.opened c.nonce.ensures refused.refused, refused.no_cost)) (answer_own o.server_first c.nonce.result.now handed.max_iterations handed.version user.password e.kind refused.refused)
     opening.faultless refused.no_cost.entries opening.stops.untouched opening.stops.rest opening.stops.counts
 
@@ -77,7 +77,7 @@ returns-in_err-client_final-clause-login g c =
     let derived = c.in_ok-derived.derived in
     let between = between_by handed user o derived.key derived.salted c.nonce.result.now (balance _ _ (ledgers c.args.steps.now c.args.salted.now)) (balance _ _ (ledgers c.answer.new.steps c.answer.new.cache)) c.in_ok-user.ensures.user opening.opened c.nonce.ensures c.in_ok-derived.ensures.key c.in_ok-derived.ensures.answered in
     let e = c.in_err-client_final.field-0.0 in
-    stopped_scram _ handed _ _ _ _ _ c.from_residual-in_err-client_final.result e c.from_residual-in_err-client_final.ensures.1
+    stopped_scram _ handed _ _ _ _ c.from_residual-in_err-client_final.result e c.from_residual-in_err-client_final.ensures.1
     (stopped_late handed user o derived.key derived.salted _ _ between e.kind _ _ (stopped_memory (closing handed (challenge_of user o.server_first)) e.kind _ _ c.in_err-client_final.ensures.refused)) (inr c.in_err-client_final.ensures.refused)
     opening.faultless c.in_ok-derived.ensures.answered.entries opening.stops.untouched opening.stops.rest opening.stops.counts
 
@@ -101,7 +101,7 @@ returns-in_err-close-clause-login g c =
     let same = ap frame_maximum opening.stops.rest.description in
     let e = c.in_err-close.field-0.0 in
     let stops = c.in_err-close.ensures.stops challenge in
-    refused_scram _ handed _ _ _ _ _ c.from_residual-in_err-close.result e c.from_residual-in_err-close.ensures.1
+    refused_scram _ handed _ _ _ _ c.from_residual-in_err-close.result e c.from_residual-in_err-close.ensures.1
     (λ none. stopped_late handed user o derived.key derived.salted _ _ between e.kind _ _ (closing_stopped handed challenge derived.salted final _ e.kind _ _ _ _ same is (stops.refused (opening.faultless none))))
     (λ kind kept.
     let still = opening.stops.untouched kind kept in
@@ -138,11 +138,11 @@ returns-clause-login g c =
     let stops = closed.stops challenge in
     let ended = closing_ends handed challenge derived.salted final _ _ _ _ _ _ same is (closed.closed.ends challenge) in
     let r = c.keep.result in
-    accepted_scram _ handed _ _ _ _ _ r
-    (accepted_by handed user o derived.key derived.salted _ _ between r _ _ _ c.keep.new.cache ended c.keep.ensures.rounds (ends_login handed challenge derived.salted final _ is closed.closed.taken) c.keep.ensures.kept)
+    accepted_scram _ handed _ _ _ _ r
+    (accepted_by handed user o derived.key derived.salted _ _ between r c.close.new.buffer _ _ c.keep.new.cache (closing_taken handed _ _ _ _ same closed.closed.taken) ended c.keep.ensures.rounds (ends_login handed challenge derived.salted final _ is closed.closed.message) c.keep.ensures.kept)
     (stopped_last handed user o derived.key derived.salted _ _ between r _ _ _ c.keep.new.cache ended c.keep.ensures.rounds c.keep.ensures.unchanged c.keep.ensures.refused)
     (unchanged_on r _ _ _ c.in_ok-derived.ensures.answered.entries c.keep.ensures.unchanged) c.keep.ensures.refused (faultless_before _ _ _ _ _ opening.stops closed.once.was) closed.once.is
     (rest_on _ _ _ opening.stops.rest stops.rest) (counts_on _ _ _ opening.stops.counts stops.counts)
 
 pub returns-clause-buffer : goal.returns-clause-buffer
-returns-clause-buffer g c = frames_holds c.keep.result c.args.first_round _ _ _ _ c.in_ok-opened.ensures.frames c.in_ok-close.ensures.once.frames c.in_ok-close.ensures.closed.holds
+returns-clause-buffer g c = on_answer c.keep.result _ (frames_both c.args.first_round _ _ _ c.in_ok-opened.ensures.frames c.in_ok-close.ensures.once.frames)
