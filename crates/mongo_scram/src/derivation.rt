@@ -52,7 +52,7 @@ pub fn answer<G: Ledger>(
 {
     server_first.validate(nonce, max_iterations)?;
     let key = key_of(alloc, version, user, server_first)?;
-    let salted = salted_password(&key, cache, steps)?;
+    let salted = salted_password(alloc, &key, cache, steps)?;
     Ok(Derived { key, salted })
 }
 
@@ -77,6 +77,7 @@ fn key_of(
 
 // The salted password of a key: that of its entry, or else derived and its rounds counted.
 fn salted_password<G: Ledger>(
+    alloc: Global,
     key: &SaltedKey,
     cache: &mut SaltedCache,
     steps: &mut Steps<G>,
@@ -91,12 +92,13 @@ fn salted_password<G: Ledger>(
 {
     match cache.entry(key) {
         Some(salted) => Ok(salted.copy()),
-        None => derive(key, cache, steps),
+        None => derive(alloc, key, cache, steps),
     }
 }
 
 // The salted password of a key, derived and its rounds counted.
 fn derive<G: Ledger>(
+    alloc: Global,
     key: &SaltedKey,
     cache: &mut SaltedCache,
     steps: &mut Steps<G>,
@@ -110,6 +112,7 @@ fn derive<G: Ledger>(
     ensures no_cost { OnErr result (Counts 0 (ledgers steps.old cache.old) (ledgers steps.new cache.new)) }
 {
     let tag = key.version.compute_salted_password(
+        alloc,
         key.username.as_str(),
         key.password.as_str(),
         key.count,

@@ -10,11 +10,12 @@ use crate::ScramVersion;
 use md5::{Digest, Md5};
 use mongo_mac::{Steps, Tag};
 use mongo_wire::{AuthFault, Error, ErrorKind};
+use std::alloc::Global;
 use std::sync::ledger::Ledger;
 
 impl ScramVersion {
     /// SaltedPassword := Hi(Normalize(password), salt, i) (RFC 5802, section 3), by exactly `i` steps, of which there is
-    /// one at least. It takes no memory.
+    /// one at least. It takes no memory today.
     ///
     /// SCRAM-SHA-1 derives from the lower-case hex of the MD5 digest of `username:mongo:password`, and takes every
     /// password. SCRAM-SHA-256 derives from the password: `PasswordNotAscii` where it has a character past ASCII, and
@@ -22,6 +23,7 @@ impl ScramVersion {
     #[tactic(auto, unfolding(crate::specs::Key::norm, crate::specs::Key::salted))]
     pub fn compute_salted_password<G: Ledger>(
         &self,
+        _alloc: Global,
         username: &str,
         password: &str,
         i: u32,

@@ -67,6 +67,7 @@ impl ServerUser {
         ensures rises { steps.old ≤ steps.new }
     {
         let salted = version.compute_salted_password(
+            alloc,
             username,
             password,
             count,

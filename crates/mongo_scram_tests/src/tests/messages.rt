@@ -211,6 +211,7 @@ fn client_first(alloc: Global, username: &str, nonce: &str) -> Result<ClientFirs
 
 // The salted password of a row, with a counter of its own, of the ledger that `blank` opens.
 fn salted_with<G: Ledger>(
+    alloc: Global,
     blank: Blank,
     row: &Exchange<'_>,
     first: &ServerFirst,
@@ -224,18 +225,23 @@ fn salted_with<G: Ledger>(
     let salt = first.salt.as_bytes();
     match row.prepared {
         Prepared::Plain => Ok(hi::<Sha1Fn, G>(row.password.as_bytes(), salt, first.i, &mut steps)),
-        Prepared::Mechanism => row
-            .version
-            .compute_salted_password(row.username, row.password, first.i, salt, &mut steps),
+        Prepared::Mechanism => row.version.compute_salted_password(
+            alloc,
+            row.username,
+            row.password,
+            first.i,
+            salt,
+            &mut steps,
+        ),
     }
 }
 
 // The same; None where the count is 0 or the password is refused.
-fn salted_of(row: &Exchange<'_>, first: &ServerFirst) -> Option<Tag> {
+fn salted_of(alloc: Global, row: &Exchange<'_>, first: &ServerFirst) -> Option<Tag> {
     if first.i == 0 {
         return None;
     }
-    salted_with::<Brand>(Blank::new(1), row, first).ok()
+    salted_with::<Brand>(alloc, Blank::new(1), row, first).ok()
 }
 
 fn closed(
@@ -264,7 +270,7 @@ fn conversation_after(
     row: &Exchange<'_>,
     first: &ServerFirst,
 ) -> Result<Held, Fail> {
-    let Some(salted) = salted_of(row, first) else {
+    let Some(salted) = salted_of(alloc, row, first) else {
         return Err(Fail::from("no salted password"));
     };
     let open = given(client_first(alloc, row.username, row.nonce))?;
