@@ -2,7 +2,7 @@ ghost use Rattle.std.specs.Prelude.{◌≡◌, IfOk, IfErr};
 ghost use Rattle.mongo_wire.specs.declared.error.ErrorKind.TheVariants.{OutOfMemory};
 ghost use Rattle.mongo_command.specs.Command.{command_of};
 
-use mongo_bson::{RawDocumentBuf, Text};
+use mongo_bson::RawDocumentBuf;
 use mongo_command::{Command, ServerApi};
 use mongo_wire::Error;
 use std::alloc::Global;
@@ -18,15 +18,14 @@ pub struct AuthOptions {
 pub(crate) fn login_command(
     alloc: Global,
     name: &str,
-    source: Text,
+    source: &str,
     body: RawDocumentBuf,
     server_api: Option<ServerApi>,
 ) -> Result<Command, Error>
-    ensures command { IfOk result (λ command. command ≡ command_of name.now source body server_api) }
+    ensures command { IfOk result (λ command. command ≡ command_of name.now source.now body server_api) }
     ensures refused { IfErr result (λ e. e.kind ≡ OutOfMemory) }
 {
-    let mut command = Command::new_raw(alloc, name, "", body)?;
-    command.target_db = source;
+    let mut command = Command::new_raw(alloc, name, source, body)?;
     match &server_api {
         Some(server_api) => {
             command.set_server_api(server_api);

@@ -46,6 +46,12 @@ impl SaslContinue {
         ensures refused { IfErr result (λ e. DocumentRefused e.kind (continue_body self.conversation_id self.payload)) }
     {
         let body = continue_body(alloc, &self.conversation_id, &self.payload)?;
-        login_command(alloc, SASL_CONTINUE, self.source, body, self.server_api)
+        login_command(
+            alloc,
+            SASL_CONTINUE,
+            self.source.as_str(),
+            body,
+            self.server_api,
+        )
     }
 }

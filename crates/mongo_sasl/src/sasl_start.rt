@@ -47,6 +47,12 @@ impl SaslStart {
         ensures refused { IfErr result (λ e. DocumentRefused e.kind (start_body self.mechanism self.payload)) }
     {
         let body = start_body(alloc, self.mechanism, &self.payload)?;
-        login_command(alloc, SASL_START, self.source, body, self.server_api)
+        login_command(
+            alloc,
+            SASL_START,
+            self.source.as_str(),
+            body,
+            self.server_api,
+        )
     }
 }

@@ -52,16 +52,24 @@ impl<'b> SaslView<'b> {
         }
     }
 
+    /// A copy of the id of the conversation that the reply is of.
+    pub fn conversation_id(&self, alloc: Global) -> Result<OwnedValue, BsonFault>
+        ensures copied { IfOk result (λ id. id ≡ (sasl_response_of self.now).conversation_id) }
+        ensures refused { IfErr result (λ fault. fault ≡ BsonFault.OutOfMemory) }
+    {
+        Ok(OwnedValue {
+            kind: self.conversation_kind,
+            bytes: Bytes::from_slice(alloc, self.conversation_bytes)?,
+        })
+    }
+
     /// A copy of what the reply says.
     pub fn to_response(&self, alloc: Global) -> Result<SaslResponse, BsonFault>
         ensures copied { IfOk result (λ response. response ≡ sasl_response_of self.now) }
         ensures refused { IfErr result (λ fault. fault ≡ BsonFault.OutOfMemory) }
     {
         Ok(SaslResponse {
-            conversation_id: OwnedValue {
-                kind: self.conversation_kind,
-                bytes: Bytes::from_slice(alloc, self.conversation_bytes)?,
-            },
+            conversation_id: self.conversation_id(alloc)?,
             done: self.done,
             payload: Bytes::from_slice(alloc, self.payload)?,
         })
@@ -83,7 +91,7 @@ fn view_of<'b>(
             Ok(view) => Ok(view),
             Err(fault) => Err(unreadable_fields(fault)),
         },
-        Err(refused) => Err(refused),
+        Err(error) => Err(error),
     }
 }
 

@@ -31,8 +31,7 @@ pub fn build_client_first(
     ensures refused { IfErr result (λ e. DocumentRefused e.kind (x509_body credential.now.username)) }
 {
     let body = authenticate_body(alloc, &credential.username)?;
-    let source = Text::from_slice(alloc, EXTERNAL)?;
-    login_command(alloc, AUTHENTICATE, source, body, server_api.copied())
+    login_command(alloc, AUTHENTICATE, EXTERNAL, body, server_api.copied())
 }
 
 /// Logs a connection in by the link's certificate: by one command and one reply, which passes through the buffer. Where the

@@ -1,15 +1,13 @@
 // What the server says, cut at its commas (RFC 5802, sections 5.1 and 7).
 
 ghost use Rattle.std.specs.Prelude.{◌≡◌, ◌≢◌, ℕ, ◌<◌, ◌++◌, ◌∷◌, List, MatchOption, IfOk, IfErr};
-ghost use Rattle.mongo_bson.specs.declared.fault.BsonFault.TheVariants.{OutOfMemory};
-ghost use Rattle.mongo_sasl.specs.View.{sasl_response_of};
 ghost use Rattle.mongo_scram.specs.ServerMessages.{HasNo, BeginsWithParts, IsBeforeComma, SaysFinal};
 ghost use Rattle.mongo_scram.specs.Parsed.{HoldsServerFirst, FirstRefused, ServerFinalUnread};
 
 use crate::base64_text::decoded;
 use crate::server_final::ServerFinalBody;
-use mongo_bson::{BsonFault, Bytes, OwnedValue, Text};
-use mongo_sasl::{SaslView, refused};
+use mongo_bson::{Bytes, Text};
+use mongo_sasl::refused;
 use mongo_wire::{AuthFault, Error};
 use std::alloc::Global;
 
@@ -72,17 +70,6 @@ pub fn read_server_final(alloc: Global, message: &str) -> Result<ServerFinalBody
         }
         None => Err(refused(AuthFault::Malformed)),
     }
-}
-
-/// A copy of the id of the conversation that a reply is of.
-pub fn conversation_id_of(alloc: Global, view: &SaslView<'_>) -> Result<OwnedValue, BsonFault>
-    ensures copied { IfOk result (λ id. id ≡ (sasl_response_of view.now).conversation_id) }
-    ensures refused { IfErr result (λ fault. fault ≡ OutOfMemory) }
-{
-    Ok(OwnedValue {
-        kind: view.conversation_kind,
-        bytes: Bytes::from_slice(alloc, view.conversation_bytes)?,
-    })
 }
 
 // The value of an attribute with this key, which is a letter and `=`.

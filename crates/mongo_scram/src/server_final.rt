@@ -11,7 +11,7 @@ ghost use Rattle.mongo_scram.specs.Version.{digest_of};
 
 use crate::ScramVersion;
 use crate::messages::ClientFinal;
-use crate::parse::{conversation_id_of, read_server_final};
+use crate::parse::read_server_final;
 use crate::salted_password::SaltedPassword;
 use mongo_bson::{BsonFault, Bytes, OwnedValue, RawDocument, Text};
 use mongo_mac::{Tag, are_same_bytes};
@@ -79,7 +79,7 @@ impl ServerFinal {
     {
         match SaslView::parse(alloc, response) {
             Ok(view) => server_final_of(alloc, &view),
-            Err(refused) => Err(refused),
+            Err(error) => Err(error),
         }
     }
 
@@ -157,7 +157,7 @@ fn server_final_of(alloc: Global, view: &SaslView<'_>) -> Result<ServerFinal, Er
     };
     let body = read_server_final(alloc, message)?;
     Ok(ServerFinal {
-        conversation_id: conversation_id_of(alloc, view)?,
+        conversation_id: view.conversation_id(alloc)?,
         done: view.done,
         body,
     })

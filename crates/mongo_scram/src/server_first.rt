@@ -6,7 +6,7 @@ ghost use Rattle.mongo_sasl.specs.View.{sasl_response_of};
 ghost use Rattle.mongo_scram.specs.Replies.{CarriesFirst, FirstReplyRow};
 ghost use Rattle.mongo_scram.specs.Validity.{IsValidFirst, ServerFirstRow};
 
-use crate::parse::{conversation_id_of, read_server_first};
+use crate::parse::read_server_first;
 use mongo_bson::{BsonFault, Bytes, OwnedValue, RawDocument, Text};
 use mongo_sasl::{SaslView, refused};
 use mongo_wire::{AuthFault, Error};
@@ -46,7 +46,7 @@ impl ServerFirst {
     {
         match SaslView::parse(alloc, response) {
             Ok(view) => first_of(alloc, &view),
-            Err(refused) => Err(refused),
+            Err(error) => Err(error),
         }
     }
 
@@ -99,7 +99,7 @@ fn first_of(alloc: Global, view: &SaslView<'_>) -> Result<ServerFirst, Error>
     };
     let read = read_server_first(alloc, message)?;
     Ok(ServerFirst {
-        conversation_id: conversation_id_of(alloc, view)?,
+        conversation_id: view.conversation_id(alloc)?,
         done: view.done,
         message: Text::from_slice(alloc, message)?,
         nonce: Text::from_slice(alloc, read.nonce)?,

@@ -12,4 +12,4 @@ returns-in-Err-table_of-clause-refused c =
 pub returns-in-Err-clause-refused : goal.returns-in-Err-clause-refused
 returns-in-Err-clause-refused c =
     let holds = c.requires in
-    unsuccessful c.args.response.bytes.now holds.elements c.in-Err.refused.kind holds.well_formed (c.in-Err.ensures holds.elements holds.are)
+    unsuccessful c.args.response.bytes.now holds.elements c.in-Err.error.kind holds.well_formed (c.in-Err.ensures holds.elements holds.are)
