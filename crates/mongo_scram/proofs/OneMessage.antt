@@ -15,8 +15,8 @@ use Rattle.mongo_scram.specs.declared.server_first.ServerFirst.{ServerFirst}
 use Rattle.mongo_scram.specs.declared.server_final.ServerFinal.{ServerFinal}
 use Rattle.mongo_scram.specs.declared.server_final.ServerFinalBody.{ServerFinalBody}
 use Rattle.mongo_scram.specs.declared.server_final.ServerFinalBody.TheVariants.{Error, Verifier}
-use Rattle.mongo_scram.specs.Base64.{base64_of}
-use Rattle.mongo_scram.specs.ServerMessages.{IsServerFirst, IsIterationCount, ServerFirstTextRow, Decodes, SaysAttribute, SaysFinal}
+use Rattle.mongo_scram.specs.Base64.{base64_of, Decodes}
+use Rattle.mongo_scram.specs.ServerMessages.{IsServerFirst, IsIterationCount, ServerFirstTextRow, SaysAttribute, SaysFinal}
 use Rattle.mongo_scram.specs.Replies.{CarriesFirst, FirstPayloadRow, FirstReplyRow, CarriesFinal, FinalPayloadRow, FinalReplyRow}
 use Rattle.mongo_scram.proofs.Parts.{SameParts, one_parts, heads}
 

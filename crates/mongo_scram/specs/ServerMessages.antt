@@ -1,6 +1,6 @@
 -- What the server says in a SCRAM conversation (RFC 5802, sections 5.1 and 7): lists of attributes, each a letter, `=`
 -- and a value, parted by commas.
-use Rattle.std.specs.Prelude.{◌≡◌, ◌≢◌, ℕ, ◌^◌, ◌<◌, ◌⊎◌, List, [], ◌∷◌, ◌++◌, Option, None, Some, codes}
+use Rattle.std.specs.Prelude.{◌≡◌, ◌≢◌, ℕ, ◌^◌, ◌<◌, ◌⊎◌, List, [], ◌∷◌, ◌++◌, codes}
 use Rattle.std.specs.List.{AllByRecursion}
 use Rattle.std.specs.Str.{IsUtf8}
 use Rattle.std.specs.Str.Parse.{IsNumeral, digits_value, without_leading_plus}
@@ -8,7 +8,7 @@ use Rattle.base64.specs.GeneralPurpose.{IsBytes}
 use Rattle.mongo_wire.specs.declared.auth_fault.AuthFault.{AuthFault}
 use Rattle.mongo_wire.specs.declared.auth_fault.AuthFault.TheVariants.{Malformed, CountUnreadable}
 use Rattle.mongo_command.specs.Conversation.{or_else, row_for}
-use Rattle.mongo_scram.specs.Base64.{base64_of}
+use Rattle.mongo_scram.specs.Base64.{base64_of, Decodes}
 use Rattle.mongo_scram.specs.declared.server_final.ServerFinalBody.{ServerFinalBody}
 use Rattle.mongo_scram.specs.declared.server_final.ServerFinalBody.TheVariants.{Error, Verifier}
 
@@ -47,11 +47,6 @@ pub record IsBeforeComma (text part : List ℕ) : Type 0 where
   pub joined : text ≡ part ++ extensions
   pub part_ends : HasNo 0x2C part
   pub extensions_are : (extensions ≡ []) ⊎ ((more : List ℕ) × (extensions ≡ 0x2C ∷ more))
-
--- the base64 text decodes to these bytes, or to none
-abbrev pub Decodes : List ℕ → Option (List ℕ) → Type 0
-Decodes text None = (bytes : List ℕ) → IsBytes bytes → text ≢ base64_of bytes
-Decodes text (Some bytes) = IsBytes bytes × (text ≡ base64_of bytes)
 
 -- what the attribute says: `e=` and an error's text, or `v=` and the verifier in base64
 abbrev pub SaysAttribute : List ℕ → ServerFinalBody → Type 0

@@ -1,8 +1,7 @@
-// Base64 (RFC 4648, section 4) of what messages carry: the salt, the proof and the verifier.
+// Base64 (RFC 4648, section 4) of what messages carry: the nonce, the salt, the proof and the verifier.
 
-ghost use Rattle.std.specs.Prelude.{◌≡◌, ◌≢◌, ℕ, List, IfOk, MatchOption, string_bytes};
-ghost use Rattle.base64.specs.GeneralPurpose.{IsBytes};
-ghost use Rattle.mongo_scram.specs.Base64.{base64_of};
+ghost use Rattle.std.specs.Prelude.{◌≡◌, IfOk, string_bytes};
+ghost use Rattle.mongo_scram.specs.Base64.{base64_of, Decodes};
 
 use base64::DecodeAllocError;
 use base64::engine::general_purpose::STANDARD;
@@ -20,9 +19,7 @@ pub fn encoded(alloc: Global, bytes: &[u8]) -> Result<String, AllocError>
 /// The bytes whose base64 text this is; None exactly where there are none. A refusal is want of memory.
 #[tactic(auto, unfolding(crate::specs::Base64::base64_of))]
 pub fn decoded(alloc: Global, text: &[u8]) -> Result<Option<Bytes>, AllocError>
-    ensures { IfOk result (λ found. MatchOption found
-        ((bytes : List ℕ) → IsBytes bytes → text.now ≢ base64_of bytes)
-        (λ bytes. IsBytes bytes × (text.now ≡ base64_of bytes))) }
+    ensures { IfOk result (Decodes text.now) }
 {
     match STANDARD.decode(alloc, text) {
         Ok(bytes) => Ok(Some(Bytes::from_vec(bytes))),

@@ -13,11 +13,8 @@ use std::alloc::{AllocError, Global};
 /// What the client says of channel binding: it has none, and names no other user (RFC 5802, section 7, `gs2-header`).
 pub const GS2_HEADER: &str = "n,,";
 
-// How many bytes stand in a message beside the texts that it is made of, at most: its letters, commas and equals signs.
-const MARKS: usize = 16;
-
-// How many bytes a proof has in base64, at most.
-const PROOF_TEXT: usize = 44;
+// How many bytes stand in a message beside the texts that it is made of, at most: letters, commas, equals signs and a count.
+const MARKS: usize = 24;
 
 /// `n,,n=` the user name `,r=` the nonce.
 #[tactic(auto, unfolding(crate::specs::Messages::bare_message, crate::specs::Messages::open_message))]
@@ -59,10 +56,10 @@ pub fn transcript_text(
 pub fn close_text(alloc: Global, nonce: &str, proof: &Tag) -> Result<String, AllocError>
     ensures { IfOk result (λ text. string_bytes text ≡ no_proof nonce.now ++ (codes ",p=" ++ base64_of proof.now)) }
 {
-    let mut text = String::with_capacity(alloc, room(nonce.len(), PROOF_TEXT))?;
+    let proof = encoded(alloc, proof.as_bytes())?;
+    let mut text = String::with_capacity(alloc, room(nonce.len(), proof.len()))?;
     push_no_proof(&mut text, nonce)?;
     text.push_str(",p=")?;
-    let proof = encoded(alloc, proof.as_bytes())?;
     text.push_str(proof.as_str())?;
     Ok(text)
 }
@@ -75,7 +72,7 @@ fn push_no_proof(text: &mut String, nonce: &str) -> Result<(), AllocError>
     text.push_str(nonce)
 }
 
-// The room for a message of two texts of these lengths.
-fn room(first: usize, second: usize) -> usize {
+/// The room to take for a message of two texts of these lengths, with its marks.
+pub fn room(first: usize, second: usize) -> usize {
     first.saturating_add(second).saturating_add(MARKS)
 }

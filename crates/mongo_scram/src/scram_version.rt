@@ -9,7 +9,7 @@ use std::fmt;
 use std::sync::ledger::Ledger;
 
 /// A version of SCRAM, by its hash function H.
-#[derive(Clone, Copy, Debug, PartialEq, Eq, PartialOrd, Ord)]
+#[derive(Clone, Copy, Debug, PartialEq, Eq)]
 pub enum ScramVersion {
     /// SCRAM-SHA-1 (RFC 5802).
     Sha1,

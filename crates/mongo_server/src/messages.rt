@@ -9,11 +9,8 @@ use crate::fault::ServerFault;
 use itoa::Buffer;
 use mongo_bson::Text;
 use mongo_mac::Tag;
-use mongo_scram::encoded;
+use mongo_scram::{encoded, room};
 use std::alloc::Global;
-
-// How many bytes stand in a message beside the texts that it is made of, at most: letters, commas, equals signs and a count.
-const MARKS: usize = 24;
 
 /// The client's nonce and the server's suffix joined.
 pub fn joined_nonce(alloc: Global, nonce: &str, suffix: &str) -> Result<Text, ServerFault>
@@ -59,9 +56,4 @@ pub fn server_final_text(alloc: Global, verifier: &Tag) -> Result<Text, ServerFa
     text.push_str("v=")?;
     text.push_str(verifier.as_str())?;
     Ok(Text::from_string(text))
-}
-
-// The room for a message of two texts of these lengths.
-fn room(first: usize, second: usize) -> usize {
-    first.saturating_add(second).saturating_add(MARKS)
 }
