@@ -24,14 +24,7 @@ use Rattle.mongo_establish.specs.Client.{followed_by_element, with_document, bal
 use Rattle.mongo_establish.specs.declared.options.HandshakerOptions.{HandshakerOptions}
 use Rattle.mongo_establish.specs.First.{IsUnmade}
 
--- what stands between a document's length and its final zero has five bytes fewer
-pub length_body : (d : List ℕ) → 5 ≤ length d → length (body_of d) + 5 ≡ length d
-length_body d least = omega (arith, length-take-le (length d - 5) (drop 4 d), length-drop 4 d)
-
-pub grown : (d : List ℕ) (e : Element) → 5 ≤ length d → length (followed_by_element d e) ≡ length d + length (spell e)
-grown d e least = omega (arith, length-enclosed (body_of d ++ spell e), length-append (body_of d) (spell e), length_body d least)
-
--- nor is the document with an element more, whatever it was
+-- a document with an element more is longer by it at least
 pub length_followed : (d : List ℕ) (e : Element) → length d + length (spell e) ≤ length (followed_by_element d e)
 length_followed d e = omega (arith, length-enclosed (body_of d ++ spell e), length-append (body_of d) (spell e), length-take-le (length d - 5) (drop 4 d), length-drop 4 d)
 
@@ -68,6 +61,12 @@ speculating_longer (Some login) body = omega (arith, length_followed body (docum
 
 pub introducing_longer : (metadata : ClientMetadata) (body : List ℕ) → length body ≤ length (introducing metadata body)
 introducing_longer metadata body = omega (arith, length_followed body (document_element (codes "client") (client_of metadata (length body))))
+
+-- a hello has what stands around every document
+pub least_body : (options : HandshakerOptions) (credential : Option Credential) (login : Option (List ℕ)) → 5 ≤ length (hello_with options credential login).body
+least_body options credential login =
+    let body = speculating login (asking_mechanisms credential (common_hello options).body) in
+    omega (arith, length-enclosed (body_of body ++ spell (document_element (codes "client") (client_of options.metadata (length body)))))
 
 -- ---- answers
 

@@ -1,14 +1,7 @@
 -- The hello of a handshake is a step of its plan.
-use Rattle.std.proofs.Common.{◌≡◌, ℕ, ℤ, ◌-◌, ◌^◌, ◌<◌, ◌≤◌, ◌∙◌, refl, ap, sym, subst, inl, inr, Option, None, Some, Result, Ok, Err, IfErr, List, ◌++◌, length, flat_map, arith}
-use Rattle.std.proofs.lemmas.List.{length-append}
-use Rattle.mongo_bson.proofs.Enclosed.{length-enclosed}
-use Rattle.mongo_bson.specs.Document.{spell}
-use Rattle.mongo_bson.specs.Framed.{body_of}
-use Rattle.mongo_bson.specs.declared.fault.BsonFault.TheVariants.{TooLong}
+use Rattle.std.proofs.Common.{◌≡◌, ℕ, ℤ, ◌∙◌, refl, ap, sym, subst, inl, inr, Option, None, Some, Result, Ok, Err, IfErr, List}
 use Rattle.mongo_wire.specs.declared.error.Error.{Error}
 use Rattle.mongo_wire.specs.declared.error.ErrorKind.{ErrorKind}
-use Rattle.mongo_wire.specs.declared.error.ErrorKind.TheVariants.{InvalidArgument, OutOfMemory}
-use Rattle.mongo_wire.specs.declared.fault.ArgumentFault.TheVariants.{Bson}
 use Rattle.mongo_wire.specs.declared.message.Message.{Message}
 use Rattle.mongo_wire.specs.Outside.{State}
 use Rattle.mongo_wire.specs.Bytes.{first_maximum}
@@ -17,7 +10,7 @@ use Rattle.mongo_command.specs.declared.connection.Connection.{Connection}
 use Rattle.mongo_command.specs.declared.hello.HelloReply.{HelloReply}
 use Rattle.mongo_command.specs.declared.server_address.ServerAddress.{ServerAddress}
 use Rattle.mongo_command.specs.declared.stream_description.StreamDescription.{StreamDescription}
-use Rattle.mongo_command.specs.Command.{argument_elements, command_document}
+use Rattle.mongo_command.specs.Command.{command_document}
 use Rattle.mongo_command.specs.Connection.{kept_fault, KeepsRest}
 use Rattle.mongo_command.specs.Conversation.{Plan, AreMet, Stopped, Reached, plain_message}
 use Rattle.mongo_command.specs.Exchange.{command_message, frame_maximum, CountsStay, DocumentRefused}
@@ -25,24 +18,16 @@ use Rattle.mongo_command.specs.Hello.{IsHelloResponse, HelloRefused, description
 use Rattle.mongo_command.specs.HelloExchange.{RunsHello, RunHelloRefused}
 use Rattle.mongo_command.proofs.Rest.{keeps_all}
 use Rattle.mongo_command.proofs.Steps.{reached_ending, reached_unless, reached_reading, reached_saying, stopped_memory, stopped_row, stopped_saying, stopped_later}
-use Rattle.mongo_command.proofs.Talked.{still_counts}
 use Rattle.mongo_sasl.specs.declared.credential.Credential.{Credential}
+use Rattle.mongo_sasl.proofs.Unsent.{unbuilt_stopped as unsent}
 use Rattle.mongo_establish.specs.declared.options.HandshakerOptions.{HandshakerOptions}
 use Rattle.mongo_establish.specs.Client.{hello_with}
 use Rattle.mongo_establish.specs.Established.{HoldsGreeting, GreetedBy, UngreetedBy}
 use Rattle.mongo_establish.specs.Greeting.{Greeting, Greets, greeting_in}
 use Rattle.mongo_establish.specs.Plan.{hello_said_with, after_hello, hello_exchange}
 use Rattle.mongo_establish.specs.Reply.{IsDescribedBy}
-use Rattle.mongo_establish.proofs.HelloBody.{length_body}
+use Rattle.mongo_establish.proofs.HelloBody.{least_body}
 use Rattle.mongo_establish.proofs.HelloPlan.{no_row}
-
--- ---- nothing was said
-
--- a command's document is no shorter than its body
-document_longer : (c : Command) → 5 ≤ length c.body → length c.body ≤ length (command_document c)
-document_longer c least =
-    let more = flat_map spell (argument_elements c.target_db c.arguments) in
-    omega (arith, length_body c.body least, length-append (body_of c.body) more, length-enclosed (body_of c.body ++ more))
 
 -- ---- the reply
 
@@ -85,13 +70,9 @@ module _ (options : HandshakerOptions) (credential : Option Credential) (login :
 
   -- its body would be too long, or memory ran out
   unbuilt : (kind : ErrorKind) (old : State) (before : ℤ) → DocumentRefused kind (hello_with options credential login).body → Stopped plan kind old old before before
-  unbuilt (InvalidArgument (Bson TooLong)) old before r =
+  unbuilt kind old before r =
       let hello = hello_with options credential login in
-      let longer = document_longer hello (omega (arith, r)) in
-      let long : 2 ^ 31 - 1 < length (command_document hello) = omega (arith, longer, r) in
-      stopped_saying (hello_said_with options credential login) (after_hello opened.address) (InvalidArgument (Bson TooLong)) old old before before None (inl (long, record { link = refl; ids = refl; kept_is = refl })) (still_counts old)
-  unbuilt OutOfMemory old before r = stopped_memory plan OutOfMemory old before refl
-  unbuilt kind old before r = absurd r
+      unsent (hello_said_with options credential login) (after_hello opened.address) hello kind old before refl (least_body options credential login) r
 
   pub unbuilt_stopped : (kind : ErrorKind) (old : State) (before : ℤ) → DocumentRefused kind (hello_with options credential login).body → UngreetedBy options credential login opened opened kind old old before before
   unbuilt_stopped kind old before r = ungreeted opened kind old old before before (keeps_all opened) (unbuilt kind old before r)
