@@ -68,7 +68,7 @@ same_asked settings bytes = refl
 left_over : (settings : Settings) (bytes : List ℕ) (steps : StepsTaken) (old new : State) (ended : Result PooledConnection EstablishError) (written : List ℕ) (taken : ℕ) (x : Rehearsal)
     → Attempted settings steps ended old new → TellsBytes old bytes → Faultless old new → Tells written taken ended x → (left : List ℕ) × (new.left ≡ Some left)
 left_over settings bytes steps old new (Ok pooled) written taken x a t f tells =
-    let rest = a.ended.made.taken bytes t.left in
+    let rest = a.ended.made.scripted.taken bytes t.left in
     (rest.rest, rest.left_is)
 left_over settings bytes steps old new (Err refusal) written taken x a t f tells =
     elim (stopped_refusal refusal.handshake_phase (asked_of settings) refusal.cause.kind old new a.after bytes a.ended.stopped t.left f.reads f.writes) [

@@ -1,11 +1,11 @@
--- What an establishment answers, by its handshake and what became of the connection after it.
-use Rattle.std.proofs.Common.{◌≡◌, ℕ, ℤ, ◌⊎◌, subst, sym, Option, Some, Result, Ok, Err, List, IfOk, IfErr}
+-- What an establishment answers, by its handshake and what became of the connection after it; where either was stopped, its plan was.
+use Rattle.std.proofs.Common.{◌≡◌, ℤ, subst, sym, Option, Result, Ok, Err, IfOk, IfErr}
+use Rattle.std.proofs.lemmas.Result.{IfErr-weaker}
 use Rattle.mongo_wire.specs.declared.error.Error.{Error}
-use Rattle.mongo_wire.specs.declared.error.ErrorKind.TheVariants.{OutOfMemory}
-use Rattle.mongo_wire.specs.Outside.{State, Rose}
+use Rattle.mongo_wire.specs.Outside.{State}
 use Rattle.mongo_command.specs.declared.connection.Connection.{Connection}
 use Rattle.mongo_command.specs.declared.hello.HelloReply.{HelloReply}
-use Rattle.mongo_command.specs.Conversation.{Said, Turn, refuses, Leads, LeftBy}
+use Rattle.mongo_command.specs.Conversation.{Stopped}
 use Rattle.mongo_sasl.specs.declared.credential.Credential.{Credential}
 use Rattle.mongo_establish.specs.declared.establisher.EstablishError.{EstablishError}
 use Rattle.mongo_establish.specs.declared.establisher.PendingConnection.{PendingConnection}
@@ -14,12 +14,10 @@ use Rattle.mongo_establish.specs.declared.login_state.Nonces.{Nonces}
 use Rattle.mongo_establish.specs.declared.options.HandshakerOptions.{HandshakerOptions}
 use Rattle.mongo_establish.specs.Asked.{Asked, asked_for, asked_over}
 use Rattle.mongo_establish.specs.Established.{Established, ShookHands, StoppedHandshake}
-use Rattle.mongo_establish.specs.Greeting.{Greeting}
-use Rattle.mongo_establish.specs.Plan.{establishment_plan}
+use Rattle.mongo_establish.specs.Plan.{handshake_plan, establishment_plan}
 use Rattle.mongo_establish.specs.Pooled.{phase_at, IsPooled, UnnamedService}
-use Rattle.mongo_establish.specs.Script.{HasScript}
 use Rattle.mongo_establish.specs.Stopped.{StoppedIn}
-use Rattle.mongo_establish.proofs.Establishment.{only_memory, only_refused}
+use Rattle.mongo_establish.proofs.Establishment.{shaking_stops, handshake_stops, stopped_whole}
 use Rattle.mongo_establish.proofs.Handshaken.{established, stopped_in, unnamed_stopped}
 
 -- a refusal comes where the establishment was stopped
@@ -47,13 +45,13 @@ module _ (pending : PendingConnection) (options : HandshakerOptions) (credential
   answers_stopped e cause connection old new after is phase s =
       stopped_in pending options credential nonces id opened same e.handshake_phase connection e.cause.kind old new after phase (subst (λ x. StoppedHandshake over opened connection x.kind old new after) (sym is) s)
 
--- ---- where the link doesn't fail
+-- ---- whatever part was stopped, the plan was
 
-pub answers_memory : (asked : Asked) (r : Result PooledConnection EstablishError) (old new : State) (after : ℤ) (bytes : List ℕ) → IfErr r (StopsIn asked old new after) → old.left ≡ Some bytes → HasScript asked bytes → (Rose old.read_faults new.read_faults → ⊥) → (Rose old.write_faults new.write_faults → ⊥) → IfErr r (λ e. e.cause.kind ≡ OutOfMemory)
-answers_memory asked (Ok pooled) old new after bytes stops is script unfailed unwritten = tt
-answers_memory asked (Err e) old new after bytes stops is script unfailed unwritten = only_memory e.handshake_phase asked e.cause.kind old new after bytes stops is script unfailed unwritten
+pub shaking_stopped : {T : Type 0} (r : Result T Error) (asked : Asked) (opened connection : Connection) (old new : State) (after : ℤ) → IfErr r (λ e. StoppedHandshake asked opened connection e.kind old new after) → IfErr r (λ e. Stopped (handshake_plan asked) e.kind old new asked.first_id after)
+shaking_stopped r asked opened connection old new after = IfErr-weaker r _ _ (λ e. shaking_stops asked opened connection e.kind old new after)
 
-pub answers_refused : (asked : Asked) (r : Result PooledConnection EstablishError) (old new : State) (after : ℤ) (bytes taken unread : List ℕ) (outcome : Turn Greeting) (commands : List Said) → IfErr r (StopsIn asked old new after) → old.left ≡ Some bytes → Leads (establishment_plan asked) bytes outcome commands taken unread → (Rose old.read_faults new.read_faults → ⊥) → (Rose old.write_faults new.write_faults → ⊥)
-    → IfErr r (λ e. (e.cause.kind ≡ OutOfMemory) ⊎ ((outcome ≡ refuses e.cause.kind) × LeftBy commands unread old new asked.first_id after))
-answers_refused asked (Ok pooled) old new after bytes taken unread outcome commands stops is leads unfailed unwritten = tt
-answers_refused asked (Err e) old new after bytes taken unread outcome commands stops is leads unfailed unwritten = only_refused e.handshake_phase asked e.cause.kind old new after bytes taken unread outcome commands stops is leads unfailed unwritten
+pub handshake_stopped : {T : Type 0} (r : Result T Error) (asked : Asked) (old new : State) (after : ℤ) → IfErr r (λ e. Stopped (handshake_plan asked) e.kind old new asked.first_id after) → IfErr r (λ e. Stopped (establishment_plan asked) e.kind old new asked.first_id after)
+handshake_stopped r asked old new after = IfErr-weaker r _ _ (λ e. handshake_stops asked e.kind old new after)
+
+pub establishment_stopped : {T : Type 0} (r : Result T EstablishError) (asked : Asked) (old new : State) (after : ℤ) → IfErr r (StopsIn asked old new after) → IfErr r (λ e. Stopped (establishment_plan asked) e.cause.kind old new asked.first_id after)
+establishment_stopped r asked old new after = IfErr-weaker r _ _ (λ e. stopped_whole e.handshake_phase asked e.cause.kind old new after)

@@ -1,32 +1,36 @@
--- An establishment that was followed to its end is a script, and a script's replies lead there.
+-- A handshake that was followed to its end is a script, and a script's replies lead there.
 use Rattle.std.proofs.Common.{◌≡◌, ℕ, ℤ, ◌∙◌, append-nil, append_assoc, refl, subst, sym, List, [], ◌∷◌, ◌++◌, ap}
 use Rattle.mongo_wire.specs.Outside.{State}
 use Rattle.mongo_wire.specs.Bytes.{IsSent, IsWhole, next_id}
 use Rattle.mongo_command.specs.Conversation.{Said, Event, exchanged, ends, Plan, said_in, given_in, id_after_said, IsSaid, IsHeard, IsFlushedAfter, Reached, Leads}
 use Rattle.mongo_command.proofs.Ends.{Ends}
+use Rattle.mongo_command.proofs.FollowedBy.{reached_both}
 use Rattle.mongo_command.proofs.Leads.{told_taken}
 use Rattle.mongo_command.proofs.OneSaid.{framed_sendable}
 use Rattle.mongo_sasl.proofs.LoginEvents.{replies_in, documents_in, within_sent, sent_within, within_heard, heard_within, within_given, said_sendable}
-use Rattle.mongo_establish.specs.declared.establisher.PooledConnection.{PooledConnection}
 use Rattle.mongo_establish.specs.Asked.{Asked}
 use Rattle.mongo_establish.specs.Client.{hello_document}
-use Rattle.mongo_establish.specs.Established.{Established, IsDescribed}
-use Rattle.mongo_establish.specs.Generation.{generation_of}
+use Rattle.mongo_establish.specs.Established.{Scripted}
+use Rattle.mongo_establish.specs.Generation.{NamesService}
 use Rattle.mongo_establish.specs.Greeting.{Greeting}
-use Rattle.mongo_establish.specs.Plan.{hello_said, hello_plan, establishment_plan}
+use Rattle.mongo_establish.specs.Plan.{hello_said, hello_plan, login_plan, handshake_plan, establishment_plan}
 use Rattle.mongo_establish.specs.Script.{Script, IsScript, HasScript}
 use Rattle.mongo_establish.proofs.LoginBytes.{within_ids}
 use Rattle.mongo_establish.proofs.Conversations.{maximum_of}
-use Rattle.mongo_establish.proofs.EstablishmentPlan.{IsEstablished, establishment_ended, script_ends}
+use Rattle.mongo_establish.proofs.EstablishmentPlan.{IsEstablished, handshake_ended, script_ends}
 
 -- ---- what was made
 
+-- a hello and a login that were followed to their ends are a handshake
+pub handshake_reached : (asked : Asked) (greeting : Greeting) (old middle new : State) (between after : ℤ) → Reached (hello_plan asked) greeting old middle asked.first_id between → Reached (login_plan asked greeting) greeting middle new between after → Reached (handshake_plan asked) greeting old new asked.first_id after
+unfolding handshake_plan
+handshake_reached asked greeting old middle new between after hello login = reached_both (hello_plan asked) (login_plan asked) greeting greeting old middle new asked.first_id between after hello login
+
 -- the script of an end
-script_of : (asked : Asked) (events : List Event) (greeting : Greeting) → IsEstablished asked events greeting → Script
+abbrev pub script_of : (asked : Asked) (events : List Event) (greeting : Greeting) → IsEstablished asked events greeting → Script
 script_of asked events greeting e = record { commands = hello_document asked ∷ documents_in e.more; replies = e.reply ∷ replies_in e.more; greeting = greeting }
 
 is_script : (asked : Asked) (events : List Event) (greeting : Greeting) (e : IsEstablished asked events greeting) → IsScript asked (script_of asked events greeting e)
-unfolding script_of
 is_script asked events greeting e = record {
   made = e.made;
   later_commands = documents_in e.more;
@@ -49,13 +53,18 @@ script_heard asked events greeting e bytes heard =
     let first : IsHeard (exchanged (hello_said asked) e.reply ∷ e.more) bytes = subst (λ x. IsHeard x bytes) e.events_are heard in
     (first.0, first.1, first.2, first.3, first.4, first.5, first.6, within_heard (maximum_of greeting) e.more first.1 e.within first.7)
 
-pub established_by : (asked : Asked) (greeting : Greeting) (old new : State) (after : ℤ) (pooled : PooledConnection) → Reached (establishment_plan asked) greeting old new asked.first_id after → IsDescribed asked pooled.connection greeting → pooled.generation ≡ generation_of asked.pending.generation greeting.description → Established asked old new after pooled
-unfolding script_of
-established_by asked greeting old new after pooled r described generation =
+-- of a handshake that was followed to its end
+pub ended_by : (asked : Asked) (greeting : Greeting) (old new : State) (after : ℤ) (r : Reached (handshake_plan asked) greeting old new asked.first_id after) → NamesService asked.pending.generation greeting.description → IsEstablished asked r.events greeting
+ended_by asked greeting old new after r named = handshake_ended asked r.events greeting (record { follows = r.talked.follows; answer_is = r.answer_is }) named
+
+abbrev pub script_by : (asked : Asked) (greeting : Greeting) (old new : State) (after : ℤ) → Reached (handshake_plan asked) greeting old new asked.first_id after → NamesService asked.pending.generation greeting.description → Script
+script_by asked greeting old new after r named = script_of asked r.events greeting (ended_by asked greeting old new after r named)
+
+pub scripted_by : (asked : Asked) (greeting : Greeting) (old new : State) (after : ℤ) (r : Reached (handshake_plan asked) greeting old new asked.first_id after) (named : NamesService asked.pending.generation greeting.description) → Scripted asked (script_by asked greeting old new after r named) old new after
+scripted_by asked greeting old new after r named =
     let t = r.talked in
-    let e = establishment_ended asked r.events greeting (record { follows = t.follows; answer_is = r.answer_is }) in
+    let e = ended_by asked greeting old new after r named in
     record {
-      script = script_of asked r.events greeting e;
       is_script = is_script asked r.events greeting e;
       sent = t.sent;
       is_written = script_sent asked r.events greeting e t.sent t.sent_is;
@@ -65,15 +74,7 @@ established_by asked greeting old new after pooled r described generation =
       taken = λ bytes is.
           let told = told_taken bytes t.heard old.left new.left is t.consumed in
           record { taken = t.heard; rest = told.0; joined = told.1; is_taken = script_heard asked r.events greeting e t.heard t.heard_is; left_is = told.2 };
-      connection = described;
-      generation = generation;
     }
-
--- its script is of this greeting
-pub script_greeting : (asked : Asked) (greeting : Greeting) (old new : State) (after : ℤ) (pooled : PooledConnection) (r : Reached (establishment_plan asked) greeting old new asked.first_id after) (described : IsDescribed asked pooled.connection greeting) (generation : pooled.generation ≡ generation_of asked.pending.generation greeting.description)
-    → (established_by asked greeting old new after pooled r described generation).script.greeting ≡ greeting
-unfolding established_by script_of
-script_greeting asked greeting old new after pooled r described generation = refl
 
 -- ---- what bytes lead to
 

@@ -1,10 +1,11 @@
--- What the bytes left say of an establishment's answer: where it was stopped, and that they lead to one thing.
-use Rattle.std.proofs.Common.{◌≡◌, ℕ, ℤ, ◌⊎◌, ◌∙◌, refl, subst, sym, Some, List, [], ◌∷◌, ◌++◌, ap, inl, inr}
+-- What the bytes left say of an answer: where it was stopped, and that they lead to one thing.
+use Rattle.std.proofs.Common.{◌≡◌, ℕ, ℤ, ◌⊎◌, ◌∙◌, refl, subst, sym, Some, Result, Ok, Err, IfErr, List, [], ◌∷◌, ◌++◌, ap, inl, inr}
 use Rattle.mongo_wire.specs.declared.error.ErrorKind.{ErrorKind}
 use Rattle.mongo_wire.specs.declared.error.ErrorKind.TheVariants.{OutOfMemory}
 use Rattle.mongo_wire.specs.Outside.{State, Rose}
+use Rattle.mongo_command.specs.declared.connection.Connection.{Connection}
 use Rattle.mongo_command.specs.Conversation.{Said, Turn, refuses, ends, HasOneTurn, Plan, IsSaid, Reached, Stopped, Leads, LeftBy}
-use Rattle.mongo_command.proofs.FollowedBy.{reached_both, stopped_first, stopped_second}
+use Rattle.mongo_command.proofs.FollowedBy.{stopped_first, stopped_second}
 use Rattle.mongo_command.proofs.Steps.{stopped_row}
 use Rattle.mongo_command.proofs.OneSaid.{one_said}
 use Rattle.mongo_command.proofs.Leads.{one_way, no_refusal, only_refusal, reached_led, stopped_led}
@@ -12,6 +13,7 @@ use Rattle.mongo_establish.specs.declared.establisher.HandshakePhase.{HandshakeP
 use Rattle.mongo_establish.specs.declared.establisher.HandshakePhase.TheVariants.{PreHello, PostHello}
 use Rattle.mongo_establish.specs.declared.generation.ConnectionGeneration.{ConnectionGeneration}
 use Rattle.mongo_establish.specs.Asked.{Asked}
+use Rattle.mongo_establish.specs.Established.{StoppedHandshake}
 use Rattle.mongo_establish.specs.Generation.{generation_of}
 use Rattle.mongo_establish.specs.Greeting.{Greeting}
 use Rattle.mongo_establish.specs.Plan.{hello_said, hello_plan, login_plan, handshake_plan, service_plan, establishment_plan}
@@ -19,39 +21,65 @@ use Rattle.mongo_establish.specs.Script.{HasScript}
 use Rattle.mongo_establish.specs.Stopped.{UnnamedAfterLogin, StoppedIn, StoppedAfterHello, Refusal, LeadsIn, IsRefusal, LeadsPastHello}
 use Rattle.mongo_establish.proofs.HelloPlan.{one_hello}
 use Rattle.mongo_establish.proofs.EstablishmentPlan.{one_establishment}
-use Rattle.mongo_establish.proofs.EstablishedScript.{script_leads}
+use Rattle.mongo_establish.proofs.EstablishedScript.{handshake_reached, script_leads}
 
 -- ---- what was stopped
 
--- whatever followed the hello was stopped, the establishment was
-stopped_late : (asked : Asked) (greeting : Greeting) (kind : ErrorKind) (old middle new : State) (between after : ℤ) → Reached (hello_plan asked) greeting old middle asked.first_id between
-    → Stopped (login_plan asked greeting) kind middle new between after ⊎ UnnamedAfterLogin asked greeting kind middle new between after → Stopped (establishment_plan asked) kind old new asked.first_id after
-unfolding handshake_plan establishment_plan
-stopped_late asked greeting kind old middle new between after hello (inl s) =
-    stopped_first (handshake_plan asked) (service_plan asked) kind old new asked.first_id after (stopped_second (hello_plan asked) (login_plan asked) greeting kind old middle new asked.first_id between after hello s)
-stopped_late asked greeting kind old middle new between after hello (inr u) =
-    stopped_second (handshake_plan asked) (service_plan asked) greeting kind old new new asked.first_id after after
-    (reached_both (hello_plan asked) (login_plan asked) greeting greeting old middle new asked.first_id between after hello u.login) (stopped_row _ _ kind new after u.unnamed)
+-- a hello that was stopped is a handshake that was
+hello_stops : (asked : Asked) (kind : ErrorKind) (old new : State) (after : ℤ) → Stopped (hello_plan asked) kind old new asked.first_id after → Stopped (handshake_plan asked) kind old new asked.first_id after
+unfolding handshake_plan
+hello_stops asked kind old new after s = stopped_first (hello_plan asked) (login_plan asked) kind old new asked.first_id after s
 
--- whatever part was stopped, the establishment was
+-- and so is a login after its hello
+login_stops : (asked : Asked) (greeting : Greeting) (kind : ErrorKind) (old middle new : State) (between after : ℤ) → Reached (hello_plan asked) greeting old middle asked.first_id between → Stopped (login_plan asked greeting) kind middle new between after → Stopped (handshake_plan asked) kind old new asked.first_id after
+unfolding handshake_plan
+login_stops asked greeting kind old middle new between after hello s = stopped_second (hello_plan asked) (login_plan asked) greeting kind old middle new asked.first_id between after hello s
+
+-- whatever part of a handshake was stopped
+pub shaking_stops : (asked : Asked) (opened connection : Connection) (kind : ErrorKind) (old new : State) (after : ℤ) → StoppedHandshake asked opened connection kind old new after → Stopped (handshake_plan asked) kind old new asked.first_id after
+shaking_stops asked opened connection kind old new after s =
+    elim s [ inl h ↦ hello_stops asked kind old new after h.hello | inr l ↦ login_stops asked l.greeting kind old l.middle new l.between after l.hello l.login ]
+
+-- the establishment was stopped with its handshake
+pub handshake_stops : (asked : Asked) (kind : ErrorKind) (old new : State) (after : ℤ) → Stopped (handshake_plan asked) kind old new asked.first_id after → Stopped (establishment_plan asked) kind old new asked.first_id after
+unfolding establishment_plan
+handshake_stops asked kind old new after s = stopped_first (handshake_plan asked) (service_plan asked) kind old new asked.first_id after s
+
+-- or at its end
+service_stops : (asked : Asked) (greeting : Greeting) (kind : ErrorKind) (old middle new : State) (between after : ℤ) → Reached (hello_plan asked) greeting old middle asked.first_id between → UnnamedAfterLogin asked greeting kind middle new between after → Stopped (establishment_plan asked) kind old new asked.first_id after
+unfolding establishment_plan
+service_stops asked greeting kind old middle new between after hello u =
+    stopped_second (handshake_plan asked) (service_plan asked) greeting kind old new new asked.first_id after after (handshake_reached asked greeting old middle new between after hello u.login) (stopped_row _ _ kind new after u.unnamed)
+
+-- whatever part of an establishment was stopped
 pub stopped_whole : (phase : HandshakePhase) (asked : Asked) (kind : ErrorKind) (old new : State) (after : ℤ) → StoppedIn phase asked kind old new after → Stopped (establishment_plan asked) kind old new asked.first_id after
-unfolding handshake_plan establishment_plan
-stopped_whole (PreHello generation) asked kind old new after r =
-    stopped_first (handshake_plan asked) (service_plan asked) kind old new asked.first_id after (stopped_first (hello_plan asked) (login_plan asked) kind old new asked.first_id after r.1)
-stopped_whole (PostHello generation) asked kind old new after r = stopped_late asked r.greeting kind old r.middle new r.between after r.hello r.stopped
+stopped_whole (PreHello generation) asked kind old new after r = handshake_stops asked kind old new after (hello_stops asked kind old new after r.1)
+stopped_whole (PostHello generation) asked kind old new after r =
+    elim r.stopped [
+      | inl s ↦ handshake_stops asked kind old new after (login_stops asked r.greeting kind old r.middle new r.between after r.hello s)
+      | inr u ↦ service_stops asked r.greeting kind old r.middle new r.between after r.hello u
+    ]
 
--- where the bytes left begin with a script's replies and the link didn't fail, only memory is wanted
-pub only_memory : (phase : HandshakePhase) (asked : Asked) (kind : ErrorKind) (old new : State) (after : ℤ) (bytes : List ℕ) → StoppedIn phase asked kind old new after → old.left ≡ Some bytes → HasScript asked bytes → (Rose old.read_faults new.read_faults → ⊥) → (Rose old.write_faults new.write_faults → ⊥) → kind ≡ OutOfMemory
-only_memory phase asked kind old new after bytes r is script unfailed unwritten =
+-- ---- what an answer says, where the link doesn't fail
+
+-- over bytes left that begin with a script's replies, only memory is wanted
+pub only_memory : {T E : Type 0} (answer : Result T E) (kind_of : E → ErrorKind) (asked : Asked) (old new : State) (after : ℤ) → IfErr answer (λ e. Stopped (establishment_plan asked) (kind_of e) old new asked.first_id after)
+    → (bytes : List ℕ) → old.left ≡ Some bytes → HasScript asked bytes → (Rose old.read_faults new.read_faults → ⊥) → (Rose old.write_faults new.write_faults → ⊥) → IfErr answer (λ e. kind_of e ≡ OutOfMemory)
+only_memory (Ok x) kind_of asked old new after stops bytes is script unfailed unwritten = tt
+only_memory (Err e) kind_of asked old new after stops bytes is script unfailed unwritten =
     let l = script_leads asked bytes script in
-    elim (only_refusal (establishment_plan asked) kind (ends script.script.greeting) old new asked.first_id after bytes l.commands script.taken script.rest (one_establishment asked) (stopped_whole phase asked kind old new after r) is l.whole unfailed unwritten) [
+    elim (only_refusal (establishment_plan asked) (kind_of e) (ends script.script.greeting) old new asked.first_id after bytes l.commands script.taken script.rest (one_establishment asked) stops is l.whole unfailed unwritten) [
       | inl memory ↦ memory
       | inr same ↦ let e = same.0 in let no : ⊥ = cc in absurd no
     ]
 
-pub only_refused : (phase : HandshakePhase) (asked : Asked) (kind : ErrorKind) (old new : State) (after : ℤ) (bytes taken unread : List ℕ) (outcome : Turn Greeting) (commands : List Said) → StoppedIn phase asked kind old new after → old.left ≡ Some bytes → Leads (establishment_plan asked) bytes outcome commands taken unread → (Rose old.read_faults new.read_faults → ⊥) → (Rose old.write_faults new.write_faults → ⊥) → (kind ≡ OutOfMemory) ⊎ ((outcome ≡ refuses kind) × LeftBy commands unread old new asked.first_id after)
-only_refused phase asked kind old new after bytes taken unread outcome commands r is leads unfailed unwritten =
-    only_refusal (establishment_plan asked) kind outcome old new asked.first_id after bytes commands taken unread (one_establishment asked) (stopped_whole phase asked kind old new after r) is leads unfailed unwritten
+-- over bytes left that lead a plan to an outcome, only that is refused, and the link is left as it says
+pub only_refused : {T E : Type 0} (answer : Result T E) (kind_of : E → ErrorKind) (plan : Plan Greeting) (old new : State) (before after : ℤ) → HasOneTurn plan → IfErr answer (λ e. Stopped plan (kind_of e) old new before after)
+    → (bytes taken unread : List ℕ) (outcome : Turn Greeting) (commands : List Said) → old.left ≡ Some bytes → Leads plan bytes outcome commands taken unread → (Rose old.read_faults new.read_faults → ⊥) → (Rose old.write_faults new.write_faults → ⊥)
+    → IfErr answer (λ e. (kind_of e ≡ OutOfMemory) ⊎ ((outcome ≡ refuses (kind_of e)) × LeftBy commands unread old new before after))
+only_refused (Ok x) kind_of plan old new before after one stops bytes taken unread outcome commands is leads unfailed unwritten = tt
+only_refused (Err e) kind_of plan old new before after one stops bytes taken unread outcome commands is leads unfailed unwritten =
+    only_refusal plan (kind_of e) outcome old new before after bytes commands taken unread one stops is leads unfailed unwritten
 
 -- a refusal that was met, and what it left
 pub record RefusedBy (phase : HandshakePhase) (asked : Asked) (bytes : List ℕ) (kind : ErrorKind) (old new : State) (after : ℤ) : Type 0 where

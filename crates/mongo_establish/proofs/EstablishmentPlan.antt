@@ -1,13 +1,11 @@
--- The plan of an establishment has one turn; an end of it is a script, and the other way round.
-use Rattle.std.proofs.Common.{◌≡◌, ℕ, ◌∙◌, refl, subst, sym, inr, Option, None, Some, List, [], ◌∷◌, ◌++◌, append-nil, ap, IsSome}
-use Rattle.mongo_wire.specs.declared.error.ErrorKind.TheVariants.{IncompatibleServer}
+-- The plan of an establishment has one turn; an end of its handshake is a script, and a script is an end of both.
+use Rattle.std.proofs.Common.{◌≡◌, ℕ, ◌∙◌, refl, subst, sym, inr, List, [], ◌∷◌, ◌++◌, append-nil, ap}
 use Rattle.mongo_command.specs.declared.stream_description.StreamDescription.{StreamDescription}
 use Rattle.mongo_command.specs.Conversation.{Event, exchanged, IsOne, HasNone, HasOneTurn, IsSendable, said_in}
 use Rattle.mongo_command.proofs.Plans.{one_ending, one_unless, one_followed}
-use Rattle.mongo_command.proofs.Ends.{Ends, ends_ending, ends_unless, ends_followed, ends_both}
+use Rattle.mongo_command.proofs.Ends.{Ends, ends_followed, ends_both}
 use Rattle.mongo_sasl.proofs.LoginEvents.{replies_in, documents_in, AreSendable, AreWithin}
 use Rattle.mongo_establish.specs.declared.generation.PoolGeneration.{PoolGeneration}
-use Rattle.mongo_establish.specs.declared.generation.PoolGeneration.TheVariants.{Normal, LoadBalanced}
 use Rattle.mongo_establish.specs.Asked.{Asked}
 use Rattle.mongo_establish.specs.Generation.{NamesService}
 use Rattle.mongo_establish.specs.Greeting.{Greeting, Greets}
@@ -41,21 +39,7 @@ one_establishment asked = one_followed (handshake_plan asked) (service_plan aske
 pub named_service : (pool : PoolGeneration) (d : StreamDescription) → NamesService pool d → HasNone (NoService pool d)
 named_service pool d named kind row = row.1 named
 
-is_there : {X : Type 0} (o : Option X) → ((IsSome o → ⊥) → ⊥) → IsSome o
-is_there (Some x) h = refl
-is_there None h = absurd (h (λ is. let no : ⊥ = cc in absurd no))
-
-names_service : (pool : PoolGeneration) (d : StreamDescription) → HasNone (NoService pool d) → NamesService pool d
-names_service (Normal n) d none = tt
-names_service (LoadBalanced entries) d none = is_there d.service_id (λ unnamed. none IncompatibleServer (refl, unnamed))
-
-service_ended : (asked : Asked) (greeting answer : Greeting) (events : List Event) → Ends (service_plan asked greeting) events answer → NamesService asked.pending.generation greeting.description × (events ≡ []) × (answer ≡ greeting)
-service_ended asked greeting answer events ended =
-    let named = ends_unless _ _ events answer ended in
-    let last = ends_ending greeting events answer named.1 in
-    (names_service asked.pending.generation greeting.description named.0, last.0, last.1)
-
--- ---- an end is a script
+-- ---- a handshake's end is a script, where a service that has to be named is
 
 -- what an end's events are: a hello that could be made and whose reply greets, a login, and a service that is named
 pub record IsEstablished (asked : Asked) (events : List Event) (greeting : Greeting) : Type 0 where
@@ -68,7 +52,7 @@ pub record IsEstablished (asked : Asked) (events : List Event) (greeting : Greet
   pub within : AreWithin (maximum_of greeting) more
   pub service : NamesService asked.pending.generation greeting.description
 
-handshake_ended : (asked : Asked) (events : List Event) (greeting : Greeting) → Ends (handshake_plan asked) events greeting → NamesService asked.pending.generation greeting.description → IsEstablished asked events greeting
+pub handshake_ended : (asked : Asked) (events : List Event) (greeting : Greeting) → Ends (handshake_plan asked) events greeting → NamesService asked.pending.generation greeting.description → IsEstablished asked events greeting
 unfolding handshake_plan
 handshake_ended asked events greeting ended service =
     let both = ends_followed (hello_plan asked) (login_plan asked) events greeting (one_hello asked) ended in
@@ -85,15 +69,6 @@ handshake_ended asked events greeting ended service =
       within = subst (λ g. AreWithin (maximum_of g) both.more) same login.2;
       service = service;
     }
-
-pub establishment_ended : (asked : Asked) (events : List Event) (greeting : Greeting) → Ends (establishment_plan asked) events greeting → IsEstablished asked events greeting
-unfolding establishment_plan
-establishment_ended asked events greeting ended =
-    let both = ends_followed (handshake_plan asked) (service_plan asked) events greeting (one_handshake asked) ended in
-    let service = service_ended asked both.answer greeting both.more both.second in
-    let same : both.front ≡ events = sym (both.events_are ∙ ap (λ x. both.front ++ x) service.1 ∙ append-nil both.front) in
-    let handshake = handshake_ended asked both.front both.answer both.first service.0 in
-    subst (λ x. IsEstablished asked x greeting) same (subst (IsEstablished asked both.front) (sym service.2) handshake)
 
 -- ---- and a script is an end
 

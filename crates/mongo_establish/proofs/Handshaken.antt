@@ -7,8 +7,6 @@ use Rattle.mongo_command.specs.declared.stream_description.StreamDescription.{St
 use Rattle.mongo_command.specs.declared.hello.HelloReply.{HelloReply}
 use Rattle.mongo_command.specs.declared.server_address.ServerAddress.{ServerAddress}
 use Rattle.mongo_command.specs.Conversation.{Plan, unless, saying, Reached, Stopped}
-use Rattle.mongo_command.proofs.Steps.{reached_ending, reached_unless}
-use Rattle.mongo_command.proofs.FollowedBy.{reached_both}
 use Rattle.mongo_sasl.specs.declared.credential.Credential.{Credential}
 use Rattle.mongo_establish.specs.declared.establisher.EstablishError.{EstablishError}
 use Rattle.mongo_establish.specs.declared.establisher.HandshakePhase.{HandshakePhase}
@@ -18,17 +16,16 @@ use Rattle.mongo_establish.specs.declared.establisher.PooledConnection.{PooledCo
 use Rattle.mongo_establish.specs.declared.login_state.Nonces.{Nonces}
 use Rattle.mongo_establish.specs.declared.options.HandshakerOptions.{HandshakerOptions}
 use Rattle.mongo_establish.specs.Asked.{Asked, asked_for, asked_over}
-use Rattle.mongo_establish.specs.Established.{Established, IsDescribed, ShookHands, StoppedHandshake, StoppedHello, StoppedLogin}
+use Rattle.mongo_establish.specs.Established.{Describes, Established, IsDescribed, ShookHands, StoppedHandshake, StoppedHello, StoppedLogin}
 use Rattle.mongo_establish.specs.Generation.{NamesService, generation_of}
 use Rattle.mongo_establish.specs.Greeting.{Greeting}
-use Rattle.mongo_establish.specs.Plan.{hello_said, after_hello, hello_plan, login_plan, handshake_plan, service_plan, establishment_plan}
+use Rattle.mongo_establish.specs.Plan.{hello_said, after_hello, hello_plan, login_plan, handshake_plan}
 use Rattle.mongo_establish.specs.Pooled.{phase_at, IsPooled, UnnamedService}
 use Rattle.mongo_establish.specs.Refusal.{NoService}
 use Rattle.mongo_establish.specs.Speculation.{HelloRow}
 use Rattle.mongo_establish.specs.Stopped.{StoppedIn, StoppedAfterHello}
 use Rattle.mongo_establish.proofs.LoginAlike.{pending_over, reached_alike, stopped_alike}
-use Rattle.mongo_establish.proofs.EstablishmentPlan.{named_service}
-use Rattle.mongo_establish.proofs.EstablishedScript.{established_by, script_greeting}
+use Rattle.mongo_establish.proofs.EstablishedScript.{handshake_reached, script_by, scripted_by}
 
 -- ---- the plans of a handshake
 
@@ -38,6 +35,12 @@ hello_at asked address = unless (HelloRow asked.credential) (saying (hello_said 
 
 same_description : (a b : StreamDescription) → Some a ≡ Some b → a ≡ b
 same_description a b e = cc
+
+-- a fresh connection that holds what its server says
+pub is_described : (asked : Asked) (opened connection : Connection) (greeting : Greeting) → Describes opened connection greeting → opened.address ≡ asked.pending.address → opened.id ≡ asked.pending.id → opened.oidc_token_gen_id ≡ 0 → IsDescribed asked connection greeting
+is_described asked opened connection greeting d address number token =
+    let holds = d.holds in
+    record { address = holds.address ∙ address; id = holds.id ∙ number; description_is = holds.description_is; server_id = holds.server_id; token = holds.token ∙ token; faultless = d.faultless }
 
 module _ (pending : PendingConnection) (options : HandshakerOptions) (credential : Option Credential) (nonces : Nonces) (id : ℤ) (opened : Connection) (same : opened.address ≡ pending.address) where
   abbrev wanted : Asked
@@ -62,37 +65,24 @@ module _ (pending : PendingConnection) (options : HandshakerOptions) (credential
 
   -- ---- a handshake that was followed to its end
 
-  handshake_reached : (connection : Connection) (old new : State) (after : ℤ) (reply : HelloReply) (s : ShookHands over opened connection old new after reply) → Reached (handshake_plan wanted) s.greeting old new id after
-  unfolding handshake_plan
-  handshake_reached connection old new after reply s =
-      reached_both (hello_plan wanted) (login_plan wanted) s.greeting s.greeting old s.middle new id s.between after (hello_reached s.greeting old s.middle id s.between s.hello) (login_reached s.greeting s.middle new s.between after s.login)
+  handshake_wanted : (connection : Connection) (old new : State) (after : ℤ) (reply : HelloReply) (s : ShookHands over opened connection old new after reply) → Reached (handshake_plan wanted) s.script.greeting old new id after
+  handshake_wanted connection old new after reply s =
+      let greeting = s.script.greeting in
+      handshake_reached wanted greeting old s.middle new s.between after (hello_reached greeting old s.middle id s.between s.hello) (login_reached greeting s.middle new s.between after s.login)
 
-  -- is a whole establishment, where a service that has to be named is
-  pub shaken_established : (connection : Connection) (old new : State) (after : ℤ) (reply : HelloReply) (s : ShookHands over opened connection old new after reply) → NamesService pending.generation s.greeting.description → Reached (establishment_plan wanted) s.greeting old new id after
-  unfolding establishment_plan
-  shaken_established connection old new after reply s named =
-      reached_both (handshake_plan wanted) (service_plan wanted) s.greeting s.greeting old new new id after after (handshake_reached connection old new after reply s)
-      (reached_unless _ _ s.greeting new new after after (named_service pending.generation s.greeting.description named) (reached_ending s.greeting new after))
-
-  described_by : (connection : Connection) (old new : State) (after : ℤ) (reply : HelloReply) (s : ShookHands over opened connection old new after reply) → opened.id ≡ pending.id → opened.oidc_token_gen_id ≡ 0 → IsDescribed wanted connection s.greeting
-  described_by connection old new after reply s number token =
-      let holds = s.described.holds in
-      record { address = holds.address ∙ same; id = holds.id ∙ number; description_is = holds.description_is; server_id = holds.server_id; token = holds.token ∙ token; faultless = s.described.faultless }
-
-  -- the connection that is ready for commands, by its handshake
+  -- is the connection that is ready for commands, where a service that has to be named is
   pub established : (connection : Connection) (old new : State) (after : ℤ) (reply : HelloReply) (pooled : PooledConnection) → opened.id ≡ pending.id → opened.oidc_token_gen_id ≡ 0 → ShookHands over opened connection old new after reply → IsPooled connection pending.generation pooled → Established wanted old new after pooled
   established connection old new after reply pooled number token s p =
-      let description : p.description ≡ s.greeting.description = same_description p.description s.greeting.description (sym p.described ∙ s.described.holds.description_is) in
-      let described = described_by connection old new after reply s number token in
-      established_by wanted s.greeting old new after pooled
-      (shaken_established connection old new after reply s (subst (NamesService pending.generation) description p.named))
-      (subst (λ c. IsDescribed wanted c s.greeting) (sym p.connection_is) described)
-      (p.generation_is ∙ ap (generation_of pending.generation) description)
-
-  pub established_greeting : (connection : Connection) (old new : State) (after : ℤ) (reply : HelloReply) (pooled : PooledConnection) (number : opened.id ≡ pending.id) (token : opened.oidc_token_gen_id ≡ 0) (s : ShookHands over opened connection old new after reply) (p : IsPooled connection pending.generation pooled)
-      → (established connection old new after reply pooled number token s p).script.greeting ≡ s.greeting
-  unfolding established
-  established_greeting connection old new after reply pooled number token s p = script_greeting wanted s.greeting old new after pooled _ _ _
+      let greeting = s.script.greeting in
+      let description : p.description ≡ greeting.description = same_description p.description greeting.description (sym p.described ∙ s.described.holds.description_is) in
+      let whole = handshake_wanted connection old new after reply s in
+      let named = subst (NamesService pending.generation) description p.named in
+      record {
+        script = script_by wanted greeting old new after whole named;
+        scripted = scripted_by wanted greeting old new after whole named;
+        connection = subst (λ c. IsDescribed wanted c greeting) (sym p.connection_is) (is_described wanted opened connection greeting s.described same number token);
+        generation = p.generation_is ∙ ap (generation_of pending.generation) description;
+      }
 
   -- ---- a handshake that was stopped, and one whose server named no service
 
@@ -122,13 +112,13 @@ module _ (pending : PendingConnection) (options : HandshakerOptions) (credential
 
   pub unnamed_stopped : (connection : Connection) (old new : State) (after : ℤ) (reply : HelloReply) (e : EstablishError) → ShookHands over opened connection old new after reply → UnnamedService connection pending.generation e → StoppedIn e.handshake_phase wanted e.cause.kind old new after
   unnamed_stopped connection old new after reply e s u =
-      let description : u.description ≡ s.greeting.description = same_description u.description s.greeting.description (sym u.described ∙ s.described.holds.description_is) in
-      let unnamed : NoService pending.generation s.greeting.description e.cause.kind = (u.kind_is, subst (λ d. NamesService pending.generation d → ⊥) description u.unnamed) in
-      late_phase e.handshake_phase s.greeting.description e.cause.kind old new after (u.phase_is ∙ ap (λ d. PostHello (generation_of pending.generation d)) description) (record {
-        greeting = s.greeting;
+      let description : u.description ≡ s.script.greeting.description = same_description u.description s.script.greeting.description (sym u.described ∙ s.described.holds.description_is) in
+      let unnamed : NoService pending.generation s.script.greeting.description e.cause.kind = (u.kind_is, subst (λ d. NamesService pending.generation d → ⊥) description u.unnamed) in
+      late_phase e.handshake_phase s.script.greeting.description e.cause.kind old new after (u.phase_is ∙ ap (λ d. PostHello (generation_of pending.generation d)) description) (record {
+        greeting = s.script.greeting;
         middle = s.middle;
         between = s.between;
-        hello = hello_reached s.greeting old s.middle id s.between s.hello;
+        hello = hello_reached s.script.greeting old s.middle id s.between s.hello;
         generation_is = refl;
-        stopped = inr (record { login = login_reached s.greeting s.middle new s.between after s.login; unnamed = unnamed });
+        stopped = inr (record { login = login_reached s.script.greeting s.middle new s.between after s.login; unnamed = unnamed });
       })

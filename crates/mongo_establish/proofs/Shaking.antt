@@ -26,6 +26,7 @@ use Rattle.mongo_establish.specs.Greeting.{Greeting, greeting_in}
 use Rattle.mongo_establish.specs.LoggingIn.{LogsIn, LoginStops}
 use Rattle.mongo_establish.specs.Plan.{hello_exchange, hello_plan}
 use Rattle.mongo_establish.specs.Speculation.{HelloRow, answer_to, left_in, speculation}
+use Rattle.mongo_establish.proofs.EstablishedScript.{handshake_reached, script_by, scripted_by}
 use Rattle.mongo_establish.proofs.FirstRounds.{first_speculation, round_of}
 use Rattle.mongo_establish.proofs.HelloBody.{unmade_refused}
 use Rattle.mongo_establish.proofs.HelloExchange.{unbuilt_stopped}
@@ -168,15 +169,19 @@ module _ (opened : Connection) (options : HandshakerOptions) (credential : Optio
 
       pub shook : (connection : Connection) (early : Ledgers) (new : Balance) (answer : HelloReply) → KeepsRest described connection → kept_fault connection ≡ None → answer ≡ taken_out reply sent
           → LogsIn anew described.stream_description round (balance middle between early) new → ShookHands asked opened connection old new.state new.id answer
-      shook connection early new answer later faultless is h = record {
-        greeting = greeting;
-        middle = middle;
-        between = between;
-        hello = hello_reached;
-        login = reached_alike (pending_over described) (pending_over opened) options credential nonces between id greeting middle new.state between new.id (h.reached greeting greeted.described.holds.description_is held_round);
-        described = record { holds = held connection later; faultless = faultless };
-        reply_is = is_reply answer is;
-      }
+      shook connection early new answer later faultless is h =
+          let login = reached_alike (pending_over described) (pending_over opened) options credential nonces between id greeting middle new.state between new.id (h.reached greeting greeted.described.holds.description_is held_round) in
+          let whole = handshake_reached asked greeting old middle new.state between new.id hello_reached login in
+          record {
+            script = script_by asked greeting old new.state new.id whole tt;
+            scripted = scripted_by asked greeting old new.state new.id whole tt;
+            middle = middle;
+            between = between;
+            hello = hello_reached;
+            login = login;
+            described = record { holds = held connection later; faultless = faultless };
+            reply_is = is_reply answer is;
+          }
 
       pub shook_costs : (early : Ledgers) (new : Balance) → LogsIn anew described.stream_description round (balance middle between early) new → HandshakeCosts asked (balance old id early) new
       shook_costs early new h = record {

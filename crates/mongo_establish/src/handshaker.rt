@@ -42,9 +42,11 @@ impl Drop for Handshaker {
 }
 
 impl Handshaker {
-    ghost use Rattle.std.specs.Prelude.{◌≡◌, None, option_copied, option_map, IfOk, IfErr, OnErr};
+    ghost use Rattle.std.specs.Prelude.{◌≡◌, ◌⊎◌, List, ℕ, None, Some, option_copied, option_map, IfOk, IfErr, OnErr};
     ghost use Rattle.mongo_wire.specs.declared.error.ErrorKind.TheVariants.{OutOfMemory};
+    ghost use Rattle.mongo_wire.specs.Outside.{Rose};
     ghost use Rattle.mongo_command.specs.Connection.{kept_fault};
+    ghost use Rattle.mongo_command.specs.Conversation.{Said, Turn, refuses, Leads, LeftBy};
     ghost use Rattle.mongo_command.specs.Exchange.{CountsStay, DocumentRefused};
     ghost use Rattle.mongo_sasl.specs.EndsByScript.{KeepsAfter};
     ghost use Rattle.mongo_scram.specs.Cache.{entries_of};
@@ -54,7 +56,10 @@ impl Handshaker {
     ghost use Rattle.mongo_establish.specs.Costs.{CostsOf};
     ghost use Rattle.mongo_establish.specs.Established.{GreetedBy, UngreetedBy, ShookHands, StoppedHandshake};
     ghost use Rattle.mongo_establish.specs.First.{first_document};
+    ghost use Rattle.mongo_establish.specs.Greeting.{Greeting};
     ghost use Rattle.mongo_establish.specs.Options.{options_in};
+    ghost use Rattle.mongo_establish.specs.Plan.{handshake_plan};
+    ghost use Rattle.mongo_establish.specs.Script.{HasScript};
     ghost use Rattle.mongo_establish.specs.Speculation.{SpeaksFor};
 
     /// A handshaker with these options. What the hellos of all logins have in common is built once.
@@ -87,10 +92,27 @@ impl Handshaker {
         requires spoken { SpeaksFor (option_copied credential) }
         requires undescribed { connection.old.stream_description ≡ None }
         requires faultless { kept_fault connection.old ≡ None }
+
+        // What was written and read is exactly a script, and the connection and the reply are what its replies say.
         ensures shook { IfOk result (ShookHands (asked_over connection.old (options_in self.now) (option_copied credential.entry) inputs.now.nonces state.old.ids) connection.old connection.new
             (L.state link.old) (L.state link.new) state.new.ids) }
+
+        // A refusal says why it comes, how far the handshake had come and what it left.
         ensures refused { IfErr result (λ e. StoppedHandshake (asked_over connection.old (options_in self.now) (option_copied credential.entry) inputs.now.nonces state.old.ids) connection.old connection.new e.kind
             (L.state link.old) (L.state link.new) state.new.ids) }
+
+        // A script's replies at the front of the bytes left are answered by Ok, unless the link fails or memory runs out.
+        ensures complete { (bytes : List ℕ) → (L.state link.old).left ≡ Some bytes → HasScript (asked_over connection.old (options_in self.now) (option_copied credential.entry) inputs.now.nonces state.old.ids) bytes →
+            (Rose (L.state link.old).read_faults (L.state link.new).read_faults → ⊥) → (Rose (L.state link.old).write_faults (L.state link.new).write_faults → ⊥) →
+            IfErr result (λ e. e.kind ≡ OutOfMemory) }
+
+        // Bytes left that call for a refusal get just that one, and the link is left as it says; those that lead to an end get none.
+        ensures exact { (bytes taken unread : List ℕ) (outcome : Turn Greeting) (commands : List Said) → (L.state link.old).left ≡ Some bytes →
+            Leads (handshake_plan (asked_over connection.old (options_in self.now) (option_copied credential.entry) inputs.now.nonces state.old.ids)) bytes outcome commands taken unread →
+            (Rose (L.state link.old).read_faults (L.state link.new).read_faults → ⊥) → (Rose (L.state link.old).write_faults (L.state link.new).write_faults → ⊥) →
+            IfErr result (λ e. (e.kind ≡ OutOfMemory) ⊎ ((outcome ≡ refuses e.kind) × LeftBy commands unread
+            (L.state link.old) (L.state link.new) state.old.ids state.new.ids)) }
+
         // What was derived and which entries there are, by how the login came out.
         ensures costs { CostsOf result (asked_over connection.old (options_in self.now) (option_copied credential.entry) inputs.now.nonces state.old.ids)
             (balance (L.state link.old) state.old.ids (ledgers steps.old state.old.salted)) (balance (L.state link.new) state.new.ids (ledgers steps.new state.new.salted)) }

@@ -44,9 +44,10 @@ never_refused (Err e) memory is = is memory
 -- what is written is the script's
 sent_by : (asked : Asked) (bytes : List ℕ) (old new : State) (after : ℤ) (pooled : PooledConnection) (h : HasScript asked bytes) → Established asked old new after pooled → old.left ≡ Some bytes → Appends old.written new.written h.sent
 sent_by asked bytes old new after pooled h e is =
-    let t = e.taken bytes is in
-    let k : HasScript asked bytes = record { script = e.script; is_script = e.is_script; sent = e.sent; is_written = e.is_written; taken = t.taken; rest = t.rest; joined = t.joined; is_taken = t.is_taken } in
-    subst (Appends old.written new.written) (one_script asked bytes k h).sent e.written
+    let s = e.scripted in
+    let t = s.taken bytes is in
+    let k : HasScript asked bytes = record { script = e.script; is_script = s.is_script; sent = s.sent; is_written = s.is_written; taken = t.taken; rest = t.rest; joined = t.joined; is_taken = t.is_taken } in
+    subst (Appends old.written new.written) (one_script asked bytes k h).sent s.written
 
 module _ (pending : PendingConnection) (options : HandshakerOptions) (first_id : ℤ) (x : Exchange) (login : UserLogin) (bytes : List ℕ) (logs : IsExchangeClient x login) (heard : AreExchangeReplies x bytes) (pool : pending.generation ≡ Normal 0) (usual : options ≡ handshaker_options) (first : first_id ≡ pos 0) where
   abbrev asked : Asked

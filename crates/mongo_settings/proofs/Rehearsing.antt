@@ -83,9 +83,10 @@ described asked old new after (Err refusal) made = tt
 made : (settings : Settings) (old new : State) (after : ℤ) (pooled : PooledConnection) (output left : List ℕ) (taken : ℕ) (x : Rehearsal)
     → Established (asked_of settings) old new after pooled → Replayed settings.replies output left old new → taken ≡ length settings.replies - length left → TellsMade output taken pooled x → Replays settings (Ok pooled) old new x
 made settings old new after pooled output left taken x e p taken_is tells =
-    let sent : output ≡ e.sent = appended p.front output e.sent old.written new.written p.before p.written_is e.written in
-    let f = Framed-from_sent _ _ e.script.commands (asked_of settings).first_id e.sent e.is_written in
-    let t = e.taken settings.replies p.given in
+    let s = e.scripted in
+    let sent : output ≡ s.sent = appended p.front output s.sent old.written new.written p.before p.written_is s.written in
+    let f = Framed-from_sent _ _ e.script.commands (asked_of settings).first_id s.sent s.is_written in
+    let t = s.taken settings.replies p.given in
     let g = e.script.greeting in
     let rest : left ≡ t.rest = same_some left t.rest (sym p.left_is ∙ t.left_is) in
     let count : taken ≡ length t.taken = taken_is ∙ taken_length settings.replies t.taken t.rest left t.joined rest in
@@ -94,10 +95,10 @@ made settings old new after pooled output left taken x e p taken_is tells =
         rehearsal_is = record {
           report = record {
             outcome = accepted (record { script = e.script; taken = t.taken; unread = t.rest });
-            is_outcome = record { is_script = e.is_script; joined = t.joined; is_taken = t.is_taken };
+            is_outcome = record { is_script = s.is_script; joined = t.joined; is_taken = t.is_taken };
             frames = f.frames;
             each_frame = f.each;
-            sent = subst (IsWritten (asked_of settings) e.script) f.joined e.is_written;
+            sent = subst (IsWritten (asked_of settings) e.script) f.joined s.is_written;
             text_is = (tells.text g.description e.connection.description_is).told f.frames [] f.each refl (whole_frames output f.frames (sent ∙ f.joined))
                 ∙ ap (λ n. sent_lines f.frames ++ (read_count_line n ++ accepted_lines g.description pooled.generation pooled.connection.server_id)) count
                 ∙ ap (λ generation. sent_lines f.frames ++ (read_count_line (length t.taken) ++ accepted_lines g.description generation pooled.connection.server_id)) e.generation
@@ -108,8 +109,8 @@ made settings old new after pooled output left taken x e p taken_is tells =
         logs_in_is = refl;
       };
       left_as = record {
-        written = subst (Appends old.written new.written) f.joined e.written;
-        flushed = inr e.flushed;
+        written = subst (Appends old.written new.written) f.joined s.written;
+        flushed = inr s.flushed;
         taken = consumed settings.replies t.taken t.rest old.left new.left p.given t.left_is t.joined;
       };
     }

@@ -89,7 +89,7 @@ shorter bytes left is = let parts : length bytes ≡ length is.0 + length left =
 pub left_within : (asked : Asked) (old new : State) (after : ℤ) (bytes left : List ℕ) (ended : Result PooledConnection EstablishError) → IfOk ended (Established asked old new after) → IfErr ended (λ e. StoppedIn e.handshake_phase asked e.cause.kind old new after)
     → old.left ≡ Some bytes → new.left ≡ Some left → length left ≤ length bytes
 left_within asked old new after bytes left (Ok pooled) made refused was is =
-    let replies = made.taken bytes was in
+    let replies = made.scripted.taken bytes was in
     shorter bytes left (replies.taken, replies.joined ∙ ap (λ rest. replies.taken ++ rest) (same_some replies.rest left (sym replies.left_is ∙ is))) where
       same_some : (a b : List ℕ) → Some a ≡ Some b → a ≡ b
       same_some a b e = cc

@@ -1,5 +1,7 @@
 use Rattle.mongo_establish.specs.Options.{options_of_establisher}
-use Rattle.mongo_establish.proofs.Monitoring.{monitored, unmonitored, monitored_memory, monitored_refused}
+use Rattle.mongo_establish.proofs.Establishment.{only_memory, only_refused}
+use Rattle.mongo_establish.proofs.EstablishmentPlan.{one_establishment}
+use Rattle.mongo_establish.proofs.Monitoring.{monitored, unmonitored, unmonitored_whole}
 use Rattle.mongo_establish.proofs.Shaking.{handed_on}
 use Rattle.mongo_establish.proofs.establisher.ConnectionEstablisher.establish_monitoring_connection.Goals as goal
 
@@ -9,14 +11,13 @@ returns-in_err-reply-clause-refused g c =
     _ c.say_hello.new.connection _ _ _ (handed_on _ c.say_hello.result c.in_err-reply.field-0.0 _ c.from_residual.ensures.1 c.in_err-reply.was c.say_hello.ensures.refused)
 
 pub returns-in_err-reply-clause-complete : goal.returns-in_err-reply-clause-complete
-returns-in_err-reply-clause-complete g c bytes is script unfailed unwritten =
-    monitored_memory c.args.address c.args.id (options_of_establisher c.args.self.now) c.args.ids.now c.new-connection.result c.new-connection.ensures.address
-    _ _ _ _ bytes (returns-in_err-reply-clause-refused g c) is script unfailed unwritten
+returns-in_err-reply-clause-complete g c =
+    only_memory c.from_residual.result (λ e. e.kind) _ _ _ _ (unmonitored_whole c.args.address c.args.id (options_of_establisher c.args.self.now) c.args.ids.now c.new-connection.result c.new-connection.ensures.address c.from_residual.result _ _ _ (returns-in_err-reply-clause-refused g c))
 
 pub returns-in_err-reply-clause-exact : goal.returns-in_err-reply-clause-exact
-returns-in_err-reply-clause-exact g c bytes taken unread outcome commands is leads unfailed unwritten =
-    monitored_refused c.args.address c.args.id (options_of_establisher c.args.self.now) c.args.ids.now c.new-connection.result c.new-connection.ensures.address
-    _ _ _ _ bytes taken unread outcome commands (returns-in_err-reply-clause-refused g c) is leads unfailed unwritten
+returns-in_err-reply-clause-exact g c =
+    only_refused c.from_residual.result (λ e. e.kind) _ _ _ _ _ (one_establishment _)
+    (unmonitored_whole c.args.address c.args.id (options_of_establisher c.args.self.now) c.args.ids.now c.new-connection.result c.new-connection.ensures.address c.from_residual.result _ _ _ (returns-in_err-reply-clause-refused g c))
 
 pub returns-clause-monitored : goal.returns-clause-monitored
 returns-clause-monitored g c =

@@ -5,6 +5,9 @@ use Rattle.mongo_scram.proofs.Derived.{costs_nothing, on_refused}
 use Rattle.mongo_establish.specs.First.{IsUnmade}
 use Rattle.mongo_establish.specs.Options.{options_in}
 use Rattle.mongo_establish.specs.Speculation.{HelloRow, speculation}
+use Rattle.mongo_establish.proofs.Answered.{shaking_stopped, handshake_stopped}
+use Rattle.mongo_establish.proofs.Establishment.{only_memory, only_refused}
+use Rattle.mongo_establish.proofs.EstablishmentPlan.{one_handshake}
 use Rattle.mongo_establish.proofs.Keeping.{first_own}
 use Rattle.mongo_establish.proofs.Shaking.{unmade_stopped, unmade_costs, ungreeted_stopped, ungreeted_costs, login_stopped, login_stopped_costs, shook, shook_costs, handed_on, ok_of, if_err_of}
 use Rattle.mongo_establish.proofs.handshaker.Handshaker.handshake.Goals as goal
@@ -61,6 +64,32 @@ returns-clause-costs g c = record {
       _ _ (ok_of c.log_in.result c.in_ok-log_in.field-0 c.in_ok-log_in.was c.log_in.ensures.logged_in);
   refused = tt;
 }
+
+-- ---- where the link doesn't fail
+
+pub returns-in_err-first-clause-complete : goal.returns-in_err-first-clause-complete
+returns-in_err-first-clause-complete g c =
+    only_memory c.from_residual.result (λ e. e.kind) _ _ _ _ (handshake_stopped c.from_residual.result _ _ _ _ (shaking_stopped c.from_residual.result _ _ _ _ _ _ (returns-in_err-first-clause-refused g c)))
+
+pub returns-in_err-first-clause-exact : goal.returns-in_err-first-clause-exact
+returns-in_err-first-clause-exact g c =
+    only_refused c.from_residual.result (λ e. e.kind) _ _ _ _ _ (one_handshake _) (shaking_stopped c.from_residual.result _ _ _ _ _ _ (returns-in_err-first-clause-refused g c))
+
+pub returns-in_err-reply-clause-complete : goal.returns-in_err-reply-clause-complete
+returns-in_err-reply-clause-complete g c =
+    only_memory c.from_residual-in_err-reply.result (λ e. e.kind) _ _ _ _ (handshake_stopped c.from_residual-in_err-reply.result _ _ _ _ (shaking_stopped c.from_residual-in_err-reply.result _ _ _ _ _ _ (returns-in_err-reply-clause-refused g c)))
+
+pub returns-in_err-reply-clause-exact : goal.returns-in_err-reply-clause-exact
+returns-in_err-reply-clause-exact g c =
+    only_refused c.from_residual-in_err-reply.result (λ e. e.kind) _ _ _ _ _ (one_handshake _) (shaking_stopped c.from_residual-in_err-reply.result _ _ _ _ _ _ (returns-in_err-reply-clause-refused g c))
+
+pub returns-in_err-log_in-clause-complete : goal.returns-in_err-log_in-clause-complete
+returns-in_err-log_in-clause-complete g c =
+    only_memory c.from_residual-in_err-log_in.result (λ e. e.kind) _ _ _ _ (handshake_stopped c.from_residual-in_err-log_in.result _ _ _ _ (shaking_stopped c.from_residual-in_err-log_in.result _ _ _ _ _ _ (returns-in_err-log_in-clause-refused g c)))
+
+pub returns-in_err-log_in-clause-exact : goal.returns-in_err-log_in-clause-exact
+returns-in_err-log_in-clause-exact g c =
+    only_refused c.from_residual-in_err-log_in.result (λ e. e.kind) _ _ _ _ _ (one_handshake _) (shaking_stopped c.from_residual-in_err-log_in.result _ _ _ _ _ _ (returns-in_err-log_in-clause-refused g c))
 
 -- ---- what the connection keeps
 
