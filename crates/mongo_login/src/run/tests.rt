@@ -1,5 +1,6 @@
 ghost use Rattle.std.specs.Prelude.{◌<◌};
 
+mod batches;
 mod logins;
 mod million;
 mod rows;

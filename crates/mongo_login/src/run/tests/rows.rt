@@ -17,6 +17,8 @@ pub(super) enum Asked {
     Batch,
     // Words, the calls of the source and of the sink that fail, the status, and how much of the text is left.
     Faults,
+    // Words that read nothing, the status and what is written.
+    Words,
 }
 
 // The line of the hello that a run without a login sends.
@@ -104,6 +106,7 @@ fn holds(alloc: Global, asked: Asked, row: &str) -> Result<bool, Fail> {
     match asked {
         Asked::Settings => ends_so(alloc, "rehearse", first.as_bytes(), second, "", rest),
         Asked::Batch => ends_so(alloc, "batch", first.as_bytes(), second, "", rest),
+        Asked::Words => ends_so(alloc, first, &[], second, "", rest),
         Asked::Whole => {
             let (status, lines) = parts(rest);
             ends_so(alloc, "rehearse", second.as_bytes(), status, "", lines)
