@@ -2,11 +2,9 @@ ghost use Rattle.std.specs.Prelude.{◌≡◌, IsTrue};
 ghost use Rattle.mongo_scram.specs.Commands.{is_scram};
 
 use mongo_bson::Text;
-use mongo_establish::{
-    Credential, Error, LoginInputs, Moment, Nonces, ScramVersion, want_of_memory,
-};
+use mongo_establish::{Credential, Error, LoginInputs, Moment, Nonces, ScramVersion};
 use mongo_scram::ClientFirst;
-use std::alloc::{AllocError, Global};
+use std::alloc::Global;
 
 /// A user who logs in by SCRAM, and the nonces of the login.
 pub struct UserLogin {
@@ -33,23 +31,7 @@ impl UserLogin {
     ghost use Rattle.mongo_wire.specs.declared.error.ErrorKind.TheVariants.{OutOfMemory};
     ghost use Rattle.mongo_generate.specs.Login.{IsUserLogin, credential_by};
 
-    /// The login of a user of the database `admin`, by this version of SCRAM and these nonces.
-    pub fn new(
-        alloc: Global,
-        version: ScramVersion,
-        username: &str,
-        password: &str,
-        nonces: Nonces,
-    ) -> Result<UserLogin, AllocError>
-        ensures login { IfOk result (IsUserLogin version username.now password.now nonces) }
-    {
-        match UserLogin::of_user(alloc, version, username, password, nonces) {
-            Ok(login) => Ok(login),
-            Err(error) => Err(want_of_memory(error)),
-        }
-    }
-
-    // The same, for a caller that has other errors to hand on.
+    // The login of a user of the database `admin`, by this version of SCRAM and these nonces.
     pub(crate) fn of_user(
         alloc: Global,
         version: ScramVersion,
