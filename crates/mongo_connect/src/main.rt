@@ -2,7 +2,8 @@
 //!
 //! The first line of standard input is settings, those of `mongo_login rehearse` without reply bytes; what follows are the
 //! server's bytes. Standard output takes the frames, standard error the report. The call that does it is [`run::run`], and its
-//! clauses say what each end means. Nothing of the server's bytes is asked for before the frames that they answer are written.
+//! clauses say what each end means. Nothing of the server's bytes is asked for before the frames that they answer are written
+//! (its tests show this).
 #![tactic(auto)]
 
 mod connecting;
