@@ -39,9 +39,15 @@ fn nested(alloc: Global) -> Result<RawDocumentBuf, BsonFault> {
     Ok(document)
 }
 
-// A document of values of many kinds. One name isn't ASCII.
+// A document of values of many kinds.
 fn leaf(alloc: Global) -> Result<RawDocumentBuf, BsonFault> {
     let mut document = RawDocumentBuf::new(alloc)?;
+    append_kinds(&mut document)?;
+    Ok(document)
+}
+
+// Appends values of many kinds. One name isn't ASCII.
+fn append_kinds(document: &mut RawDocumentBuf) -> Result<(), BsonFault> {
     document.append(
         "_id",
         RawValue::ObjectId(ObjectId([0, 1, 2, 3, 4, 5, 6, 7, 8, 9, 10, 11])),
@@ -55,8 +61,7 @@ fn leaf(alloc: Global) -> Result<RawDocumentBuf, BsonFault> {
     document.append("data", RawValue::Binary(0, b"sixteen octets.."))?;
     document.append("none", RawValue::Null)?;
     document.append("ort", RawValue::Str("Zürich"))?;
-    document.append("time", RawValue::Other(0x11, &[0; 8]))?;
-    Ok(document)
+    document.append("time", RawValue::Other(0x11, &[0; 8]))
 }
 
 // A document that holds another, and an array of four copies of it.
