@@ -1,8 +1,8 @@
 -- A rehearsal's report, from what the establishment over told bytes answers.
-use Rattle.std.proofs.Common.{◌≡◌, ℕ, ℤ, ◌+◌, ◌-◌, ◌⊎◌, ◌∙◌, ◌++◌, ap, subst, sym, arith, refl, inl, inr, Some, Option, Result, Ok, Err, List, [], ◌∷◌, length, length-append, append-nil, IfOk, IfErr, IsSome}
+use Rattle.std.proofs.Common.{◌≡◌, ℕ, ℤ, ◌+◌, ◌-◌, ◌⊎◌, ◌∙◌, ◌++◌, ap, subst, sym, arith, refl, inl, inr, Some, Option, Result, Ok, Err, List, [], ◌∷◌, length, length-append, append-nil, append_assoc, IfOk, IfErr, IsSome}
 use Rattle.std.proofs.lemmas.List.{append_cancel_left}
 use Rattle.std.specs.Io.KnownBytes.{Appends, Consumes}
-use Rattle.std.specs.List.{concat}
+use Rattle.std.specs.List.{AllByRecursion, concat}
 use Rattle.mongo_wire.specs.declared.error.ErrorKind.{ErrorKind}
 use Rattle.mongo_wire.specs.Outside.{State, Rose, IsFlushed}
 use Rattle.mongo_command.specs.Conversation.{Said, IsSaid, IsFlushedAfter}
@@ -18,9 +18,9 @@ use Rattle.mongo_establish.proofs.Establishment.{RefusedBy, stopped_refusal}
 use Rattle.mongo_settings.proofs.Sent.{Framed-from_sent, Framed-from_said}
 use Rattle.mongo_settings.specs.declared.settings.Settings.{Settings}
 use Rattle.mongo_settings.specs.declared.rehearsal.Rehearsal.{Rehearsal}
-use Rattle.mongo_settings.specs.Report.{sent_lines, read_count_line, accepted_lines, refused_lines}
+use Rattle.mongo_settings.specs.Report.{CountsItself, sent_lines, read_count_line, accepted_lines, refused_lines}
 use Rattle.mongo_settings.specs.Outcome.{asked_of, accepted, refused}
-use Rattle.mongo_settings.specs.Telling.{TellsMade, IsReported, TellsRefused, Tells}
+use Rattle.mongo_settings.specs.Telling.{IsTold, TellsMade, IsReported, TellsRefused, Tells}
 use Rattle.mongo_settings.specs.Rehearsal.{LeftAs}
 use Rattle.mongo_settings.specs.Rounds.{is_after_login}
 use Rattle.mongo_settings.specs.Takes.{Rehearses}
@@ -57,9 +57,11 @@ appended front output sent old new before is grown =
     let joined : front ++ output ≡ front ++ sent = subst (λ o. Appends (Some front) o sent) is (subst (λ o. Appends o new sent) before grown) in
     append_cancel_left front output sent joined
 
--- whole frames leave nothing over
-whole_frames : (output : List ℕ) (frames : List (List ℕ)) → output ≡ concat frames → output ≡ concat frames ++ []
-whole_frames output frames joined = joined ∙ sym (append-nil (concat frames))
+-- of whole frames, which leave nothing over, all is told
+told_whole : (output : List ℕ) (taken : ℕ) (lines text : List ℕ) (frames : List (List ℕ)) → IsTold output taken lines text → AllByRecursion CountsItself frames → output ≡ concat frames → text ≡ sent_lines frames ++ (read_count_line taken ++ lines)
+told_whole output taken lines text frames tells each joined =
+    let front = tells.traffic.told frames [] each refl (joined ∙ sym (append-nil (concat frames))) in
+    tells.text_is ∙ ap (λ l. l ++ lines) front ∙ append_assoc (sent_lines frames) (read_count_line taken) lines
 
 consumed : (bytes taken rest : List ℕ) (old new : Option (List ℕ)) → old ≡ Some bytes → new ≡ Some rest → bytes ≡ taken ++ rest → Consumes old new taken
 consumed bytes taken rest old new given is joined = rw (given, is) joined
@@ -99,7 +101,7 @@ made settings old new after pooled output left taken x e p taken_is tells =
             frames = f.frames;
             each_frame = f.each;
             sent = subst (IsWritten (asked_of settings) e.script) f.joined s.is_written;
-            text_is = (tells.text g.description e.connection.description_is).told f.frames [] f.each refl (whole_frames output f.frames (sent ∙ f.joined))
+            text_is = told_whole output taken _ _ f.frames (tells.text g.description e.connection.description_is) f.each (sent ∙ f.joined)
                 ∙ ap (λ n. sent_lines f.frames ++ (read_count_line n ++ accepted_lines g.description pooled.generation pooled.connection.server_id)) count
                 ∙ ap (λ generation. sent_lines f.frames ++ (read_count_line (length t.taken) ++ accepted_lines g.description generation pooled.connection.server_id)) e.generation
                 ∙ ap (λ i. sent_lines f.frames ++ (read_count_line (length t.taken) ++ accepted_lines g.description (generation_of (asked_of settings).pending.generation g.description) i)) e.connection.server_id;
@@ -136,7 +138,7 @@ told_refusal settings kind phase old new after output left taken refusal x kind_
             frames = f.frames;
             each_frame = f.each;
             sent = subst (IsSaid first.commands (asked_of settings).first_id) f.joined l.sent_is;
-            text_is = tells.text.told f.frames [] f.each refl (whole_frames output f.frames (sent ∙ f.joined))
+            text_is = told_whole output taken _ _ f.frames tells.text f.each (sent ∙ f.joined)
                 ∙ ap (λ n. sent_lines f.frames ++ (read_count_line n ++ refused_lines refusal.handshake_phase refusal.cause.kind)) count
                 ∙ ap (λ p. sent_lines f.frames ++ (read_count_line (length first.taken) ++ refused_lines p refusal.cause.kind)) (phase_is ∙ sym r.phase_is)
                 ∙ ap (λ k. sent_lines f.frames ++ (read_count_line (length first.taken) ++ refused_lines first.phase k)) (kind_is ∙ sym r.kind_is);

@@ -85,10 +85,6 @@ hello_ok_line boolean = line (codes "hello-ok") (boolean_word boolean ∷ [])
 unfoldable pub service_line : Option ObjectId → List ℕ
 service_line id = line (codes "service") (spelled_or_dash (λ service. encode_lower service.0) id ∷ [])
 
--- the generation of a connection that has no service
-unfoldable pub normal_generation_line : ℕ → List ℕ
-normal_generation_line number = line (codes "generation") (codes "normal" ∷ decimal number ∷ [])
-
 -- the server's number for the connection
 unfoldable pub server_id_line : Option ℤ → List ℕ
 server_id_line number = line (codes "server-id") (spelled_or_dash signed_decimal number ∷ [])
@@ -97,14 +93,14 @@ server_id_line number = line (codes "server-id") (spelled_or_dash signed_decimal
 unfoldable pub type_line : ServerType → List ℕ
 type_line server_type = line (codes "type") (type_name server_type ∷ [])
 
--- the generation of a connection to a service
-unfoldable pub service_generation_line : ℕ → List ℕ
-service_generation_line number = line (codes "generation") (codes "service" ∷ decimal number ∷ [])
+-- a generation, behind the word for whose it is
+unfoldable pub numbered_generation_line : List ℕ → ℕ → List ℕ
+numbered_generation_line whose number = line (codes "generation") (whose ∷ decimal number ∷ [])
 
--- the generation of a connection
+-- the generation of a connection, which is its pool's or a service's
 abbrev pub generation_line : ConnectionGeneration → List ℕ
-generation_line (Normal number) = normal_generation_line number
-generation_line (LoadBalanced number service) = service_generation_line number
+generation_line (Normal number) = numbered_generation_line (codes "normal") number
+generation_line (LoadBalanced number service) = numbered_generation_line (codes "service") number
 
 -- what kind of server it is, and what it speaks
 abbrev pub server_lines : StreamDescription → List ℕ

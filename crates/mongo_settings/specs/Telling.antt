@@ -10,16 +10,17 @@ use Rattle.mongo_settings.specs.declared.rehearsal.Rehearsal.{Rehearsal}
 use Rattle.mongo_settings.specs.declared.rehearsal.RehearsalStatus.TheVariants.{Accepted, Refused}
 use Rattle.mongo_settings.specs.Report.{CountsItself, front_length, sent_lines, read_count_line, accepted_lines, refused_lines}
 
--- The text is what was written, as frames, how many bytes were taken, and these last lines. What isn't a whole frame at the end of
--- what was written is left out.
-pub record IsTold (written : List ℕ) (taken : ℕ) (lines text : List ℕ) : Type 0 where
-  pub told : (frames : List (List ℕ)) (rest : List ℕ) → AllByRecursion CountsItself frames → front_length rest ≡ None → written ≡ concat frames ++ rest
-      → text ≡ sent_lines frames ++ (read_count_line taken ++ lines)
-
--- the text is the first of these: what was written and how many bytes were taken
+-- The text is what was written, as frames, and how many bytes were taken. What isn't a whole frame at the end of what was written is
+-- left out.
 pub record AreTrafficLines (written : List ℕ) (taken : ℕ) (text : List ℕ) : Type 0 where
   pub told : (frames : List (List ℕ)) (rest : List ℕ) → AllByRecursion CountsItself frames → front_length rest ≡ None → written ≡ concat frames ++ rest
       → text ≡ sent_lines frames ++ read_count_line taken
+
+-- the text is that, and these last lines
+pub record IsTold (written : List ℕ) (taken : ℕ) (lines text : List ℕ) : Type 0 where
+  pub front : List ℕ
+  pub traffic : AreTrafficLines written taken front
+  pub text_is : text ≡ front ++ lines
 
 -- of a connection that was made
 pub record TellsMade (written : List ℕ) (taken : ℕ) (pooled : PooledConnection) (rehearsal : Rehearsal) : Type 0 where

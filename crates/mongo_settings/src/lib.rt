@@ -23,7 +23,7 @@ pub use output::write_report;
 pub use rehearsal::{
     Login, Rehearsal, RehearsalStatus, connect, new_state, prepare, report_outcome,
 };
-pub use report::line::{begin_line, end_line, push_hex, push_number, push_word};
+pub use report::line::{begin_line, end_line, push_hex, push_number};
 pub use settings::{MAXIMUM_SETTINGS_LENGTH, Settings, SettingsError, read, settings_of};
 pub use status::Status;
 pub use task::{Logins, Task};

@@ -2,7 +2,7 @@
 ghost use Rattle.std.specs.Prelude.{◌≡◌, ◌++◌, ◌∷◌, OnOk, option_map};
 ghost use Rattle.hex.specs.Hex.{encode_lower};
 ghost use Rattle.mongo_settings.specs.Line.{spaced, spelled_or_dash};
-ghost use Rattle.mongo_settings.specs.Report.{wire_line, mechanism_words, mechanisms_line, session_line, sizes_line, boolean_word, hello_ok_line, service_line, normal_generation_line, server_id_line};
+ghost use Rattle.mongo_settings.specs.Report.{wire_line, mechanism_words, mechanisms_line, session_line, sizes_line, boolean_word, hello_ok_line, service_line, server_id_line};
 
 use crate::report::line::{
     begin_line, end_line, push_hex, push_number, push_optional_number, push_text, push_word,
@@ -116,17 +116,6 @@ fn push_optional_id(out: &mut Vec<u8>, id: Option<ObjectId>) -> Result<(), Alloc
         Some(id) => push_hex(out, &id.0),
         None => push_word(out, "-"),
     }
-}
-
-/// Appends the generation of a connection that has no service.
-#[tactic(auto, unfolding(crate::specs::Report::normal_generation_line))]
-pub fn push_normal_generation(out: &mut Vec<u8>, number: u32) -> Result<(), AllocError>
-    ensures { OnOk result (out.new.items ≡ out.old.items ++ normal_generation_line number) }
-{
-    begin_line(out, "generation")?;
-    push_word(out, "normal")?;
-    push_number(out, number)?;
-    end_line(out)
 }
 
 /// Appends the server's number for the connection, or `-` where it is absent.

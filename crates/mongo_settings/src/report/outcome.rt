@@ -1,11 +1,11 @@
 //! The lines that say how an establishment ended.
 ghost use Rattle.std.specs.Prelude.{◌≡◌, ◌++◌, OnOk};
-ghost use Rattle.mongo_settings.specs.Report.{type_line, generation_line, service_generation_line, phase_name, server_lines, limit_lines, description_lines, phase_line, accepted_lines, refused_lines};
+ghost use Rattle.mongo_settings.specs.Report.{type_line, generation_line, numbered_generation_line, phase_name, server_lines, limit_lines, description_lines, phase_line, accepted_lines, refused_lines};
 ghost use Rattle.mongo_settings.specs.Names.{type_name};
 
 use crate::report::description::{
-    push_hello_ok, push_mechanisms, push_normal_generation, push_server_id, push_service,
-    push_session, push_sizes, push_wire,
+    push_hello_ok, push_mechanisms, push_server_id, push_service, push_session, push_sizes,
+    push_wire,
 };
 use crate::report::line::{begin_line, end_line, push_number, push_word};
 use crate::report::refusal::push_cause;
@@ -107,19 +107,19 @@ fn push_generation(out: &mut Vec<u8>, generation: ConnectionGeneration) -> Resul
     ensures { OnOk result (out.new.items ≡ out.old.items ++ generation_line generation) }
 {
     match generation {
-        ConnectionGeneration::Normal(number) => push_normal_generation(out, number),
-        ConnectionGeneration::LoadBalanced { generation, .. } => push_service_generation(
-            out, generation,
+        ConnectionGeneration::Normal(number) => push_numbered_generation(out, "normal", number),
+        ConnectionGeneration::LoadBalanced { generation, .. } => push_numbered_generation(
+            out, "service", generation,
         ),
     }
 }
 
-#[tactic(auto, unfolding(crate::specs::Report::service_generation_line))]
-fn push_service_generation(out: &mut Vec<u8>, number: u32) -> Result<(), AllocError>
-    ensures { OnOk result (out.new.items ≡ out.old.items ++ service_generation_line number) }
+#[tactic(auto, unfolding(crate::specs::Report::numbered_generation_line))]
+fn push_numbered_generation(out: &mut Vec<u8>, whose: &str, number: u32) -> Result<(), AllocError>
+    ensures { OnOk result (out.new.items ≡ out.old.items ++ numbered_generation_line whose.now number) }
 {
     begin_line(out, "generation")?;
-    push_word(out, "service")?;
+    push_word(out, whose)?;
     push_number(out, number)?;
     end_line(out)
 }

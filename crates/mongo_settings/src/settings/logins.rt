@@ -44,11 +44,12 @@ fn each_settings(alloc: Global, values: &[Value]) -> Result<Vec<Settings>, Setti
     Ok(logins)
 }
 
-fn push(logins: &mut Vec<Settings>, settings: Settings) -> Result<(), SettingsError>
-    ensures pushed { OnOk result (logins.new.items ≡ logins.old.items ++ settings ∷ []) }
+// Over any type, so that its proof doesn't walk through the parts of settings.
+fn push<T: Drop>(list: &mut Vec<T>, item: T) -> Result<(), SettingsError>
+    ensures pushed { OnOk result (list.new.items ≡ list.old.items ++ item ∷ []) }
     ensures refused { IfErr result (λ e. e ≡ OutOfMemory) }
 {
-    match logins.push(settings) {
+    match list.push(item) {
         Ok(()) => Ok(()),
         Err(_) => Err(SettingsError::OutOfMemory),
     }

@@ -102,12 +102,28 @@ fn say(settings: &Settings, wanted: Wanted) -> bool {
     }
 }
 
-// Whether a text is settings that say this.
-fn reads(alloc: Global, text: &str, wanted: Wanted) -> bool {
-    match read(alloc, text.as_bytes()) {
-        Ok(settings) => say(&settings, wanted),
+// What can say something, as settings do.
+trait Says {
+    fn says(&self, wanted: Wanted) -> bool;
+}
+
+impl Says for Settings {
+    fn says(&self, wanted: Wanted) -> bool {
+        say(self, wanted)
+    }
+}
+
+// Whether something was read that says this. Over any type, so that its proof doesn't walk through the parts of settings.
+fn is_said<T: Says + Drop>(read: Result<T, SettingsError>, wanted: Wanted) -> bool {
+    match read {
+        Ok(settings) => settings.says(wanted),
         Err(_) => false,
     }
+}
+
+// Whether a text is settings that say this.
+fn reads(alloc: Global, text: &str, wanted: Wanted) -> bool {
+    is_said(read(alloc, text.as_bytes()), wanted)
 }
 
 // Settings, and what they say: a port beside a path says nothing, and of two keys that name one service the later in byte
@@ -214,10 +230,7 @@ const REFUSED: &str = " => Some(BadSettings)
 
 // Why a text is no settings; None where it is settings.
 fn cause_of(alloc: Global, text: &str) -> Option<SettingsError> {
-    match read(alloc, text.as_bytes()) {
-        Ok(_) => None,
-        Err(refused) => Some(refused),
-    }
+    read(alloc, text.as_bytes()).err()
 }
 
 // Whether the text of a row is refused for the cause behind the arrow.

@@ -4,7 +4,6 @@ ghost use Rattle.mongo_settings.specs.Task.{asks_of, AreSpoken};
 use mongo_mac::Steps;
 use mongo_settings::{
     Logins, Rehearsal, RehearsalStatus, Task, begin_line, end_line, push_hex, push_number,
-    push_word,
 };
 use std::alloc::{AllocError, Global};
 use std::marker::Brand;
@@ -118,11 +117,10 @@ fn a_batch_is_reported(rt: HostRuntime) {
     assert_eq!(rt; reports(rt.alloc(), Task::Batch, BATCH, REPORT), status);
 }
 
-// A line of a word, a number and bytes.
+// A line of a number and bytes.
 fn line(alloc: Global) -> Result<Vec<u8>, AllocError> {
     let mut out = Vec::new(alloc);
     begin_line(&mut out, "read")?;
-    push_word(&mut out, "-")?;
     push_number(&mut out, 274_u32)?;
     push_hex(&mut out, &[0, 171])?;
     end_line(&mut out)?;
@@ -132,7 +130,7 @@ fn line(alloc: Global) -> Result<Vec<u8>, AllocError> {
 #[test]
 fn a_line_is_written(rt: HostRuntime) {
     match line(rt.alloc()) {
-        Ok(line) => assert!(rt; line.as_slice() == b"read - 274 00ab\n".as_slice()),
+        Ok(line) => assert!(rt; line.as_slice() == b"read 274 00ab\n".as_slice()),
         Err(_) => assert!(rt; false),
     }
 }
