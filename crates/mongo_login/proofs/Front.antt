@@ -1,7 +1,8 @@
 -- What was held of an input and what is left of it.
-use Rattle.std.proofs.Common.{◌≡◌, ℕ, ◌+◌, ◌<◌, ◌≤◌, Option, None, Some, Result, Ok, Err, IfOk, OnErr, List, ◌++◌, length, take, drop, refl, sym, ap, ◌∙◌, subst, inl, inr, append-nil, arith, length-append}
+use Rattle.std.proofs.Common.{◌≡◌, ℕ, ◌+◌, ◌<◌, ◌≤◌, Option, None, Some, Result, Ok, Err, IfOk, OnErr, List, ◌++◌, length, take, drop, refl, sym, ap, ◌∙◌, subst, append-nil, arith, length-append}
 use Rattle.std.proofs.Math.Seq.{take-append_seam, drop-append_seam}
 use Rattle.std.proofs.lemmas.Bool.{lt-leb}
+use Rattle.std.proofs.lemmas.List.{take_all, drop_all}
 use Rattle.std.specs.Result.{IsErr}
 use Rattle.std.specs.Io.KnownBytes.{Consumes, IsAtEnd}
 use Rattle.std.proofs.KnownBytes.{Consumes-trans}
@@ -31,15 +32,15 @@ reads_whole old left held input told consumed end short =
     let (rest, is, joined) = held_front old left held input told consumed in
     let none = subst IsAtEnd is end in
     let all = joined ∙ ap (λ l. held ++ l) none ∙ append-nil held in
-    inl (subst (λ n. n ≤ maximum_settings_length) (ap length (sym all)) short, sym all, is ∙ ap Some none)
+    let within : length input ≤ maximum_settings_length + 1 = omega (arith, ap length all) in
+    (sym (take_all (maximum_settings_length + 1) input within ∙ all), is ∙ ap Some (none ∙ sym (drop_all (maximum_settings_length + 1) input within)))
 
 -- past the greatest length its front is held
 pub reads_front : (old left : Option (List ℕ)) (held input : List ℕ) → old ≡ Some input → Consumes old left held → length held ≡ maximum_settings_length + 1 → ReadsInput input held left
 reads_front old left held input told consumed past =
     let (rest, is, joined) = held_front old left held input told consumed in
-    let longer : maximum_settings_length < length input = omega (arith, ap length joined, length-append held rest) in
     let parts = cut (maximum_settings_length + 1) held rest input joined past in
-    inr (longer, parts.0, is ∙ ap Some parts.1)
+    (parts.0, is ∙ ap Some parts.1)
 
 -- ---- at a read
 

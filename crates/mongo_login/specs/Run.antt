@@ -1,5 +1,5 @@
 -- How a run ends, and what the source and the sink hold then.
-use Rattle.std.specs.Prelude.{◌≡◌, ℕ, ◌+◌, ◌<◌, ◌≤◌, ◌⊎◌, Option, Some, Ok, Err, List, [], length, drop}
+use Rattle.std.specs.Prelude.{◌≡◌, ℕ, ◌+◌, ◌⊎◌, Some, Ok, Err, List, []}
 use Rattle.std.specs.Io.KnownBytes.{Appends, Keeps}
 use Rattle.mongo_wire.specs.Outside.{State, Rose, AppendsFront, ConsumesAtMost, IsFlushed}
 use Rattle.mongo_settings.specs.declared.settings.SettingsError.TheVariants.{BadSettings as Bad, NotBuilt as Unbuilt}
@@ -15,7 +15,7 @@ use Rattle.mongo_settings.specs.Task.{Asks, judged_as, StepsTaken, Reports, Come
 use Rattle.mongo_login.specs.declared.words.Subcommand.{Subcommand}
 use Rattle.mongo_login.specs.declared.words.Subcommand.TheVariants.{Rehearse, Generate}
 use Rattle.mongo_login.specs.Generated.{GenerateEnds}
-use Rattle.mongo_login.specs.Input.{NoReadFailed, NoReadEnded}
+use Rattle.mongo_login.specs.Input.{LeftOver, NoReadFailed, NoReadEnded}
 use Rattle.mongo_login.specs.Words.{NamesSubcommand, NamesNone}
 
 -- ---- what was printed
@@ -43,11 +43,6 @@ pub record PrintedFront (task : Task) (steps : StepsTaken) (input : List ℕ) (s
 -- nothing was written, or a front of the report of the logins
 abbrev pub PrintedAtMost : Task → StepsTaken → List ℕ → State → State → Type 0
 PrintedAtMost task steps input sink sink_after = Keeps sink.written sink_after.written ⊎ PrintedFront task steps input sink sink_after
-
--- What is left of an input that was read as settings: nothing of one within the greatest length, and of a longer one what follows
--- the byte past the greatest length.
-abbrev pub LeftOver : List ℕ → Option (List ℕ) → Type 0
-LeftOver input left = ((length input ≤ maximum_settings_length) × (left ≡ Some [])) ⊎ ((maximum_settings_length < length input) × (left ≡ Some (drop (maximum_settings_length + 1) input)))
 
 -- ---- the ends, one a status
 
