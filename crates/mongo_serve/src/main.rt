@@ -2,32 +2,12 @@
 //! `endSessions`.
 //!
 //! Standard input has one line of settings and then the client's bytes, standard output takes the replies, and standard error says how
-//! it ended. The call that serves is [`serve::serve`].
+//! it ended. The call that serves is [`run_counted`] of `mongo_service`, and its clauses say what each end means.
 #![tactic(auto)]
 
-mod answer;
-mod fault;
-mod hello_document;
-mod open;
-mod put_back;
-mod query;
-mod reading;
-mod reply;
-mod reply_document;
-mod report;
-mod request;
-mod respond;
-mod run;
-mod serve;
-mod serve_settings;
-mod session;
-mod settings_line;
-mod status;
-
+use mongo_service::run::run_counted;
+use mongo_service::{PutBack, ServeStatus};
 use mongo_wire::{StdLink, StdSink};
-use put_back::PutBack;
-use run::run_counted;
-use status::ServeStatus;
 use std::alloc::AllocGlobal;
 use std::marker::Brand;
 use std::process::ExitCode;

@@ -1,7 +1,0 @@
-use Rattle.mongo_serve.proofs.answer.greet.Goals as goal
-
-pub returns-in_err-speculation-clause-remembers : goal.returns-in_err-speculation-clause-remembers
-returns-in_err-speculation-clause-remembers g c = λ requests document h says. c.begin.ensures.remembers requests document h says.greeting says.speculation
-
-pub returns-clause-remembers : goal.returns-clause-remembers
-returns-clause-remembers g c = λ requests document h says. c.begin.ensures.remembers requests document h says.greeting says.speculation

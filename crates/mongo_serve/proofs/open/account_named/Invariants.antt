@@ -1,8 +1,0 @@
-use Rattle.std.specs.Prelude.{take}
-use Rattle.std.specs.List.{AllByRecursion}
-use Rattle.mongo_serve.specs.Opened.{Suits}
-use Rattle.mongo_serve.proofs.open.account_named.Given as goal
-
--- none of those that were looked at suits
-abbrev pub invariant-looking : goal.invariant-looking
-invariant-looking l = AllByRecursion (λ account. Suits l.version l.payload account → ⊥) (take l.account-index l.accounts)

@@ -1,5 +1,0 @@
-use Rattle.mongo_serve.proofs.Ran.{all_said}
-use Rattle.mongo_serve.proofs.run.say.Goals as goal
-
-pub returns-in-Ok : goal.returns-in-Ok
-returns-in-Ok g c = all_said _ _ _ c.args.text.now c.in-Ok.ensures.written c.flush.ensures.bytes

@@ -1,4 +1,0 @@
-use Rattle.mongo_serve.proofs.run.tests.run_failing.Given as goal
-
-abbrev pub ghosts-run_counted : goal.ghosts-run_counted
-ghosts-run_counted a = record { name = a.blank.name; parts = a.blank.parts }

@@ -1,0 +1,12 @@
+pub mod Causes
+pub mod Greeted
+pub mod Lasts
+pub mod LineRead
+pub mod NoRequest
+pub mod Parts
+pub mod Prepended
+pub mod Queried
+pub mod Ran
+pub mod Responses
+pub mod Stream
+pub mod Turns

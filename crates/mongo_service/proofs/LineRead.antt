@@ -1,0 +1,71 @@
+-- What was taken of a source while its first line is read, byte by byte.
+use Rattle.std.proofs.Common.{◌≡◌, ◌≢◌, ℕ, ◌+◌, ◌≤◌, Option, None, Some, Result, Err, List, [], ◌∷◌, ◌++◌, length, IfSome, IfOk, IsErrOf, sym, subst, ◌∙◌, inr, arith, append-nil, length-append}
+use Rattle.std.proofs.KnownBytes.{Consumes-trans}
+use Rattle.std.proofs.lemmas.List.Elements.{All-push}
+use Rattle.std.specs.Result.{IsErrAnd}
+use Rattle.std.specs.Io.KnownBytes.{Consumes}
+use Rattle.mongo_wire.proofs.ReadStopped.{stops_after, reads_on}
+use Rattle.mongo_wire.proofs.Written.{passed_on}
+use Rattle.mongo_wire.specs.Outside.{State, ReadsOn, Rose, RanOut, ConsumesAtMost}
+use Rattle.mongo_wire.specs.declared.error.ErrorKind.TheVariants.{EndOfInput}
+use Rattle.mongo_service.specs.Line.{maximum_line_length, HasNoLineFeed, TakesLine, HasNoLine, StopsWithin}
+
+-- what ran out after bytes without a line feed had none at all
+unended_whole : (old mid new : Option (List ℕ)) (line : List ℕ) → Consumes old mid line → HasNoLineFeed line → RanOut mid new 1 → IfSome old HasNoLineFeed
+unended_whole None mid new line front unended out = tt
+unended_whole (Some bytes) None new line front unended out = absurd front
+unended_whole (Some bytes) (Some []) new line front unended out = subst HasNoLineFeed (sym (front ∙ append-nil line)) unended
+unended_whole (Some bytes) (Some (byte ∷ rest)) new line front unended out = absurd (omega (arith, out.0))
+
+-- the line so far is what the source gave so far, and has no line feed
+pub record LineSoFar (old new : State) (line : List ℕ) : Type 0 where
+  pub within : length line ≤ maximum_line_length + 1
+  pub unended : HasNoLineFeed line
+  pub front : Consumes old.left new.left line
+  pub on : ReadsOn old new
+
+module _ (old mid new : State) (line : List ℕ) (so_far : LineSoFar old mid line) (short : length line ≤ maximum_line_length) where
+  -- the next byte is a line feed
+  pub takes_line : (byte : ℕ) → byte ≡ 10 → Consumes mid.left new.left (byte ∷ []) → TakesLine old new line
+  takes_line byte is taken = record {
+    taken = Consumes-trans old.left mid.left new.left line (10 ∷ []) so_far.front (subst (λ b. Consumes mid.left new.left (b ∷ [])) is taken);
+    first = so_far.unended;
+    short = short;
+  }
+
+  -- the next byte is another
+  pub one_more : (byte : ℕ) (longer : List ℕ) → byte ≢ 10 → longer ≡ line ++ byte ∷ [] → Consumes mid.left new.left (byte ∷ []) → ReadsOn mid new → LineSoFar old new longer
+  one_more byte longer other is taken on = subst (LineSoFar old new) (sym is) (record {
+    within = omega (arith, short, length-append line (byte ∷ []));
+    unended = All-push (λ b. b ≢ 10) line byte so_far.unended other;
+    front = Consumes-trans old.left mid.left new.left line (byte ∷ []) so_far.front taken;
+    on = reads_on old mid new so_far.on on;
+  })
+
+  -- there is none
+  pub has_no_line : Rose mid.ends new.ends × RanOut mid.left new.left 1 → HasNoLine old new
+  has_no_line ended =
+      let most : length line + 1 ≤ maximum_line_length + 1 = omega (arith, short) in
+      let all = stops_after EndOfInput old mid new line 1 (maximum_line_length + 1) so_far.front so_far.on most ended in
+      inr (record { rose = all.0; ran_out = all.1; unended = unended_whole old.left mid.left new.left line so_far.front so_far.unended ended.1 })
+
+  -- reading stopped at it
+  pub stops_within : ConsumesAtMost mid.left new.left 1 → StopsWithin old new
+  stops_within last = record {
+    front = line;
+    last = last.0;
+    taken = Consumes-trans old.left mid.left new.left line last.0 so_far.front last.2;
+    unended = so_far.unended;
+    short = short;
+    one = last.1;
+  }
+
+-- ---- what is answered
+
+-- the error of a `?` is handed on
+pub same_error : {T U E : Type 0} (r : Result T E) (x why : E) → IsErrAnd r (λ y. y ≡ x) → IsErrOf r why → ◌≡◌ {A = Result U E} (Err x) (Err why)
+same_error r x why same is = let passed = passed_on r x same in cc
+
+-- so nothing is said of a value
+pub no_value : {T E : Type 0} (P : T → Type 0) (r : Result T E) (x : E) → IsErrAnd r (λ y. y ≡ x) → IfOk r P
+no_value P r x same = subst (λ r. IfOk r P) (sym (passed_on r x same)) tt

@@ -1,0 +1,127 @@
+-- What a turn comes to, by what its parts answer.
+use Rattle.std.proofs.Common.{◌≡◌, ℕ, ℤ, pos, ◌+◌, ◌<◌, Option, None, Some, IfSome, Result, Ok, Err, OnOk, OnErr, IfErr, List, [], ◌∷◌, ◌++◌, length, take, refl, sym, ap, ◌∙◌, subst, inl, inr, arith, length-append}
+use Rattle.std.proofs.lemmas.List.{take_at}
+use Rattle.std.proofs.KnownBytes.{Consumes-trans}
+use Rattle.std.specs.Prelude.{⊤}
+use Rattle.std.specs.Io.KnownBytes.{Consumes, prepend_known}
+use Rattle.mongo_wire.specs.Frame.{Frame, IsFrame}
+use Rattle.mongo_wire.specs.Header.{code_number, signed_at}
+use Rattle.mongo_wire.specs.Outside.{State, AppendsFront, WritesOn}
+use Rattle.mongo_wire.specs.declared.op_code.OpCode.TheVariants.{Message, Query}
+use Rattle.mongo_service.specs.declared.fault.ServeFault.{ServeFault}
+use Rattle.mongo_session.specs.declared.reply.Reply.{Reply}
+use Rattle.mongo_session.specs.declared.session.Session.{Session}
+use Rattle.mongo_session.specs.declared.serve_settings.ServeSettings.{ServeSettings}
+use Rattle.mongo_session.specs.Login.{HasLoggedIn, Remembers}
+use Rattle.mongo_session.specs.Replies.{document_of_served}
+use Rattle.mongo_session.specs.Requests.{IsGreeting}
+use Rattle.mongo_service.specs.Cut.{HasCause, IsCut, IsPart}
+use Rattle.mongo_service.specs.Sent.{IsAnswerTo, IsLongMessage, IsLongReply, IsReplySent, IsSentInPart, IsSentToQuery, message_reply, query_reply, WantsNone, WriteCause}
+use Rattle.mongo_service.specs.Served.{FollowsHead, IsBackAt, Lasts, PartEnds}
+use Rattle.mongo_session.specs.Answers.{IsDocumentAnswered}
+use Rattle.mongo_service.proofs.Lasts.{sent_flushed}
+use Rattle.mongo_service.specs.Taken.{IsQuery, IsQueryBody}
+use Rattle.mongo_wire.proofs.OneFrame.{signed_in}
+use Rattle.mongo_service.proofs.Causes.{long_cause}
+use Rattle.mongo_service.proofs.Prepended.{put_back_left}
+use Rattle.mongo_service.proofs.Turns.{turn_taken, turn_cut, none_taken}
+
+-- an OP_MSG was taken and answered, and the answer sent or cut
+pub message_part : (settings : ServeSettings) (requests : List (List ℕ)) (old mid new : State) (before : Session) (id : ℤ) (after : Session) (later : ℤ) (frame : List ℕ) (parts : Frame) (document : List ℕ) → IsFrame frame parts → parts.body ≡ document
+    → Consumes old.left mid.left frame → mid.written ≡ old.written → Lasts old mid → WritesOn mid new → (reply : Reply) → IsDocumentAnswered settings before document after reply → Remembers settings (requests ++ document ∷ []) after
+    → (to : ℤ) → to ≡ parts.request_id → (flags : ℕ) → flags ≡ parts.flags → (r : Result ⊤ ServeFault) → OnOk r (IsReplySent mid new to flags reply id later) → OnErr r (IsSentInPart mid new to flags reply id) → IfErr r (λ fault. WriteCause (IsLongMessage (document_of_served reply)) fault mid new)
+    → PartEnds settings requests old new before id after later r
+message_part settings requests old mid new before id after later frame parts document is_frame body_is consumed unwritten lasts on reply answered remembers to to_is flags flags_are (Ok done) h cut cause =
+    let answer : IsAnswerTo parts.request_id parts.flags reply id later h.sent = subst (λ f. IsAnswerTo parts.request_id f reply id later h.sent) flags_are (subst (λ t. IsAnswerTo t flags reply id later h.sent) to_is h.is_answer) in
+    turn_taken settings requests old mid new before id after later (record { frame = frame; document = document; sent = h.sent }) (inl (parts, is_frame, body_is)) consumed unwritten lasts on h.appended h.flushed
+    (record { reply = reply; answered = answered; sent = inl (record { parts = parts; is_frame = is_frame; body_is = body_is; answer = answer }) })
+    remembers
+message_part settings requests old mid new before id after later frame parts document is_frame body_is consumed unwritten lasts on reply answered remembers to to_is flags flags_are (Err fault) h cut cause =
+    let n = cut.front.0 in
+    let reply_bytes = document_of_served reply in
+    let sent = take n (message_reply id to reply_bytes) in
+    turn_cut (IsLongMessage reply_bytes) settings requests old mid new before id after.user fault (record { frame = frame; document = document; sent = sent })
+    (record {
+      is_taken = inl (parts, is_frame, body_is);
+      after = after;
+      reply = reply;
+      answered = answered;
+      user_is = refl;
+      sent =
+          inl (record {
+            parts = parts;
+            is_frame = is_frame;
+            body_is = body_is;
+            wanted = subst (λ f. WantsNone f → ⊥) flags_are cut.wanted;
+            front = (n, ap (λ t. take n (message_reply id t reply_bytes)) to_is);
+          });
+      too_long = λ is. inl ((parts, is_frame, body_is), long_cause (IsLongMessage reply_bytes) fault mid new cause is);
+    })
+    consumed unwritten lasts on cut.front.1 cause remembers.user
+
+-- an OP_QUERY was taken and answered, and the answer sent or cut
+pub query_part : (settings : ServeSettings) (requests : List (List ℕ)) (old mid new : State) (before : Session) (id : ℤ) (after : Session) (later : ℤ) (head body command : List ℕ) → IsQuery (head ++ body) command → length head ≡ 16
+    → Consumes old.left mid.left (head ++ body) → mid.written ≡ old.written → Lasts old mid → WritesOn mid new → (reply : Reply) → IsDocumentAnswered settings before command after reply → IsGreeting command
+    → Remembers settings (requests ++ command ∷ []) after → (to : ℤ) → to ≡ signed_at 4 head → (r : Result ⊤ ServeFault) → OnOk r (IsSentToQuery mid new to reply id later)
+    → OnErr r (AppendsFront mid.written new.written (query_reply id to (document_of_served reply))) → IfErr r (λ fault. WriteCause (IsLongReply (document_of_served reply)) fault mid new) → PartEnds settings requests old new before id after later r
+query_part settings requests old mid new before id after later head body command is_query sixteen consumed unwritten lasts on reply answered greeting remembers to to_is (Ok done) h front cause =
+    let sent = query_reply id to (document_of_served reply) in
+    let to_front : to ≡ signed_at 4 (take 16 (head ++ body)) = to_is ∙ ap (signed_at 4) (sym (take_at head body 16 sixteen)) in
+    turn_taken settings requests old mid new before id after later (record { frame = head ++ body; document = command; sent = sent }) (inr is_query) consumed unwritten lasts on h.appended (sent_flushed mid new sent h.appended h.flushed)
+    (record { reply = reply; answered = answered; sent = inr (is_query, greeting, (ap (λ t. query_reply id t (document_of_served reply)) to_front, h.drawn)) })
+    remembers
+query_part settings requests old mid new before id after later head body command is_query sixteen consumed unwritten lasts on reply answered greeting remembers to to_is (Err fault) h front cause =
+    let n = front.0 in
+    let to_front : to ≡ signed_at 4 (take 16 (head ++ body)) = to_is ∙ ap (signed_at 4) (sym (take_at head body 16 sixteen)) in
+    turn_cut (IsLongReply (document_of_served reply)) settings requests old mid new before id after.user fault (record { frame = head ++ body; document = command; sent = take n (query_reply id to (document_of_served reply)) })
+    (record {
+      is_taken = inr is_query;
+      after = after;
+      reply = reply;
+      answered = answered;
+      user_is = refl;
+      sent = inr (is_query, greeting, (n, ap (λ t. take n (query_reply id t (document_of_served reply))) to_front));
+      too_long = λ is. inr (is_query, long_cause (IsLongReply (document_of_served reply)) fault mid new cause is);
+    })
+    consumed unwritten lasts on front.1 cause remembers.user
+
+-- a header and what follows it are an OP_QUERY
+pub query_of : (head body command : List ℕ) (rest : ℕ) → length head ≡ 16 → signed_at 12 head ≡ code_number Query → pos (16 + rest) ≡ signed_at 0 head → length body ≡ rest → IsQueryBody body command → IsQuery (head ++ body) command
+query_of head body command rest sixteen code counted whole is_body = record {
+  header = head;
+  body = body;
+  spelled = refl;
+  sixteen = sixteen;
+  counted = sym counted ∙ ap pos (ap (λ n. 16 + n) (sym whole) ∙ ap (λ n. n + length body) (sym sixteen) ∙ sym (length-append head body));
+  code = code;
+  is_body = is_body;
+}
+
+-- a header is some bytes
+has_some : (before now : Option (List ℕ)) (head : List ℕ) → length head ≡ 16 → Consumes before now head → IfSome before (λ bytes. 0 < length bytes)
+has_some None now head sixteen p = tt
+has_some (Some xs) None head sixteen p = absurd p
+has_some (Some xs) (Some ys) head sixteen p = omega (arith, sixteen, ap length p, length-append head ys)
+
+-- the op code of the header that stands at the front
+code_before : (before now : Option (List ℕ)) (head : List ℕ) → length head ≡ 16 → signed_at 12 head ≡ code_number Message → Consumes before now head → IfSome before (λ bytes. signed_at 12 bytes ≡ code_number Message)
+code_before None now head sixteen code p = tt
+code_before (Some xs) None head sixteen code p = absurd p
+code_before (Some xs) (Some ys) head sixteen code p = ap (signed_at 12) p ∙ signed_in 12 head ys (omega (arith, sixteen)) ∙ code
+
+-- a header was put back
+pub back_at : (before now back : State) (head : List ℕ) → length head ≡ 16 → signed_at 12 head ≡ code_number Message → FollowsHead before now head → back ≡ record now { left = prepend_known head now.left } → IsBackAt before back
+back_at before now back head sixteen code f e = record {
+  left = ap (λ s. s.left) e ∙ put_back_left before.left now.left head f.tells f.taken;
+  some = has_some before.left now.left head sixteen f.taken;
+  message = code_before before.left now.left head sixteen code f.taken;
+  unwritten = ap (λ s. s.written) e ∙ f.unwritten;
+  lasts = subst (Lasts before) (sym e) (record { reads = f.lasts.reads; ends = f.lasts.ends; writes = f.lasts.writes; flushed = f.lasts.flushed });
+}
+
+-- more was taken after a header, and nothing answered
+pub none_after : (settings : ServeSettings) (requests : List (List ℕ)) (before now new : State) (session : Session) (id : ℤ) (user : Option (List ℕ)) (fault : ServeFault) (head more : List ℕ) → user ≡ session.user → IsPart (head ++ more)
+    → FollowsHead before now head → Consumes now.left new.left more → new.written ≡ now.written → IfSome session.user (λ name. HasLoggedIn settings name requests) → HasCause fault before new [] (head ++ more) → Lasts before new
+    → IsCut settings requests before new session id user fault
+none_after settings requests before now new session id user fault head more same part f consumed unwritten logged_in cause lasts =
+    none_taken settings requests before new session id user fault (head ++ more) same part (Consumes-trans before.left now.left new.left head more f.taken consumed) (unwritten ∙ f.unwritten) logged_in cause lasts

@@ -1,0 +1,16 @@
+use Rattle.std.proofs.Common.{inr, refl, arith}
+use Rattle.mongo_service.proofs.Greeted.{no_greeting}
+use Rattle.mongo_service.proofs.serve.greet_query.Goals as goal
+
+pub returns-in-Ok-clause-remembers : goal.returns-in-Ok-clause-remembers
+returns-in-Ok-clause-remembers g c = λ requests h. c.greet.ensures.remembers requests c.args.document.bytes.now h c.in-Hello.ensures
+
+pub returns-in_default : goal.returns-in_default
+returns-in_default g c = record {
+  remembers = λ requests h. tt;
+  answered = tt;
+  greeting = tt;
+  kept = refl;
+  refused = inr (refl, no_greeting c.args.document.bytes.now c.request_of.result c.request_of.ensures c.in_default.not-Hello);
+  rises = omega arith;
+}

@@ -1,0 +1,106 @@
+-- A turn that was cut, and why.
+use Rattle.std.specs.Prelude.{◌≡◌, ℕ, ℤ, pos, ◌<◌, ◌≤◌, ◌≤ℤ◌, ◌⊎◌, Option, Some, List, [], ◌++◌, length, IfSome, ⊤}
+use Rattle.std.specs.List.{AllByRecursion}
+use Rattle.std.specs.Io.KnownBytes.{Consumes, Appends}
+use Rattle.mongo_wire.specs.Header.{code_number, signed_at}
+use Rattle.mongo_wire.specs.Outside.{State, Rose}
+use Rattle.mongo_wire.specs.Rows.{IsStarted, IsEmptied}
+use Rattle.mongo_wire.specs.declared.op_code.OpCode.TheVariants.{Query}
+use Rattle.mongo_service.specs.declared.fault.ServeFault.{ServeFault}
+use Rattle.mongo_service.specs.declared.fault.ServeFault.TheVariants.{ReadFault, WriteFault, CutFrame, NoFrame, NoHello, ReplyTooLong, TooManyRequests, OutOfMemory}
+use Rattle.mongo_session.specs.declared.reply.Reply.{Reply}
+use Rattle.mongo_session.specs.declared.session.Session.{Session}
+use Rattle.mongo_session.specs.declared.serve_settings.ServeSettings.{ServeSettings}
+use Rattle.mongo_session.specs.Answers.{IsDocumentAnswered}
+use Rattle.mongo_session.specs.Login.{HasLoggedIn}
+use Rattle.mongo_session.specs.Replies.{document_of_served, message_maximum}
+use Rattle.mongo_session.specs.Requests.{IsGreeting}
+use Rattle.mongo_service.specs.Sent.{CutsMessage, CutsQuery, IsLongMessage, IsLongReply}
+use Rattle.mongo_service.specs.Taken.{CarriesRequest, IsMessage, IsQuery}
+use Rattle.mongo_service.specs.Turns.{ServerTurn, IsTurnTaken, joined_frames, documents, sent_for}
+
+-- ---- a frame whose answer was cut
+
+-- what was sent is a front of what answers the frame with a reply
+abbrev pub CutsIn : ServerTurn → Reply → ℤ → Type 0
+CutsIn turn reply id =
+    CutsMessage turn.frame turn.document reply id turn.sent ⊎ (IsQuery turn.frame turn.document × IsGreeting turn.document × CutsQuery turn.frame reply id turn.sent)
+
+-- the reply is longer than what answers the frame may be
+abbrev pub IsLong : ServerTurn → Reply → Type 0
+IsLong turn reply =
+    (IsMessage turn.frame turn.document × IsLongMessage (document_of_served reply)) ⊎ (IsQuery turn.frame turn.document × IsLongReply (document_of_served reply))
+
+-- the request was answered by the session, which has this user then, and the reply sent in part, for this fault
+pub record IsCutTurn (settings : ServeSettings) (before : Session) (id : ℤ) (user : Option (List ℕ)) (fault : Option ServeFault) (turn : ServerTurn) : Type 0 where
+  pub is_taken : IsTurnTaken turn
+  pub after : Session
+  pub reply : Reply
+  pub answered : IsDocumentAnswered settings before turn.document after reply
+  pub user_is : user ≡ after.user
+  pub sent : CutsIn turn reply id
+  pub too_long : fault ≡ Some ReplyTooLong → IsLong turn reply
+
+-- ---- bytes that were taken and not answered
+
+-- a front of an OP_QUERY that is no longer than the greatest frame
+pub record IsQueryFront (bytes : List ℕ) : Type 0 where
+  pub head : List ℕ
+  pub rest : List ℕ
+  pub spelled : bytes ≡ head ++ rest
+  pub sixteen : length head ≡ 16
+  pub code : signed_at 12 head ≡ code_number Query
+  pub front : pos (length bytes) ≤ℤ signed_at 0 head
+  pub within : signed_at 0 head ≤ℤ message_maximum
+
+-- a front of a header or of a frame that is read, or one frame
+abbrev pub IsPart : List ℕ → Type 0
+IsPart bytes = IsStarted message_maximum bytes ⊎ (IsQueryFront bytes ⊎ ((document : List ℕ) × CarriesRequest bytes document))
+
+-- ---- why
+
+-- an OP_QUERY that asks for another command than hello
+abbrev pub AsksOtherwise : List ℕ → Type 0
+AsksOtherwise bytes = (document : List ℕ) × IsQuery bytes document × (IsGreeting document → ⊥)
+
+-- the answer to one frame was cut, and nothing was taken after it
+abbrev pub CutsOne : List ServerTurn → List ℕ → Type 0
+CutsOne cut more = (length cut ≡ 1) × (more ≡ [])
+
+-- some bytes were taken, where the link tells them
+abbrev pub TookSome : State → List ℕ → Type 0
+TookSome old more = IfSome old.left (λ _. 0 < length more)
+
+-- bytes that are no whole request
+abbrev pub IsNoRequest : List ℕ → Type 0
+IsNoRequest bytes = (document : List ℕ) → CarriesRequest bytes document → ⊥
+
+-- no frame up to the greatest that begins with these bytes carries a request
+abbrev pub BeginsNoRequest : List ℕ → Type 0
+BeginsNoRequest taken = (frame rest document : List ℕ) → frame ≡ taken ++ rest → pos (length frame) ≤ℤ message_maximum → CarriesRequest frame document → ⊥
+
+-- What a fault says of the bytes that weren't answered, and of the link before and after.
+abbrev pub HasCause : ServeFault → State → State → List ServerTurn → List ℕ → Type 0
+HasCause ReadFault old new cut more = Rose old.read_faults new.read_faults × (cut ≡ []) × IsNoRequest more
+HasCause WriteFault old new cut more = Rose old.write_faults new.write_faults × CutsOne cut more
+HasCause CutFrame old new cut more = Rose old.ends new.ends × IsEmptied new.left × (cut ≡ []) × TookSome old more × IsNoRequest more
+HasCause NoFrame old new cut more = (cut ≡ []) × (16 ≤ length more) × BeginsNoRequest more
+HasCause NoHello old new cut more = (cut ≡ []) × AsksOtherwise more
+HasCause ReplyTooLong old new cut more = CutsOne cut more
+HasCause TooManyRequests old new cut more = ⊥
+HasCause OutOfMemory old new cut more = ⊤
+
+-- A turn was cut: a frame was taken and its answer cut, or some bytes were taken and nothing answered. Who is logged in has sent what a
+-- login takes.
+pub record IsCut (settings : ServeSettings) (requests : List (List ℕ)) (old new : State) (before : Session) (id : ℤ) (user : Option (List ℕ)) (fault : ServeFault) : Type 0 where
+  pub turns : List ServerTurn
+  pub one : length turns ≤ 1
+  pub each : AllByRecursion (IsCutTurn settings before id user (Some fault)) turns
+  pub none : turns ≡ [] → user ≡ before.user
+  pub more : List ℕ
+  pub part : IsPart more
+  pub consumed : Consumes old.left new.left (joined_frames turns ++ more)
+  pub appended : Appends old.written new.written (sent_for turns)
+  pub logged_in : IfSome user (λ name. HasLoggedIn settings name (requests ++ documents turns))
+  pub stays : old.flushed ≤ new.flushed
+  pub cause : HasCause fault old new turns more

@@ -1,0 +1,9 @@
+pub mod Cut
+pub mod Faults
+pub mod Line
+pub mod Report
+pub mod Run
+pub mod Sent
+pub mod Served
+pub mod Taken
+pub mod Turns

@@ -1,0 +1,248 @@
+//! The server: requests are read one after another, and each is answered before the next is read.
+
+ghost use Rattle.std.specs.Prelude.{◌≡◌, ℕ, pos, ◌+◌, ◌≤◌, ◌<ℤ◌, ◌≤ℤ◌, ◌⊎◌, List, [], ◌∷◌, ◌++◌, IsNone, IfSome, IfOk, IfErr, OnOk, OnErr};
+ghost use Rattle.mongo_wire.specs.Header.{code_number, header_with, signed_at};
+ghost use Rattle.mongo_wire.specs.Outside.{State};
+ghost use Rattle.mongo_session.specs.Login.{Remembers};
+ghost use Rattle.mongo_service.specs.Taken.{put_back_state};
+ghost use Rattle.mongo_session.specs.Replies.{message_maximum};
+ghost use Rattle.mongo_session.specs.Requests.{IsGreeting};
+ghost use Rattle.mongo_service.specs.Served.{FollowsHead, IsBackAt, TurnEnds, PartEnds, IsServed};
+ghost use Rattle.mongo_service.specs.declared.fault.ServeFault.TheVariants.{NoHello, OutOfMemory};
+ghost use Rattle.mongo_wire.specs.declared.op_code.OpCode.TheVariants.{Query};
+
+use crate::fault::ServeFault;
+use crate::put_back::PutBack;
+use crate::query::command_of_query;
+use crate::reading::take_bytes;
+use crate::respond::{respond, respond_to_query};
+use mongo_bson::{RawDocument, Text};
+use mongo_mac::Steps;
+use mongo_session::{
+    MESSAGE_MAXIMUM, Reply, Request, ServeSettings, Session, answer_request, greet, request_of,
+};
+use mongo_wire::{FrameBuffer, Header, Link, OpCode, RequestIds, fill_or_end};
+use std::alloc::Global;
+use std::sync::ledger::Ledger;
+
+/// How a stream ended, and who was logged in then.
+#[derive(Drop)]
+pub struct Served {
+    /// Why the server left the stream; None where the client ended it between two frames.
+    pub fault: Option<ServeFault>,
+    /// The user that was logged in.
+    pub user: Option<Text>,
+}
+
+/// What a server keeps from one request to the next.
+#[derive(Drop)]
+pub struct Serving {
+    session: Session,
+    buffer: FrameBuffer,
+    ids: RequestIds,
+}
+
+/// Answers the requests of a client until it ends its stream or a fault comes. It reads nothing past the last frame.
+pub fn serve<L: Link, G: Ledger>(
+    alloc: Global,
+    settings: &ServeSettings,
+    link: &mut PutBack<L>,
+    steps: &mut Steps<G>,
+) -> Served
+    ensures served { IsServed settings.now (put_back_state L.state link.old) (put_back_state L.state link.new) result }
+    ensures rises { steps.old ≤ steps.new }
+{
+    let mut serving = Serving {
+        session: Session::new(),
+        buffer: FrameBuffer::new(alloc),
+        ids: RequestIds::new(1),
+    };
+    'serving: for _turn in 0..u64::MAX {
+        match take_turn(alloc, settings, link, &mut serving, steps) {
+            Ok(true) => {}
+            Ok(false) => {
+                return Served {
+                    fault: None,
+                    user: serving.session.user,
+                };
+            }
+            Err(fault) => {
+                return Served {
+                    fault: Some(fault),
+                    user: serving.session.user,
+                };
+            }
+        }
+    }
+    Served {
+        fault: Some(ServeFault::TooManyRequests),
+        user: serving.session.user,
+    }
+}
+
+// Takes a request and answers it; says whether there was one.
+fn take_turn<L: Link, G: Ledger>(
+    alloc: Global,
+    settings: &ServeSettings,
+    link: &mut PutBack<L>,
+    serving: &mut Serving,
+    steps: &mut Steps<G>,
+) -> Result<bool, ServeFault>
+    ensures turn { (requests : List (List ℕ)) → Remembers settings.now requests serving.old.session →
+        TurnEnds settings.now requests (put_back_state L.state link.old) (put_back_state L.state link.new) serving.old.session serving.old.ids serving.new.session serving.new.ids result }
+    ensures rises { steps.old ≤ steps.new }
+{
+    let mut head = [0u8; 16];
+    match fill_or_end(link, &mut head) {
+        Ok(true) => match take_after(alloc, settings, link, serving, &head, steps) {
+            Ok(()) => Ok(true),
+            Err(fault) => Err(fault),
+        },
+        Ok(false) => Ok(false),
+        Err(fault) => Err(fault.into()),
+    }
+}
+
+// Takes what follows a header, and answers it.
+fn take_after<L: Link, G: Ledger>(
+    alloc: Global,
+    settings: &ServeSettings,
+    link: &mut PutBack<L>,
+    serving: &mut Serving,
+    head: &[u8; 16],
+    steps: &mut Steps<G>,
+) -> Result<(), ServeFault>
+    ensures turn { (requests : List (List ℕ)) (before : State) → Remembers settings.now requests serving.old.session → FollowsHead before (put_back_state L.state link.old) head.now →
+        PartEnds settings.now requests before (put_back_state L.state link.new) serving.old.session serving.old.ids serving.new.session serving.new.ids result }
+    ensures rises { steps.old ≤ steps.new }
+{
+    match Header::decode(head) {
+        Ok(header) => match header.op_code {
+            OpCode::Message => match link.put_back(alloc, head) {
+                Ok(()) => take_message(alloc, settings, link, serving, steps),
+                Err(fault) => Err(fault),
+            },
+            OpCode::Query => take_query(alloc, settings, link, serving, head, header, steps),
+            _ => Err(ServeFault::NoFrame),
+        },
+        Err(_) => Err(ServeFault::NoFrame),
+    }
+}
+
+// Takes an OP_MSG and answers it.
+fn take_message<L: Link, G: Ledger>(
+    alloc: Global,
+    settings: &ServeSettings,
+    link: &mut PutBack<L>,
+    serving: &mut Serving,
+    steps: &mut Steps<G>,
+) -> Result<(), ServeFault>
+    ensures turn { (requests : List (List ℕ)) (before : State) → Remembers settings.now requests serving.old.session → IsBackAt before (put_back_state L.state link.old) →
+        PartEnds settings.now requests before (put_back_state L.state link.new) serving.old.session serving.old.ids serving.new.session serving.new.ids result }
+    ensures rises { steps.old ≤ steps.new }
+{
+    match serving.buffer.take_frame(link, Some(MESSAGE_MAXIMUM)) {
+        Ok(()) => {}
+        Err(fault) => return Err(fault.into()),
+    }
+    let Some(message) = serving.buffer.message() else {
+        unreachable!()
+    };
+    let document = message.document_payload;
+    match answer_document(alloc, settings, &mut serving.session, document, steps) {
+        Ok(reply) => {
+            let id = message.header.request_id;
+            respond(alloc, link, id, message.flags, &reply, &mut serving.ids)
+        }
+        Err(fault) => Err(fault),
+    }
+}
+
+// Answers what a document asks for.
+fn answer_document<G: Ledger>(
+    alloc: Global,
+    settings: &ServeSettings,
+    session: &mut Session,
+    document: RawDocument<'_>,
+    steps: &mut Steps<G>,
+) -> Result<Reply, ServeFault>
+    ensures remembers { (requests : List (List ℕ)) → Remembers settings.now requests session.old → OnOk result (Remembers settings.now (requests ++ document.entry.bytes.now ∷ []) session.new) }
+    ensures answered { IfOk result (IsDocumentAnswered settings.now session.old document.entry.bytes.now session.new) }
+    ensures kept { OnErr result (session.new.user ≡ session.old.user) }
+    ensures refused { IfErr result (λ fault. fault ≡ OutOfMemory) }
+    ensures rises { steps.old ≤ steps.new }
+{
+    match answer_request(alloc, settings, session, request_of(document), steps) {
+        Ok(reply) => Ok(reply),
+        Err(fault) => Err(fault.into()),
+    }
+}
+
+// Takes the rest of an OP_QUERY, and answers it.
+fn take_query<L: Link, G: Ledger>(
+    alloc: Global,
+    settings: &ServeSettings,
+    link: &mut PutBack<L>,
+    serving: &mut Serving,
+    head: &[u8; 16],
+    header: Header,
+    steps: &mut Steps<G>,
+) -> Result<(), ServeFault>
+    requires header { header ≡ header_with head.now Query }
+    requires code { signed_at 12 head.now ≡ code_number Query }
+    ensures turn { (requests : List (List ℕ)) (before : State) → Remembers settings.now requests serving.old.session → FollowsHead before (put_back_state L.state link.old) head.now →
+        PartEnds settings.now requests before (put_back_state L.state link.new) serving.old.session serving.old.ids serving.new.session serving.new.ids result }
+    ensures rises { steps.old ≤ steps.new }
+{
+    let Some(rest) = length_after(header.length) else {
+        return Err(ServeFault::NoFrame);
+    };
+    let body = match take_bytes(alloc, link, rest) {
+        Ok(body) => body,
+        Err(fault) => return Err(fault.into()),
+    };
+    let Some(command) = command_of_query(body.as_slice()) else {
+        return Err(ServeFault::NoFrame);
+    };
+    match greet_query(alloc, settings, &mut serving.session, command, steps) {
+        Ok(reply) => { respond_to_query(alloc, link, header.request_id, &reply, &mut serving.ids) }
+        Err(fault) => Err(fault),
+    }
+}
+
+// How many bytes follow the header of a frame of this length, which is 16 to the maximum.
+fn length_after(length: i32) -> Option<usize>
+    ensures counted { IfSome result (λ rest. pos (16 + rest) ≡ length) }
+    ensures within { IfSome result (λ rest. pos (16 + rest) ≤ℤ message_maximum) }
+    ensures outside { IsNone result → (length <ℤ pos 16) ⊎ (message_maximum <ℤ length) }
+{
+    if length < 16 || length > MESSAGE_MAXIMUM {
+        None
+    } else {
+        Some(length as usize - 16)
+    }
+}
+
+// Answers a query's document, which has to ask for a hello.
+fn greet_query<G: Ledger>(
+    alloc: Global,
+    settings: &ServeSettings,
+    session: &mut Session,
+    document: RawDocument<'_>,
+    steps: &mut Steps<G>,
+) -> Result<Reply, ServeFault>
+    ensures remembers { (requests : List (List ℕ)) → Remembers settings.now requests session.old → OnOk result (Remembers settings.now (requests ++ document.entry.bytes.now ∷ []) session.new) }
+    ensures answered { IfOk result (IsDocumentAnswered settings.now session.old document.entry.bytes.now session.new) }
+    ensures greeting { OnOk result (IsGreeting document.entry.bytes.now) }
+    ensures kept { OnErr result (session.new.user ≡ session.old.user) }
+    ensures refused { IfErr result (λ fault. (fault ≡ OutOfMemory) ⊎ ((fault ≡ NoHello) × (IsGreeting document.entry.bytes.now → ⊥))) }
+    ensures rises { steps.old ≤ steps.new }
+{
+    match request_of(document) {
+        Request::Hello(hello) => match greet(alloc, settings, session, hello, steps) {
+            Ok(reply) => Ok(Reply::Hello(reply)),
+            Err(fault) => Err(fault.into()),
+        },
+        _ => Err(ServeFault::NoHello),
+    }
+}

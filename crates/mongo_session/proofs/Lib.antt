@@ -1,0 +1,9 @@
+pub mod Accounts
+pub mod Asked
+pub mod Begun
+pub mod Carried
+pub mod Continued
+pub mod Described
+pub mod PlainKeys
+pub mod Remembered
+pub mod Said

@@ -1,0 +1,24 @@
+use Rattle.std.proofs.Common.{◌∙◌}
+use Rattle.mongo_session.proofs.Begun.{begins, unheard, unopened}
+use Rattle.mongo_session.proofs.open.open.Goals as goal
+
+pub returns-in-Ok-first-clause-opened : goal.returns-in-Ok-first-clause-opened
+returns-in-Ok-first-clause-opened g c =
+    let answered = c.in-Ok-first.ensures.answered in
+    begins c.args.account.now c.args.suffix.now c.args.payload.now c.new-core.result c.first.new.self c.in-Ok-first.answer c.in-Ok.user c.as_str.result.now c.as_str-2.result.now c.in_ok-salt.salt
+    c.as_str.ensures c.as_str-2.ensures c.in_ok-salt.ensures.copied c.in-Ok.ensures.user c.new-core.ensures.user (c.new-core.ensures.suffix ∙ c.in_ok-from_slice.ensures.copied)
+    c.in-Ok.ensures.usable
+    answered.0 answered.1 c.in-Ok-first.ensures.accepts c.in_ok-try_clone-in-Ok-first.field-0 c.args.skips_empty_exchange c.in_ok-try_clone-in-Ok-first.ensures.copied
+
+pub returns-in-Err-clause-opened : goal.returns-in-Err-clause-opened
+returns-in-Err-clause-opened g c = unopened c.no_login.result c.args.account.now c.args.suffix.now c.args.payload.now c.args.skips_empty_exchange c.as_str-2.result.now c.in-Err.error.kind c.as_str-2.ensures c.in-Err.ensures.refused c.no_login.ensures.none
+
+pub returns : goal.returns
+returns g c = record {
+  opened =
+      unheard c.args.account.now c.args.suffix.now c.args.payload.now c.new-core.result c.in-Ok.user c.as_str.result.now c.as_str-2.result.now c.in_ok-salt.salt c.in-Err-first.fault c.as_str.ensures c.as_str-2.ensures
+      c.in_ok-salt.ensures.copied c.in-Ok.ensures.user c.new-core.ensures.user (c.new-core.ensures.suffix ∙ c.in_ok-from_slice.ensures.copied) c.in-Err-first.ensures.accepts c.in_default.not-OutOfMemory;
+  refused = tt;
+  one_key = c.new.ensures.at_most;
+  rises = c.new.ensures.rises;
+}

@@ -1,0 +1,30 @@
+use Rattle.std.proofs.Common.{rules, Option, None, Some, subst}
+use Rattle.std.specs.Borrow.{Bor}
+use Rattle.mongo_session.specs.Opened.{FindsAccount}
+use Rattle.mongo_session.specs.declared.serve_settings.Account.{Account}
+use Rattle.mongo_session.proofs.Begun.{none_suits, opens_all}
+use Rattle.mongo_session.proofs.open.open_login.Goals as goal
+
+pub returns-in-Some-clause-opened : goal.returns-in-Some-clause-opened
+returns-in-Some-clause-opened g c =
+    let settings = c.args.settings.now in
+    let start = c.args.start in
+    let version = c.in-Some-Some.version in
+    let message = c.in-Some-Some.payload in
+    let account = c.in-Some.account in
+    let found : FindsAccount settings.accounts.items version message.now (Some account) =
+    subst (λ accounts. FindsAccount accounts version message.now (Some account)) c.as_slice.ensures.value (rw c.in-Some.is at c.in_ok-account.ensures) in
+    opens_all settings start version message c.in-Some-Some.is-0 c.in-Some-Some.is-1 account.now c.as_str.result.now found c.as_str.ensures c.open.result c.open.ensures.opened
+
+pub returns-in-None-clause-opened : goal.returns-in-None-clause-opened
+returns-in-None-clause-opened g c =
+    let settings = c.args.settings.now in
+    let version = c.in-Some-Some.version in
+    let message = c.in-Some-Some.payload in
+    let none : Option (Bor Account) = None in
+    let found : FindsAccount settings.accounts.items version message.now none =
+    subst (λ accounts. FindsAccount accounts version message.now none) c.as_slice.ensures.value (rw c.in-None.is at c.in_ok-account.ensures) in
+    none_suits settings c.args.start version message c.in-Some-Some.is-0 c.in-Some-Some.is-1 found
+
+pub returns-in_default-clause-opened : goal.returns-in_default-clause-opened
+returns-in_default-clause-opened g c = search rules

@@ -1,0 +1,10 @@
+pub mod Accounts
+pub mod Answers
+pub mod Last
+pub mod Login
+pub mod Opened
+pub mod Replies
+pub mod Requests
+pub mod Sasl
+pub mod ServeSettings
+pub mod Values

@@ -1,0 +1,138 @@
+-- What a client asks for: a command, by the first key of its document.
+use Rattle.std.specs.Prelude.{◌≡◌, ℕ, ◌==◌, ◌⊎◌, ◌↔◌, ◌||◌, Bool, true, false, Option, None, Some, List, [], length, drop, codes, bytes_eq, if◌then◌else◌, IsTrue}
+use Rattle.std.specs.List.{position_or_len, after_first}
+use Rattle.mongo_bson.specs.Framed.{body_of}
+use Rattle.mongo_bson.specs.Document.{Element}
+use Rattle.mongo_bson.specs.Find.{IsFirstOf, BeginsWithKey}
+use Rattle.mongo_command.specs.Keys.{sasl_supported_mechs_key, speculative_authenticate_key}
+use Rattle.mongo_scram.specs.declared.scram_version.ScramVersion.{ScramVersion}
+use Rattle.mongo_session.specs.ServeSettings.{version_named}
+use Rattle.mongo_session.specs.Values.{HasInside, HasText, HasTrue, HasOne, HoldsIfAny}
+use Rattle.mongo_session.specs.declared.request.Request.{Request}
+use Rattle.mongo_session.specs.declared.request.Request.TheVariants.{Hello as Greeting, SaslStart as Starting, SaslContinue as Continuing, Ping, BuildInfo, EndSessions, Other}
+use Rattle.mongo_session.specs.declared.request.Hello.{Hello}
+use Rattle.mongo_session.specs.declared.request.StartRequest.{StartRequest}
+use Rattle.mongo_session.specs.declared.request.ContinueRequest.{ContinueRequest}
+use Rattle.mongo_sasl.specs.Keys.{conversation_id_key, mechanism_key, options_key, payload_key, sasl_continue_key, sasl_start_key}
+
+-- the document's command
+abbrev pub IsCommandNamed : List ℕ → List ℕ → Type 0
+IsCommandNamed document name = BeginsWithKey (body_of document) name
+
+-- ---- the parts of a login's command
+
+-- its `payload`: a binary of these bytes
+pub record HasPayload (document payload : List ℕ) : Type 0 where
+  pub element : Element
+  pub first : IsFirstOf (body_of document) payload_key element
+  pub binary : element.kind ≡ 0x05
+  pub payload_is : payload ≡ drop 5 element.value
+
+-- a `saslStart` with this message
+pub record IsStart (document payload : List ℕ) : Type 0 where
+  pub named : IsCommandNamed document sasl_start_key
+  pub message : HasPayload document payload
+
+-- hello, by its name or a legacy one
+abbrev pub IsGreeting : List ℕ → Type 0
+IsGreeting document = IsCommandNamed document (codes "hello") ⊎ (IsCommandNamed document (codes "isMaster") ⊎ IsCommandNamed document (codes "ismaster"))
+
+-- a hello that carries a `saslStart` with this message
+pub record IsGreetingStart (document payload : List ℕ) : Type 0 where
+  pub greeting : IsGreeting document
+  pub inner : List ℕ
+  pub inside : HasInside document speculative_authenticate_key inner
+  pub start : IsStart inner payload
+
+-- a login begins with this message
+abbrev pub OpensLogin : List ℕ → List ℕ → Type 0
+OpensLogin document payload = IsStart document payload ⊎ IsGreetingStart document payload
+
+-- a `saslContinue` with this message
+pub record SaysSaslContinue (document payload : List ℕ) : Type 0 where
+  pub named : IsCommandNamed document sasl_continue_key
+  pub message : HasPayload document payload
+
+-- ---- what a request is to its document
+
+-- the version of SCRAM that `mechanism` names; none where it names none that is spoken here
+abbrev pub SaysVersion : List ℕ → Option ScramVersion → Type 0
+SaysVersion document None = (name : List ℕ) → HasText document mechanism_key name → version_named name ≡ None
+SaysVersion document (Some version) = (name : List ℕ) × HasText document mechanism_key name × (version_named name ≡ Some version)
+
+-- `options` asks for no empty exchange at the end
+abbrev pub SkipsEmptyExchange : List ℕ → Type 0
+SkipsEmptyExchange document = (options : List ℕ) × HasInside document options_key options × HasTrue options (codes "skipEmptyExchange")
+
+-- a `saslStart`
+pub record SaysStart (document : List ℕ) (start : StartRequest) : Type 0 where
+  pub named : IsCommandNamed document sasl_start_key
+  pub version : SaysVersion document start.version
+  pub message : HoldsIfAny (HasPayload document) start.payload
+  pub skips : IsTrue start.skips_empty_exchange ↔ SkipsEmptyExchange document
+
+-- a login that a hello carries
+pub record CarriesStart (document : List ℕ) (start : StartRequest) : Type 0 where
+  pub inner : List ℕ
+  pub inside : HasInside document speculative_authenticate_key inner
+  pub says : SaysStart inner start
+
+-- the login that a hello carries; none where what it carries is no `saslStart`
+abbrev pub CarriesLogin : List ℕ → Option StartRequest → Type 0
+CarriesLogin document None = (inner : List ℕ) → HasInside document speculative_authenticate_key inner → IsCommandNamed inner sasl_start_key → ⊥
+CarriesLogin document (Some start) = CarriesStart document start
+
+-- hello by its name, or by a legacy one
+abbrev pub IsGreetingBy : List ℕ → Bool → Type 0
+IsGreetingBy document false = IsCommandNamed document (codes "hello")
+IsGreetingBy document true = IsCommandNamed document (codes "isMaster") ⊎ IsCommandNamed document (codes "ismaster")
+
+-- a user's name without its database: what stands behind the first dot, or all of it where there is none
+abbrev pub name_without_database : List ℕ → List ℕ
+name_without_database user = if position_or_len (λ b. b == 46) user == length user then user else after_first (λ b. b == 46) user
+
+-- the mechanisms of this user are asked for
+abbrev pub AsksMechanismsOf : List ℕ → List ℕ → Type 0
+AsksMechanismsOf document user = (text : List ℕ) × HasText document sasl_supported_mechs_key text × (user ≡ name_without_database text)
+
+pub record SaysHello (document : List ℕ) (hello : Hello) : Type 0 where
+  pub greeting : IsGreeting document
+  pub name : IsGreetingBy document hello.is_legacy
+  pub mechanisms : HoldsIfAny (AsksMechanismsOf document) hello.mechanisms_of
+  pub speculation : CarriesLogin document hello.speculation
+
+-- a `saslContinue`
+pub record SaysContinue (document : List ℕ) (next : ContinueRequest) : Type 0 where
+  pub named : IsCommandNamed document sasl_continue_key
+  pub conversation : IsTrue next.is_of_conversation ↔ HasOne document conversation_id_key
+  pub message : HoldsIfAny (HasPayload document) next.payload
+
+-- the names that are known
+abbrev pub is_known_command : List ℕ → Bool
+is_known_command name =
+    bytes_eq name (codes "hello") || bytes_eq name (codes "isMaster") || bytes_eq name (codes "ismaster")
+    || bytes_eq name sasl_start_key || bytes_eq name sasl_continue_key || bytes_eq name (codes "ping")
+    || bytes_eq name (codes "buildInfo") || bytes_eq name (codes "buildinfo") || bytes_eq name (codes "endSessions")
+
+-- the document has no first key
+abbrev pub IsUnnamed : List ℕ → Type 0
+IsUnnamed document = (name : List ℕ) → IsCommandNamed document name → ⊥
+
+-- the document's first key, or the empty text where it has none
+abbrev pub IsCommandName : List ℕ → List ℕ → Type 0
+IsCommandName document name = IsCommandNamed document name ⊎ (IsUnnamed document × (name ≡ []))
+
+-- another command, or no first key
+pub record SaysOther (document name : List ℕ) : Type 0 where
+  pub named : IsCommandName document name
+  pub unknown : is_known_command name ≡ false
+
+-- the document asks for this
+abbrev pub SaysRequest : List ℕ → Request → Type 0
+SaysRequest document (Greeting hello) = SaysHello document hello
+SaysRequest document (Starting start) = SaysStart document start
+SaysRequest document (Continuing next) = SaysContinue document next
+SaysRequest document Ping = IsCommandNamed document (codes "ping")
+SaysRequest document BuildInfo = IsCommandNamed document (codes "buildInfo") ⊎ IsCommandNamed document (codes "buildinfo")
+SaysRequest document EndSessions = IsCommandNamed document (codes "endSessions")
+SaysRequest document (Other name) = SaysOther document name.now

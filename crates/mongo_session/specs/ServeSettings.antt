@@ -1,0 +1,152 @@
+-- Settings: the text of one JSON object in UTF-8. Who may log in, in the order of the text, and what is put behind a client's nonce.
+-- None says that a value, or the text, is of another kind.
+use Rattle.std.specs.Prelude.{◌≡◌, ℕ, ◌-◌, ◌^◌, ◌&&◌, ◌++◌, ◌==◌, not, Bool, false, nat_le, if◌then◌else◌, Option, None, Some, option_and_then, Result, Ok, Err, List, [], ◌∷◌, map, codes, bytes_eq, ⊤}
+use Rattle.std.specs.List.{list_all}
+use Rattle.std.specs.Result.{result_ok}
+use Rattle.std.specs.Str.{is_utf8}
+use Rattle.hex.specs.Hex.{decode_of}
+use Rattle.serde_json.specs.Data.{Data, Items, no_items, item}
+use Rattle.serde_json.specs.Find.{get, as_number, as_u64, as_str, as_array}
+use Rattle.serde_json.specs.Read.{read}
+use Rattle.mongo_scram.specs.Validity.{least_count}
+use Rattle.mongo_scram.specs.Version.{version_name}
+use Rattle.mongo_scram.specs.declared.scram_version.ScramVersion.{ScramVersion}
+use Rattle.mongo_scram.specs.declared.scram_version.ScramVersion.TheVariants.{Sha1, Sha256}
+use Rattle.mongo_session.specs.declared.serve_settings.Account.{Account}
+use Rattle.mongo_session.specs.declared.serve_settings.ServeSettings.{ServeSettings}
+use Rattle.mongo_session.specs.declared.serve_settings.reading.ServeSettingsError.{ServeSettingsError}
+use Rattle.mongo_session.specs.declared.serve_settings.reading.ServeSettingsError.TheVariants.{BadSettings, OutOfMemory}
+
+-- one part after another: where one has no meaning, the whole has none
+infixl 10 ◌>>=◌
+abbrev pub ◌>>=◌ : {A B : Type 0} → Option A → (A → Option B) → Option B
+None >>= f = None
+Some x >>= f = f x
+
+-- ---- what the values of keys mean
+
+abbrev pub text_under : List ℕ → Data → Option (List ℕ)
+text_under key d = option_and_then as_str (get key d)
+
+abbrev pub items_in : List ℕ → Data → Option Items
+items_in key d = option_and_then as_array (get key d)
+
+-- the mechanism of this name
+abbrev pub version_named : List ℕ → Option ScramVersion
+version_named name = if bytes_eq name (version_name Sha1) then Some Sha1 else if bytes_eq name (version_name Sha256) then Some Sha256 else None
+
+abbrev pub scram_version_in : Data → Option ScramVersion
+scram_version_in d = option_and_then version_named (as_str d)
+
+-- the bytes of a text of hex
+abbrev pub salt_in : Data → Option (List ℕ)
+salt_in d = option_and_then (λ text. result_ok (decode_of text)) (as_str d)
+
+-- an iteration count, 4096 to 4294967295
+abbrev pub count_in : Data → Option ℕ
+count_in d = option_and_then (λ n. if nat_le least_count n && nat_le n (2 ^ 32 - 1) then Some n else None) (option_and_then as_u64 (option_and_then as_number (get (codes "count") d)))
+
+-- printable ASCII without a comma
+abbrev pub is_printable : ℕ → Bool
+is_printable byte = nat_le 0x20 byte && nat_le byte 0x7E && not (byte == 0x2C)
+
+-- what can be put behind a client's nonce: one printable byte or more
+abbrev pub is_suffix : List ℕ → Bool
+is_suffix [] = false
+is_suffix (byte ∷ bytes) = list_all is_printable (byte ∷ bytes)
+
+abbrev pub suffix_in : Data → Option (List ℕ)
+suffix_in d = option_and_then (λ nonce. if is_suffix nonce then Some nonce else None) (text_under (codes "nonce") d)
+
+-- ---- users
+
+-- what a text says of a user by one mechanism
+pub record SaidAccount : Type 0 where
+  pub name : List ℕ
+  pub password : List ℕ
+  pub version : ScramVersion
+  pub salt : List ℕ
+  pub count : ℕ
+
+-- a user's account by a mechanism, with the salt that stands at the mechanism's place
+unfoldable pub account_in : Data → Data → Data → Option SaidAccount
+account_in user mechanism salt = do
+  name ← text_under (codes "name") user
+  password ← text_under (codes "password") user
+  count ← count_in user
+  version ← scram_version_in mechanism
+  bytes ← salt_in salt
+  Some (record { name = name; password = password; version = version; salt = bytes; count = count })
+
+-- a user's accounts by mechanisms, one each, with as many salts
+unfoldable pub accounts_by : Data → Items → Items → Option (List SaidAccount)
+accounts_by user no_items no_items = Some []
+accounts_by user no_items (item salt salts) = None
+accounts_by user (item mechanism mechanisms) no_items = None
+accounts_by user (item mechanism mechanisms) (item salt salts) = do
+  account ← account_in user mechanism salt
+  others ← accounts_by user mechanisms salts
+  Some (account ∷ others)
+
+-- a user's accounts, in the order of its mechanisms
+unfoldable pub accounts_of_user : Data → Option (List SaidAccount)
+accounts_of_user user = do
+  mechanisms ← items_in (codes "mechanisms") user
+  salts ← items_in (codes "salts") user
+  accounts_by user mechanisms salts
+
+-- the accounts of users, in their order
+unfoldable pub accounts_of : Items → Option (List SaidAccount)
+accounts_of no_items = Some []
+accounts_of (item user users) = do
+  accounts ← accounts_of_user user
+  others ← accounts_of users
+  Some (accounts ++ others)
+
+-- ---- the settings
+
+pub record SaidSettings : Type 0 where
+  pub accounts : List SaidAccount
+  pub suffix : List ℕ
+
+-- the settings that a value says
+unfoldable pub serve_settings_in : Data → Option SaidSettings
+serve_settings_in d = do
+  suffix ← suffix_in d
+  users ← items_in (codes "users") d
+  accounts ← accounts_of users
+  Some (record { accounts = accounts; suffix = suffix })
+
+-- the value of a text of JSON, which is UTF-8
+abbrev pub json_in : List ℕ → Option Data
+json_in text = if is_utf8 text then read text else None
+
+-- The settings that a text says.
+unfoldable pub settings_said : List ℕ → Option SaidSettings
+settings_said text = do
+  d ← json_in text
+  serve_settings_in d
+
+-- ---- what a reader answers
+
+-- an account and settings, as a text says them
+abbrev pub as_said : Account → SaidAccount
+as_said account = record { name = account.name; password = account.password; version = account.version; salt = account.salt; count = account.count }
+
+abbrev pub settings_as_said : ServeSettings → SaidSettings
+settings_as_said settings = record { accounts = map as_said settings.accounts.items; suffix = settings.suffix }
+
+-- accounts that have those that are said at their end
+abbrev pub HaveAtEnd : Option (List SaidAccount) → List Account → List Account → Type 0
+HaveAtEnd None old new = ⊥
+HaveAtEnd (Some said) old new = map as_said new ≡ map as_said old ++ said
+
+-- Why it refuses: nothing is said. Want of memory may stand in its place.
+abbrev pub SaysNothing : {B : Type 0} → ServeSettingsError → Option B → Type 0
+SaysNothing OutOfMemory said = ⊤
+SaysNothing BadSettings said = said ≡ None
+
+-- it answers exactly what is said
+abbrev pub AnswersSaid : {A B : Type 0} → (A → B) → Result A ServeSettingsError → Option B → Type 0
+AnswersSaid view (Ok x) said = said ≡ Some (view x)
+AnswersSaid view (Err error) said = SaysNothing error said
