@@ -3,6 +3,9 @@ use Rattle.std.proofs.Common.{◌≡◌, ◌⊎◌, ℕ, ℤ, pos, ◌+◌, ◌-
 use Rattle.std.proofs.lemmas.Bool.{false≢true}
 use Rattle.std.proofs.lemmas.Int.{ints}
 use Rattle.std.specs.Io.KnownBytes.{Consumes}
+use Rattle.mongo_bson.specs.declared.fault.BsonFault.{BsonFault}
+use Rattle.mongo_bson.specs.declared.fault.BsonFault.TheVariants.{TooLong, OutOfMemory as NoMemory}
+use Rattle.mongo_command.specs.Arguments.{TooLongFor}
 use Rattle.mongo_wire.proofs.OneFrame.{signed_in}
 use Rattle.mongo_wire.proofs.ReadStopped.{rose_after}
 use Rattle.mongo_wire.specs.Error.{kind_of_frame_fault}
@@ -18,7 +21,7 @@ use Rattle.mongo_wire.specs.declared.op_code.OpCode.TheVariants.{Message, Query}
 use Rattle.mongo_service.specs.declared.fault.ServeFault.{ServeFault}
 use Rattle.mongo_service.specs.declared.fault.ServeFault.TheVariants.{ReadFault, WriteFault, CutFrame, NoFrame, NoHello, ReplyTooLong, TooManyRequests, OutOfMemory}
 use Rattle.mongo_service.specs.Cut.{HasCause, IsNoRequest, IsPart, TookSome}
-use Rattle.mongo_service.specs.Faults.{fault_of_frame, IsOfDocument}
+use Rattle.mongo_service.specs.Faults.{fault_of_bson, fault_of_frame, IsOfBuilding}
 use Rattle.mongo_session.specs.Replies.{message_maximum}
 use Rattle.mongo_service.specs.Sent.{WriteCause}
 use Rattle.mongo_session.specs.Requests.{IsGreeting}
@@ -162,9 +165,14 @@ query_front head rest wanted sixteen code counted within short =
 
 -- ---- a write was refused
 
-pub document_cause : (too_long : Type 0) (document : List ℕ) (fault : ServeFault) (old new : State) → (2 ^ 31 - 1 < length document → too_long) → IsOfDocument document fault → WriteCause too_long fault old new
-document_cause too_long document ReplyTooLong old new long is = long is
-document_cause too_long document OutOfMemory old new long is = tt
+pub is_of_building : (document : List ℕ) (fault : BsonFault) → TooLongFor fault document → IsOfBuilding fault
+is_of_building document TooLong is = tt
+is_of_building document NoMemory is = tt
+is_of_building document fault is = absurd is
+
+pub document_cause : (too_long : Type 0) (document : List ℕ) (fault : BsonFault) (old new : State) → (2 ^ 31 - 1 < length document → too_long) → TooLongFor fault document → WriteCause too_long (fault_of_bson fault) old new
+document_cause too_long document TooLong old new long is = long is
+document_cause too_long document NoMemory old new long is = tt
 document_cause too_long document fault old new long is = absurd is
 
 -- the cause of a reply that is too long

@@ -2,7 +2,7 @@
 use Rattle.std.specs.Prelude.{◌≡◌, ℕ, ℤ, pos, ◌+◌, ◌≤◌, ◌<ℤ◌, ◌⊎◌, None, List, [], ◌∷◌, ◌++◌, length, take, bit_and, IfSome, ⊤}
 use Rattle.std.specs.Int.{to_le_bytes, w64}
 use Rattle.std.specs.Io.KnownBytes.{Appends}
-use Rattle.mongo_wire.specs.Bytes.{first_maximum, next_id}
+use Rattle.mongo_wire.specs.Bytes.{next_id}
 use Rattle.mongo_wire.specs.Frame.{Frame, IsFrame, IsFrameWith, int32, message_code, uint32}
 use Rattle.mongo_wire.specs.Header.{header_bytes, signed_at}
 use Rattle.mongo_wire.specs.Outside.{State, AppendsFront, IsFlushed, Rose}
@@ -107,13 +107,13 @@ pub record IsSentToQuery (old new : State) (to : ℤ) (reply : Reply) (id later 
 
 -- ---- why a write was refused
 
--- an OP_MSG of the document is longer than the greatest that is sent
+-- an OP_MSG of the document is longer than the greatest frame, which a hello announces
 abbrev pub IsLongMessage : List ℕ → Type 0
-IsLongMessage document = first_maximum <ℤ pos (21 + length document)
+IsLongMessage document = message_maximum <ℤ pos (21 + length document)
 
--- a document is longer than an OP_REPLY takes
+-- and so an OP_REPLY
 abbrev pub IsLongReply : List ℕ → Type 0
-IsLongReply document = message_maximum <ℤ pos (length document)
+IsLongReply document = message_maximum <ℤ pos (36 + length document)
 
 -- The sink failed exactly where its count rose; a reply is refused as too long only where it is.
 abbrev pub WriteCause : Type 0 → ServeFault → State → State → Type 0

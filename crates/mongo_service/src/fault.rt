@@ -1,5 +1,5 @@
 ghost use Rattle.std.specs.Prelude.{◌≡◌};
-ghost use Rattle.mongo_service.specs.Faults.{fault_of_bson, fault_of_frame, fault_of_kind, fault_of_sink};
+ghost use Rattle.mongo_service.specs.Faults.{fault_of_bson, fault_of_frame, fault_of_kind, fault_of_sink, IsOfBuilding, IsOfWriting};
 ghost use Rattle.mongo_service.specs.declared.fault.ServeFault.TheVariants.{OutOfMemory};
 
 use mongo_bson::BsonFault;
@@ -19,7 +19,7 @@ pub enum ServeFault {
     NoFrame,
     /// An OP_QUERY asked for another command than hello.
     NoHello,
-    /// A reply to an OP_MSG would pass 50331648 bytes, or the document of one to an OP_QUERY 48000000.
+    /// A reply would be a frame of more than 48000000 bytes, the greatest that a hello announces.
     ReplyTooLong,
     /// 18446744073709551615 requests came.
     TooManyRequests,
@@ -43,18 +43,6 @@ impl<T: Drop> From<AllocFailed<T>> for ServeFault {
     }
 }
 
-// Documents and texts are built here: no key of theirs holds a zero.
-impl From<BsonFault> for ServeFault {
-    ghost from_gives = { λ given fault. fault ≡ fault_of_bson given };
-
-    fn from(fault: BsonFault) -> ServeFault {
-        match fault {
-            BsonFault::OutOfMemory => ServeFault::OutOfMemory,
-            _ => ServeFault::ReplyTooLong,
-        }
-    }
-}
-
 impl From<FrameFault> for ServeFault {
     ghost from_gives = { λ given fault. fault ≡ fault_of_frame given };
 
@@ -68,26 +56,6 @@ impl From<FrameFault> for ServeFault {
     }
 }
 
-// What a write is refused for.
-impl From<Error> for ServeFault {
-    ghost from_gives = { λ given fault. fault ≡ fault_of_kind given.kind };
-
-    fn from(error: Error) -> ServeFault {
-        serve_fault_of(&error.kind)
-    }
-}
-
-// By reference: behind each arm of a `match` on an error that is owned all of its parts would be let go.
-fn serve_fault_of(kind: &ErrorKind) -> ServeFault
-    ensures { result ≡ fault_of_kind kind.now }
-{
-    match kind {
-        ErrorKind::WriteFault => ServeFault::WriteFault,
-        ErrorKind::OutOfMemory => ServeFault::OutOfMemory,
-        _ => ServeFault::ReplyTooLong,
-    }
-}
-
 impl From<SinkError> for ServeFault {
     ghost from_gives = { λ given fault. fault ≡ fault_of_sink given };
 
@@ -96,5 +64,32 @@ impl From<SinkError> for ServeFault {
             SinkError::Failed => ServeFault::WriteFault,
             SinkError::OutOfMemory => ServeFault::OutOfMemory,
         }
+    }
+}
+
+/// What it is to the server that a reply's document wasn't built.
+pub fn fault_of_document(fault: BsonFault) -> ServeFault
+    requires { IsOfBuilding fault }
+    ensures { result ≡ fault_of_bson fault }
+{
+    match fault {
+        BsonFault::TooLong => ServeFault::ReplyTooLong,
+        BsonFault::OutOfMemory => ServeFault::OutOfMemory,
+        _ => unreachable!(),
+    }
+}
+
+/// What it is to the server that a message wasn't written, which has its document alone: it can only be too long.
+///
+/// By reference: behind each arm of a `match` on an error that is owned all of its parts would be let go.
+pub fn fault_of_write(error: &Error) -> ServeFault
+    requires { IsOfWriting error.now.kind }
+    ensures { result ≡ fault_of_kind error.now.kind }
+{
+    match &error.kind {
+        ErrorKind::InvalidArgument(_) => ServeFault::ReplyTooLong,
+        ErrorKind::WriteFault => ServeFault::WriteFault,
+        ErrorKind::OutOfMemory => ServeFault::OutOfMemory,
+        _ => unreachable!(),
     }
 }

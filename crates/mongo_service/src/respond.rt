@@ -7,7 +7,7 @@ ghost use Rattle.mongo_session.specs.Replies.{document_of_served};
 ghost use Rattle.mongo_service.specs.Sent.{message_reply, query_header, query_reply, IsLongMessage, IsLongReply, IsReplySent, IsSentInPart, IsSentToQuery, SendsReply, WriteCause};
 ghost use Rattle.mongo_service.specs.declared.fault.ServeFault.TheVariants.{OutOfMemory};
 
-use crate::fault::ServeFault;
+use crate::fault::{ServeFault, fault_of_document, fault_of_write};
 use bitflags::Flags;
 use mongo_bson::RawDocumentBuf;
 use mongo_session::{MESSAGE_MAXIMUM, Reply, document_of_reply};
@@ -34,7 +34,7 @@ pub fn respond<K: Sink>(
     }
     match document_of_reply(alloc, reply) {
         Ok(document) => send_document(alloc, sink, request_id, document, ids),
-        Err(fault) => Err(fault.into()),
+        Err(fault) => Err(fault_of_document(fault)),
     }
 }
 
@@ -59,9 +59,9 @@ fn send_document<K: Sink>(
         checksum: None,
         request_id: None,
     };
-    match message.write_op_msg_to(alloc, sink, None, ids) {
+    match message.write_op_msg_to(alloc, sink, Some(MESSAGE_MAXIMUM), ids) {
         Ok(()) => Ok(()),
-        Err(error) => Err(error.into()),
+        Err(error) => Err(fault_of_write(&error)),
     }
 }
 
@@ -84,9 +84,9 @@ pub fn respond_to_query<K: Sink>(
 {
     let document = match document_of_reply(alloc, reply) {
         Ok(document) => document,
-        Err(fault) => return Err(fault.into()),
+        Err(fault) => return Err(fault_of_document(fault)),
     };
-    if document.as_bytes().len() > MESSAGE_MAXIMUM as usize {
+    if document.as_bytes().len() > MESSAGE_MAXIMUM as usize - 36 {
         return Err(ServeFault::ReplyTooLong);
     }
     let frame = match frame_of_reply(alloc, ids.draw(), request_id, document.as_bytes()) {

@@ -158,7 +158,7 @@ fn take_message<L: Link, G: Ledger>(
     }
 }
 
-// Answers what a document asks for.
+// Answers what a document asks for. Want of memory is the one refusal.
 fn answer_document<G: Ledger>(
     alloc: Global,
     settings: &ServeSettings,
@@ -174,7 +174,7 @@ fn answer_document<G: Ledger>(
 {
     match answer_request(alloc, settings, session, request_of(document), steps) {
         Ok(reply) => Ok(reply),
-        Err(fault) => Err(fault.into()),
+        Err(_) => Err(ServeFault::OutOfMemory),
     }
 }
 
@@ -241,7 +241,7 @@ fn greet_query<G: Ledger>(
     match request_of(document) {
         Request::Hello(hello) => match greet(alloc, settings, session, hello, steps) {
             Ok(reply) => Ok(Reply::Hello(reply)),
-            Err(fault) => Err(fault.into()),
+            Err(_) => Err(ServeFault::OutOfMemory),
         },
         _ => Err(ServeFault::NoHello),
     }

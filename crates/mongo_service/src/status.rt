@@ -5,7 +5,7 @@ use std::process::ExitCode;
 pub enum ServeStatus {
     /// 0: the client ended its stream between two frames.
     Ended = 0,
-    /// 1: the client broke the protocol, or the link failed.
+    /// 1: the client broke the protocol, the link failed, a reply would be too long, or too many requests came.
     Broken = 1,
     /// 2: the first line is no settings.
     BadSettings = 2,

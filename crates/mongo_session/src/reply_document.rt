@@ -27,7 +27,7 @@ const GENERIC: u8 = 0;
 /// The greatest document, in bytes.
 pub const DOCUMENT_MAXIMUM: i32 = 16_777_216;
 
-/// The greatest frame that is read, in bytes, and the greatest document of an OP_REPLY.
+/// The greatest frame that is read or sent, in bytes, as a hello's reply announces it.
 pub const MESSAGE_MAXIMUM: i32 = 48_000_000;
 
 /// The document that says a reply.

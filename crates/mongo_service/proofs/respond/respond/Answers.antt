@@ -1,8 +1,10 @@
-use Rattle.std.proofs.Common.{rules, FitsSigned, OnOk, OnErr, subst}
+use Rattle.std.proofs.Common.{rules, FitsSigned, OnOk, OnErr, subst, sym, arith}
 use Rattle.std.specs.Int.{w32}
-use Rattle.std.proofs.lemmas.Int.{to_z-of_z}
+use Rattle.std.proofs.lemmas.Int.{ints, to_z-of_z}
 use Rattle.mongo_wire.specs.Outside.{AppendsFront}
-use Rattle.mongo_service.specs.Sent.{message_reply, SendsReply}
+use Rattle.mongo_service.specs.Sent.{IsLongMessage, message_reply, SendsReply, WriteCause}
+use Rattle.mongo_session.specs.Replies.{document_of_served}
+use Rattle.mongo_service.proofs.Causes.{document_cause, is_of_building}
 use Rattle.mongo_service.proofs.Responses.{reply_cut, reply_sent}
 use Rattle.mongo_service.proofs.respond.respond.Goals as goal
 
@@ -26,3 +28,12 @@ returns-in-Ok-clause-cut g c =
     let id = c.args.ids.now in
     reply_cut old new to c.args.flags.0 c.args.reply.now id c.in-Ok.document c.send_document.result c.in-Ok.ensures.document (search rules)
     (subst (λ t. OnErr c.send_document.result (AppendsFront old.written new.written (message_reply id t c.in-Ok.document))) (to_z-of_z w32 to fits) c.send_document.ensures.front)
+
+pub fault_of_document-requires : goal.fault_of_document-requires
+fault_of_document-requires g c = is_of_building (document_of_served c.args.reply.now) c.in-Err.fault c.in-Err.ensures.refused
+
+pub returns-clause-refused : goal.returns-clause-refused
+returns-clause-refused g c =
+    let old = g.K.Outside.state c.args.sink.now in
+    let document = document_of_served c.args.reply.now in
+    subst (λ f. WriteCause (IsLongMessage document) f old old) (sym c.fault_of_document.ensures) (document_cause (IsLongMessage document) document c.in-Err.fault old old (λ long. omega (arith, ints, long)) c.in-Err.ensures.refused)

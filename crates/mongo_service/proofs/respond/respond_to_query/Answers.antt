@@ -1,8 +1,10 @@
-use Rattle.std.proofs.Common.{rules, ◌≡◌, FitsSigned, ◌∙◌}
+use Rattle.std.proofs.Common.{rules, ◌≡◌, FitsSigned, ◌∙◌, subst, sym, arith}
 use Rattle.std.specs.Int.{w32}
-use Rattle.std.proofs.lemmas.Int.{to_z-of_z}
+use Rattle.std.proofs.lemmas.Int.{ints, to_z-of_z}
 use mir.Val.{to_z, of_z}
-use Rattle.mongo_service.specs.Sent.{query_reply}
+use Rattle.mongo_service.specs.Sent.{IsLongReply, query_reply, WriteCause}
+use Rattle.mongo_session.specs.Replies.{document_of_served}
+use Rattle.mongo_service.proofs.Causes.{document_cause, is_of_building}
 use Rattle.mongo_service.proofs.Responses.{query_front, query_numbered, query_sent}
 use Rattle.mongo_service.proofs.respond.respond_to_query.Goals as goal
 
@@ -34,3 +36,12 @@ returns-clause-front g c =
     let frame : c.in-Ok-frame_of_reply.frame.items ≡ query_reply id to document =
     query_numbered c.in-Ok-frame_of_reply.frame.items document (to_z w32 (of_z w32 drawn)) id (to_z w32 (of_z w32 to)) to c.in-Ok-frame_of_reply.ensures.frame (to_z-of_z w32 drawn drawn_fits ∙ c.draw.ensures.drawn) (to_z-of_z w32 to to_fits) in
     query_front old new to id c.args.reply.now document c.in-Ok-frame_of_reply.frame.items c.as_slice.result.now c.send_bytes.result (c.as_bytes-2.ensures.bytes ∙ c.in-Ok.ensures.document) frame c.as_slice.ensures.value c.send_bytes.ensures.front
+
+pub fault_of_document-requires : goal.fault_of_document-requires
+fault_of_document-requires g c = is_of_building (document_of_served c.args.reply.now) c.in-Err.fault c.in-Err.ensures.refused
+
+pub returns-in-Err-clause-refused : goal.returns-in-Err-clause-refused
+returns-in-Err-clause-refused g c =
+    let old = g.K.Outside.state c.args.sink.now in
+    let document = document_of_served c.args.reply.now in
+    subst (λ f. WriteCause (IsLongReply document) f old old) (sym c.fault_of_document.ensures) (document_cause (IsLongReply document) document c.in-Err.fault old old (λ long. omega (arith, ints, long)) c.in-Err.ensures.refused)
