@@ -1,6 +1,7 @@
 -- How a run ends.
 use Rattle.std.specs.Prelude.{◌≡◌, ℕ, ◌<◌, ◌⊎◌, Option, None, Some, List}
-use Rattle.mongo_wire.specs.Outside.{State, Rose, AppendsFront}
+use Rattle.std.specs.Io.KnownBytes.{Appends}
+use Rattle.mongo_wire.specs.Outside.{State, Rose, AppendsFront, IsFlushed}
 use Rattle.mongo_service.specs.declared.fault.ServeFault.{ServeFault}
 use Rattle.mongo_service.specs.declared.fault.ServeFault.TheVariants as fault
 use Rattle.mongo_service.specs.declared.serve.Served.{Served}
@@ -32,9 +33,18 @@ pub record ServeRun : Type 0 where
   pub report_old : State
   pub report_new : State
 
--- a front of the text, or all of it, was written to the report
-abbrev pub WritesReport : ServeRun → List ℕ → Type 0
-WritesReport run text = AppendsFront run.report_old.written run.report_new.written text
+-- the text stands whole in what was written, and is flushed, or the sink failed
+abbrev pub IsSaid : State → State → List ℕ → Type 0
+IsSaid old new text = (Appends old.written new.written text × IsFlushed new) ⊎ Rose old.write_faults new.write_faults
+
+-- A run that says this text of itself ends with the status that it is to end with, or with NoMemory where memory ran out for the text. A
+-- front of the text is written.
+pub record Tells (old new : State) (text : List ℕ) (wanted status : ServeStatus) : Type 0 where
+  pub front : AppendsFront old.written new.written text
+  pub whole : ((status ≡ wanted) × IsSaid old new text) ⊎ (status ≡ NoMemory)
+
+abbrev pub TellsReport : ServeRun → List ℕ → ServeStatus → ServeStatus → Type 0
+TellsReport run text wanted status = Tells run.report_old run.report_new text wanted status
 
 -- The first line was read as these settings, what follows it was served, and status and report say how that ended.
 pub record Ran (run : ServeRun) (status : ServeStatus) : Type 0 where
@@ -43,19 +53,31 @@ pub record Ran (run : ServeRun) (status : ServeStatus) : Type 0 where
   pub after_line : IsAfterLine run.old between settings
   pub served : Served
   pub is_served : IsServed settings between run.new served
-  pub status_is : status ≡ status_of_fault served.fault
-  pub said : WritesReport run (report_text served)
+  pub told : TellsReport run (report_text served) (status_of_fault served.fault) status
 
 -- nothing was written to the link
 abbrev pub SendsNothing : ServeRun → Type 0
 SendsNothing run = run.new.written ≡ run.old.written
 
--- How a run without words ends. The link may fail, and memory run out, before there are settings: then no more than the first line was taken.
+-- the first line is no settings
+abbrev pub HasBadLine : ServeRun → ServeStatus → Type 0
+HasBadLine run status = HasNoSettings run.old run.new × SendsNothing run × TellsReport run no_settings BadSettings status
+
+-- the link failed within it
+abbrev pub FailsWithin : ServeRun → ServeStatus → Type 0
+FailsWithin run status = Rose run.old.read_faults run.new.read_faults × StopsWithin run.old run.new × SendsNothing run × TellsReport run line_failed Broken status
+
+-- memory ran out within it
+abbrev pub RunsOutWithin : ServeRun → Type 0
+RunsOutWithin run = StopsWithin run.old run.new × SendsNothing run × TellsReport run no_memory NoMemory NoMemory
+
+-- How a run without words ends. The link may fail, and memory run out, before there are settings: then no more than the first line was
+-- taken. Memory may run out for the report too, however the run is to end.
 abbrev pub ServingEnds : ServeRun → ServeStatus → Type 0
 ServingEnds run Ended = Ran run Ended
-ServingEnds run Broken = Ran run Broken ⊎ (Rose run.old.read_faults run.new.read_faults × StopsWithin run.old run.new × SendsNothing run × WritesReport run line_failed)
-ServingEnds run BadSettings = HasNoSettings run.old run.new × SendsNothing run × WritesReport run no_settings
-ServingEnds run NoMemory = Ran run NoMemory ⊎ (StopsWithin run.old run.new × SendsNothing run × WritesReport run no_memory)
+ServingEnds run Broken = Ran run Broken ⊎ FailsWithin run Broken
+ServingEnds run BadSettings = HasBadLine run BadSettings
+ServingEnds run NoMemory = Ran run NoMemory ⊎ (RunsOutWithin run ⊎ (FailsWithin run NoMemory ⊎ HasBadLine run NoMemory))
 ServingEnds run Usage = ⊥
 
 -- nothing was read or written

@@ -122,8 +122,8 @@ fn header_of_reply(id: i32, to: i32, length: usize) -> Header
     }
 }
 
-// Writes bytes and flushes them.
-fn send_bytes<K: Sink>(sink: &mut K, bytes: &[u8]) -> Result<(), ServeFault>
+/// Writes bytes and flushes them.
+pub fn send_bytes<K: Sink>(sink: &mut K, bytes: &[u8]) -> Result<(), ServeFault>
     ensures written { OnOk result (Appends (K.state sink.old).written (K.state sink.new).written bytes.now) }
     ensures flushed { OnOk result (IsFlushed (K.state sink.new)) }
     ensures front { OnErr result (AppendsFront (K.state sink.old).written (K.state sink.new).written bytes.now) }

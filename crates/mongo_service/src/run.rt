@@ -3,22 +3,22 @@
 ghost use Rattle.std.specs.Prelude.{◌≡◌, ◌<◌, ◌≤◌, length};
 ghost use Rattle.mongo_service.specs.Taken.{put_back_state};
 ghost use Rattle.mongo_service.specs.Report.{report_text};
-ghost use Rattle.mongo_service.specs.Run.{status_of_fault, ServingEnds, RunEnds};
-ghost use Rattle.mongo_wire.specs.Outside.{AppendsFront};
+ghost use Rattle.mongo_service.specs.Run.{status_of_fault, ServingEnds, RunEnds, Tells};
 
 use crate::fault::ServeFault;
 use crate::put_back::PutBack;
 use crate::report::report_text;
+use crate::respond::send_bytes;
 use crate::serve::{Served, serve};
 use crate::settings_line::{LineError, read_serve_settings};
 use crate::status::ServeStatus;
 use mongo_mac::Steps;
-use mongo_wire::{Link, Sink, write_all};
+use mongo_wire::{Link, Sink};
 use std::alloc::Global;
 use std::sync::ledger::{Blank, Ledger};
 
 /// Reads settings from the link's first line, serves the client that follows it, and says on `report` how that ended. Where the report
-/// can't be written, or there is no memory for it, the status alone says it.
+/// fails, the status alone says it; where memory runs out for the report, the status is `NoMemory`.
 ///
 /// It takes no words: where there are any, nothing is read or written.
 pub fn run<L: Link, K: Sink, G: Ledger>(
@@ -68,21 +68,17 @@ fn serve_line<L: Link, K: Sink, G: Ledger>(
     let settings = match read_serve_settings(alloc, link) {
         Ok(settings) => settings,
         Err(LineError::BadSettings) => {
-            say(report, b"the first line is no settings\n");
-            return ServeStatus::BadSettings;
+            return say(report, b"the first line is no settings\n", ServeStatus::BadSettings);
         }
         Err(LineError::Fault) => {
-            say(report, b"the link failed within the first line\n");
-            return ServeStatus::Broken;
+            return say(report, b"the link failed within the first line\n", ServeStatus::Broken);
         }
         Err(LineError::OutOfMemory) => {
-            say(report, b"out of memory\n");
-            return ServeStatus::NoMemory;
+            return say(report, b"out of memory\n", ServeStatus::NoMemory);
         }
     };
     let served = serve(alloc, &settings, link, steps);
-    tell(alloc, report, &served);
-    status_of_fault(served.fault)
+    tell(alloc, report, &served)
 }
 
 fn status_of_fault(fault: Option<ServeFault>) -> ServeStatus
@@ -95,24 +91,23 @@ fn status_of_fault(fault: Option<ServeFault>) -> ServeStatus
     }
 }
 
-// Says how a stream was left, where it can.
-fn tell<K: Sink>(alloc: Global, report: &mut K, served: &Served)
-    ensures { AppendsFront (K.state report.old).written (K.state report.new).written (report_text served.now) }
+// Says how a stream was left, and answers how the run ends.
+fn tell<K: Sink>(alloc: Global, report: &mut K, served: &Served) -> ServeStatus
+    ensures { Tells (K.state report.old) (K.state report.new) (report_text served.now) (status_of_fault served.now.fault) result }
 {
     match report_text(alloc, served) {
-        Ok(text) => say(report, text.as_bytes()),
-        Err(_) => {}
+        Ok(text) => say(report, text.as_bytes(), status_of_fault(served.fault)),
+        Err(_) => ServeStatus::NoMemory,
     }
 }
 
-// Says a line or more on the report, where it can.
-fn say<K: Sink>(report: &mut K, text: &[u8])
-    ensures { AppendsFront (K.state report.old).written (K.state report.new).written text.now }
+// Says a line or more on the report, and answers how the run ends: as it is to, also where the report fails, but for want of memory.
+fn say<K: Sink>(report: &mut K, text: &[u8], wanted: ServeStatus) -> ServeStatus
+    ensures { Tells (K.state report.old) (K.state report.new) text.now wanted result }
 {
-    match write_all(report, text) {
-        Ok(()) => {
-            let _ = report.flush();
-        }
-        Err(_) => {}
+    match send_bytes(report, text) {
+        Ok(()) => wanted,
+        Err(ServeFault::WriteFault) => wanted,
+        Err(_) => ServeStatus::NoMemory,
     }
 }

@@ -11,7 +11,7 @@ pub enum ServeStatus {
     BadSettings = 2,
     /// 3: there are words after the program's name; nothing was read or written.
     Usage = 3,
-    /// 6: memory ran out.
+    /// 6: memory ran out, be it for the report alone.
     NoMemory = 6,
 }
 

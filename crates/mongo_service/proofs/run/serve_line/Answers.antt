@@ -1,7 +1,6 @@
-use Rattle.std.proofs.Common.{refl, sym, subst}
 use Rattle.mongo_service.specs.Taken.{put_back_state}
-use Rattle.mongo_service.specs.Run.{ServeRun, status_of_fault, Ran, ServingEnds}
-use Rattle.mongo_service.proofs.Ran.{ran_ends}
+use Rattle.mongo_service.specs.Run.{ServeRun}
+use Rattle.mongo_service.proofs.Ran.{bad_line_ends, failed_within_ends, ran_ends}
 use Rattle.mongo_service.proofs.run.serve_line.Goals as goal
 
 pub returns-clause-ends : goal.returns-clause-ends
@@ -12,14 +11,11 @@ returns-clause-ends g c =
       report_old = g.K.Outside.state c.args.report.now;
       report_new = g.K.Outside.state c.tell.new.report;
     } in
-    let fault = c.serve-served.result.fault in
-    let ran : Ran run (status_of_fault fault) = record {
+    ran_ends run c.tell.result (record {
       settings = c.in-Ok.settings;
       between = put_back_state g.L.Outside.state c.read_serve_settings.new.source;
       after_line = c.in-Ok.ensures.line;
       served = c.serve-served.result;
       is_served = c.serve-served.ensures.served;
-      status_is = refl;
-      said = c.tell.ensures;
-    } in
-    subst (ServingEnds run) (sym c.status_of_fault.ensures) (ran_ends run fault ran)
+      told = c.tell.ensures;
+    })
