@@ -5,7 +5,6 @@ use Rattle.std.proofs.lemmas.Int.{ints}
 use Rattle.std.specs.Io.KnownBytes.{Consumes}
 use Rattle.mongo_bson.specs.declared.fault.BsonFault.{BsonFault}
 use Rattle.mongo_bson.specs.declared.fault.BsonFault.TheVariants.{TooLong, OutOfMemory as NoMemory}
-use Rattle.mongo_command.specs.Arguments.{TooLongFor}
 use Rattle.mongo_wire.proofs.OneFrame.{signed_in}
 use Rattle.mongo_wire.proofs.ReadStopped.{rose_after}
 use Rattle.mongo_wire.specs.Error.{kind_of_frame_fault}
@@ -22,7 +21,7 @@ use Rattle.mongo_service.specs.declared.fault.ServeFault.{ServeFault}
 use Rattle.mongo_service.specs.declared.fault.ServeFault.TheVariants.{ReadFault, WriteFault, CutFrame, NoFrame, NoHello, ReplyTooLong, TooManyRequests, OutOfMemory}
 use Rattle.mongo_service.specs.Cut.{HasCause, IsNoRequest, IsPart, TookSome}
 use Rattle.mongo_service.specs.Faults.{fault_of_bson, fault_of_frame, IsOfBuilding}
-use Rattle.mongo_session.specs.Replies.{message_maximum}
+use Rattle.mongo_session.specs.Replies.{message_maximum, TooLongFor}
 use Rattle.mongo_service.specs.Sent.{WriteCause}
 use Rattle.mongo_session.specs.Requests.{IsGreeting}
 use Rattle.mongo_service.specs.Served.{HasCauseAfter, Lasts}

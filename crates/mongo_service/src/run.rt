@@ -68,10 +68,18 @@ fn serve_line<L: Link, K: Sink, G: Ledger>(
     let settings = match read_serve_settings(alloc, link) {
         Ok(settings) => settings,
         Err(LineError::BadSettings) => {
-            return say(report, b"the first line is no settings\n", ServeStatus::BadSettings);
+            return say(
+                report,
+                b"the first line is no settings\n",
+                ServeStatus::BadSettings,
+            );
         }
         Err(LineError::Fault) => {
-            return say(report, b"the link failed within the first line\n", ServeStatus::Broken);
+            return say(
+                report,
+                b"the link failed within the first line\n",
+                ServeStatus::Broken,
+            );
         }
         Err(LineError::OutOfMemory) => {
             return say(report, b"out of memory\n", ServeStatus::NoMemory);

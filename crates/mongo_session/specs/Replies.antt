@@ -17,6 +17,9 @@ use Rattle.mongo_session.specs.declared.reply.Mechanisms.TheVariants.{Sha1, Sha2
 use Rattle.mongo_session.specs.declared.reply.RefusedCommand.{RefusedCommand}
 use Rattle.mongo_session.specs.declared.reply.RefusedCommand.TheVariants.{AuthenticationFailed, Unauthorized, CommandNotFound}
 
+-- why a document isn't built
+pub use Rattle.mongo_command.specs.Arguments.{TooLongFor}
+
 -- the greatest document and the greatest frame, in bytes
 abbrev pub document_maximum : ℤ
 document_maximum = pos 16777216
