@@ -7,55 +7,45 @@ use Rattle.mongo_wire.specs.Outside.{AppendsFront}
 use Rattle.mongo_service.specs.declared.fault.ServeFault.{ServeFault}
 use Rattle.mongo_service.specs.declared.fault.ServeFault.TheVariants.{OutOfMemory}
 use Rattle.mongo_service.specs.declared.status.ServeStatus.{ServeStatus}
-use Rattle.mongo_service.specs.declared.status.ServeStatus.TheVariants.{Ended, Broken, BadSettings, Usage, NoMemory}
-use Rattle.mongo_service.specs.Report.{report_text, line_failed, no_settings}
-use Rattle.mongo_service.specs.Run.{ServeRun, status_of_fault, FailsWithin, HasBadLine, IsSaid, Ran, ServingEnds, RunEnds}
+use Rattle.mongo_service.specs.declared.status.ServeStatus.TheVariants.{Broken, BadSettings, Usage, NoMemory}
+use Rattle.mongo_service.specs.Report.{report_text, line_failed, no_memory, no_settings}
+use Rattle.mongo_service.specs.Run.{ServeRun, status_of_fault, FailsWithin, HasBadLine, IsSaid, Ran, RunsOutWithin, ServingEnds, RunEnds}
 
--- no fault is answered by these
-no_usage : (fault : Option ServeFault) → Usage ≡ status_of_fault fault → ⊥
-no_usage None is = cc
-no_usage (Some OutOfMemory) is = cc
-no_usage (Some cause) is = cc
+by_fault : (run : ServeRun) (fault : Option ServeFault) → Ran run (status_of_fault fault) → ServingEnds run (status_of_fault fault)
+by_fault run None h = h
+by_fault run (Some OutOfMemory) h = inl h
+by_fault run (Some cause) h = inl h
 
-no_bad_line : (fault : Option ServeFault) → BadSettings ≡ status_of_fault fault → ⊥
-no_bad_line None is = cc
-no_bad_line (Some OutOfMemory) is = cc
-no_bad_line (Some cause) is = cc
+ran_by : (run : ServeRun) (status : ServeStatus) (h : Ran run status) → ((status ≡ status_of_fault h.served.fault) × IsSaid run.report_old run.report_new (report_text h.served)) ⊎ (status ≡ NoMemory) → ServingEnds run status
+ran_by run status h (inl (is, said)) = subst (ServingEnds run) (sym is) (by_fault run h.served.fault (subst (Ran run) is h))
+ran_by run status h (inr is) = subst (ServingEnds run) (sym is) (inl (subst (Ran run) is h))
 
 pub ran_ends : (run : ServeRun) (status : ServeStatus) → Ran run status → ServingEnds run status
-ran_ends run Ended h = h
-ran_ends run Broken h = inl h
-ran_ends run NoMemory h = inl h
-ran_ends run BadSettings h = absurd (never h.told.whole)
-  where
-    never : ((BadSettings ≡ status_of_fault h.served.fault) × IsSaid run.report_old run.report_new (report_text h.served)) ⊎ (BadSettings ≡ NoMemory) → ⊥
-    never (inl (is, said)) = no_bad_line h.served.fault is
-    never (inr is) = cc
-ran_ends run Usage h = absurd (never h.told.whole)
-  where
-    never : ((Usage ≡ status_of_fault h.served.fault) × IsSaid run.report_old run.report_new (report_text h.served)) ⊎ (Usage ≡ NoMemory) → ⊥
-    never (inl (is, said)) = no_usage h.served.fault is
-    never (inr is) = cc
+ran_ends run status h = ran_by run status h h.told.whole
 
 -- ---- there are no settings
 
+bad_line_by : (run : ServeRun) (status : ServeStatus) → HasBadLine run status → ((status ≡ BadSettings) × IsSaid run.report_old run.report_new no_settings) ⊎ (status ≡ NoMemory) → ServingEnds run status
+bad_line_by run status h (inl (is, said)) = subst (ServingEnds run) (sym is) (subst (HasBadLine run) is h)
+bad_line_by run status h (inr is) = subst (ServingEnds run) (sym is) (inr (inr (inr (subst (HasBadLine run) is h))))
+
 pub bad_line_ends : (run : ServeRun) (status : ServeStatus) → HasBadLine run status → ServingEnds run status
-bad_line_ends run BadSettings h = h
-bad_line_ends run NoMemory h = inr (inr (inr h))
-bad_line_ends run status h = absurd (never h.2.whole)
-  where
-    never : ((status ≡ BadSettings) × IsSaid run.report_old run.report_new no_settings) ⊎ (status ≡ NoMemory) → ⊥
-    never (inl (is, said)) = cc
-    never (inr is) = cc
+bad_line_ends run status h = bad_line_by run status h h.2.whole
+
+failed_by : (run : ServeRun) (status : ServeStatus) → FailsWithin run status → ((status ≡ Broken) × IsSaid run.report_old run.report_new line_failed) ⊎ (status ≡ NoMemory) → ServingEnds run status
+failed_by run status h (inl (is, said)) = subst (ServingEnds run) (sym is) (inr (subst (FailsWithin run) is h))
+failed_by run status h (inr is) = subst (ServingEnds run) (sym is) (inr (inr (inl (subst (FailsWithin run) is h))))
 
 pub failed_within_ends : (run : ServeRun) (status : ServeStatus) → FailsWithin run status → ServingEnds run status
-failed_within_ends run Broken h = inr h
-failed_within_ends run NoMemory h = inr (inr (inl h))
-failed_within_ends run status h = absurd (never h.3.whole)
-  where
-    never : ((status ≡ Broken) × IsSaid run.report_old run.report_new line_failed) ⊎ (status ≡ NoMemory) → ⊥
-    never (inl (is, said)) = cc
-    never (inr is) = cc
+failed_within_ends run status h = failed_by run status h h.3.whole
+
+-- memory runs out there, or for the report of it
+out_by : (run : ServeRun) (status : ServeStatus) → RunsOutWithin run status → ((status ≡ NoMemory) × IsSaid run.report_old run.report_new no_memory) ⊎ (status ≡ NoMemory) → ServingEnds run status
+out_by run status h (inl (is, said)) = subst (ServingEnds run) (sym is) (inr (inl (subst (RunsOutWithin run) is h)))
+out_by run status h (inr is) = subst (ServingEnds run) (sym is) (inr (inl (subst (RunsOutWithin run) is h)))
+
+pub out_within_ends : (run : ServeRun) (status : ServeStatus) → RunsOutWithin run status → ServingEnds run status
+out_within_ends run status h = out_by run status h h.2.whole
 
 -- ---- words
 

@@ -68,8 +68,8 @@ abbrev pub FailsWithin : ServeRun → ServeStatus → Type 0
 FailsWithin run status = Rose run.old.read_faults run.new.read_faults × StopsWithin run.old run.new × SendsNothing run × TellsReport run line_failed Broken status
 
 -- memory ran out within it
-abbrev pub RunsOutWithin : ServeRun → Type 0
-RunsOutWithin run = StopsWithin run.old run.new × SendsNothing run × TellsReport run no_memory NoMemory NoMemory
+abbrev pub RunsOutWithin : ServeRun → ServeStatus → Type 0
+RunsOutWithin run status = StopsWithin run.old run.new × SendsNothing run × TellsReport run no_memory NoMemory status
 
 -- How a run without words ends. The link may fail, and memory run out, before there are settings: then no more than the first line was
 -- taken. Memory may run out for the report too, however the run is to end.
@@ -77,7 +77,7 @@ abbrev pub ServingEnds : ServeRun → ServeStatus → Type 0
 ServingEnds run Ended = Ran run Ended
 ServingEnds run Broken = Ran run Broken ⊎ FailsWithin run Broken
 ServingEnds run BadSettings = HasBadLine run BadSettings
-ServingEnds run NoMemory = Ran run NoMemory ⊎ (RunsOutWithin run ⊎ (FailsWithin run NoMemory ⊎ HasBadLine run NoMemory))
+ServingEnds run NoMemory = Ran run NoMemory ⊎ (RunsOutWithin run NoMemory ⊎ (FailsWithin run NoMemory ⊎ HasBadLine run NoMemory))
 ServingEnds run Usage = ⊥
 
 -- nothing was read or written
