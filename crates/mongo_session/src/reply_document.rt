@@ -87,7 +87,7 @@ fn error_document<'x>(
     let message = Some((ERRMSG, RawValue::Str(message)));
     let code = Some((CODE, RawValue::Int32(code)));
     let name = Some((CODE_NAME, RawValue::Str(name)));
-    document_of(alloc, &[ok, message, code, name])
+    Ok(document_of(alloc, &[ok, message, code, name])?)
 }
 
 /// The reply to a command of a login.
