@@ -8,8 +8,8 @@ use Rattle.mongo_service.specs.declared.fault.ServeFault.{ServeFault}
 use Rattle.mongo_service.specs.declared.fault.ServeFault.TheVariants.{OutOfMemory}
 use Rattle.mongo_service.specs.declared.status.ServeStatus.{ServeStatus}
 use Rattle.mongo_service.specs.declared.status.ServeStatus.TheVariants.{Broken, BadSettings, Usage, NoMemory}
-use Rattle.mongo_service.specs.Report.{report_text, line_failed, no_memory, no_settings}
-use Rattle.mongo_service.specs.Run.{ServeRun, status_of_fault, FailsWithin, HasBadLine, IsSaid, Ran, RunsOutWithin, ServingEnds, RunEnds}
+use Rattle.mongo_service.specs.Report.{report_text, line_failed, no_settings}
+use Rattle.mongo_service.specs.Run.{ServeRun, status_of_fault, FailsWithin, HasBadLine, IsSaid, Ran, ServingEnds, RunEnds}
 
 by_fault : (run : ServeRun) (fault : Option ServeFault) → Ran run (status_of_fault fault) → ServingEnds run (status_of_fault fault)
 by_fault run None h = h
@@ -38,14 +38,6 @@ failed_by run status h (inr is) = subst (ServingEnds run) (sym is) (inr (inr (in
 
 pub failed_within_ends : (run : ServeRun) (status : ServeStatus) → FailsWithin run status → ServingEnds run status
 failed_within_ends run status h = failed_by run status h h.3.whole
-
--- memory runs out there, or for the report of it
-out_by : (run : ServeRun) (status : ServeStatus) → RunsOutWithin run status → ((status ≡ NoMemory) × IsSaid run.report_old run.report_new no_memory) ⊎ (status ≡ NoMemory) → ServingEnds run status
-out_by run status h (inl (is, said)) = subst (ServingEnds run) (sym is) (inr (inl (subst (RunsOutWithin run) is h)))
-out_by run status h (inr is) = subst (ServingEnds run) (sym is) (inr (inl (subst (RunsOutWithin run) is h)))
-
-pub out_within_ends : (run : ServeRun) (status : ServeStatus) → RunsOutWithin run status → ServingEnds run status
-out_within_ends run status h = out_by run status h h.2.whole
 
 -- ---- words
 

@@ -3,6 +3,7 @@
 ghost use Rattle.std.specs.Prelude.{◌≡◌, ℕ, pos, ◌+◌, ◌≤◌, ◌<ℤ◌, ◌≤ℤ◌, ◌⊎◌, List, [], ◌∷◌, ◌++◌, IsNone, IfSome, IfOk, IfErr, OnOk, OnErr};
 ghost use Rattle.mongo_wire.specs.Header.{code_number, header_with, signed_at};
 ghost use Rattle.mongo_wire.specs.Outside.{State};
+ghost use Rattle.mongo_session.specs.Answers.{IsDocumentAnswered};
 ghost use Rattle.mongo_session.specs.Login.{Remembers};
 ghost use Rattle.mongo_service.specs.Taken.{put_back_state};
 ghost use Rattle.mongo_session.specs.Replies.{message_maximum};

@@ -16,7 +16,6 @@ use Rattle.mongo_session.specs.declared.reply.Mechanisms.{Mechanisms}
 use Rattle.mongo_session.specs.declared.reply.Mechanisms.TheVariants.{Sha1, Sha256, Both}
 use Rattle.mongo_session.specs.declared.reply.RefusedCommand.{RefusedCommand}
 use Rattle.mongo_session.specs.declared.reply.RefusedCommand.TheVariants.{AuthenticationFailed, Unauthorized, CommandNotFound}
-
 -- why a document isn't built
 pub use Rattle.mongo_command.specs.Arguments.{TooLongFor}
 

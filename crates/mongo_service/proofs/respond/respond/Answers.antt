@@ -32,8 +32,8 @@ returns-in-Ok-clause-cut g c =
 pub fault_of_document-requires : goal.fault_of_document-requires
 fault_of_document-requires g c = is_of_building (document_of_served c.args.reply.now) c.in-Err.fault c.in-Err.ensures.refused
 
-pub returns-clause-refused : goal.returns-clause-refused
-returns-clause-refused g c =
+pub returns-in-Err-clause-refused : goal.returns-in-Err-clause-refused
+returns-in-Err-clause-refused g c =
     let old = g.K.Outside.state c.args.sink.now in
     let document = document_of_served c.args.reply.now in
     subst (λ f. WriteCause (IsLongMessage document) f old old) (sym c.fault_of_document.ensures) (document_cause (IsLongMessage document) document c.in-Err.fault old old (λ long. omega (arith, ints, long)) c.in-Err.ensures.refused)

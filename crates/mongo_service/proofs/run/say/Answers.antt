@@ -1,4 +1,5 @@
-use Rattle.std.proofs.Common.{refl, inl, inr}
+use Rattle.std.proofs.Common.{refl, inl, inr, subst}
+use Rattle.mongo_service.specs.Sent.{WriteCause}
 use Rattle.mongo_service.proofs.Ran.{all_said}
 use Rattle.mongo_service.proofs.run.say.Goals as goal
 
@@ -8,8 +9,11 @@ returns-in-Ok g c =
     let new = g.K.Outside.state c.send_bytes.new.sink in
     record { front = all_said old.written new.written c.args.text.now c.in-Ok.ensures.written; whole = inl (refl, inl (c.in-Ok.ensures.written, c.in-Ok.ensures.flushed)) }
 
-pub returns-in-WriteFault : goal.returns-in-WriteFault
-returns-in-WriteFault g c = record { front = c.in-WriteFault.ensures.front; whole = inl (refl, inr c.in-WriteFault.ensures.refused) }
+pub returns-in-Err-WriteFault : goal.returns-in-Err-WriteFault
+returns-in-Err-WriteFault g c =
+    let old = g.K.Outside.state c.args.report.now in
+    let new = g.K.Outside.state c.send_bytes.new.sink in
+    record { front = c.in-Err-WriteFault.ensures.front; whole = inl (refl, inr (subst (λ fault. WriteCause ⊥ fault old new) c.in-Err-WriteFault.field-0-is c.in-Err-WriteFault.ensures.refused)) }
 
-pub returns : goal.returns
-returns g c = record { front = c.send_bytes.ensures.front; whole = inr refl }
+pub returns-in-Err : goal.returns-in-Err
+returns-in-Err g c = record { front = c.in-Err.ensures.front; whole = inr refl }

@@ -1,0 +1,6 @@
+use Rattle.std.proofs.Common.{rules}
+use Rattle.mongo_service.proofs.Ran.{served_ends}
+use Rattle.mongo_service.proofs.run.run.Goals as goal
+
+pub returns-then-is_empty-clause-ends : goal.returns-then-is_empty-clause-ends
+returns-then-is_empty-clause-ends g c = served_ends _ _ c.serve_line.result (search rules) c.serve_line.ensures.ends
