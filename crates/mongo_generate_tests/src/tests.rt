@@ -42,26 +42,14 @@ const LOGINS: [(u32, u64, [u8; 32]); 4] = [
     ),
 ];
 
-// Whether both sides accept so many logins, with these rounds and this digest.
-fn are_accepted(
-    alloc: Global,
-    count: u32,
-    rounds: u64,
-    digest: [u8; 32],
-) -> Result<bool, AllocError> {
-    let found = generated::<Brand>(Blank::new(1), alloc, count)?;
-    Ok(
-        found.logins == count
-            && found.accepted == count
-            && found.rounds == rounds
-            && found.digest == digest,
-    )
-}
-
 #[test]
 fn both_sides_accept(rt: HostRuntime) -> Result<(), Fail> {
     for (count, rounds, digest) in LOGINS {
-        assert!(rt; are_accepted(rt.alloc(), count, rounds, digest)?, "{count}");
+        let found = generated::<Brand>(Blank::new(1), rt.alloc(), count)?;
+        assert_eq!(rt; found.logins, count);
+        assert_eq!(rt; found.accepted, count);
+        assert_eq!(rt; found.rounds, rounds);
+        assert_eq!(rt; found.digest, digest);
     }
     Ok(())
 }
