@@ -6,7 +6,7 @@ use Rattle.std.specs.List.{All}
 use Rattle.std.proofs.lemmas.List.Elements.{All-tail}
 use Rattle.std.proofs.lemmas.Nat.{from_le_bytes-to_le_bytes_4, le_bytes_4}
 use Rattle.mongo_bson.proofs.Sizes.{number_at_front}
-use Rattle.mongo_bson.specs.Framed.{IsFramed, body_of, enclosed}
+use Rattle.mongo_bson.specs.Framed.{IsFramed, body_of, enclosed, maximum_length}
 
 pub length-enclosed : (x : List ℕ) → length (enclosed x) ≡ length x + 5
 length-enclosed x = omega (arith, length-append x (0 ∷ []))
@@ -16,7 +16,7 @@ pub body_of-enclosed : (x : List ℕ) → length x + 5 < 2 ^ 32 → body_of (enc
 body_of-enclosed x short = take_at x (0 ∷ []) (length (enclosed x) - 5) (omega (arith, length-enclosed x))
 
 -- what is enclosed has a document's frame
-pub framed-enclosed : (x : List ℕ) → length x + 5 < 2 ^ 31 → IsFramed (enclosed x)
+pub framed-enclosed : (x : List ℕ) → length x + 5 ≤ maximum_length → IsFramed (enclosed x)
 framed-enclosed x short =
     let size = length-enclosed x in
     let field = to_le_bytes w32 (length x + 5) in
@@ -83,7 +83,7 @@ appended old rest items new kind byte at framed is end same written =
     ∙ sealed old rest kind framed
 
 -- what has room leaves a document
-pub framed_appended : (old more new : List ℕ) → IsFramed old → length old + length more < 2 ^ 31 → new ≡ enclosed (body_of old ++ more) → IsFramed new
+pub framed_appended : (old more new : List ℕ) → IsFramed old → length old + length more ≤ maximum_length → new ≡ enclosed (body_of old ++ more) → IsFramed new
 framed_appended old more new framed room e = subst IsFramed (sym e) (framed-enclosed (body_of old ++ more) (omega (arith, length-append (body_of old) more, length-body_of old framed, room)))
 
 -- a document is its body, enclosed, where its bytes are bytes

@@ -11,7 +11,7 @@ use Rattle.std.proofs.lemmas.List.Elements.{All-from_recursion}
 use Rattle.mongo_num.specs.declared.fault.NumFault.{NumFault}
 use Rattle.mongo_bson.specs.declared.fault.BsonFault.{BsonFault}
 use Rattle.mongo_bson.specs.declared.fault.BsonFault.TheVariants.{KeyHasZero, TooLong, OutOfMemory}
-use Rattle.mongo_bson.specs.Framed.{IsFramed, body_of, enclosed}
+use Rattle.mongo_bson.specs.Framed.{IsFramed, body_of, enclosed, maximum_length}
 use Rattle.mongo_bson.specs.Document.{spell}
 use Rattle.mongo_bson.specs.Array.{Entry, numbered, array_of, IsArrayOf, IsArray, GrowsBy, document_entries}
 use Rattle.mongo_bson.specs.Refusals.{AppendRefuses, PushRefuses, HadMemory}
@@ -99,7 +99,7 @@ pub document_all : (document : List ℕ) (count i : ℕ) (items documents : List
 document_all document count i items documents passed are is = subst (λ ds. IsArrayOf document count (document_entries ds)) (take_all i items passed ∙ are) is
 
 -- where the next document has no room, the whole array has none
-pub whole_too_long : (document value item : List ℕ) (count i : ℕ) (documents : List (List ℕ)) → i < length documents → IsFramed document → IsArrayOf document count (document_entries (take i documents)) → value ≡ item → item ≡ get_or documents i item → 2 ^ 31 - 1 < length document + length (spell (made_of 0x03 (decimal count) value)) → 2 ^ 31 - 1 < length (array_of (document_entries documents))
+pub whole_too_long : (document value item : List ℕ) (count i : ℕ) (documents : List (List ℕ)) → i < length documents → IsFramed document → IsArrayOf document count (document_entries (take i documents)) → value ≡ item → item ≡ get_or documents i item → maximum_length < length document + length (spell (made_of 0x03 (decimal count) value)) → maximum_length < length (array_of (document_entries documents))
 whole_too_long document value item count i documents within framed is read at long =
     let element = made_of 0x03 (decimal count) value in
     let next = document_pushed document (enclosed (body_of document ++ spell element)) value item count (count + 1) i documents within framed is read at refl refl in
@@ -108,9 +108,9 @@ whole_too_long document value item count i documents within framed is read at lo
     omega (arith, long, below, ap (λ w. length (array_of w)) all, ap length next.spelled, length-enclosed (body_of document ++ spell element), length-append (body_of document) (spell element), length-body_of document framed)
 
 -- what the refusal of `append` says where the key is a number
-pub too_long_at_number : (document : List ℕ) (value : List ℕ) (key number : List ℕ) (P : Type 0) → key ≡ number → (Contains number 0 → ⊥) → ((P → (Contains key 0 → ⊥) × (2 ^ 31 - 1 < length document + length (0 ∷ (key ++ 0 ∷ value)))) × ((Contains key 0 → ⊥) × (2 ^ 31 - 1 < length document + length (0 ∷ (key ++ 0 ∷ value))) → P)) → (P → 2 ^ 31 - 1 < length document + length (0 ∷ (number ++ 0 ∷ value))) × (2 ^ 31 - 1 < length document + length (0 ∷ (number ++ 0 ∷ value)) → P)
+pub too_long_at_number : (document : List ℕ) (value : List ℕ) (key number : List ℕ) (P : Type 0) → key ≡ number → (Contains number 0 → ⊥) → ((P → (Contains key 0 → ⊥) × (maximum_length < length document + length (0 ∷ (key ++ 0 ∷ value)))) × ((Contains key 0 → ⊥) × (maximum_length < length document + length (0 ∷ (key ++ 0 ∷ value))) → P)) → (P → maximum_length < length document + length (0 ∷ (number ++ 0 ∷ value))) × (maximum_length < length document + length (0 ∷ (number ++ 0 ∷ value)) → P)
 too_long_at_number document value key number P same none said =
-    let longs = λ (k : List ℕ). 2 ^ 31 - 1 < length document + length (0 ∷ (k ++ 0 ∷ value)) in
+    let longs = λ (k : List ℕ). maximum_length < length document + length (0 ∷ (k ++ 0 ∷ value)) in
     ((λ p. subst longs same (said.0 p).1), (λ long. said.1 (subst (λ k. Contains k 0 → ⊥) (sym same) none, subst longs (sym same) long)))
 
 -- a push that is refused for want of room is refused for nothing else

@@ -1,12 +1,12 @@
 -- What was appended is read back.
-use Rattle.std.proofs.Common.{◌≡◌, ◌≢◌, ℕ, suc, ◌+◌, ◌-◌, ◌^◌, ◌<◌, inl, inr, Bool, true, false, Result, Ok, Err, OnOk, List, [], ◌∷◌, ◌++◌, length, get_or, refl, sym, ap, ◌∙◌, subst, arith}
+use Rattle.std.proofs.Common.{◌≡◌, ◌≢◌, ℕ, suc, ◌+◌, ◌-◌, ◌^◌, ◌<◌, ◌≤◌, inl, inr, Bool, true, false, Result, Ok, Err, OnOk, List, [], ◌∷◌, ◌++◌, length, get_or, refl, sym, ap, ◌∙◌, subst, arith}
 use Rattle.std.specs.Int.{to_le_bytes, from_le_bytes, from_bool, w32}
 use Rattle.std.specs.List.{AllByRecursion, Contains, flat_map}
 use Rattle.std.specs.Str.{IsUtf8}
 use Rattle.std.proofs.lemmas.List.{append_assoc, append-nil, length-append, get_or_at, take_at}
 use Rattle.std.proofs.lemmas.List.Concat.{flat_map-append}
 use Rattle.std.proofs.lemmas.Nat.{from_le_bytes-to_le_bytes_4}
-use Rattle.mongo_bson.specs.Framed.{IsFramed, body_of, enclosed}
+use Rattle.mongo_bson.specs.Framed.{IsFramed, body_of, enclosed, maximum_length}
 use Rattle.mongo_bson.specs.Document.{Element, fixed, boolean, string, document, binary, Holds, IsCstring, IsString, IsBinary, IsElement, AddsElement, spell, text_of}
 use Rattle.mongo_bson.specs.Reading.{HoldsKind}
 use Rattle.mongo_bson.specs.Value.{kind_of, bytes_of, element_of}
@@ -18,7 +18,7 @@ use Rattle.mongo_bson.proofs.Passed.{all_push}
 use Rattle.mongo_bson.proofs.Enclosed.{body_of-enclosed}
 
 -- a text, counted and ended, is a string
-text_is_string : (text : List ℕ) → IsUtf8 text → length text < 2 ^ 31 - 1 → IsString (to_le_bytes w32 (length text + 1) ++ (text ++ 0 ∷ []))
+text_is_string : (text : List ℕ) → IsUtf8 text → length text < maximum_length → IsString (to_le_bytes w32 (length text + 1) ++ (text ++ 0 ∷ []))
 text_is_string text utf8 short =
     let v = to_le_bytes w32 (length text + 1) ++ (text ++ 0 ∷ []) in
     let number : from_le_bytes w32 v ≡ length text + 1 = from_le_bytes-to_le_bytes_4 (length text + 1) (omega arith) in
@@ -32,7 +32,7 @@ text_is_string text utf8 short =
       utf8 = subst IsUtf8 (sym inner) utf8;
     }
 
-content_is_binary : (subtype : ℕ) (content : List ℕ) → length content < 2 ^ 31 → IsBinary (to_le_bytes w32 (length content) ++ (subtype ∷ content))
+content_is_binary : (subtype : ℕ) (content : List ℕ) → length content ≤ maximum_length → IsBinary (to_le_bytes w32 (length content) ++ (subtype ∷ content))
 content_is_binary subtype content short =
     let number : from_le_bytes w32 (to_le_bytes w32 (length content) ++ (subtype ∷ content)) ≡ length content = from_le_bytes-to_le_bytes_4 (length content) (omega arith) in
     record { least = omega arith; most = omega (arith, number); counted = omega (arith, number) }

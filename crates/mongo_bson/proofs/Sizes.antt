@@ -1,16 +1,16 @@
 -- How long a value is, by the int32 at its front.
-use Rattle.std.proofs.Common.{◌≡◌, ℕ, ◌+◌, ◌^◌, ◌<◌, ◌≤◌, Bool, false, IsTrue, List, [], ◌∷◌, ◌++◌, length, take, drop, refl, sym, ap, ◌∙◌, subst, arith}
+use Rattle.std.proofs.Common.{◌≡◌, ℕ, ◌+◌, ◌≤◌, Bool, false, IsTrue, List, [], ◌∷◌, ◌++◌, length, take, drop, refl, sym, ap, ◌∙◌, subst, arith}
 use Rattle.std.specs.Int.{from_le_bytes, w32}
 use Rattle.std.proofs.lemmas.List.{take_at, length-append, length-take-le, take-append-drop}
 use Rattle.std.proofs.lemmas.Bool.{false≢true}
-use Rattle.mongo_bson.specs.Framed.{IsFramed}
+use Rattle.mongo_bson.specs.Framed.{IsFramed, maximum_length}
 use Rattle.mongo_bson.specs.Document.{IsString, IsBinary, IsCodeWithScope, Holds, code_with_scope}
 use Rattle.mongo_bson.specs.Reading.{NoneAtFront, IsCounted, IsNotCounted}
 
 -- the int32 at the front of bytes and `more` count this front
 pub record IsSized (front bytes : List ℕ) (more : ℕ) : Type 0 where
   pub least : 5 ≤ length front
-  pub most : from_le_bytes w32 bytes < 2 ^ 31
+  pub most : from_le_bytes w32 bytes ≤ maximum_length
   pub size : length front ≡ from_le_bytes w32 bytes + more
 
 -- whatever meets P at the front of these bytes is counted so
@@ -26,7 +26,7 @@ number_at_front (a ∷ b ∷ c ∷ []) rest h = absurd (omega arith)
 number_at_front (a ∷ b ∷ c ∷ d ∷ more) rest h = refl
 
 -- a front that counts itself is counted in the bytes that it stands in
-sized_in : (front rest bytes : List ℕ) (more : ℕ) → bytes ≡ front ++ rest → 5 ≤ length front → from_le_bytes w32 front < 2 ^ 31 → length front ≡ from_le_bytes w32 front + more → IsSized front bytes more
+sized_in : (front rest bytes : List ℕ) (more : ℕ) → bytes ≡ front ++ rest → 5 ≤ length front → from_le_bytes w32 front ≤ maximum_length → length front ≡ from_le_bytes w32 front + more → IsSized front bytes more
 sized_in front rest bytes more e least most size =
     let number = ap (from_le_bytes w32) e ∙ number_at_front front rest (omega arith) in
     record { least = least; most = omega (arith, number); size = omega (arith, number) }

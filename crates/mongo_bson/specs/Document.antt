@@ -1,8 +1,8 @@
 -- Documents of BSON 1.1 as lists of elements.
-use Rattle.std.specs.Prelude.{◌≡◌, ◌≢◌, ℕ, zero, suc, ◌+◌, ◌-◌, ◌^◌, ◌<◌, ◌≤◌, ◌==◌, ◌⊎◌, Option, None, Some, List, [], ◌∷◌, ◌++◌, length, take, drop, slice_index, flat_map, IsUtf8, if◌then◌else◌, ⊤}
+use Rattle.std.specs.Prelude.{◌≡◌, ◌≢◌, ℕ, zero, suc, ◌+◌, ◌-◌, ◌≤◌, ◌==◌, ◌⊎◌, Option, None, Some, List, [], ◌∷◌, ◌++◌, length, take, drop, slice_index, flat_map, IsUtf8, if◌then◌else◌, ⊤}
 use Rattle.std.specs.List.{AllByRecursion}
 use Rattle.std.specs.Int.{from_le_bytes, w32}
-use Rattle.mongo_bson.specs.Framed.{IsFramed, body_of}
+use Rattle.mongo_bson.specs.Framed.{IsFramed, body_of, maximum_length}
 
 -- an element: its kind byte, its key, and the bytes of its value
 pub record Element : Type 0 where
@@ -63,7 +63,7 @@ text_of v = take (length v - 5) (drop 4 v)
 -- an int32 that counts the text and its zero, the text, a zero
 pub record IsString (v : List ℕ) : Type 0 where
   pub least : 5 ≤ length v
-  pub most : from_le_bytes w32 v < 2 ^ 31
+  pub most : from_le_bytes w32 v ≤ maximum_length
   pub counted : from_le_bytes w32 v + 4 ≡ length v
   pub ended : slice_index v (length v - 1) ≡ 0
   pub utf8 : IsUtf8 (text_of v)
@@ -71,7 +71,7 @@ pub record IsString (v : List ℕ) : Type 0 where
 -- an int32 that counts the bytes after it and the subtype, the subtype, the bytes
 pub record IsBinary (v : List ℕ) : Type 0 where
   pub least : 5 ≤ length v
-  pub most : from_le_bytes w32 v < 2 ^ 31
+  pub most : from_le_bytes w32 v ≤ maximum_length
   pub counted : from_le_bytes w32 v + 5 ≡ length v
 
 -- a regular expression: two cstrings, its pattern and its options
@@ -88,7 +88,7 @@ pub record IsDbPointer (v name id : List ℕ) : Type 0 where
 
 -- an int32 that counts the whole value, a string, a document
 pub record IsCodeWithScope (v code scope : List ℕ) : Type 0 where
-  pub most : length v < 2 ^ 31
+  pub most : length v ≤ maximum_length
   pub counted : from_le_bytes w32 v ≡ length v
   pub spelled : drop 4 v ≡ code ++ scope
   pub string : IsString code

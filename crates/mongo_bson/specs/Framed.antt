@@ -1,11 +1,15 @@
 -- The frame of a document, BSON 1.1: its first four bytes are its whole length as an int32, low byte first, and its
 -- last byte is zero.
-use Rattle.std.specs.Prelude.{◌≡◌, ℕ, ◌+◌, ◌-◌, ◌^◌, ◌<◌, ◌≤◌, List, [], ◌∷◌, ◌++◌, length, take, drop, slice_index}
+use Rattle.std.specs.Prelude.{◌≡◌, ℕ, ◌+◌, ◌-◌, ◌^◌, ◌≤◌, List, [], ◌∷◌, ◌++◌, length, take, drop, slice_index}
 use Rattle.std.specs.Int.{to_le_bytes, from_le_bytes, w32}
+
+-- the greatest length of a document: the greatest int32
+abbrev pub maximum_length : ℕ
+maximum_length = 2 ^ 31 - 1
 
 pub record IsFramed (b : List ℕ) : Type 0 where
   pub least : 5 ≤ length b
-  pub most : length b < 2 ^ 31
+  pub most : length b ≤ maximum_length
   pub counted : from_le_bytes w32 b ≡ length b
   pub ended : slice_index b (length b - 1) ≡ 0
 

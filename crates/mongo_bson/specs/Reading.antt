@@ -1,8 +1,8 @@
 -- What stands at the front of bytes: the words of the readers.
-use Rattle.std.specs.Prelude.{◌≡◌, ◌≢◌, ℕ, ◌+◌, ◌<◌, ◌≤◌, ◌^◌, Some, List, ◌∷◌, ◌++◌, length, take, slice_index}
+use Rattle.std.specs.Prelude.{◌≡◌, ◌≢◌, ℕ, ◌+◌, ◌<◌, ◌≤◌, Some, List, ◌∷◌, ◌++◌, length, take, slice_index}
 use Rattle.std.specs.List.{All}
 use Rattle.std.specs.Int.{from_le_bytes, w32}
-use Rattle.mongo_bson.specs.Framed.{IsFramed}
+use Rattle.mongo_bson.specs.Framed.{IsFramed, maximum_length}
 use Rattle.mongo_bson.specs.declared.element.RawElement.{RawElement}
 use Rattle.mongo_bson.specs.Document.{Element, IsElement, IsCstring, IsString, IsCodeWithScope, IsInside, Shape, shape_of, Holds, spell}
 
@@ -49,12 +49,12 @@ NoElementAtFront bytes = (e : Element) (rest : List ℕ) → IsElement e → byt
 -- that has a length.
 pub record IsCounted (bytes : List ℕ) (more n : ℕ) : Type 0 where
   pub least : 5 ≤ n
-  pub most : from_le_bytes w32 bytes < 2 ^ 31
+  pub most : from_le_bytes w32 bytes ≤ maximum_length
   pub count : n ≡ from_le_bytes w32 bytes + more
   pub within : n ≤ length bytes
 
 abbrev pub IsNotCounted : List ℕ → ℕ → Type 0
-IsNotCounted bytes more = from_le_bytes w32 bytes < 2 ^ 31 → 5 ≤ from_le_bytes w32 bytes + more → from_le_bytes w32 bytes + more ≤ length bytes → ⊥
+IsNotCounted bytes more = from_le_bytes w32 bytes ≤ maximum_length → 5 ≤ from_le_bytes w32 bytes + more → from_le_bytes w32 bytes + more ≤ length bytes → ⊥
 
 -- a string and a document
 abbrev pub IsCodeAndScope : List ℕ → Type 0

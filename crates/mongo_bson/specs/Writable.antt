@@ -1,8 +1,8 @@
 -- The values that can stand in a document.
-use Rattle.std.specs.Prelude.{◌≡◌, ℕ, ◌-◌, ◌^◌, ◌<◌, false, ⊤, FitsSigned, List, [], ◌∷◌, ◌++◌, length}
+use Rattle.std.specs.Prelude.{◌≡◌, ℕ, ◌-◌, ◌^◌, ◌<◌, ◌≤◌, false, ⊤, FitsSigned, List, [], ◌∷◌, ◌++◌, length}
 use Rattle.std.specs.Int.{w32, w64}
 use Rattle.std.specs.Str.{IsUtf8}
-use Rattle.mongo_bson.specs.Framed.{IsFramed}
+use Rattle.mongo_bson.specs.Framed.{IsFramed, maximum_length}
 use Rattle.mongo_bson.specs.Document.{Element, IsDocument}
 use Rattle.mongo_bson.specs.Reading.{HoldsKind}
 use Rattle.mongo_bson.specs.Value.{has_variant, element_of}
@@ -13,10 +13,10 @@ use Rattle.mongo_bson.specs.declared.raw_value.RawValue.TheVariants.{Double, Str
 -- are so but for lengths, and for `Other`, whose bytes may be any.
 abbrev pub IsWritable : RawValue → Type 0
 IsWritable (Double bits) = bits < 2 ^ 64
-IsWritable (Str text) = IsUtf8 text.now × (length text.now < 2 ^ 31 - 1)
+IsWritable (Str text) = IsUtf8 text.now × (length text.now < maximum_length)
 IsWritable (Document document) = IsFramed document.bytes.now
 IsWritable (Array array) = IsFramed array.bytes.now
-IsWritable (Binary subtype content) = length content.now < 2 ^ 31
+IsWritable (Binary subtype content) = length content.now ≤ maximum_length
 IsWritable (ObjectId id) = length id.0 ≡ 12
 IsWritable (Boolean boolean) = ⊤
 IsWritable (DateTime milliseconds) = FitsSigned w64 milliseconds

@@ -1,5 +1,6 @@
 ghost use Rattle.std.specs.Prelude.{◌≡◌, ◌+◌, ◌-◌, ◌^◌, ◌<◌, ◌↔◌, length, IsOk, IfOk, IfErr, IsErrOf};
 ghost use Rattle.std.specs.Fmt.{decimal};
+ghost use Rattle.mongo_bson.specs.Framed.{maximum_length};
 ghost use Rattle.mongo_bson.specs.Array.{IsArrayOf, GrowsBy, array_of, document_entries};
 ghost use Rattle.mongo_bson.specs.Refusals.{PushRefuses, HadMemory};
 
@@ -12,7 +13,7 @@ use std::alloc::Global;
 /// `TooLong` where it would pass 2147483647 bytes. Want of memory may stand in the place of any answer.
 pub fn to_raw_bson_array(alloc: Global, documents: &Documents) -> Result<RawArrayBuf, BsonFault>
     ensures array { IfOk result (λ array. IsArrayOf array.document array.count (document_entries documents.now)) }
-    ensures too_long { IsErrOf result BsonFault.TooLong ↔ (HadMemory result × (2 ^ 31 - 1 < length (array_of (document_entries documents.now)))) }
+    ensures too_long { IsErrOf result BsonFault.TooLong ↔ (HadMemory result × (maximum_length < length (array_of (document_entries documents.now)))) }
     ensures refused { IfErr result PushRefuses }
 {
     let mut array = RawArrayBuf::new(alloc)?;
@@ -30,7 +31,7 @@ pub fn to_raw_bson_array(alloc: Global, documents: &Documents) -> Result<RawArra
 /// `TooLong` as by [`to_raw_bson_array`].
 pub fn vec_to_raw_array_buf(alloc: Global, documents: Documents) -> Result<RawArrayBuf, BsonFault>
     ensures array { IfOk result (λ array. IsArrayOf array.document array.count (document_entries documents)) }
-    ensures too_long { IsErrOf result BsonFault.TooLong ↔ (HadMemory result × (2 ^ 31 - 1 < length (array_of (document_entries documents)))) }
+    ensures too_long { IsErrOf result BsonFault.TooLong ↔ (HadMemory result × (maximum_length < length (array_of (document_entries documents)))) }
     ensures refused { IfErr result PushRefuses }
 {
     to_raw_bson_array(alloc, &documents)

@@ -1,8 +1,8 @@
-ghost use Rattle.std.specs.Prelude.{◌≡◌, ◌↔◌, ◌++◌, ◌+◌, ◌-◌, ◌^◌, ◌<◌, length, Contains, IsTrue, IfOk, IfErr, IsErrOf, OnOk, OnErr};
+ghost use Rattle.std.specs.Prelude.{◌≡◌, ◌↔◌, ◌++◌, ◌+◌, ◌-◌, ◌<◌, length, Contains, IsTrue, IfOk, IfErr, IsErrOf, OnOk, OnErr};
 ghost use Rattle.std.specs.Ordering.{nat_cmp};
 ghost use Rattle.std.specs.List.Sorted.{IsSorted};
 ghost use Rattle.std.specs.Cmp.Lexicographic.{slice_cmp};
-ghost use Rattle.mongo_bson.specs.Framed.{IsFramed, body_of, enclosed};
+ghost use Rattle.mongo_bson.specs.Framed.{IsFramed, body_of, enclosed, maximum_length};
 ghost use Rattle.mongo_bson.specs.Keys.{bytes_of_texts};
 ghost use Rattle.mongo_bson.specs.Merge.{HaveCommon, BothFilled, ShareKey, ShareNoKey, TellsShared};
 ghost use Rattle.mongo_bson.specs.Refusals.{ExtendRefuses, ReadRefuses, HadMemory};
@@ -28,7 +28,7 @@ pub fn extend_raw_document_buf(
     ensures apart { OnOk result (ShareNoKey this.old other.now) }
     ensures malformed { IsErrOf result BsonFault.Malformed ↔ (HadMemory result × (BothFilled this.old other.now → ⊥)) }
     ensures duplicate_key { IsErrOf result BsonFault.DuplicateKey ↔ (HadMemory result × ShareKey this.old other.now) }
-    ensures too_long { IsErrOf result BsonFault.TooLong ↔ (HadMemory result × ShareNoKey this.old other.now × (2 ^ 31 - 1 < length this.old + length (body_of other.now))) }
+    ensures too_long { IsErrOf result BsonFault.TooLong ↔ (HadMemory result × ShareNoKey this.old other.now × (maximum_length < length this.old + length (body_of other.now))) }
     ensures unchanged { OnErr result (this.new ≡ this.old) }
     ensures refused { IfErr result ExtendRefuses }
 {

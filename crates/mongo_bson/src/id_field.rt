@@ -1,5 +1,5 @@
-ghost use Rattle.std.specs.Prelude.{◌≡◌, ◌↔◌, ◌+◌, ◌-◌, ◌^◌, ◌<◌, ◌++◌, length, IfOk, IfErr, IsErrOf, OnOk, OnErr};
-ghost use Rattle.mongo_bson.specs.Framed.{IsFramed, body_of, enclosed};
+ghost use Rattle.std.specs.Prelude.{◌≡◌, ◌↔◌, ◌+◌, ◌-◌, ◌<◌, ◌++◌, length, IfOk, IfErr, IsErrOf, OnOk, OnErr};
+ghost use Rattle.mongo_bson.specs.Framed.{IsFramed, body_of, enclosed, maximum_length};
 ghost use Rattle.mongo_bson.specs.Document.{spell};
 ghost use Rattle.mongo_bson.specs.Find.{LacksKey, BreaksOff};
 ghost use Rattle.mongo_bson.specs.Merge.{HasIdNow, id_key, id_element};
@@ -25,7 +25,7 @@ pub fn get_or_prepend_id_field(
 ) -> Result<OwnedValue, BsonFault>
     ensures id { IfOk result (λ value. HasIdNow document.old document.new id.0 value.kind value.bytes) }
     ensures malformed { IsErrOf result BsonFault.Malformed ↔ BreaksOff (body_of document.old) id_key }
-    ensures too_long { IsErrOf result BsonFault.TooLong ↔ (HadMemory result × LacksKey (body_of document.old) id_key × (2 ^ 31 - 1 < length document.old + length (spell (id_element id.0)))) }
+    ensures too_long { IsErrOf result BsonFault.TooLong ↔ (HadMemory result × LacksKey (body_of document.old) id_key × (maximum_length < length document.old + length (spell (id_element id.0)))) }
     ensures unchanged { OnErr result (document.new ≡ document.old) }
     ensures refused { IfErr result IdRefuses }
 {
@@ -55,7 +55,7 @@ fn prepend_id(
 ) -> Result<OwnedValue, BsonFault>
     ensures id { IfOk result (λ value. (value.kind ≡ 0x07) × (value.bytes ≡ id.0)) }
     ensures first { OnOk result (document.new ≡ enclosed (spell (id_element id.0) ++ body_of document.old)) }
-    ensures too_long { IsErrOf result BsonFault.TooLong ↔ (HadMemory result × (2 ^ 31 - 1 < length document.old + length (spell (id_element id.0)))) }
+    ensures too_long { IsErrOf result BsonFault.TooLong ↔ (HadMemory result × (maximum_length < length document.old + length (spell (id_element id.0)))) }
     ensures unchanged { OnErr result (document.new ≡ document.old) }
     ensures refused { IfErr result PushRefuses }
 {
@@ -73,7 +73,7 @@ fn prepend_id(
 fn with_id_first(alloc: Global, document: &[u8], id: ObjectId) -> Result<RawDocumentBuf, BsonFault>
     requires { IsFramed document.now }
     ensures first { IfOk result (λ with_id. with_id ≡ enclosed (spell (id_element id.0) ++ body_of document.now)) }
-    ensures too_long { IsErrOf result BsonFault.TooLong ↔ (2 ^ 31 - 1 < length document.now + length (spell (id_element id.0))) }
+    ensures too_long { IsErrOf result BsonFault.TooLong ↔ (maximum_length < length document.now + length (spell (id_element id.0))) }
     ensures refused { IfErr result PushRefuses }
 {
     if !has_room_for(document.len(), ID_ELEMENT) {

@@ -1,6 +1,6 @@
-ghost use Rattle.std.specs.Prelude.{◌≡◌, ◌++◌, ◌+◌, ◌-◌, ◌^◌, ◌<◌, ◌≤◌, ◌↔◌, ◌==◌, [], length, IfOk, IfErr, IsErrOf, OnOk, OnErr};
+ghost use Rattle.std.specs.Prelude.{◌≡◌, ◌++◌, ◌+◌, ◌-◌, ◌<◌, ◌≤◌, ◌↔◌, ◌==◌, [], length, IfOk, IfErr, IsErrOf, OnOk, OnErr};
 ghost use Rattle.std.specs.Fmt.{decimal};
-ghost use Rattle.mongo_bson.specs.Framed.{IsFramed, body_of, enclosed};
+ghost use Rattle.mongo_bson.specs.Framed.{IsFramed, body_of, enclosed, maximum_length};
 ghost use Rattle.mongo_bson.specs.Document.{AddsElement, spell};
 ghost use Rattle.mongo_bson.specs.Value.{element_of};
 ghost use Rattle.mongo_bson.specs.Array.{IsArray};
@@ -39,7 +39,7 @@ impl RawArrayBuf {
         ensures added { OnOk result (self.new.document ≡ enclosed (body_of self.old.document ++ spell (element_of (decimal self.old.count) value.entry))) }
         ensures one_more { OnOk result (AddsElement self.old.document self.new.document (element_of (decimal self.old.count) value.entry)) }
         ensures counted { OnOk result (self.new.count ≡ self.old.count + 1) }
-        ensures too_long { IsErrOf result BsonFault.TooLong ↔ (2 ^ 31 - 1 < length self.old.document + length (spell (element_of (decimal self.old.count) value.entry))) }
+        ensures too_long { IsErrOf result BsonFault.TooLong ↔ (maximum_length < length self.old.document + length (spell (element_of (decimal self.old.count) value.entry))) }
         ensures unchanged { OnErr result (self.new ≡ self.old) }
         ensures refused { IfErr result PushRefuses }
     {

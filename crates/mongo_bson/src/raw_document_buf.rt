@@ -1,9 +1,9 @@
-ghost use Rattle.std.specs.Prelude.{◌≡◌, ◌++◌, ◌+◌, ◌-◌, ◌^◌, ◌<◌, ◌↔◌, List, ℕ, [], length, Contains, IsOk, IfOk, IfErr, IsErrOf, OnOk, OnErr};
+ghost use Rattle.std.specs.Prelude.{◌≡◌, ◌++◌, ◌+◌, ◌-◌, ◌<◌, ◌↔◌, List, ℕ, [], length, Contains, IsOk, IfOk, IfErr, IsErrOf, OnOk, OnErr};
 ghost use Rattle.std.specs.Cmp.Lexicographic.{pointwise};
 ghost use Rattle.std.specs.Cmp.Rules.{comparing};
 ghost use Rattle.std.specs.Prelude.{◌==◌};
 ghost use Rattle.std.proofs.Common.{rules};
-ghost use Rattle.mongo_bson.specs.Framed.{IsFramed, body_of, enclosed};
+ghost use Rattle.mongo_bson.specs.Framed.{IsFramed, body_of, enclosed, maximum_length};
 ghost use Rattle.mongo_bson.specs.Document.{AddsElement, spell};
 ghost use Rattle.mongo_bson.specs.Value.{element_of};
 ghost use Rattle.mongo_bson.specs.Writable.{AddsValue};
@@ -82,7 +82,7 @@ impl RawDocumentBuf {
         ensures one_more { OnOk result (AddsElement self.old self.new (element_of key.now value.entry)) }
         ensures adds_value { OnOk result (AddsValue self.old self.new key.now value.entry) }
         ensures key_has_zero { IsErrOf result BsonFault.KeyHasZero ↔ Contains key.now 0 }
-        ensures too_long { IsErrOf result BsonFault.TooLong ↔ ((¬ Contains key.now 0) × (2 ^ 31 - 1 < length self.old + length (spell (element_of key.now value.entry)))) }
+        ensures too_long { IsErrOf result BsonFault.TooLong ↔ ((¬ Contains key.now 0) × (maximum_length < length self.old + length (spell (element_of key.now value.entry)))) }
         ensures unchanged { OnErr result (self.new ≡ self.old) }
         ensures framed { OnOk result (IsFramed self.new) }
         ensures refused { IfErr result AppendRefuses }
@@ -99,7 +99,7 @@ impl RawDocumentBuf {
     // Puts elements at the end. `TooLong` where the document would pass 2147483647 bytes.
     pub(crate) fn append_elements(&mut self, elements: &[u8]) -> Result<(), BsonFault>
         ensures added { OnOk result (self.new ≡ enclosed (body_of self.old ++ elements.now)) }
-        ensures too_long { IsErrOf result BsonFault.TooLong ↔ (2 ^ 31 - 1 < length self.old + length elements.now) }
+        ensures too_long { IsErrOf result BsonFault.TooLong ↔ (maximum_length < length self.old + length elements.now) }
         ensures unchanged { OnErr result (self.new ≡ self.old) }
         ensures refused { IfErr result PushRefuses }
     {

@@ -1,6 +1,6 @@
 ghost use Rattle.std.specs.Prelude.{◌≡◌, ◌↔◌, ◌+◌, ◌-◌, ◌^◌, ◌<◌, ◌≤◌, ◌++◌, ◌∷◌, [], length, take, drop, slice_set, Contains, IsTrue, IfErr, OnOk, OnErr};
 ghost use Rattle.std.specs.Int.{to_le_bytes, w32};
-ghost use Rattle.mongo_bson.specs.Framed.{IsFramed, body_of, enclosed};
+ghost use Rattle.mongo_bson.specs.Framed.{IsFramed, body_of, enclosed, maximum_length};
 ghost use Rattle.mongo_bson.specs.Document.{spell};
 ghost use Rattle.mongo_bson.specs.Value.{kind_of, bytes_of, element_of};
 
@@ -22,7 +22,7 @@ pub(crate) fn push_element(
     value: RawValue<'_>,
 ) -> Result<(), BsonFault>
     requires framed { IsFramed document.old.items }
-    requires room { length document.old.items + length (spell (element_of key.now value)) < 2 ^ 31 }
+    requires room { length document.old.items + length (spell (element_of key.now value)) ≤ maximum_length }
     ensures added { OnOk result (document.new.items ≡ enclosed (body_of document.old.items ++ spell (element_of key.now value.entry))) }
     ensures unchanged { OnErr result (document.new.items ≡ document.old.items) }
     ensures framed { IsFramed document.new.items }
@@ -44,7 +44,7 @@ pub(crate) fn push_element(
 // Puts elements at the end of a document. A refusal leaves the document as it was.
 pub(crate) fn push_elements(document: &mut Vec<u8>, elements: &[u8]) -> Result<(), BsonFault>
     requires framed { IsFramed document.old.items }
-    requires room { length document.old.items + length elements.now < 2 ^ 31 }
+    requires room { length document.old.items + length elements.now ≤ maximum_length }
     ensures added { OnOk result (document.new.items ≡ enclosed (body_of document.old.items ++ elements.now)) }
     ensures unchanged { OnErr result (document.new.items ≡ document.old.items) }
     ensures framed { IsFramed document.new.items }
@@ -108,7 +108,7 @@ fn write_rest(out: &mut Vec<u8>, bytes: &[u8]) -> Result<(), BsonFault>
 // Writes a key and its zero, a value and a final zero after what is there. What was there stays, whatever the result.
 #[inline(always)]
 fn write_after(out: &mut Vec<u8>, key: &str, value: RawValue<'_>) -> Result<(), BsonFault>
-    requires { length (bytes_of value) < 2 ^ 31 }
+    requires { length (bytes_of value) ≤ maximum_length }
     ensures added { OnOk result (out.new.items ≡ out.old.items ++ (key.now ++ 0 ∷ (bytes_of value.entry ++ 0 ∷ []))) }
     ensures kept { take (length out.old.items) out.new.items ≡ out.old.items }
     ensures refused { IfErr result (λ fault. fault ≡ BsonFault.OutOfMemory) }
@@ -125,7 +125,7 @@ fn write_after(out: &mut Vec<u8>, key: &str, value: RawValue<'_>) -> Result<(), 
 // Writes the bytes of a value after what is there. What was there stays, whatever the result.
 #[inline(always)]
 fn write_value(out: &mut Vec<u8>, value: RawValue<'_>) -> Result<(), BsonFault>
-    requires { length (bytes_of value) < 2 ^ 31 }
+    requires { length (bytes_of value) ≤ maximum_length }
     ensures added { OnOk result (out.new.items ≡ out.old.items ++ bytes_of value.entry) }
     ensures kept { take (length out.old.items) out.new.items ≡ out.old.items }
     ensures refused { IfErr result (λ fault. fault ≡ BsonFault.OutOfMemory) }
@@ -230,8 +230,8 @@ fn value_size(value: RawValue<'_>) -> usize
 // Whether a document of this length has room for an element.
 #[inline(always)]
 pub(crate) fn has_room(held: usize, key: &str, value: RawValue<'_>) -> bool
-    requires { held < 2 ^ 31 }
-    ensures { IsTrue result ↔ (held + length (spell (element_of key.now value.entry)) ≤ 2 ^ 31 - 1) }
+    requires { held ≤ maximum_length }
+    ensures { IsTrue result ↔ (held + length (spell (element_of key.now value.entry)) ≤ maximum_length) }
 {
     let size = value_size(value);
     key.len() <= MAXIMUM_LENGTH
@@ -241,8 +241,8 @@ pub(crate) fn has_room(held: usize, key: &str, value: RawValue<'_>) -> bool
 
 // Whether a document of this length has room for so many bytes more.
 pub(crate) fn has_room_for(held: usize, more: usize) -> bool
-    requires { held < 2 ^ 31 }
-    ensures { IsTrue result ↔ (held + more ≤ 2 ^ 31 - 1) }
+    requires { held ≤ maximum_length }
+    ensures { IsTrue result ↔ (held + more ≤ maximum_length) }
 {
     more <= MAXIMUM_LENGTH && held + more <= MAXIMUM_LENGTH
 }
@@ -251,7 +251,7 @@ pub(crate) fn has_room_for(held: usize, more: usize) -> bool
 fn seal(document: &mut Vec<u8>, at: usize, kind: u8)
     requires after_length { 4 ≤ at }
     requires within { at < length document.old.items }
-    requires most { length document.old.items < 2 ^ 31 }
+    requires most { length document.old.items ≤ maximum_length }
     ensures { document.new.items ≡ to_le_bytes w32 (length document.old.items) ++ drop 4 (slice_set document.old.items at kind) }
 {
     seal_bytes(document.as_mut_slice(), at, kind);
@@ -261,7 +261,7 @@ fn seal(document: &mut Vec<u8>, at: usize, kind: u8)
 fn seal_bytes(bytes: &mut [u8], at: usize, kind: u8)
     requires after_length { 4 ≤ at }
     requires within { at < length bytes.old }
-    requires most { length bytes.old < 2 ^ 31 }
+    requires most { length bytes.old ≤ maximum_length }
     ensures { bytes.new ≡ to_le_bytes w32 (length bytes.old) ++ drop 4 (slice_set bytes.old at kind) }
 {
     bytes[at] = kind;

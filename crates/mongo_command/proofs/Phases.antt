@@ -1,5 +1,6 @@
 -- What the two phases of an exchange answer, from what writing and reading a message do.
-use Rattle.std.proofs.Common.{◌≡◌, ℕ, ℤ, ◌^◌, ◌<◌, ◌%◌, bit_and, IfSome, ◌∙◌, refl, ap, subst, sym, inr, None, Some, Result, Ok, Err, List, length, IfOk, IfErr, OnOk, unwrap_or}
+use Rattle.std.proofs.Common.{◌≡◌, ℕ, ℤ, ◌≤◌, ◌%◌, bit_and, IfSome, ◌∙◌, refl, ap, subst, sym, inr, None, Some, Result, Ok, Err, List, length, IfOk, IfErr, OnOk, unwrap_or}
+use Rattle.mongo_bson.specs.Framed.{maximum_length}
 use Rattle.mongo_wire.specs.Frame.{known_flags}
 use Rattle.std.specs.Prelude.{⊤}
 use Rattle.mongo_wire.specs.declared.error.Error.{Error}
@@ -36,14 +37,14 @@ cut_of kind maximum m old new before after none unread w = record {
   kept_is = refl;
 }
 
-refused_kind : (kind : ErrorKind) (maximum : ℤ) (m : Message) (old new : State) (before after : ℤ) → m.request_id ≡ None → length m.document_payload < 2 ^ 31 → Unread old new → ((fault : ArgumentFault) → kind ≡ InvalidArgument fault → new ≡ old) → WriteRefused kind maximum m old new before after → SendRefused kind maximum m old new before after (sent_fault kind)
+refused_kind : (kind : ErrorKind) (maximum : ℤ) (m : Message) (old new : State) (before after : ℤ) → m.request_id ≡ None → length m.document_payload ≤ maximum_length → Unread old new → ((fault : ArgumentFault) → kind ≡ InvalidArgument fault → new ≡ old) → WriteRefused kind maximum m old new before after → SendRefused kind maximum m old new before after (sent_fault kind)
 refused_kind (InvalidArgument (Bson TooLong)) maximum m old new before after none short unread same w = absurd w.0
 refused_kind (InvalidArgument fault) maximum m old new before after none short unread same w = (short, w.0, record { link = same fault refl; ids = w.2; kept_is = refl })
 refused_kind WriteFault maximum m old new before after none short unread same w = (w.0, cut_of WriteFault maximum m old new before after none unread w.1)
 refused_kind OutOfMemory maximum m old new before after none short unread same w = inr (cut_of OutOfMemory maximum m old new before after none unread w)
 refused_kind kind maximum m old new before after none short unread same w = absurd w
 
-pub send_refused : {L : Type 0} (state : L → State) (l l' : L) (r : Result ⊤ Error) (maximum : ℤ) (m : Message) (before after : ℤ) → m.request_id ≡ None → length m.document_payload < 2 ^ 31 → Unread (state l) (state l') → ((fault : ArgumentFault) → IfErr r (λ e. e.kind ≡ InvalidArgument fault → l' ≡ l)) → IfErr r (λ e. WriteRefused e.kind maximum m (state l) (state l') before after) → IfErr r (λ e. SendRefused e.kind maximum m (state l) (state l') before after (sent_fault e.kind))
+pub send_refused : {L : Type 0} (state : L → State) (l l' : L) (r : Result ⊤ Error) (maximum : ℤ) (m : Message) (before after : ℤ) → m.request_id ≡ None → length m.document_payload ≤ maximum_length → Unread (state l) (state l') → ((fault : ArgumentFault) → IfErr r (λ e. e.kind ≡ InvalidArgument fault → l' ≡ l)) → IfErr r (λ e. WriteRefused e.kind maximum m (state l) (state l') before after) → IfErr r (λ e. SendRefused e.kind maximum m (state l) (state l') before after (sent_fault e.kind))
 send_refused state l l' (Ok x) maximum m before after none short unread same w = tt
 send_refused state l l' (Err e) maximum m before after none short unread same w = refused_kind e.kind maximum m (state l) (state l') before after none short unread (λ fault is. ap state (same fault is)) w
 

@@ -1,6 +1,7 @@
 -- What the writer of a command's generic arguments holds: the fields that it still has to write.
 use Rattle.std.specs.Prelude.{ℕ, ◌-◌, ◌^◌, ◌<◌, min, Option, None, Some, List, [], ◌∷◌, length, flat_map, Contains, ⊤}
 use Rattle.std.specs.Borrow.{Bor}
+use Rattle.mongo_bson.specs.Framed.{maximum_length}
 use Rattle.mongo_bson.specs.Document.{Element, spell}
 use Rattle.mongo_bson.specs.Value.{element_of}
 use Rattle.mongo_bson.specs.declared.raw_value.RawValue.{RawValue}
@@ -23,6 +24,6 @@ IsNamed (Some field) = Contains field.0.now 0 → ⊥
 
 -- why a document isn't written: it would be longer than an int32 can say, or memory ran out
 abbrev pub TooLongFor : BsonFault → List ℕ → Type 0
-TooLongFor TooLong document = 2 ^ 31 - 1 < length document
+TooLongFor TooLong document = maximum_length < length document
 TooLongFor OutOfMemory document = ⊤
 TooLongFor fault document = ⊥

@@ -1,9 +1,9 @@
 -- Documents that a command carries under one name: as a sequence beside its document, by the OP_MSG specification, or as
 -- an array in its body.
-use Rattle.std.specs.Prelude.{◌≡◌, ℕ, ◌+◌, ◌-◌, ◌^◌, ◌<◌, List, [], ◌∷◌, ◌++◌, length, Contains, ⊤}
+use Rattle.std.specs.Prelude.{◌≡◌, ℕ, ◌+◌, ◌-◌, ◌<◌, List, [], ◌∷◌, ◌++◌, length, Contains, ⊤}
 use Rattle.std.specs.Fmt.{decimal}
 use Rattle.mongo_bson.specs.Document.{Element, spell}
-use Rattle.mongo_bson.specs.Framed.{IsFramed, body_of, enclosed}
+use Rattle.mongo_bson.specs.Framed.{IsFramed, body_of, enclosed, maximum_length}
 use Rattle.mongo_bson.specs.declared.raw_array_buf.RawArrayBuf.{RawArrayBuf}
 use Rattle.mongo_bson.specs.declared.fault.BsonFault.TheVariants.{KeyHasZero, TooLong}
 use Rattle.mongo_wire.specs.declared.error.ErrorKind.{ErrorKind}
@@ -53,7 +53,7 @@ pub record GrowsArray (old : RawArrayBuf) (document : List ℕ) (new : RawArrayB
   pub counted : new.count ≡ old.count + 1
 
 abbrev pub ArrayPushRefused : RawArrayBuf → List ℕ → ErrorKind → Type 0
-ArrayPushRefused array document (InvalidArgument (Bson TooLong)) = 2 ^ 31 - 1 < length array.document + array_growth array.count document
+ArrayPushRefused array document (InvalidArgument (Bson TooLong)) = maximum_length < length array.document + array_growth array.count document
 ArrayPushRefused array document OutOfMemory = ⊤
 ArrayPushRefused array document kind = ⊥
 
@@ -68,6 +68,6 @@ pub record CarriesArray (array : RawArrayBuf) (identifier : List ℕ) (old new :
 
 abbrev pub ArrayAddRefused : RawArrayBuf → List ℕ → Command → ErrorKind → Type 0
 ArrayAddRefused array identifier command (InvalidArgument (Bson KeyHasZero)) = Contains identifier 0
-ArrayAddRefused array identifier command (InvalidArgument (Bson TooLong)) = (Contains identifier 0 → ⊥) × (2 ^ 31 - 1 < length command.body + length (spell (collection_element identifier array)))
+ArrayAddRefused array identifier command (InvalidArgument (Bson TooLong)) = (Contains identifier 0 → ⊥) × (maximum_length < length command.body + length (spell (collection_element identifier array)))
 ArrayAddRefused array identifier command OutOfMemory = ⊤
 ArrayAddRefused array identifier command kind = ⊥

@@ -1,6 +1,7 @@
 -- One exchange: a command's frame is written and flushed, and one frame is taken.
-use Rattle.std.specs.Prelude.{◌≡◌, ℕ, ℤ, pos, ◌-◌, ◌^◌, ◌<◌, ◌≤◌, ◌≤ℤ◌, ◌⊎◌, Bool, Option, None, Some, List, length, if◌then◌else◌, option_map, is_some, ⊤}
+use Rattle.std.specs.Prelude.{◌≡◌, ℕ, ℤ, pos, ◌-◌, ◌<◌, ◌≤◌, ◌≤ℤ◌, ◌⊎◌, Bool, Option, None, Some, List, length, if◌then◌else◌, option_map, is_some, ⊤}
 use Rattle.std.specs.Io.KnownBytes.{Appends, Consumes}
+use Rattle.mongo_bson.specs.Framed.{maximum_length}
 use Rattle.mongo_wire.specs.declared.error.ErrorKind.{ErrorKind}
 use Rattle.mongo_wire.specs.declared.error.ErrorKind.TheVariants.{InvalidArgument, WriteFault, OutOfMemory}
 use Rattle.mongo_wire.specs.declared.fault.ArgumentFault.TheVariants.{Bson}
@@ -31,7 +32,7 @@ frame_maximum description = maximum_of (option_map (λ d. d.max_message_size_byt
 
 -- why a document wasn't made: it would be longer than an int32 can say, or memory ran out
 abbrev pub DocumentRefused : ErrorKind → List ℕ → Type 0
-DocumentRefused (InvalidArgument (Bson TooLong)) document = 2 ^ 31 - 1 < length document
+DocumentRefused (InvalidArgument (Bson TooLong)) document = maximum_length < length document
 DocumentRefused OutOfMemory document = ⊤
 DocumentRefused kind document = ⊥
 
@@ -91,8 +92,8 @@ sent_fault kind = Some kind
 -- why a message wasn't sent, and what that left; a document that is too long is found before the rest is tested, in the
 -- order of writing
 abbrev pub SendRefused : ErrorKind → ℤ → Message → State → State → ℤ → ℤ → Option ErrorKind → Type 0
-SendRefused (InvalidArgument (Bson TooLong)) maximum message old new before after kept = (2 ^ 31 - 1 < length message.document_payload) × Unsent old new before after kept
-SendRefused (InvalidArgument fault) maximum message old new before after kept = (length message.document_payload < 2 ^ 31) × ArgumentRow fault maximum message × Unsent old new before after kept
+SendRefused (InvalidArgument (Bson TooLong)) maximum message old new before after kept = (maximum_length < length message.document_payload) × Unsent old new before after kept
+SendRefused (InvalidArgument fault) maximum message old new before after kept = (length message.document_payload ≤ maximum_length) × ArgumentRow fault maximum message × Unsent old new before after kept
 SendRefused WriteFault maximum message old new before after kept = Rose old.write_faults new.write_faults × Cut WriteFault maximum message old new before after kept
 SendRefused OutOfMemory maximum message old new before after kept = Unsent old new before after kept ⊎ Cut OutOfMemory maximum message old new before after kept
 SendRefused kind maximum message old new before after kept = ⊥

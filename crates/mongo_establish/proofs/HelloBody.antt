@@ -1,9 +1,9 @@
 -- A hello's body as it grows: each document is no shorter than the one before it, so one that can't be made makes the
 -- hello too long.
-use Rattle.std.proofs.Common.{◌≡◌, ℕ, ◌+◌, ◌-◌, ◌^◌, ◌<◌, ◌≤◌, ◌↔◌, ◌∙◌, refl, ap, sym, subst, Option, None, Some, Result, Ok, Err, IfErr, List, ◌++◌, ◌∷◌, Contains, codes, length, drop, arith}
+use Rattle.std.proofs.Common.{◌≡◌, ℕ, ◌+◌, ◌-◌, ◌<◌, ◌≤◌, ◌↔◌, ◌∙◌, refl, ap, sym, subst, Option, None, Some, Result, Ok, Err, IfErr, List, ◌++◌, ◌∷◌, Contains, codes, length, drop, arith}
 use Rattle.std.proofs.lemmas.List.{length-append, length-take-le, length-drop}
 use Rattle.mongo_bson.specs.Document.{Element, spell}
-use Rattle.mongo_bson.specs.Framed.{body_of}
+use Rattle.mongo_bson.specs.Framed.{body_of, maximum_length}
 use Rattle.mongo_bson.proofs.Enclosed.{length-enclosed}
 use Rattle.mongo_bson.specs.Refusals.{AppendRefuses}
 use Rattle.mongo_bson.specs.declared.fault.BsonFault.{BsonFault}
@@ -40,7 +40,7 @@ document_refused OutOfMemory document body longer r = tt
 document_refused kind document body longer r = absurd r
 
 -- why a document wasn't put under a key without a zero
-put_refused : (fault : BsonFault) (kind : ErrorKind) (key value body : List ℕ) → (Contains key 0 → ⊥) → kind ≡ kind_of_fault fault → AppendRefuses fault → (fault ≡ KeyHasZero → Contains key 0) → (fault ≡ TooLong → 2 ^ 31 - 1 < length body + length (spell (document_element key value))) → DocumentRefused kind (with_document key value body)
+put_refused : (fault : BsonFault) (kind : ErrorKind) (key value body : List ℕ) → (Contains key 0 → ⊥) → kind ≡ kind_of_fault fault → AppendRefuses fault → (fault ≡ KeyHasZero → Contains key 0) → (fault ≡ TooLong → maximum_length < length body + length (spell (document_element key value))) → DocumentRefused kind (with_document key value body)
 put_refused KeyHasZero kind key value body whole is refuses zero long = absurd (whole (zero refl))
 put_refused TooLong kind key value body whole is refuses zero long = subst (λ kind. DocumentRefused kind (with_document key value body)) (sym is) (omega (arith, length_followed body (document_element key value), long refl))
 put_refused NoMemory kind key value body whole is refuses zero long = subst (λ kind. DocumentRefused kind (with_document key value body)) (sym is) tt
@@ -50,7 +50,7 @@ same_fault : (a b : BsonFault) → ◌≡◌ {A = Result (Unit {0}) BsonFault} (
 same_fault a b is = cc
 
 pub append_refused : (result : Result (Unit {0}) BsonFault) (fault : BsonFault) (kind : ErrorKind) (key value body : List ℕ) → (Contains key 0 → ⊥) → kind ≡ kind_of_fault fault → result ≡ Err fault → IfErr result AppendRefuses → (result ≡ Err KeyHasZero ↔ Contains key 0)
-    → (result ≡ Err TooLong ↔ ((Contains key 0 → ⊥) × (2 ^ 31 - 1 < length body + length (spell (document_element key value))))) → DocumentRefused kind (with_document key value body)
+    → (result ≡ Err TooLong ↔ ((Contains key 0 → ⊥) × (maximum_length < length body + length (spell (document_element key value))))) → DocumentRefused kind (with_document key value body)
 append_refused result fault kind key value body whole is err refuses zero long =
     put_refused fault kind key value body whole is (subst (λ r. IfErr r AppendRefuses) err refuses) (λ same. zero.0 (err ∙ ap Err same)) (λ same. (long.0 (err ∙ ap Err same)).1)
 

@@ -1,5 +1,5 @@
 -- Documents that are written out, as the commands and replies of a login are.
-use Rattle.std.proofs.Common.{◌≡◌, ◌≢◌, ℕ, zero, suc, ℤ, ◌+◌, ◌-◌, ◌^◌, ◌<◌, nat_lt, ◌==◌, ◌&&◌, Bool, true, false, not, FitsSigned, List, [], ◌∷◌, length, length-append, refl, sym, ◌∙◌, false-eqb, arith}
+use Rattle.std.proofs.Common.{◌≡◌, ◌≢◌, ℕ, zero, suc, ℤ, ◌+◌, ◌-◌, ◌<◌, ◌≤◌, nat_lt, ◌==◌, ◌&&◌, Bool, true, false, not, FitsSigned, List, [], ◌∷◌, length, length-append, refl, sym, ◌∙◌, false-eqb, arith}
 use Rattle.std.specs.Int.{w32}
 use Rattle.std.specs.List.{AllByRecursion, flat_map}
 use Rattle.std.specs.Str.{IsUtf8, IsAscii, bytes_eq}
@@ -8,7 +8,7 @@ use Rattle.std.proofs.lemmas.Str.{IsUtf8-from_ascii}
 use borrow.Author.Tests.{ltb-true}
 use Rattle.std.proofs.lemmas.Slice.Eq.{bytes_eq-Decides}
 use Rattle.mongo_bson.specs.Document.{Element, document, IsCstring, IsElement, IsDocument, IsInside, IsReadable, spell}
-use Rattle.mongo_bson.specs.Framed.{IsFramed}
+use Rattle.mongo_bson.specs.Framed.{IsFramed, maximum_length}
 use Rattle.mongo_bson.specs.declared.raw_value.RawValue.TheVariants.{Str, Binary, Bool as Boolean, Int32}
 use Rattle.mongo_bson.proofs.Enclosed.{length-enclosed, body_of-enclosed, framed-enclosed}
 use Rattle.mongo_bson.proofs.ReadBack.{written_element}
@@ -56,7 +56,7 @@ apart a b is same = false≢true (sym is ∙ (bytes_eq-Decides a b).1 same)
 
 -- ---- elements
 
-pub text_is_element : (key text : List ℕ) → IsCstring key → IsUtf8 text → length text < 2 ^ 31 - 1 → IsElement (text_element key text)
+pub text_is_element : (key text : List ℕ) → IsCstring key → IsUtf8 text → length text < maximum_length → IsElement (text_element key text)
 text_is_element key text name utf8 short = written_element key (Str (record { ref_ptr = (0, 0); now = text })) name (utf8, short)
 
 pub number_is_element : (key : List ℕ) (number : ℤ) → IsCstring key → FitsSigned w32 number → IsElement (int32_element key number)
@@ -65,7 +65,7 @@ number_is_element key number name fits = written_element key (Int32 number) name
 pub boolean_is_element : (key : List ℕ) (boolean : Bool) → IsCstring key → IsElement (boolean_element key boolean)
 boolean_is_element key boolean name = written_element key (Boolean boolean) name tt
 
-pub binary_is_element : (key bytes : List ℕ) → IsCstring key → length bytes < 2 ^ 31 → IsElement (generic_element key bytes)
+pub binary_is_element : (key bytes : List ℕ) → IsCstring key → length bytes ≤ maximum_length → IsElement (generic_element key bytes)
 binary_is_element key bytes name short = written_element key (Binary 0 (record { ref_ptr = (0, 0); now = bytes })) name short
 
 pub document_is_element : (key inner : List ℕ) → IsCstring key → IsFramed inner → IsElement (document_element key inner)
@@ -85,14 +85,14 @@ length-spelled (e ∷ es) = omega (arith, length-append (spell e) (flat_map spel
 pub length-document_of : (es : List Element) → length (document_of es) ≡ spelled_length es + 5
 length-document_of es = omega (arith, length-enclosed (flat_map spell es), length-spelled es)
 
-pub document_of-is : (es : List Element) → AllByRecursion IsElement es → spelled_length es + 5 < 2 ^ 31 → IsDocument (document_of es) es
+pub document_of-is : (es : List Element) → AllByRecursion IsElement es → spelled_length es + 5 ≤ maximum_length → IsDocument (document_of es) es
 document_of-is es each short = record {
   framed = framed-enclosed (flat_map spell es) (omega (arith, length-spelled es));
   filled = body_of-enclosed (flat_map spell es) (omega (arith, length-spelled es));
   each = each;
 }
 
-pub framed_document_of : (es : List Element) → spelled_length es + 5 < 2 ^ 31 → IsFramed (document_of es)
+pub framed_document_of : (es : List Element) → spelled_length es + 5 ≤ maximum_length → IsFramed (document_of es)
 framed_document_of es short = framed-enclosed (flat_map spell es) (omega (arith, length-spelled es))
 
 -- ---- levels

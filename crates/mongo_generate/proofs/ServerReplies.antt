@@ -1,7 +1,8 @@
 -- The server's two replies say what they carry.
-use Rattle.std.proofs.Common.{◌≡◌, ℕ, suc, pos, ◌^◌, ◌<◌, Bool, true, false, None, Some, inl, inr, FitsSigned, List, length, refl, sym, ◌∙◌, subst, arith}
+use Rattle.std.proofs.Common.{◌≡◌, ℕ, suc, pos, ◌^◌, ◌<◌, ◌≤◌, Bool, true, false, None, Some, inl, inr, FitsSigned, List, length, refl, sym, ◌∙◌, subst, arith}
 use Rattle.std.specs.Int.{to_le_bytes, cast_unsigned, w32}
 use Rattle.std.specs.List.{AllByRecursion}
+use Rattle.mongo_bson.specs.Framed.{maximum_length}
 use Rattle.mongo_bson.specs.Document.{Element, Shape, fixed, boolean, binary, document, shape_of, IsCstring, IsElement, IsDocument, IsReadable, IsInside, HasDistinctKeys}
 use Rattle.mongo_bson.specs.declared.owned_value.OwnedValue.{OwnedValue}
 use Rattle.mongo_bson.specs.declared.raw_value.RawValue.TheVariants.{Double}
@@ -48,7 +49,7 @@ payload_is_cstring = cstring payload_key refl refl
 pub one_fits : FitsSigned w32 (pos 1)
 one_fits = omega arith
 
-round_are : (done : Bool) (payload : List ℕ) → length payload < 2 ^ 31 → AllByRecursion IsElement (round_elements done payload)
+round_are : (done : Bool) (payload : List ℕ) → length payload ≤ maximum_length → AllByRecursion IsElement (round_elements done payload)
 round_are done payload short =
     (number_is_element conversation_id_key (pos 1) conversation_is_cstring one_fits, (boolean_is_element done_key done done_is_cstring, (binary_is_element payload_key payload payload_is_cstring short, tt)))
 

@@ -6,7 +6,7 @@ use Rattle.std.proofs.lemmas.Grind.{flat_map-append}
 use Rattle.std.proofs.lemmas.Int.{ints}
 use Rattle.std.proofs.lemmas.List.{length-take-le}
 use Rattle.mongo_bson.specs.Document.{Element, IsElement, IsDocument, spell}
-use Rattle.mongo_bson.specs.Framed.{IsFramed, body_of, enclosed}
+use Rattle.mongo_bson.specs.Framed.{IsFramed, body_of, enclosed, maximum_length}
 use Rattle.mongo_bson.proofs.Enclosed.{length-enclosed, body_of-enclosed, framed-enclosed}
 use Rattle.mongo_wire.specs.Frame.{Frame, IsFrame, Section, body, sequence, bodies, section_bytes}
 use Rattle.mongo_wire.specs.Bytes.{IsCommandFrame}
@@ -54,7 +54,7 @@ length_command c =
     let arguments = flat_map spell (argument_elements c.target_db c.arguments) in
     omega (arith, length-enclosed (body_of c.body ++ arguments), length-append (body_of c.body) arguments, length-take-le (length c.body - 5) (drop 4 c.body), length-drop 4 c.body)
 
-framed_command : (c : Command) → length (command_document c) < 2 ^ 31 → IsFramed (command_document c)
+framed_command : (c : Command) → length (command_document c) ≤ maximum_length → IsFramed (command_document c)
 framed_command c short =
     let whole = body_of c.body ++ flat_map spell (argument_elements c.target_db c.arguments) in
     framed-enclosed whole (omega (arith, length-enclosed whole))

@@ -1,4 +1,5 @@
-ghost use Rattle.std.specs.Prelude.{◌≡◌, ◌^◌, ◌<◌, [], ◌∷◌, length, option_map, IsSomeAnd, IfOk, IfErr, OnOk};
+ghost use Rattle.std.specs.Prelude.{◌≡◌, ◌≤◌, [], ◌∷◌, length, option_map, IsSomeAnd, IfOk, IfErr, OnOk};
+ghost use Rattle.mongo_bson.specs.Framed.{maximum_length};
 ghost use Rattle.mongo_command.specs.Arguments.{TooLongFor};
 ghost use Rattle.mongo_meta.specs.Metadata.{metadata_document, document_of_parts, application_document, os_document, environment_document};
 ghost use Rattle.mongo_meta.specs.Client.{fits, fitting, in_form};
@@ -26,7 +27,7 @@ impl ClientMetadata {
     /// `Bson(TooLong)` where it would pass 2147483647 bytes.
     pub fn to_document(&self, alloc: Global) -> Result<RawDocumentBuf, Error>
         ensures document { IfOk result (λ document. document ≡ metadata_document self.now) }
-        ensures fits { OnOk result (length (metadata_document self.now) < 2 ^ 31) }
+        ensures fits { OnOk result (length (metadata_document self.now) ≤ maximum_length) }
         ensures refused { IfErr result (λ e. DocumentRefused e.kind (metadata_document self.now)) }
     {
         Ok(self.document_in(alloc, Form::Whole)?)
@@ -40,7 +41,7 @@ impl ClientMetadata {
     #[tactic(auto, unfolding(crate::specs::Client::client_of))]
     pub fn client_document(&self, alloc: Global, body_len: usize) -> Result<RawDocumentBuf, Error>
         ensures document { IfOk result (λ document. document ≡ client_of self.now body_len) }
-        ensures fits { OnOk result (length (client_of self.now body_len) < 2 ^ 31) }
+        ensures fits { OnOk result (length (client_of self.now body_len) ≤ maximum_length) }
         ensures refused { IfErr result (λ e. DocumentRefused e.kind (client_of self.now body_len)) }
     {
         let longer = [

@@ -1,7 +1,7 @@
 -- Credentials, and what they ask of a hello.
-use Rattle.std.specs.Prelude.{ℕ, ◌+◌, ◌-◌, ◌^◌, ◌<◌, Option, None, Some, IsSome, List, ◌++◌, codes, length, ⊤}
+use Rattle.std.specs.Prelude.{ℕ, ◌+◌, ◌-◌, ◌<◌, Option, None, Some, IsSome, List, ◌++◌, codes, length, ⊤}
 use Rattle.mongo_bson.specs.Document.{Element, spell}
-use Rattle.mongo_bson.specs.Framed.{body_of, enclosed}
+use Rattle.mongo_bson.specs.Framed.{body_of, enclosed, maximum_length}
 use Rattle.mongo_bson.specs.declared.fault.BsonFault.TheVariants.{TooLong}
 use Rattle.mongo_wire.specs.declared.error.ErrorKind.{ErrorKind}
 use Rattle.mongo_wire.specs.declared.error.ErrorKind.TheVariants.{InvalidArgument, Authentication, OutOfMemory}
@@ -47,7 +47,7 @@ negotiated c document = negotiated_by c.username c.mechanism document
 -- the question is asked, and the document would pass 2147483647 bytes with it
 abbrev pub NegotiatesTooLong : Option (List ℕ) → Option AuthMechanism → List ℕ → Type 0
 NegotiatesTooLong None mechanism document = ⊥
-NegotiatesTooLong (Some username) None document = 2 ^ 31 - 1 < length document + length (spell (negotiation_element username))
+NegotiatesTooLong (Some username) None document = maximum_length < length document + length (spell (negotiation_element username))
 NegotiatesTooLong (Some username) (Some mechanism) document = ⊥
 
 -- why a question isn't put: the length, or want of memory

@@ -1,7 +1,7 @@
 -- The body of a `saslStart` with the database named behind it, and the command of it.
-use Rattle.std.proofs.Common.{◌≡◌, ◌≢◌, ℕ, ◌+◌, ◌-◌, ◌^◌, ◌<◌, true, false, Bool, suc, Option, Ok, Err, List, ◌++◌, length, codes, flat_map, refl, sym, ap, ◌∙◌, subst, arith, Contains, length-append, append-nil}
+use Rattle.std.proofs.Common.{◌≡◌, ◌≢◌, ℕ, ◌+◌, ◌-◌, ◌^◌, ◌<◌, ◌≤◌, true, false, Bool, suc, Option, Ok, Err, List, ◌++◌, length, codes, flat_map, refl, sym, ap, ◌∙◌, subst, arith, Contains, length-append, append-nil}
 use Rattle.std.proofs.lemmas.Grind.{flat_map-append}
-use Rattle.mongo_bson.specs.Framed.{body_of, enclosed}
+use Rattle.mongo_bson.specs.Framed.{body_of, enclosed, maximum_length}
 use Rattle.mongo_bson.specs.Document.{Element, spell}
 use Rattle.mongo_bson.specs.Refusals.{AppendRefuses}
 use Rattle.mongo_bson.specs.declared.fault.BsonFault.{BsonFault}
@@ -30,13 +30,13 @@ spelled elements source =
     ap (λ more. flat_map spell elements ++ more) (sym (append-nil (db_bytes source))) ∙ sym (flat_map-append spell elements (db_elements true source))
 
 -- no room for the database is no room for the body
-pub db_too_long : (version : ScramVersion) (source message old : List ℕ) → old ≡ start_body (mechanism_of version) message → 2 ^ 31 - 1 < length old + length (db_bytes source) → 2 ^ 31 - 1 < length (first_body version true source message)
+pub db_too_long : (version : ScramVersion) (source message old : List ℕ) → old ≡ start_body (mechanism_of version) message → maximum_length < length old + length (db_bytes source) → maximum_length < length (first_body version true source message)
 db_too_long version source message old is long =
     let elements = start_elements (mechanism_of version) message in
     omega (arith, long, ap length is, length-enclosed (flat_map spell elements), length-enclosed (flat_map spell (elements ++ db_elements true source)), ap length (spelled elements source), length-append (flat_map spell elements) (db_bytes source))
 
 -- the database, put behind a body that has room for it
-pub db_added : (version : ScramVersion) (source message old new : List ℕ) → old ≡ start_body (mechanism_of version) message → length old < 2 ^ 31 → new ≡ enclosed (body_of old ++ db_bytes source) → new ≡ first_body version true source message
+pub db_added : (version : ScramVersion) (source message old new : List ℕ) → old ≡ start_body (mechanism_of version) message → length old ≤ maximum_length → new ≡ enclosed (body_of old ++ db_bytes source) → new ≡ first_body version true source message
 db_added version source message old new is short added =
     let elements = start_elements (mechanism_of version) message in
     let spelt = flat_map spell elements in
@@ -53,7 +53,7 @@ plain_db = without_zero (codes "db") (codes "db") refl (not_zero 99, (not_zero 9
     not_zero : (n : ℕ) → suc n ≢ 0
     not_zero n is = absurd (omega (arith, is))
 
-has_room : (m n : ℕ) → (2 ^ 31 - 1 < m + n → ⊥) → m < 2 ^ 31
+has_room : (m n : ℕ) → (maximum_length < m + n → ⊥) → m ≤ maximum_length
 has_room m n room = omega (arith, room)
 
 -- without the database the body is the start's
@@ -82,11 +82,11 @@ start_sent version source message include_db api start command is built plain =
 
 -- the start with the database put behind it
 pub db_sent : (version : ScramVersion) (source text message : List ℕ) (include_db : Bool) (api : Option ServerApi) (start : SaslStart) (command named : Command) (new : List ℕ) → text ≡ source → start ≡ step version source message api → command ≡ start_command start → include_db ≡ true
-    → ((Contains (codes "db") 0 → ⊥) × (2 ^ 31 - 1 < length command.body + length (db_bytes text)) → ⊥)
+    → ((Contains (codes "db") 0 → ⊥) × (maximum_length < length command.body + length (db_bytes text)) → ⊥)
     → new ≡ enclosed (body_of command.body ++ db_bytes text) → named ≡ record command { body = new } → named ≡ first_command version include_db source message api
 db_sent version source text message include_db api start command named new said is built named_db room added is_named =
     let old : command.body ≡ start_body (mechanism_of version) message = ap (λ (c : Command). c.body) (built ∙ ap start_command is) in
-    let short : length command.body < 2 ^ 31 = has_room (length command.body) (length (db_bytes text)) (λ long. room (plain_db, long)) in
+    let short : length command.body ≤ maximum_length = has_room (length command.body) (length (db_bytes text)) (λ long. room (plain_db, long)) in
     is_named
     ∙ ap (λ (c : Command). let k : Command = record c { body = new } in k) (built ∙ ap start_command is)
     ∙ ap (λ body. sent source body api) (db_added version source message command.body new old short (subst (λ t. new ≡ enclosed (body_of command.body ++ db_bytes t)) said added))
@@ -98,12 +98,12 @@ no_fault t e is = absurd (cc)
 
 -- why the database isn't put behind it
 pub db_refused : (version : ScramVersion) (source text message : List ℕ) (include_db : Bool) (api : Option ServerApi) (start : SaslStart) (command : Command) → text ≡ source → start ≡ step version source message api → command ≡ start_command start → include_db ≡ true
-    → (fault : BsonFault) → AppendRefuses fault → (fault ≡ KeyHasZero → Contains (codes "db") 0) → (fault ≡ TooLong → 2 ^ 31 - 1 < length command.body + length (db_bytes text))
+    → (fault : BsonFault) → AppendRefuses fault → (fault ≡ KeyHasZero → Contains (codes "db") 0) → (fault ≡ TooLong → maximum_length < length command.body + length (db_bytes text))
     → DocumentRefused (kind_of_fault fault) (first_body version include_db source message)
 db_refused version source text message include_db api start command said is built named_db KeyHasZero refuses holds long = absurd (plain_db (holds refl))
 db_refused version source text message include_db api start command said is built named_db TooLong refuses holds long =
     let old : command.body ≡ start_body (mechanism_of version) message = ap (λ (c : Command). c.body) (built ∙ ap start_command is) in
-    let here : 2 ^ 31 - 1 < length command.body + length (db_bytes source) = subst (λ t. 2 ^ 31 - 1 < length command.body + length (db_bytes t)) said (long refl) in
-    subst (λ db. 2 ^ 31 - 1 < length (first_body version db source message)) (sym named_db) (db_too_long version source message command.body old here)
+    let here : maximum_length < length command.body + length (db_bytes source) = subst (λ t. maximum_length < length command.body + length (db_bytes t)) said (long refl) in
+    subst (λ db. maximum_length < length (first_body version db source message)) (sym named_db) (db_too_long version source message command.body old here)
 db_refused version source text message include_db api start command said is built named_db NoMemory refuses holds long = tt
 db_refused version source text message include_db api start command said is built named_db fault refuses holds long = absurd refuses

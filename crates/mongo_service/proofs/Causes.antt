@@ -1,8 +1,9 @@
 -- Why a stream was left, by what its parts say.
-use Rattle.std.proofs.Common.{◌≡◌, ◌⊎◌, ℕ, ℤ, pos, ◌+◌, ◌-◌, ◌^◌, ◌<◌, ◌≤◌, ◌≤ℤ◌, Option, None, Some, IfSome, List, [], ◌++◌, length, is_some, inl, inr, refl, sym, ap, ◌∙◌, subst, arith, length-append, append-nil}
+use Rattle.std.proofs.Common.{◌≡◌, ◌⊎◌, ℕ, ℤ, pos, ◌+◌, ◌-◌, ◌<◌, ◌≤◌, ◌≤ℤ◌, Option, None, Some, IfSome, List, [], ◌++◌, length, is_some, inl, inr, refl, sym, ap, ◌∙◌, subst, arith, length-append, append-nil}
 use Rattle.std.proofs.lemmas.Bool.{false≢true}
 use Rattle.std.proofs.lemmas.Int.{ints}
 use Rattle.std.specs.Io.KnownBytes.{Consumes}
+use Rattle.mongo_bson.specs.Framed.{maximum_length}
 use Rattle.mongo_bson.specs.declared.fault.BsonFault.{BsonFault}
 use Rattle.mongo_bson.specs.declared.fault.BsonFault.TheVariants.{TooLong, OutOfMemory as NoMemory}
 use Rattle.mongo_wire.proofs.OneFrame.{signed_in}
@@ -169,7 +170,7 @@ is_of_building document TooLong is = tt
 is_of_building document NoMemory is = tt
 is_of_building document fault is = absurd is
 
-pub document_cause : (too_long : Type 0) (document : List ℕ) (fault : BsonFault) (old new : State) → (2 ^ 31 - 1 < length document → too_long) → TooLongFor fault document → WriteCause too_long (fault_of_bson fault) old new
+pub document_cause : (too_long : Type 0) (document : List ℕ) (fault : BsonFault) (old new : State) → (maximum_length < length document → too_long) → TooLongFor fault document → WriteCause too_long (fault_of_bson fault) old new
 document_cause too_long document TooLong old new long is = long is
 document_cause too_long document NoMemory old new long is = tt
 document_cause too_long document fault old new long is = absurd is

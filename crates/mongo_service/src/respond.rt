@@ -1,7 +1,8 @@
 //! Writing replies.
 
-ghost use Rattle.std.specs.Prelude.{◌≡◌, ◌+◌, ◌^◌, ◌<◌, length, IfOk, IfErr, OnOk, OnErr};
+ghost use Rattle.std.specs.Prelude.{◌≡◌, ◌+◌, ◌≤◌, length, IfOk, IfErr, OnOk, OnErr};
 ghost use Rattle.std.specs.Io.KnownBytes.{Appends};
+ghost use Rattle.mongo_bson.specs.Framed.{maximum_length};
 ghost use Rattle.mongo_wire.specs.Outside.{AppendsFront, IsFlushed, WritesOn};
 ghost use Rattle.mongo_session.specs.Replies.{document_of_served};
 ghost use Rattle.mongo_service.specs.Sent.{message_reply, query_header, query_reply, IsLongMessage, IsLongReply, IsReplySent, IsSentInPart, IsSentToQuery, SendsReply, WriteCause};
@@ -98,7 +99,7 @@ pub fn respond_to_query<K: Sink>(
 
 // The frame of an OP_REPLY.
 fn frame_of_reply(alloc: Global, id: i32, to: i32, document: &[u8]) -> Result<Vec<u8>, ServeFault>
-    requires { length document.now + 36 < 2 ^ 31 }
+    requires { length document.now + 36 ≤ maximum_length }
     ensures frame { IfOk result (λ frame. frame.items ≡ query_reply id to document.now) }
     ensures refused { IfErr result (λ fault. fault ≡ OutOfMemory) }
 {
@@ -111,7 +112,7 @@ fn frame_of_reply(alloc: Global, id: i32, to: i32, document: &[u8]) -> Result<Ve
 
 // The header of an OP_REPLY whose document has this length.
 fn header_of_reply(id: i32, to: i32, length: usize) -> Header
-    requires { length + 36 < 2 ^ 31 }
+    requires { length + 36 ≤ maximum_length }
     ensures header { result ≡ query_header id to length }
 {
     Header {

@@ -1,9 +1,9 @@
 -- A document that is made of elements, one after another.
-use Rattle.std.proofs.Common.{◌≡◌, ℕ, ◌+◌, ◌-◌, ◌^◌, ◌<◌, true, false, nat_lt, Option, None, Some, option_map, option_and_then, List, [], ◌∷◌, ◌++◌, length, refl, sym, ap, ◌∙◌, append_assoc, append-nil, length-append, arith}
+use Rattle.std.proofs.Common.{◌≡◌, ℕ, ◌+◌, ◌-◌, ◌^◌, ◌<◌, ◌≤◌, true, false, nat_lt, Option, None, Some, option_map, option_and_then, List, [], ◌∷◌, ◌++◌, length, refl, sym, ap, ◌∙◌, append_assoc, append-nil, length-append, arith}
 use Rattle.std.specs.List.{flat_map}
 use Rattle.std.proofs.lemmas.Bool.{lt-ltb, le-ltb}
 use Rattle.std.proofs.lemmas.Grind.{flat_map-append}
-use Rattle.mongo_bson.specs.Framed.{body_of, enclosed}
+use Rattle.mongo_bson.specs.Framed.{body_of, enclosed, maximum_length}
 use Rattle.mongo_bson.specs.Document.{Element, spell}
 use Rattle.mongo_bson.proofs.Enclosed.{length-enclosed, body_of-enclosed}
 use Rattle.mongo_command.specs.Literal.{document_of}
@@ -32,7 +32,7 @@ nothing_done (Some elements) = refl
 pub started : (document : List ℕ) (whole : Option (List Element)) → document ≡ enclosed [] → Grows document whole whole
 started document whole empty = record { done = []; document_is = empty; whole_is = nothing_done whole }
 
-one_more : (done : List Element) (e : Element) (document new : List ℕ) → document ≡ document_of done → length document < 2 ^ 31 → new ≡ enclosed (body_of document ++ spell e) → new ≡ document_of (done ++ e ∷ [])
+one_more : (done : List Element) (e : Element) (document new : List ℕ) → document ≡ document_of done → length document ≤ maximum_length → new ≡ enclosed (body_of document ++ spell e) → new ≡ document_of (done ++ e ∷ [])
 one_more done e document new is short put =
     let body = flat_map spell done in
     let fits : length body + 5 < 2 ^ 32 = omega (arith, length-enclosed body, ap length is, short) in
@@ -43,7 +43,7 @@ left_over : (done : List Element) (e : Element) (rest : Option (List Element)) �
 left_over done e None = refl
 left_over done e (Some others) = ap Some (sym (append_assoc done (e ∷ []) others))
 
-pub grown : (document new : List ℕ) (whole rest : Option (List Element)) (element : Option Element) → Grows document whole (before element rest) → length document < 2 ^ 31 → IsPut element document new → Grows new whole rest
+pub grown : (document new : List ℕ) (whole rest : Option (List Element)) (element : Option Element) → Grows document whole (before element rest) → length document ≤ maximum_length → IsPut element document new → Grows new whole rest
 grown document new whole rest None grows short put = absurd put
 grown document new whole rest (Some e) grows short put = record {
   done = grows.done ++ e ∷ [];
@@ -51,19 +51,19 @@ grown document new whole rest (Some e) grows short put = record {
   whole_is = grows.whole_is ∙ left_over grows.done e rest;
 }
 
-within : (elements : List Element) → length (document_of elements) < 2 ^ 31 → document_within elements ≡ Some (document_of elements)
+within : (elements : List Element) → length (document_of elements) ≤ maximum_length → document_within elements ≡ Some (document_of elements)
 within elements short = let is : nat_lt (length (document_of elements)) (2 ^ 31) ≡ true = lt-ltb _ _ short in rw is refl
 
-pub finished : (document : List ℕ) (whole : Option (List Element)) → Grows document whole (Some []) → length document < 2 ^ 31 → option_and_then document_within whole ≡ Some document
+pub finished : (document : List ℕ) (whole : Option (List Element)) → Grows document whole (Some []) → length document ≤ maximum_length → option_and_then document_within whole ≡ Some document
 finished document whole grows short =
     let all : whole ≡ Some grows.done = grows.whole_is ∙ ap Some (append-nil grows.done) in
     ap (option_and_then document_within) all ∙ within grows.done (omega (arith, ap length grows.document_is, short)) ∙ ap Some (sym grows.document_is)
 
-beyond : (elements : List Element) → 2 ^ 31 - 1 < length (document_of elements) → document_within elements ≡ None
+beyond : (elements : List Element) → maximum_length < length (document_of elements) → document_within elements ≡ None
 beyond elements long = let is : nat_lt (length (document_of elements)) (2 ^ 31) ≡ false = le-ltb _ _ (omega (arith, long)) in rw is refl
 
 -- a document that grows further is no shorter
-too_long : (done : List Element) (e : Element) (rest : Option (List Element)) → 2 ^ 31 - 1 < length (document_of done) + length (spell e) → option_and_then document_within (option_map (λ more. done ++ more) (before (Some e) rest)) ≡ None
+too_long : (done : List Element) (e : Element) (rest : Option (List Element)) → maximum_length < length (document_of done) + length (spell e) → option_and_then document_within (option_map (λ more. done ++ more) (before (Some e) rest)) ≡ None
 too_long done e None long = refl
 too_long done e (Some others) long =
     let all = flat_map spell (done ++ e ∷ others) in

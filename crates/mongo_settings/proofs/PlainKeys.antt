@@ -1,10 +1,10 @@
 -- Keys of BSON, which hold no zero, and what is put under them.
-use Rattle.std.proofs.Common.{◌≡◌, ℕ, zero, suc, ◌+◌, ◌-◌, ◌^◌, ◌<◌, ◌==◌, true, false, Some, List, [], ◌∷◌, ◌++◌, length, get_or, refl, Contains, arith}
+use Rattle.std.proofs.Common.{◌≡◌, ℕ, zero, suc, ◌+◌, ◌-◌, ◌<◌, ◌==◌, true, false, Some, List, [], ◌∷◌, ◌++◌, length, get_or, refl, Contains, arith}
 use Rattle.std.specs.List.{list_any}
 use Rattle.std.proofs.Math.Bool.{or-true}
 use Rattle.std.proofs.lemmas.Bool.{eqb-true, false_from_ne_true}
 use Rattle.std.proofs.lemmas.Map.Views.{Contains-from_any}
-use Rattle.mongo_bson.specs.Framed.{body_of, enclosed}
+use Rattle.mongo_bson.specs.Framed.{body_of, enclosed, maximum_length}
 use Rattle.mongo_bson.specs.Document.{Element, spell}
 use Rattle.mongo_bson.specs.Refusals.{AppendRefuses}
 use Rattle.mongo_bson.specs.declared.fault.BsonFault.{BsonFault}
@@ -26,7 +26,7 @@ has_none key plain = false_from_ne_true _ (λ is. plain (Contains-from_any {eq =
 pub put_under : (key old new : List ℕ) (e : Element) → (Contains key 0 → ⊥) → new ≡ enclosed (body_of old ++ spell e) → IsPut (keyed key (Some e)) old new
 put_under key old new e plain put = rw (has_none key plain) put
 
-pub not_put_under : (key old : List ℕ) (e : Element) (fault : BsonFault) → AppendRefuses fault → (fault ≡ KeyHasZero → Contains key 0) → (fault ≡ TooLong → (Contains key 0 → ⊥) × (2 ^ 31 - 1 < length old + length (spell e)))
+pub not_put_under : (key old : List ℕ) (e : Element) (fault : BsonFault) → AppendRefuses fault → (fault ≡ KeyHasZero → Contains key 0) → (fault ≡ TooLong → (Contains key 0 → ⊥) × (maximum_length < length old + length (spell e)))
     → CannotPut (error_of fault) (keyed key (Some e)) old
 not_put_under key old e KeyHasZero refuses zeros long = rw (has_zero key (zeros refl)) tt
 not_put_under key old e TooLong refuses zeros long = rw (has_none key (long refl).0) (long refl).1

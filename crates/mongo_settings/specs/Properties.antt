@@ -4,7 +4,7 @@ use Rattle.std.specs.Fmt.{decimal}
 use Rattle.std.specs.List.{list_any}
 use Rattle.serde_json.specs.Data.{Data, null, boolean, number, string, array, object, Items, no_items, item, Members, no_members, member}
 use Rattle.serde_json.specs.Find.{as_i64, as_object}
-use Rattle.mongo_bson.specs.Framed.{body_of, enclosed}
+use Rattle.mongo_bson.specs.Framed.{body_of, enclosed, maximum_length}
 use Rattle.mongo_bson.specs.Document.{Element, spell}
 use Rattle.mongo_command.specs.Literal.{text_element, array_element, int64_element, document_of}
 use Rattle.mongo_settings.specs.Kinds.{◌>>=◌}
@@ -74,4 +74,4 @@ abbrev pub CannotPut : SettingsError → Option Element → List ℕ → Type 0
 CannotPut OutOfMemory element old = ⊤
 CannotPut NotBuilt element old = ⊥
 CannotPut BadSettings None old = ⊤
-CannotPut BadSettings (Some element) old = 2 ^ 31 - 1 < length old + length (spell element)
+CannotPut BadSettings (Some element) old = maximum_length < length old + length (spell element)

@@ -1,9 +1,9 @@
 -- Sequences that are put into a document as arrays.
-use Rattle.std.proofs.Common.{◌≡◌, ◌≢◌, ℕ, ◌+◌, ◌-◌, ◌^◌, ◌<◌, Result, Ok, Err, IfOk, IfErr, List, ◌++◌, length, take, get_or, refl, sym, ap, subst, ◌∙◌, Contains, append_assoc, length-append, arith}
+use Rattle.std.proofs.Common.{◌≡◌, ◌≢◌, ℕ, ◌+◌, ◌-◌, ◌^◌, ◌<◌, ◌≤◌, Result, Ok, Err, IfOk, IfErr, List, ◌++◌, length, take, get_or, refl, sym, ap, subst, ◌∙◌, Contains, append_assoc, length-append, arith}
 use Rattle.std.proofs.lemmas.List.{get_or_default}
 use Rattle.std.proofs.lemmas.List.Elements.{All-from_recursion, All-contains}
 use Rattle.std.specs.List.{AllByRecursion}
-use Rattle.mongo_bson.specs.Framed.{body_of, enclosed, IsFramed}
+use Rattle.mongo_bson.specs.Framed.{body_of, enclosed, IsFramed, maximum_length}
 use Rattle.mongo_bson.specs.Document.{spell}
 use Rattle.mongo_bson.specs.Refusals.{AppendRefuses, PushRefuses}
 use Rattle.mongo_bson.specs.declared.fault.BsonFault.{BsonFault}
@@ -41,7 +41,7 @@ spelled_array s = spell (sequence_element s)
 
 -- one more sequence is in the document
 pub array_added : (sequences : List DocumentSequence) (i : ℕ) (s : DocumentSequence) → i < length sequences → s ≡ get_or sequences i s
-    → (body old new : List ℕ) → old ≡ enclosed (body ++ arrays_bytes (take i sequences)) → length old < 2 ^ 31 → new ≡ enclosed (body_of old ++ spelled_array s)
+    → (body old new : List ℕ) → old ≡ enclosed (body ++ arrays_bytes (take i sequences)) → length old ≤ maximum_length → new ≡ enclosed (body_of old ++ spelled_array s)
     → new ≡ enclosed (body ++ arrays_bytes (take (i + 1) sequences))
 array_added sequences i s within at body old new p short q =
     let before = body ++ arrays_bytes (take i sequences) in
@@ -51,8 +51,8 @@ array_added sequences i s within at body old new p short q =
 
 -- where a sequence has no room, all of them have none
 pub all_too_long : (sequences : List DocumentSequence) (i : ℕ) (s : DocumentSequence) → i < length sequences → s ≡ get_or sequences i s
-    → (body old : List ℕ) → old ≡ enclosed (body ++ arrays_bytes (take i sequences)) → 2 ^ 31 - 1 < length old + length (spelled_array s)
-    → 2 ^ 31 - 1 < length (enclosed (body ++ arrays_bytes sequences))
+    → (body old : List ℕ) → old ≡ enclosed (body ++ arrays_bytes (take i sequences)) → maximum_length < length old + length (spelled_array s)
+    → maximum_length < length (enclosed (body ++ arrays_bytes sequences))
 all_too_long sequences i s within at body old p long =
     let before = arrays_bytes (take i sequences) in
     omega (arith, long, ap length p, length-enclosed (body ++ before), length-enclosed (body ++ arrays_bytes sequences), length-append body before, length-append body (arrays_bytes sequences), length_within spelled_array sequences i s within at)
@@ -68,8 +68,8 @@ copied_framed bytes (Err fault) framed is = tt
 
 -- why the joined document isn't made, where the names hold no zero
 pub join_refused : (fault : BsonFault) (m : Message) (sequences : List DocumentSequence) → HasNames m → sequences ≡ m.document_sequences
-    → PushRefuses fault → (fault ≡ TooLong → 2 ^ 31 - 1 < length (enclosed (body_of m.document_payload ++ arrays_bytes sequences))) → JoinRefused (kind_of_fault fault) m
-join_refused TooLong m sequences names same refused long = (names, subst (λ s. 2 ^ 31 - 1 < length (enclosed (body_of m.document_payload ++ arrays_bytes s))) same (long refl))
+    → PushRefuses fault → (fault ≡ TooLong → maximum_length < length (enclosed (body_of m.document_payload ++ arrays_bytes sequences))) → JoinRefused (kind_of_fault fault) m
+join_refused TooLong m sequences names same refused long = (names, subst (λ s. maximum_length < length (enclosed (body_of m.document_payload ++ arrays_bytes s))) same (long refl))
 join_refused OutOfMemory m sequences names same refused long = names
 join_refused Malformed m sequences names same refused long = absurd refused
 join_refused KeyHasZero m sequences names same refused long = absurd refused

@@ -1,9 +1,10 @@
 -- What the readers of sections find at the front of bytes.
-use Rattle.std.proofs.Common.{◌≡◌, ◌≢◌, ℕ, ◌+◌, ◌-◌, ◌^◌, ◌<◌, ◌≤◌, List, [], ◌∷◌, ◌++◌, length, take, drop, refl, sym, ap, ◌∙◌, arith}
+use Rattle.std.proofs.Common.{◌≡◌, ◌≢◌, ℕ, ◌+◌, ◌-◌, ◌≤◌, List, [], ◌∷◌, ◌++◌, length, take, drop, refl, sym, ap, ◌∙◌, arith}
 use Rattle.std.specs.List.{flat_map}
 use Rattle.std.specs.Int.{from_le_bytes, w32}
 use Rattle.std.proofs.lemmas.List.{take_at, length-append, append_assoc, take-append-drop, length-drop, length-take-le, take-take}
 use Rattle.std.proofs.lemmas.Nat.{from_le_bytes-to_le_bytes_4}
+use Rattle.mongo_bson.specs.Framed.{maximum_length}
 use Rattle.mongo_bson.specs.Reading.{BeginsWithCstring, HasNoCstring}
 use Rattle.mongo_bson.proofs.Cstrings.{one_cstring}
 use Rattle.mongo_bson.proofs.Sizes.{number_at_front}
@@ -57,7 +58,7 @@ sequence_filled bytes content identifier documents size size_is cut name s rest 
     let names = one_cstring identifier s.identifier documents (flat_map (λ d. d) s.documents) name.is_cstring.without_zero is.name.without_zero (sym name.spelled ∙ content_is bytes rest content size s is e size_is cut) in
     (s.documents, is.each, names.1)
 
-pub sequence_found : (bytes content rest : List ℕ) (size : ℕ) (read : SequenceRef) → IsBytes bytes → 4 ≤ size → size < 2 ^ 31 → size ≤ length bytes → size ≡ from_le_bytes w32 bytes
+pub sequence_found : (bytes content rest : List ℕ) (size : ℕ) (read : SequenceRef) → IsBytes bytes → 4 ≤ size → size ≤ maximum_length → size ≤ length bytes → size ≡ from_le_bytes w32 bytes
     → content ≡ drop 4 (take size bytes) → rest ≡ drop size bytes → BeginsWithCstring content read.identifier.now read.documents.now → AreDocuments read.documents.now → BeginsWithSequence bytes read rest
 sequence_found bytes content rest size read small least fits within size_is cut left name (documents, each, spelled) =
     let s = made_of read.identifier.now documents in

@@ -1,5 +1,5 @@
 -- A header and the content after it are a frame of the grammar, and a frame is nothing else.
-use Rattle.std.proofs.Common.{◌≡◌, ℕ, ℤ, pos, ◌+◌, ◌-◌, ◌^◌, ◌<◌, ◌≤◌, slice_range, Option, Some, List, [], ◌∷◌, ◌++◌, length, take, drop, refl, sym, ap, ◌∙◌, subst, bit_and, FitsSigned, arith}
+use Rattle.std.proofs.Common.{◌≡◌, ℕ, ℤ, pos, ◌+◌, ◌-◌, ◌≤◌, slice_range, Option, Some, List, [], ◌∷◌, ◌++◌, length, take, drop, refl, sym, ap, ◌∙◌, subst, bit_and, FitsSigned, arith}
 use Rattle.std.specs.List.{AllByRecursion, flat_map}
 use Rattle.std.specs.Int.{w32}
 use Rattle.std.proofs.lemmas.List.{take_all, take-take, drop-drop, drop_at, drop-take, take-append-drop, length-append, length-drop, length-take-le, append_assoc}
@@ -9,7 +9,7 @@ use Rattle.mongo_wire.specs.Buffer.{HoldsFrame}
 use Rattle.mongo_wire.specs.declared.frame_buffer.FrameBuffer.{FrameBuffer}
 use Rattle.std.proofs.lemmas.Int.{to_z_pos}
 use Rattle.std.proofs.Math.Facts.{to_z_inj}
-use Rattle.mongo_bson.specs.Framed.{IsFramed}
+use Rattle.mongo_bson.specs.Framed.{IsFramed, maximum_length}
 use Rattle.mongo_wire.specs.Frame.{Frame, Section, body, sequence, IsSection, section_bytes, bodies, sequences_of, int32, uint32, message_code, known_flags}
 use Rattle.mongo_wire.specs.Header.{number_at, signed_at, header_with}
 use Rattle.mongo_wire.specs.Content.{IsAt, IsContentOf, HasNoContent}
@@ -64,11 +64,11 @@ respelled a b c d p q r s z y h i j k l =
     ap (λ w. w ++ (b ++ (c ++ (d ++ z)))) (sym h) ∙ ap (λ w. p ++ (w ++ (c ++ (d ++ z)))) (sym i) ∙ ap (λ w. p ++ (q ++ (w ++ (d ++ z)))) (sym j) ∙ ap (λ w. p ++ (q ++ (r ++ (w ++ z)))) (sym k) ∙ ap (λ w. p ++ (q ++ (r ++ (s ++ w)))) l
 
 -- a signed number that isn't negative is the unsigned one
-unsigned_is : (at n : ℕ) (bytes : List ℕ) → IsBytes bytes → n < 2 ^ 31 → signed_at at bytes ≡ pos n → number_at at bytes ≡ n
+unsigned_is : (at n : ℕ) (bytes : List ℕ) → IsBytes bytes → n ≤ maximum_length → signed_at at bytes ≡ pos n → number_at at bytes ≡ n
 unsigned_is at n bytes small fits is =
     to_z_inj {w = w32} {a = number_at at bytes} {b = n} (record { fits = number_fits at bytes small }) (record { fits = omega (arith, fits) }) (is ∙ sym (to_z_pos w32 n fits))
 
-size_fits : (n : ℕ) (bytes : List ℕ) → IsBytes bytes → pos n ≡ signed_at 0 bytes → n < 2 ^ 31
+size_fits : (n : ℕ) (bytes : List ℕ) → IsBytes bytes → pos n ≡ signed_at 0 bytes → n ≤ maximum_length
 size_fits n bytes small is = (subst (FitsSigned w32) (sym is) (signed_fits 0 bytes small)).sfits
 
 abbrev parts_by : List ℕ → ℕ → List ℕ → List Section → Option ℕ → Frame
@@ -91,7 +91,7 @@ pub frame_found : (head bytes : List ℕ) (header : Header) (word : ℕ) (sum : 
 frame_found head bytes header word sum offsets small sixteen header_is code size found =
     let frame = head ++ bytes in
     let counted : length frame ≡ 16 + length bytes = omega (arith, length-append head bytes, sixteen) in
-    let fits : 16 + length bytes < 2 ^ 31 = size_fits (16 + length bytes) head small size in
+    let fits : 16 + length bytes ≤ maximum_length = size_fits (16 + length bytes) head small size in
     let number : number_at 0 head ≡ length frame = unsigned_is 0 (16 + length bytes) head small fits (sym size) ∙ sym counted in
     let code_is : number_at 12 head ≡ message_code = unsigned_is 12 message_code head small (omega arith) code in
     let is = found.is_content in

@@ -1,9 +1,10 @@
 -- What a message is written as is a frame of the grammar.
-use Rattle.std.proofs.Common.{◌≡◌, ℕ, ℤ, ◌%◌, ◌^◌, ◌<◌, Option, None, Some, List, [], ◌∷◌, ◌++◌, length, map, refl, sym, ap, ◌∙◌, bit_and, FitsSigned, IfSome, arith}
+use Rattle.std.proofs.Common.{◌≡◌, ℕ, ℤ, ◌%◌, ◌^◌, ◌<◌, ◌≤◌, Option, None, Some, List, [], ◌∷◌, ◌++◌, length, map, refl, sym, ap, ◌∙◌, bit_and, FitsSigned, IfSome, arith}
 use Rattle.std.proofs.lemmas.Nat.{and_assoc, and_le_r}
 use Rattle.std.specs.Int.{w32}
 use Rattle.std.specs.Int.Bits.{and_self}
 use Rattle.std.specs.List.{AllByRecursion}
+use Rattle.mongo_bson.specs.Framed.{maximum_length}
 use Rattle.mongo_wire.specs.Frame.{IsFrame, IsSection, IsChecksum, sequence, bodies, sequences_of, int32, uint32, message_code, known_flags}
 use Rattle.mongo_wire.specs.Message.{IsFrameOf, TellsChecksum, parts_of, sections_of, checksum_bytes, content_of, frame_length, written_frame}
 use Rattle.mongo_wire.specs.declared.document_sequence.DocumentSequence.{DocumentSequence}
@@ -27,7 +28,7 @@ checksum_is word (Some sum) fits tells = (tells, fits, refl)
 length_is : (id : ℤ) (m : Message) → length (written_frame id m) ≡ frame_length m
 length_is id m = omega arith
 
-pub written_is_frame : (id : ℤ) (m : Message) → FitsSigned w32 id → FitsSigned w32 m.response_to → frame_length m < 2 ^ 31 → AllByRecursion IsSection (sections_of m)
+pub written_is_frame : (id : ℤ) (m : Message) → FitsSigned w32 id → FitsSigned w32 m.response_to → frame_length m ≤ maximum_length → AllByRecursion IsSection (sections_of m)
     → IfSome m.checksum (λ sum. sum < 2 ^ 32) → TellsChecksum m → IsFrameOf id m (written_frame id m)
 written_is_frame id m id_fits to_fits short sections sum_fits tells =
     let word = bit_and m.flags.0 known_flags in

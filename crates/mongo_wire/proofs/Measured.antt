@@ -1,7 +1,8 @@
 -- The length of a message's frame, and what was found of its sections.
-use Rattle.std.proofs.Common.{◌≡◌, ℕ, ◌+◌, ◌-◌, ◌^◌, ◌<◌, ◌≤◌, min, List, [], ◌∷◌, ◌++◌, length, map, flat_map, ap, length-append, arith}
+use Rattle.std.proofs.Common.{◌≡◌, ℕ, ◌+◌, ◌-◌, ◌^◌, ◌≤◌, min, List, [], ◌∷◌, ◌++◌, length, map, flat_map, ap, length-append, arith}
 use Rattle.std.proofs.lemmas.List.Folds.{flat_map-map}
 use Rattle.std.specs.List.{AllByRecursion}
+use Rattle.mongo_bson.specs.Framed.{maximum_length}
 use Rattle.mongo_wire.specs.Frame.{IsSection, sequence, section_bytes}
 use Rattle.mongo_wire.specs.Measure.{HasIdentifier, HasCountedSize, HoldsDocuments, sequences_bytes}
 use Rattle.mongo_wire.specs.Message.{frame_length, checksum_bytes}
@@ -15,7 +16,7 @@ frame_length_is m =
     omega (arith, same, length-append ((0 ∷ m.document_payload) ++ rest) (checksum_bytes m.checksum), length-append (0 ∷ m.document_payload) rest)
 
 -- sums that stay at the last number are right below it, and never too large
-pub sum_below : (body size sum sequences whole : ℕ) → size ≡ min sequences (2 ^ 64 - 1) → whole ≡ min (21 + body + size + sum) (2 ^ 64 - 1) → whole < 2 ^ 31 → whole ≡ 21 + body + sequences + sum
+pub sum_below : (body size sum sequences whole : ℕ) → size ≡ min sequences (2 ^ 64 - 1) → whole ≡ min (21 + body + size + sum) (2 ^ 64 - 1) → whole ≤ maximum_length → whole ≡ 21 + body + sequences + sum
 sum_below body size sum sequences whole p q r = omega arith
 
 pub sum_within : (body size sum sequences whole : ℕ) → size ≡ min sequences (2 ^ 64 - 1) → whole ≡ min (21 + body + size + sum) (2 ^ 64 - 1) → whole ≤ 21 + body + sequences + sum

@@ -1,8 +1,9 @@
 -- What sections that are handed in are written as.
-use Rattle.std.proofs.Common.{◌≡◌, ℕ, ℤ, ◌+◌, ◌^◌, ◌<◌, None, List, [], ◌++◌, length, flat_map, to_z, of_z, refl, sym, ap, ◌∙◌, bit_and, FitsSigned, append-nil, arith}
+use Rattle.std.proofs.Common.{◌≡◌, ℕ, ℤ, ◌+◌, ◌^◌, ◌<◌, ◌≤◌, None, List, [], ◌++◌, length, flat_map, to_z, of_z, refl, sym, ap, ◌∙◌, bit_and, FitsSigned, append-nil, arith}
 use Rattle.std.proofs.lemmas.Int.{to_z-of_z}
 use Rattle.std.proofs.lemmas.Nat.{and_assoc, and_le_r}
 use Rattle.std.specs.Int.{w32}
+use Rattle.mongo_bson.specs.Framed.{maximum_length}
 use Rattle.mongo_wire.specs.Outside.{State, WriteStops}
 use Rattle.mongo_wire.specs.Frame.{Frame, section_bytes, sequences_of, int32, uint32, message_code, known_flags, IsFrame}
 use Rattle.mongo_wire.specs.Sending.{unsummed_flags, sections_frame, SectionsFit, SectionsRefused, IsFrameOfSections}
@@ -29,7 +30,7 @@ sections_refused kind maximum sections frame old new fits s =
 known_again : (flags : ℕ) → bit_and (bit_and flags unsummed_flags) known_flags ≡ bit_and flags unsummed_flags
 known_again flags = and_assoc known_flags flags unsummed_flags
 
-pub sections_are_frame : (id to : ℤ) (flags : ℕ) (bytes : List ℕ) → FitsSigned w32 id → FitsSigned w32 to → 20 + length bytes < 2 ^ 31 → IsFrameOfSections id to flags bytes
+pub sections_are_frame : (id to : ℤ) (flags : ℕ) (bytes : List ℕ) → FitsSigned w32 id → FitsSigned w32 to → 20 + length bytes ≤ maximum_length → IsFrameOfSections id to flags bytes
 sections_are_frame id to flags bytes id_fits to_fits short sections body spelled each one_body =
     let word = bit_and flags unsummed_flags in
     let size : length (sections_frame id to flags bytes) ≡ 20 + length bytes = omega arith in

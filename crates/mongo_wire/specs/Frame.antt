@@ -1,9 +1,9 @@
 -- The grammar of a frame, by the OP_MSG specification: a header of int32 length, request id, response-to and op code, a
 -- uint32 of flags, sections, and an optional uint32 checksum, all low byte first.
-use Rattle.std.specs.Prelude.{◌≡◌, ℕ, ℤ, ◌+◌, ◌%◌, ◌^◌, ◌<◌, Option, None, Some, List, [], ◌∷◌, ◌++◌, length, flat_map, bit_and, FitsSigned}
+use Rattle.std.specs.Prelude.{◌≡◌, ℕ, ℤ, ◌+◌, ◌%◌, ◌^◌, ◌<◌, ◌≤◌, Option, None, Some, List, [], ◌∷◌, ◌++◌, length, flat_map, bit_and, FitsSigned}
 use Rattle.std.specs.List.{AllByRecursion}
 use Rattle.std.specs.Int.{to_le_bytes, cast_unsigned, w32}
-use Rattle.mongo_bson.specs.Framed.{IsFramed}
+use Rattle.mongo_bson.specs.Framed.{IsFramed, maximum_length}
 use Rattle.mongo_bson.specs.Document.{IsCstring}
 use Rattle.mongo_wire.specs.declared.document_sequence.DocumentSequence.{DocumentSequence}
 
@@ -37,7 +37,7 @@ section_bytes (sequence s) = 1 ∷ (uint32 (4 + length (sequence_bytes s)) ++ se
 pub record IsSequence (s : DocumentSequence) : Type 0 where
   pub name : IsCstring s.identifier
   pub each : AllByRecursion IsFramed s.documents
-  pub size : 4 + length (sequence_bytes s) < 2 ^ 31
+  pub size : 4 + length (sequence_bytes s) ≤ maximum_length
 
 abbrev pub IsSection : Section → Type 0
 IsSection (body document) = IsFramed document
@@ -75,7 +75,7 @@ pub record IsFrame (f : List ℕ) (parts : Frame) : Type 0 where
   pub sections : List Section
   pub tail : List ℕ
   pub spelled : f ≡ uint32 (length f) ++ (int32 parts.request_id ++ (int32 parts.response_to ++ (uint32 message_code ++ (uint32 word ++ (flat_map section_bytes sections ++ tail)))))
-  pub length_fits : length f < 2 ^ 31
+  pub length_fits : length f ≤ maximum_length
   pub id_fits : FitsSigned w32 parts.request_id
   pub response_fits : FitsSigned w32 parts.response_to
   pub word_fits : word < 2 ^ 32

@@ -1,6 +1,6 @@
 -- A message as one document: its body, and each of its sequences as an array under its identifier.
-use Rattle.std.specs.Prelude.{ℕ, ◌-◌, ◌^◌, ◌<◌, List, ◌++◌, length, flat_map}
-use Rattle.mongo_bson.specs.Framed.{body_of, enclosed}
+use Rattle.std.specs.Prelude.{ℕ, ◌-◌, ◌<◌, List, ◌++◌, length, flat_map}
+use Rattle.mongo_bson.specs.Framed.{body_of, enclosed, maximum_length}
 use Rattle.mongo_bson.specs.Document.{Element, spell}
 use Rattle.mongo_bson.specs.Array.{array_of, document_entries}
 use Rattle.mongo_wire.specs.Message.{HasNames}
@@ -24,6 +24,6 @@ joined_document m = enclosed (body_of m.document_payload ++ arrays_bytes m.docum
 -- an identifier holds a zero, or else the document passes 2147483647 bytes, or memory ran out
 abbrev pub JoinRefused : ErrorKind → Message → Type 0
 JoinRefused (InvalidArgument IdentifierHasZero) m = HasNames m → ⊥
-JoinRefused (InvalidArgument (Bson TooLong)) m = HasNames m × (2 ^ 31 - 1 < length (joined_document m))
+JoinRefused (InvalidArgument (Bson TooLong)) m = HasNames m × (maximum_length < length (joined_document m))
 JoinRefused OutOfMemory m = HasNames m
 JoinRefused kind m = ⊥

@@ -1,8 +1,8 @@
 -- What is asked of document sequences before they are written, and the bytes that they are written as.
-use Rattle.std.specs.Prelude.{◌≢◌, ℕ, ◌+◌, ◌^◌, ◌<◌, List, length, flat_map}
+use Rattle.std.specs.Prelude.{◌≢◌, ℕ, ◌+◌, ◌≤◌, List, length, flat_map}
 use Rattle.std.specs.List.{AllByRecursion}
 use Rattle.mongo_bson.specs.Document.{IsCstring}
-use Rattle.mongo_bson.specs.Framed.{IsFramed}
+use Rattle.mongo_bson.specs.Framed.{IsFramed, maximum_length}
 use Rattle.mongo_wire.specs.Frame.{sequence, section_bytes, sequence_bytes}
 use Rattle.mongo_wire.specs.declared.document_sequence.DocumentSequence.{DocumentSequence}
 
@@ -14,7 +14,7 @@ HasIdentifier s = IsCstring s.identifier
 
 -- its size is one that an int32 counts
 abbrev pub HasCountedSize : DocumentSequence → Type 0
-HasCountedSize s = 4 + length (sequence_bytes s) < 2 ^ 31
+HasCountedSize s = 4 + length (sequence_bytes s) ≤ maximum_length
 
 abbrev pub HoldsDocuments : DocumentSequence → Type 0
 HoldsDocuments s = AllByRecursion IsFramed s.documents

@@ -1,6 +1,6 @@
-ghost use Rattle.std.specs.Prelude.{◌≡◌, ◌+◌, ◌^◌, ◌<◌, ◌≤◌, length, IfSome, IfNone, IfOk, IfErr};
+ghost use Rattle.std.specs.Prelude.{◌≡◌, ◌+◌, ◌<◌, ◌≤◌, length, IfSome, IfNone, IfOk, IfErr};
 ghost use Rattle.std.specs.List.{AllByRecursion};
-ghost use Rattle.mongo_bson.specs.Framed.{IsFramed};
+ghost use Rattle.mongo_bson.specs.Framed.{IsFramed, maximum_length};
 ghost use Rattle.mongo_wire.specs.Frame.{sequence_bytes};
 ghost use Rattle.mongo_wire.specs.Measure.{HasCountedSize, HoldsDocuments, documents_bytes};
 
@@ -59,7 +59,7 @@ pub type Sequences = Items<DocumentSequence>;
 
 // How many bytes the documents take. None where it is more than there is room for.
 fn documents_size(documents: &[RawDocumentBuf], room: usize) -> Option<usize>
-    requires { room < 2 ^ 31 }
+    requires { room ≤ maximum_length }
     ensures size { IfSome result (λ size. size ≡ length (documents_bytes documents.now)) }
     ensures within { IfSome result (λ size. size ≤ room) }
     ensures framed { IfSome result (λ _. AllByRecursion IsFramed documents.now) }

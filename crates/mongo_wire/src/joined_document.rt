@@ -1,6 +1,6 @@
-ghost use Rattle.std.specs.Prelude.{◌≡◌, ◌+◌, ◌-◌, ◌^◌, ◌<◌, ◌++◌, length, IfOk, IfErr, OnOk, IsErrOf};
+ghost use Rattle.std.specs.Prelude.{◌≡◌, ◌+◌, ◌-◌, ◌<◌, ◌≤◌, ◌++◌, length, IfOk, IfErr, OnOk, IsErrOf};
 ghost use Rattle.std.specs.List.{AllByRecursion};
-ghost use Rattle.mongo_bson.specs.Framed.{body_of, enclosed, IsFramed};
+ghost use Rattle.mongo_bson.specs.Framed.{body_of, enclosed, IsFramed, maximum_length};
 ghost use Rattle.mongo_bson.specs.Document.{spell};
 ghost use Rattle.mongo_bson.specs.Refusals.{PushRefuses};
 ghost use Rattle.mongo_wire.specs.JoinedDocument.{joined_document, JoinRefused, sequence_element, arrays_bytes};
@@ -21,7 +21,7 @@ impl Message {
     pub fn get_raw_command_document(&self, alloc: Global) -> Result<RawDocumentBuf, Error>
         ensures document { IfOk result (λ document. document ≡ joined_document self.now) }
         ensures named { IfOk result (λ _. HasNames self.now) }
-        ensures fits { IfOk result (λ _. length (joined_document self.now) < 2 ^ 31) }
+        ensures fits { IfOk result (λ _. length (joined_document self.now) ≤ maximum_length) }
         ensures refused { IfErr result (λ e. JoinRefused e.kind self.now) }
     {
         let sequences = self.document_sequences.as_slice();
@@ -47,8 +47,8 @@ fn with_arrays(
 ) -> Result<RawDocumentBuf, BsonFault>
     requires { AllByRecursion IsWithoutZero sequences.now }
     ensures document { IfOk result (λ document. document ≡ enclosed (body_of body.now ++ arrays_bytes sequences.now)) }
-    ensures fits { IfOk result (λ document. length document < 2 ^ 31) }
-    ensures too_long { IsErrOf result BsonFault.TooLong → 2 ^ 31 - 1 < length (enclosed (body_of body.now ++ arrays_bytes sequences.now)) }
+    ensures fits { IfOk result (λ document. length document ≤ maximum_length) }
+    ensures too_long { IsErrOf result BsonFault.TooLong → maximum_length < length (enclosed (body_of body.now ++ arrays_bytes sequences.now)) }
     ensures refused { IfErr result PushRefuses }
 {
     let mut document = copy_of_document(alloc, body.as_bytes())?;
@@ -86,7 +86,7 @@ fn add_array(
     requires { IsWithoutZero sequence.now }
     ensures added { OnOk result (document.new ≡ enclosed (body_of document.old ++ spell (sequence_element sequence.now))) }
     ensures framed { OnOk result (IsFramed document.new) }
-    ensures too_long { IsErrOf result BsonFault.TooLong → 2 ^ 31 - 1 < length document.old + length (spell (sequence_element sequence.now)) }
+    ensures too_long { IsErrOf result BsonFault.TooLong → maximum_length < length document.old + length (spell (sequence_element sequence.now)) }
     ensures refused { IfErr result PushRefuses }
 {
     let array = to_raw_bson_array(alloc, &sequence.documents)?;

@@ -1,5 +1,6 @@
-ghost use Rattle.std.specs.Prelude.{◌≡◌, ◌+◌, ◌-◌, ◌^◌, ◌<◌, ◌↔◌, min, length, IsTrue, IfSome, IfNone, IfOk, IfErr};
+ghost use Rattle.std.specs.Prelude.{◌≡◌, ◌+◌, ◌-◌, ◌^◌, ◌≤◌, ◌↔◌, min, length, IsTrue, IfSome, IfNone, IfOk, IfErr};
 ghost use Rattle.std.specs.List.{AllByRecursion};
+ghost use Rattle.mongo_bson.specs.Framed.{maximum_length};
 ghost use Rattle.mongo_wire.specs.Frame.{IsSection};
 ghost use Rattle.mongo_wire.specs.Header.{maximum_of};
 ghost use Rattle.mongo_wire.specs.Message.{Fits, ArgumentRow, frame_length, sections_of, checksum_bytes};
@@ -23,7 +24,7 @@ const CHECKSUM_LENGTH: u64 = 4;
 pub(crate) fn measured(message: &Message, maximum: Option<i32>) -> Result<u32, ArgumentFault>
     ensures fits { IfOk result (λ _. Fits (maximum_of maximum) message.now) }
     ensures counted { IfOk result (λ length. length ≡ frame_length message.now) }
-    ensures short { IfOk result (λ length. length < 2 ^ 31) }
+    ensures short { IfOk result (λ length. length ≤ maximum_length) }
     ensures sections { IfOk result (λ _. AllByRecursion IsSection (sections_of message.now)) }
     ensures refused { IfErr result (λ fault. ArgumentRow fault (maximum_of maximum) message.now) }
 {
@@ -48,7 +49,7 @@ pub(crate) fn measured(message: &Message, maximum: Option<i32>) -> Result<u32, A
 
 // The length of a frame whose body and sequences are this long, or 2^64 - 1 where it is longer.
 fn whole_length(body: usize, sequences: u64, checksum: Option<u32>) -> u64
-    requires { body < 2 ^ 31 }
+    requires { body ≤ maximum_length }
     ensures { result ≡ min (21 + body + sequences + length (checksum_bytes checksum)) (2 ^ 64 - 1) }
 {
     let with_body = (FLAGS_END + KIND_LENGTH + body) as u64;

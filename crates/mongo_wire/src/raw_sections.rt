@@ -1,5 +1,6 @@
-ghost use Rattle.std.specs.Prelude.{◌≡◌, ◌+◌, ◌^◌, ◌<◌, bit_and, length, IfOk, IfErr, OnOk};
+ghost use Rattle.std.specs.Prelude.{◌≡◌, ◌+◌, ◌≤◌, bit_and, length, IfOk, IfErr, OnOk};
 ghost use Rattle.std.specs.Io.KnownBytes.{Appends};
+ghost use Rattle.mongo_bson.specs.Framed.{maximum_length};
 ghost use Rattle.mongo_wire.specs.Frame.{uint32};
 ghost use Rattle.mongo_wire.specs.Header.{maximum_of};
 ghost use Rattle.mongo_wire.specs.Outside.{WritesOn, IsFlushed};
@@ -51,7 +52,7 @@ pub fn write_sections<K: Sink>(
 // Refusals, in this order: `MaximumNegative`, `TooLong`.
 fn sections_length(sections: &[u8], maximum: Option<i32>) -> Result<u32, ArgumentFault>
     ensures fits { IfOk result (λ _. SectionsFit (maximum_of maximum) sections.now) }
-    ensures counted { IfOk result (λ size. (size ≡ 20 + length sections.now) × (size < 2 ^ 31)) }
+    ensures counted { IfOk result (λ size. (size ≡ 20 + length sections.now) × (size ≤ maximum_length)) }
     ensures refused { IfErr result (λ fault. SectionsRow fault (maximum_of maximum) sections.now) }
 {
     let maximum = maximum.unwrap_or(FIRST_MAXIMUM);

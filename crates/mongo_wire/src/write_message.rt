@@ -1,7 +1,8 @@
-ghost use Rattle.std.specs.Prelude.{◌≡◌, ◌+◌, ◌^◌, ◌<◌, [], ◌∷◌, ◌++◌, bit_and, length, FitsSigned, IfSome, IfErr, OnOk};
+ghost use Rattle.std.specs.Prelude.{◌≡◌, ◌+◌, ◌^◌, ◌<◌, ◌≤◌, [], ◌∷◌, ◌++◌, bit_and, length, FitsSigned, IfSome, IfErr, OnOk};
 ghost use Rattle.std.specs.Int.{w32};
 ghost use Rattle.std.specs.Io.KnownBytes.{Appends};
 ghost use Rattle.std.specs.List.{AllByRecursion};
+ghost use Rattle.mongo_bson.specs.Framed.{maximum_length};
 ghost use Rattle.mongo_wire.specs.Outside.{WritesOn, WriteStops};
 ghost use Rattle.mongo_wire.specs.Frame.{sequence_bytes, int32, uint32, message_code, known_flags};
 ghost use Rattle.mongo_wire.specs.Message.{frame_length, before_checksum, checksum_bytes};
@@ -23,7 +24,7 @@ pub(crate) fn write_before_checksum<K: Sink>(
     length: u32,
 ) -> Result<(), Error>
     requires counted { length ≡ frame_length message.now }
-    requires short { length < 2 ^ 31 }
+    requires short { length ≤ maximum_length }
     requires sizes { AllByRecursion HasCountedSize message.now.document_sequences }
     ensures written { OnOk result (Appends (K.state sink.old).written (K.state sink.new).written (before_checksum request_id message.now)) }
     ensures refused { IfErr result (λ e. WriteStops e.kind (K.state sink.old) (K.state sink.new) (before_checksum request_id message.now)) }
@@ -38,7 +39,7 @@ pub(crate) fn write_before_checksum<K: Sink>(
 
 // The header of an OP_MSG of this length.
 pub(crate) fn message_header(length: u32, request_id: i32, response_to: i32) -> [u8; 16]
-    requires { length < 2 ^ 31 }
+    requires { length ≤ maximum_length }
     ensures { result ≡ uint32 length ++ (int32 request_id ++ (int32 response_to ++ uint32 message_code)) }
 {
     numbers_bytes(

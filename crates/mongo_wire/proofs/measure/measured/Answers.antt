@@ -1,7 +1,7 @@
-use Rattle.std.proofs.Common.{rules, arith, ◌≡◌, ◌-◌, ◌^◌, ◌<◌, min, length, map, refl, ap, ◌∙◌, subst}
+use Rattle.std.proofs.Common.{rules, arith, ◌≡◌, ◌-◌, ◌^◌, ◌≤◌, min, length, map, refl, ap, ◌∙◌, subst}
 use Rattle.std.proofs.lemmas.Int.{ints}
 use Rattle.std.specs.List.{AllByRecursion}
-use Rattle.mongo_bson.specs.Framed.{IsFramed}
+use Rattle.mongo_bson.specs.Framed.{IsFramed, maximum_length}
 use Rattle.mongo_wire.specs.Frame.{IsSection, sequence}
 use Rattle.mongo_wire.specs.Measure.{sequences_bytes}
 use Rattle.mongo_wire.specs.Message.{checksum_bytes, frame_length}
@@ -23,7 +23,7 @@ pub returns-clause-counted : goal.returns-clause-counted
 returns-clause-counted c =
     let m = c.args.message.now in
     let size = c.in-Some.ensures.size ∙ ap (λ s. min (length (sequences_bytes s)) (2 ^ 64 - 1)) c.as_slice-sequences.ensures in
-    let short : c.whole_length-length.result < 2 ^ 31 = omega (arith, ints, c.if-length-maximum.false, c.unwrap_or-maximum.type_inv) in
+    let short : c.whole_length-length.result ≤ maximum_length = omega (arith, ints, c.if-length-maximum.false, c.unwrap_or-maximum.type_inv) in
     let is = sum_below (length c.as_bytes-body.result.now) c.in-Some.size (length (checksum_bytes m.checksum)) (length (sequences_bytes m.document_sequences)) c.whole_length-length.result size c.whole_length-length.ensures short in
     omega (arith, is, frame_length_is m, ap length c.as_bytes-body.ensures.bytes)
 

@@ -1,7 +1,8 @@
-use Rattle.std.proofs.Common.{◌^◌, ◌<◌, subst}
+use Rattle.std.proofs.Common.{◌≤◌, subst}
 use Rattle.std.proofs.lemmas.Result.{IfErr-weaker}
 use Rattle.std.proofs.KnownBytes.{Appends-kept}
 use Rattle.std.specs.Io.KnownBytes.{Appends}
+use Rattle.mongo_bson.specs.Framed.{maximum_length}
 use Rattle.mongo_wire.specs.Header.{maximum_of}
 use Rattle.mongo_wire.specs.Outside.{WriteStops}
 use Rattle.mongo_wire.specs.Sending.{sections_frame}
@@ -26,7 +27,7 @@ returns-clause-written g c =
 pub returns-clause-frame : goal.returns-clause-frame
 returns-clause-frame g c =
     let a = c.args in
-    always c.flush_out.result _ (sections_are_frame a.request_id a.response_to a.flags.0 a.sections.now c.ranges.request_id c.ranges.response_to (subst (λ n. n < 2 ^ 31) c.in-Ok.ensures.counted.0 c.in-Ok.ensures.counted.1))
+    always c.flush_out.result _ (sections_are_frame a.request_id a.response_to a.flags.0 a.sections.now c.ranges.request_id c.ranges.response_to (subst (λ n. n ≤ maximum_length) c.in-Ok.ensures.counted.0 c.in-Ok.ensures.counted.1))
 
 pub returns-clause-refused : goal.returns-clause-refused
 returns-clause-refused g c =

@@ -1,9 +1,10 @@
-use Rattle.std.proofs.Common.{rules, ◌^◌, ◌<◌, FitsSigned, IfSome, ap, ◌∙◌, subst}
+use Rattle.std.proofs.Common.{rules, ◌^◌, ◌<◌, ◌≤◌, FitsSigned, IfSome, ap, ◌∙◌, subst}
 use Rattle.std.proofs.lemmas.Int.{to_z-of_z}
 use Rattle.std.proofs.lemmas.Result.{IfErr-weaker}
 use Rattle.std.proofs.KnownBytes.{Appends-kept}
 use Rattle.std.specs.Int.{w32}
 use Rattle.std.specs.Io.KnownBytes.{Appends}
+use Rattle.mongo_bson.specs.Framed.{maximum_length}
 use Rattle.mongo_wire.specs.Header.{maximum_of}
 use Rattle.mongo_wire.specs.Message.{id_of, before_checksum, written_frame}
 use Rattle.mongo_wire.specs.Outside.{WriteStops}
@@ -58,7 +59,7 @@ returns-clause-frame g c =
     let fits : FitsSigned w32 id = search rules in
     let to_fits : FitsSigned w32 m.response_to = search rules in
     let sum_fits : IfSome m.checksum (λ sum. sum < 2 ^ 32) = search rules in
-    always c.flush_out.result _ (λ tells. written_is_frame (id_of m c.args.ids.now) m (subst (FitsSigned w32) c.drawn_id-id.ensures.id fits) to_fits (subst (λ n. n < 2 ^ 31) c.in-Ok.ensures.counted c.in-Ok.ensures.short) c.in-Ok.ensures.sections sum_fits tells)
+    always c.flush_out.result _ (λ tells. written_is_frame (id_of m c.args.ids.now) m (subst (FitsSigned w32) c.drawn_id-id.ensures.id fits) to_fits (subst (λ n. n ≤ maximum_length) c.in-Ok.ensures.counted c.in-Ok.ensures.short) c.in-Ok.ensures.sections sum_fits tells)
 
 pub returns-clause-refused : goal.returns-clause-refused
 returns-clause-refused g c =
