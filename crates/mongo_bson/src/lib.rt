@@ -59,6 +59,6 @@ pub use owned_value::OwnedValue;
 pub use raw_array_buf::RawArrayBuf;
 pub use raw_document::{MAXIMUM_LENGTH, RawDocument};
 pub use raw_document_buf::{Documents, RawDocumentBuf};
-pub use raw_value::{ObjectId, RawValue};
+pub use raw_value::{GENERIC, ObjectId, RawValue};
 pub use text::{Text, Texts};
 pub use try_clone::{TryClone, copy_of};

@@ -1,5 +1,8 @@
 use crate::RawDocument;
 
+/// The subtype of a binary that has no other meaning: the generic one of BSON 1.1.
+pub const GENERIC: u8 = 0;
+
 /// An object id of BSON 1.1: its 12 bytes in the order of the wire.
 #[derive(Clone, Copy, Debug, PartialEq, Eq)]
 pub struct ObjectId(pub [u8; 12]);

@@ -14,8 +14,15 @@ use Rattle.mongo_command.specs.Keys.{counter_key, hello_ok_key, process_id_key, 
 abbrev pub is_modern : Option ServerApi → Option Bool → Option Bool → Bool
 is_modern server_api load_balanced hello_ok = is_some server_api || unwrap_or load_balanced false || unwrap_or hello_ok false
 
+-- the command's name, and its legacy name
+abbrev pub hello_command_name : List ℕ
+hello_command_name = codes "hello"
+
+abbrev pub legacy_hello_command_name : List ℕ
+legacy_hello_command_name = codes "isMaster"
+
 abbrev pub hello_name : Bool → List ℕ
-hello_name modern = if modern then codes "hello" else codes "isMaster"
+hello_name modern = if modern then hello_command_name else legacy_hello_command_name
 
 -- the legacy command asks whether the new one is understood, unless the server said that it isn't
 abbrev pub asked_hello_ok : Bool → Option Bool → Option Bool

@@ -1,12 +1,15 @@
 ghost use Rattle.std.specs.Prelude.{◌≡◌, ◌∷◌, [], Contains, option_map};
-ghost use Rattle.mongo_command.specs.Literal.{text_element, document_element, int32_element, int64_element, boolean_element};
+ghost use Rattle.mongo_command.specs.Literal.{text_element, document_element, int32_element, int64_element, boolean_element, generic_element, ok_element};
 ghost use Rattle.mongo_command.specs.Command.{version_text, present, timestamp_element, sent_concern};
 ghost use Rattle.mongo_command.specs.Arguments.{field_elements, IsNamed};
 ghost use Rattle.mongo_command.specs.Keys.{api_version_key, write_concern_key};
 
 use crate::ServerApi;
-use crate::keys::{API_VERSION, WRITE_CONCERN};
-use mongo_bson::{RawDocumentBuf, RawValue, Text};
+use crate::keys::{API_VERSION, OK, WRITE_CONCERN};
+use mongo_bson::{GENERIC, RawDocumentBuf, RawValue, Text};
+
+// The bits of the double 1.0, IEEE 754 binary64.
+const ONE: u64 = 0x3FF0_0000_0000_0000;
 
 // The length of a document without elements.
 const EMPTY_DOCUMENT: usize = 5;
@@ -78,6 +81,23 @@ pub fn optional_boolean_field(key: &'static str, boolean: Option<bool>) -> Argum
         Some(boolean) => boolean_field(key, boolean),
         None => None,
     }
+}
+
+/// A binary of the generic subtype.
+pub fn generic_binary_field<'a>(key: &'static str, bytes: &'a [u8]) -> ArgumentField<'a>
+    requires { ¬ Contains key.now 0 }
+    ensures elements { field_elements result ≡ generic_element key.now bytes.now ∷ [] }
+    ensures named { IsNamed result }
+{
+    Some((key, RawValue::Binary(GENERIC, bytes)))
+}
+
+/// `ok: 1.0`, as a reply that is no error has it.
+pub fn ok_field() -> ArgumentField<'static>
+    ensures elements { field_elements result ≡ ok_element ∷ [] }
+    ensures named { IsNamed result }
+{
+    Some((OK, RawValue::Double(ONE)))
 }
 
 /// A 32-bit number.

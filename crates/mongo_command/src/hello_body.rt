@@ -10,7 +10,9 @@ use crate::argument_field::{
 };
 use crate::arguments::document_of;
 use crate::keys::{COUNTER, HELLO_OK, PROCESS_ID, TOPOLOGY_VERSION};
-use crate::{AwaitableHelloOptions, LEGACY_HELLO_COMMAND_NAME, TopologyVersion};
+use crate::{
+    AwaitableHelloOptions, HELLO_COMMAND_NAME, LEGACY_HELLO_COMMAND_NAME, TopologyVersion,
+};
 use mongo_bson::{BsonFault, RawDocumentBuf, RawValue};
 use std::alloc::Global;
 
@@ -31,7 +33,7 @@ pub(crate) fn hello_name(modern: bool) -> &'static str
     ensures named { ¬ Contains result.now 0 }
 {
     if modern {
-        "hello"
+        HELLO_COMMAND_NAME
     } else {
         LEGACY_HELLO_COMMAND_NAME
     }

@@ -12,8 +12,7 @@ use Rattle.mongo_bson.specs.Framed.{IsFramed, maximum_length}
 use Rattle.mongo_bson.specs.declared.raw_value.RawValue.TheVariants.{Str, Binary, Bool as Boolean, Int32}
 use Rattle.mongo_bson.proofs.Enclosed.{length-enclosed, body_of-enclosed, framed-enclosed}
 use Rattle.mongo_bson.proofs.ReadBack.{written_element}
-use Rattle.mongo_command.specs.Literal.{text_element, document_element, boolean_element, int32_element, document_of}
-use Rattle.mongo_sasl.specs.Commands.{generic_element}
+use Rattle.mongo_command.specs.Literal.{text_element, document_element, boolean_element, int32_element, document_of, generic_element}
 
 -- ---- keys
 

@@ -7,12 +7,11 @@ use Rattle.mongo_bson.specs.Document.{Element, Shape, fixed, boolean, binary, do
 use Rattle.mongo_bson.specs.declared.owned_value.OwnedValue.{OwnedValue}
 use Rattle.mongo_bson.specs.declared.raw_value.RawValue.TheVariants.{Double}
 use Rattle.mongo_bson.proofs.ReadBack.{written_element}
-use Rattle.mongo_command.specs.Literal.{document_element, boolean_element, int32_element, ok_element, document_of}
+use Rattle.mongo_command.specs.Literal.{document_element, boolean_element, int32_element, ok_element, document_of, generic_element}
 use Rattle.mongo_command.specs.declared.hello.HelloCommandResponse.{HelloCommandResponse}
 use Rattle.mongo_command.specs.Field.{Required, Optional}
 use Rattle.mongo_command.specs.Hello.{IsHelloResponse}
 use Rattle.mongo_command.specs.Keys.{max_bson_object_size_key, max_message_size_bytes_key, ok_key, speculative_authenticate_key}
-use Rattle.mongo_sasl.specs.Commands.{generic_element}
 use Rattle.mongo_sasl.specs.Reply.{IsSaslReply}
 use Rattle.mongo_sasl.specs.Keys.{conversation_id_key, done_key, payload_key}
 use Rattle.mongo_generate.specs.Replies.{round_elements, speculative_elements, standalone_elements, final_elements, hello_reply, final_reply}

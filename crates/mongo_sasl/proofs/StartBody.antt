@@ -1,10 +1,10 @@
 -- The body of a `saslStart` of SCRAM, as its fields are put.
 use Rattle.std.proofs.Common.{◌≡◌, ℕ, pos, ◌⊎◌, inl, inr, List, [], ◌∷◌, sym, ap, ◌∙◌}
-use Rattle.mongo_command.specs.Literal.{text_element, int32_element, document_element, document_of}
+use Rattle.mongo_command.specs.Literal.{text_element, int32_element, document_element, document_of, generic_element}
 use Rattle.mongo_sasl.specs.declared.mechanism.AuthMechanism.{AuthMechanism}
 use Rattle.mongo_sasl.specs.declared.mechanism.AuthMechanism.TheVariants.{ScramSha1, ScramSha256}
 use Rattle.mongo_sasl.specs.Mechanism.{name_of}
-use Rattle.mongo_sasl.specs.Commands.{generic_element, skip_empty_exchange, start_options, start_body}
+use Rattle.mongo_sasl.specs.Commands.{skip_empty_exchange, start_options, start_body}
 use Rattle.mongo_sasl.specs.Keys.{mechanism_key, options_key, payload_key, sasl_start_key}
 
 abbrev scram_body : List ℕ → List ℕ → List ℕ → List ℕ

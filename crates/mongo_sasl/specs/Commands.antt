@@ -1,13 +1,12 @@
 -- The commands of a login, by the authentication specification and the server's `saslStart` and `saslContinue`.
-use Rattle.std.specs.Prelude.{ℕ, pos, true, List, [], ◌∷◌, ◌++◌, length, codes}
-use Rattle.std.specs.Int.{to_le_bytes, w32}
+use Rattle.std.specs.Prelude.{ℕ, pos, true, List, [], ◌∷◌}
 use Rattle.mongo_bson.specs.Document.{Element}
 use Rattle.mongo_bson.specs.declared.owned_value.OwnedValue.{OwnedValue}
-use Rattle.mongo_command.specs.Literal.{text_element, int32_element, boolean_element, document_element, document_of}
+use Rattle.mongo_command.specs.Literal.{text_element, int32_element, boolean_element, document_element, generic_element, document_of}
 use Rattle.mongo_sasl.specs.declared.mechanism.AuthMechanism.{AuthMechanism}
 use Rattle.mongo_sasl.specs.declared.mechanism.AuthMechanism.TheVariants.{ScramSha1, ScramSha256}
 use Rattle.mongo_sasl.specs.Mechanism.{name_of}
-use Rattle.mongo_sasl.specs.Keys.{conversation_id_key, mechanism_key, options_key, payload_key, sasl_continue_key, sasl_start_key}
+use Rattle.mongo_sasl.specs.Keys.{conversation_id_key, mechanism_key, options_key, payload_key, sasl_continue_key, sasl_start_key, skip_empty_exchange_key}
 use Rattle.mongo_command.specs.declared.command.Command.{Command}
 use Rattle.mongo_command.specs.Command.{command_of}
 use Rattle.mongo_sasl.specs.declared.sasl_start.SaslStart.{SaslStart}
@@ -15,17 +14,13 @@ use Rattle.mongo_sasl.specs.declared.sasl_continue.SaslContinue.{SaslContinue}
 
 -- ---- the bodies
 
--- a binary of the generic subtype, 0
-abbrev pub generic_element : List ℕ → List ℕ → Element
-generic_element key bytes = record { kind = 0x05; key = key; value = to_le_bytes w32 (length bytes) ++ 0 ∷ bytes }
-
 -- a value as it lies
 abbrev pub value_element : List ℕ → OwnedValue → Element
 value_element key value = record { kind = value.kind; key = key; value = value.bytes }
 
 -- SCRAM ends with the server's last message, with no empty exchange after it
 abbrev pub skip_empty_exchange : List ℕ
-skip_empty_exchange = document_of (boolean_element (codes "skipEmptyExchange") true ∷ [])
+skip_empty_exchange = document_of (boolean_element skip_empty_exchange_key true ∷ [])
 
 abbrev pub start_options : AuthMechanism → List Element
 start_options ScramSha1 = document_element options_key skip_empty_exchange ∷ []

@@ -19,6 +19,9 @@ payload_key = codes "payload"
 abbrev pub options_key : List ℕ
 options_key = codes "options"
 
+abbrev pub skip_empty_exchange_key : List ℕ
+skip_empty_exchange_key = codes "skipEmptyExchange"
+
 abbrev pub conversation_id_key : List ℕ
 conversation_id_key = codes "conversationId"
 

@@ -18,6 +18,9 @@ pub const PAYLOAD: &str = "payload";
 /// What a `saslStart` asks for beside its mechanism.
 pub const OPTIONS: &str = "options";
 
+/// Whether SCRAM ends with the server's last message, with no empty exchange after it: one of the options.
+pub const SKIP_EMPTY_EXCHANGE: &str = "skipEmptyExchange";
+
 /// The id of the conversation, which the server gives.
 pub const CONVERSATION_ID: &str = "conversationId";
 

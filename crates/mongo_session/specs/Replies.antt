@@ -2,9 +2,8 @@
 use Rattle.std.specs.Prelude.{ℕ, ℤ, pos, Bool, true, false, Option, None, Some, List, [], ◌∷◌, ◌++◌, codes}
 use Rattle.std.specs.Int.{to_le_bytes, cast_unsigned, w64}
 use Rattle.mongo_bson.specs.Document.{Element}
-use Rattle.mongo_command.specs.Literal.{text_element, document_element, array_element, boolean_element, int32_element, ok_element, document_of}
+use Rattle.mongo_command.specs.Literal.{text_element, document_element, array_element, boolean_element, int32_element, ok_element, document_of, generic_element}
 use Rattle.mongo_command.specs.Keys.{code_key, code_name_key, connection_id_key, errmsg_key, hello_ok_key, is_master_key, is_writable_primary_key, logical_session_timeout_minutes_key, max_bson_object_size_key, max_message_size_bytes_key, max_wire_version_key, max_write_batch_size_key, min_wire_version_key, ok_key, sasl_supported_mechs_key, speculative_authenticate_key}
-use Rattle.mongo_sasl.specs.Commands.{generic_element}
 use Rattle.mongo_sasl.specs.Keys.{conversation_id_key, done_key, payload_key}
 use Rattle.mongo_scram.specs.Version.{version_name}
 use Rattle.mongo_scram.specs.declared.scram_version.ScramVersion.TheVariants as version
