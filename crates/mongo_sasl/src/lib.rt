@@ -47,6 +47,3 @@ pub use sasl_view::SaslView;
 
 // The database of users that are known elsewhere.
 pub(crate) const EXTERNAL: &str = "$external";
-
-// The generic subtype of a binary, BSON 1.1.
-pub(crate) const GENERIC: u8 = 0;

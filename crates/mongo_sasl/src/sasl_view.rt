@@ -9,8 +9,8 @@ ghost use Rattle.mongo_sasl.specs.View.{owned_value_of, sasl_response_of, read_a
 ghost use Rattle.mongo_sasl.specs.Keys.{conversation_id_key};
 
 use crate::keys::{CONVERSATION_ID, DONE, PAYLOAD};
-use crate::{GENERIC, SaslResponse};
-use mongo_bson::{BsonFault, Bytes, OwnedValue, RawDocument, RawValue, Text, get_int_raw};
+use crate::SaslResponse;
+use mongo_bson::{BsonFault, Bytes, GENERIC, OwnedValue, RawDocument, RawValue, Text, get_int_raw};
 use mongo_command::keys::{ERRMSG, OK};
 use mongo_command::{FieldFault, Fields};
 use mongo_wire::{AuthFault, Error, ErrorKind};
