@@ -7,17 +7,17 @@ ghost use Rattle.mongo_mac.specs.Hmac.{key_block};
 use crate::hash_fn::{HashFn, digest};
 use crate::tag::xor_into;
 
-/// The length of a block of the hash function in bytes (B of RFC 2104).
+// The length of a block of the hash function in bytes (B of RFC 2104).
 const BLOCK_LEN: usize = 64;
 
-/// The byte that ipad repeats.
-pub const INNER_BYTE: u8 = 0x36;
+// The byte that ipad repeats.
+pub(crate) const INNER_BYTE: u8 = 0x36;
 
-/// The byte that opad repeats.
-pub const OUTER_BYTE: u8 = 0x5C;
+// The byte that opad repeats.
+pub(crate) const OUTER_BYTE: u8 = 0x5C;
 
-/// The key as one block: hashed first if it is longer, and filled with zeros.
-pub fn key_block<H: HashFn>(key: &[u8]) -> [u8; 64]
+// The key as one block: hashed first if it is longer, and filled with zeros.
+pub(crate) fn key_block<H: HashFn>(key: &[u8]) -> [u8; 64]
     ensures { result ≡ key_block H.digest key.now }
 {
     if key.len() > BLOCK_LEN {
@@ -27,7 +27,7 @@ pub fn key_block<H: HashFn>(key: &[u8]) -> [u8; 64]
     }
 }
 
-/// The bytes of `key`, and zeros behind them to a block.
+// The bytes of `key`, and zeros behind them to a block.
 fn zero_filled(key: &[u8]) -> [u8; 64]
     requires { length key.now ≤ 64 }
     ensures { result ≡ key.now ++ replicate (64 - length key.now) 0 }
@@ -37,8 +37,8 @@ fn zero_filled(key: &[u8]) -> [u8; 64]
     block
 }
 
-/// The XOR of a block with the byte `pad` repeated.
-pub fn with_pad(block: &[u8; 64], pad: u8) -> [u8; 64]
+// The XOR of a block with the byte `pad` repeated.
+pub(crate) fn with_pad(block: &[u8; 64], pad: u8) -> [u8; 64]
     ensures { result ≡ xor_bytes block.now (replicate 64 pad) }
 {
     let mut out = [0; 64];

@@ -5,7 +5,7 @@ use std::sync::ledger::{Blank, Book, Ledger, Share};
 
 /// How many steps of a derivation were taken: a clause sees the number. One step is one HMAC of
 /// `Hi` (RFC 5802, section 2.2). It takes no bytes, nothing of it is done when the program runs,
-/// and only `tick` changes it.
+/// and only the derivation itself counts on it.
 ///
 /// `G` is the ledger that counts. Code that counts takes `steps: &mut Steps<G>` under `G: Ledger`
 /// and says what it adds. A caller that counts nothing makes its own, by a function that takes a
@@ -37,8 +37,8 @@ impl<G: Ledger> Steps<G> {
         Steps { book, share }
     }
 
-    /// Counts one step.
-    pub fn tick(&mut self)
+    // Counts one step.
+    pub(crate) fn tick(&mut self)
         ensures { self.new ≡ self.old + 1 }
     {
         self.book.add(&mut self.share, 1);

@@ -124,7 +124,7 @@ fn quotient<T: Int>(x: T, y: T) -> Option<T>
 }
 
 // The quotient decides whether there is a remainder: `i32::MIN % -1` has none, as in Rust. The compiler makes one division
-// of the two; to multiply the quotient back cost 13 to 19 instructions more.
+// of the two, which is less work than multiplying the quotient back.
 fn remainder<T: Int>(x: T, y: T) -> Option<T>
     ensures { HoldsWhere T.number (Divides T.LEAST T.GREATEST (T.number x) (T.number y))
         (int_rem (T.number x) (T.number y)) result }
