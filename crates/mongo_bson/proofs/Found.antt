@@ -2,7 +2,7 @@
 use Rattle.std.proofs.Common.{◌≡◌, ◌≢◌, ℕ, List, [], ◌∷◌, ◌++◌, refl, sym, ap, ◌∙◌, subst}
 use Rattle.std.specs.List.{AllByRecursion, flat_map}
 use Rattle.std.proofs.lemmas.List.{append_assoc}
-use Rattle.mongo_bson.specs.Framed.{body_of}
+use Rattle.mongo_bson.specs.Framed.{element_bytes}
 use Rattle.mongo_bson.specs.Document.{Element, IsElement, IsDocument, spell}
 use Rattle.mongo_bson.specs.Keys.{Fill}
 use Rattle.mongo_bson.specs.Find.{IsFirstOf, LacksKey, BreaksOff}
@@ -25,21 +25,21 @@ pub record StandsFirst (elements : List Element) (key : List ℕ) (element : Ele
   pub place : elements ≡ before ++ element ∷ after
   pub other : AllByRecursion (λ e. e.key ≢ key) before
 
-pub first_in_document : (b key : List ℕ) (element : Element) (elements : List Element) → IsDocument b elements → IsFirstOf (body_of b) key element → StandsFirst elements key element
+pub first_in_document : (b key : List ℕ) (element : Element) (elements : List Element) → IsDocument b elements → IsFirstOf (element_bytes b) key element → StandsFirst elements key element
 first_in_document b key element elements is found =
     let passed = found.passed in
-    let front = front_of_list passed.before elements (body_of b) found.rest passed.each passed.spelled (record { spelled = is.filled; each = is.each }) in
+    let front = front_of_list passed.before elements (element_bytes b) found.rest passed.each passed.spelled (record { spelled = is.filled; each = is.each }) in
     let split = fill_rest found.rest found.after element front.0 found.begins front.2 in
     record { before = passed.before; after = split.0; place = front.1 ∙ ap (λ w. passed.before ++ w) split.1; other = passed.other }
 
 -- where none was found, no element of the document has the key
-pub none_in_document : (b key : List ℕ) (elements : List Element) → IsDocument b elements → LacksKey (body_of b) key → AllByRecursion (λ e. e.key ≢ key) elements
+pub none_in_document : (b key : List ℕ) (elements : List Element) → IsDocument b elements → LacksKey (element_bytes b) key → AllByRecursion (λ e. e.key ≢ key) elements
 none_in_document b key elements is none =
     subst (AllByRecursion (λ e. e.key ≢ key)) (one_list none.elements elements none.fill.each is.each (sym none.fill.spelled ∙ is.filled)) none.other
 
 -- where the elements break off, the bytes are no document of elements
-pub broken_no_document : (b key : List ℕ) (elements : List Element) → IsDocument b elements → BreaksOff (body_of b) key → ⊥
+pub broken_no_document : (b key : List ℕ) (elements : List Element) → IsDocument b elements → BreaksOff (element_bytes b) key → ⊥
 broken_no_document b key elements is broken =
     let passed = broken.passed in
-    let front = front_of_list passed.before elements (body_of b) broken.rest passed.each passed.spelled (record { spelled = is.filled; each = is.each }) in
+    let front = front_of_list passed.before elements (element_bytes b) broken.rest passed.each passed.spelled (record { spelled = is.filled; each = is.each }) in
     no_fill broken.rest front.0 broken.broken.none broken.broken.left front.2

@@ -4,7 +4,7 @@ use Rattle.std.specs.List.{AllByRecursion, flat_map}
 use Rattle.std.proofs.lemmas.List.{append_cancel_left, length-append, nil_from_length}
 use Rattle.std.proofs.lemmas.Bool.Decides.{Decides-eqb}
 use Rattle.std.proofs.lemmas.Bool.{false≢true}
-use Rattle.mongo_bson.specs.Framed.{IsFramed, body_of}
+use Rattle.mongo_bson.specs.Framed.{IsFramed, element_bytes}
 use Rattle.mongo_bson.specs.Document.{Element, document, string, code_with_scope, shape_of, IsElement, IsCodeWithScope, IsInside, IsReadable, spell}
 use Rattle.mongo_bson.specs.Reading.{BeginsWithElement, NoElementAtFront, IsOnlyInside, IsScopeOf}
 use Rattle.mongo_bson.proofs.OneElement.{one_element, one_value}
@@ -52,21 +52,21 @@ pub nothing_readable : (b : List ℕ) → IsReadable 0 b → ⊥
 unfolding IsReadable
 nothing_readable b readable = readable
 
-readable_reads_from : (n : ℕ) (b : List ℕ) → IsReadable (suc n) b → Reads n (body_of b)
+readable_reads_from : (n : ℕ) (b : List ℕ) → IsReadable (suc n) b → Reads n (element_bytes b)
 unfolding IsReadable
 readable_reads_from n b (elements, is, inside) = record { elements = elements; spelled = is.filled; each = is.each; inside = inside }
 
-reads_readable_from : (n : ℕ) (b : List ℕ) → IsFramed b → Reads n (body_of b) → IsReadable (suc n) b
+reads_readable_from : (n : ℕ) (b : List ℕ) → IsFramed b → Reads n (element_bytes b) → IsReadable (suc n) b
 unfolding IsReadable
 reads_readable_from n b framed reads = (reads.elements, record { framed = framed; filled = reads.spelled; each = reads.each }, reads.inside)
 
 one_less : (levels : ℕ) → 0 < levels → suc (levels - 1) ≡ levels
 one_less levels some = omega arith
 
-pub readable_reads : (levels : ℕ) (b : List ℕ) → 0 < levels → IsReadable levels b → Reads (levels - 1) (body_of b)
+pub readable_reads : (levels : ℕ) (b : List ℕ) → 0 < levels → IsReadable levels b → Reads (levels - 1) (element_bytes b)
 readable_reads levels b some readable = readable_reads_from (levels - 1) b (subst (λ n. IsReadable n b) (sym (one_less levels some)) readable)
 
-pub reads_readable : (levels : ℕ) (b : List ℕ) → 0 < levels → IsFramed b → Reads (levels - 1) (body_of b) → IsReadable levels b
+pub reads_readable : (levels : ℕ) (b : List ℕ) → 0 < levels → IsFramed b → Reads (levels - 1) (element_bytes b) → IsReadable levels b
 reads_readable levels b some framed reads = subst (λ n. IsReadable n b) (one_less levels some) (reads_readable_from (levels - 1) b framed reads)
 
 -- the one document inside decides

@@ -11,14 +11,14 @@ use Rattle.std.proofs.lemmas.List.Elements.{All-from_recursion}
 use Rattle.mongo_num.specs.declared.fault.NumFault.{NumFault}
 use Rattle.mongo_bson.specs.declared.fault.BsonFault.{BsonFault}
 use Rattle.mongo_bson.specs.declared.fault.BsonFault.TheVariants.{KeyHasZero, TooLong, OutOfMemory}
-use Rattle.mongo_bson.specs.Framed.{IsFramed, body_of, enclosed, maximum_length}
+use Rattle.mongo_bson.specs.Framed.{IsFramed, element_bytes, enclosed, maximum_length}
 use Rattle.mongo_bson.specs.Document.{spell}
 use Rattle.mongo_bson.specs.Array.{Entry, numbered, array_of, IsArrayOf, IsArray, GrowsBy, document_entries}
 use Rattle.mongo_bson.specs.Refusals.{AppendRefuses, PushRefuses, HadMemory}
 use Rattle.mongo_bson.proofs.Cstrings.{HasNoZero}
 use Rattle.mongo_bson.proofs.OneElement.{made_of}
 use Rattle.mongo_bson.proofs.Passed.{all_push}
-use Rattle.mongo_bson.proofs.Enclosed.{length-enclosed, body_of-enclosed, length-body_of}
+use Rattle.mongo_bson.proofs.Enclosed.{length-enclosed, element_bytes-enclosed, length-element_bytes}
 
 digits_no_zero : (n : ℕ) → n < 2 ^ 64 → HasNoZero (decimal n)
 digits_no_zero n small =
@@ -47,33 +47,33 @@ numbered-append i (x ∷ xs) ys =
 lies-append : (xs ys : List Entry) → flat_map spell (numbered 0 (xs ++ ys)) ≡ flat_map spell (numbered 0 xs) ++ flat_map spell (numbered (length xs) ys)
 lies-append xs ys = ap (flat_map spell) (numbered-append 0 xs ys ∙ ap (λ n. numbered 0 xs ++ numbered n ys) (let e : 0 + length xs ≡ length xs = omega arith in e)) ∙ flat_map-append spell (numbered 0 xs) (numbered (length xs) ys)
 
--- the body of an array
-body_of_array : (document : List ℕ) (count : ℕ) (values : List Entry) → IsFramed document → IsArrayOf document count values → body_of document ≡ flat_map spell (numbered 0 values)
-body_of_array document count values framed is =
-    ap body_of is.spelled ∙ body_of-enclosed (flat_map spell (numbered 0 values)) (omega (arith, ap length is.spelled, length-enclosed (flat_map spell (numbered 0 values)), framed.most))
+-- the bytes of an array's elements
+element_bytes_of_array : (document : List ℕ) (count : ℕ) (values : List Entry) → IsFramed document → IsArrayOf document count values → element_bytes document ≡ flat_map spell (numbered 0 values)
+element_bytes_of_array document count values framed is =
+    ap element_bytes is.spelled ∙ element_bytes-enclosed (flat_map spell (numbered 0 values)) (omega (arith, ap length is.spelled, length-enclosed (flat_map spell (numbered 0 values)), framed.most))
 
 -- a document of one element more is longer
-pub one_more_within : (old new key value : List ℕ) (kind count : ℕ) → IsFramed old → count ≤ length old → new ≡ enclosed (body_of old ++ spell (made_of kind key value)) → count + 1 ≤ length new
+pub one_more_within : (old new key value : List ℕ) (kind count : ℕ) → IsFramed old → count ≤ length old → new ≡ enclosed (element_bytes old ++ spell (made_of kind key value)) → count + 1 ≤ length new
 one_more_within old new key value kind count framed within grown =
     let element = spell (made_of kind key value) in
-    omega (arith, ap length grown, length-enclosed (body_of old ++ element), length-append (body_of old) element, length-body_of old framed, within)
+    omega (arith, ap length grown, length-enclosed (element_bytes old ++ element), length-append (element_bytes old) element, length-element_bytes old framed, within)
 
 -- one value more
-pub array_pushed : (document new value : List ℕ) (kind count : ℕ) (values : List Entry) → IsFramed document → IsArrayOf document count values → new ≡ enclosed (body_of document ++ spell (made_of kind (decimal count) value)) → IsArrayOf new (count + 1) (values ++ record { kind = kind; value = value } ∷ [])
+pub array_pushed : (document new value : List ℕ) (kind count : ℕ) (values : List Entry) → IsFramed document → IsArrayOf document count values → new ≡ enclosed (element_bytes document ++ spell (made_of kind (decimal count) value)) → IsArrayOf new (count + 1) (values ++ record { kind = kind; value = value } ∷ [])
 array_pushed document new value kind count values framed is grown =
     let one : List Entry = record { kind = kind; value = value } ∷ [] in
     let element = made_of kind (decimal count) value in
     let last : flat_map spell (numbered (length values) one) ≡ spell element = append-nil (spell (made_of kind (decimal (length values)) value)) ∙ ap (λ n. spell (made_of kind (decimal n) value)) (sym is.counted) in
     let whole = lies-append values one ∙ ap (λ w. flat_map spell (numbered 0 values) ++ w) last in
     record {
-      spelled = grown ∙ ap (λ w. enclosed (w ++ spell element)) (body_of_array document count values framed is) ∙ ap enclosed (sym whole);
+      spelled = grown ∙ ap (λ w. enclosed (w ++ spell element)) (element_bytes_of_array document count values framed is) ∙ ap enclosed (sym whole);
       counted = omega (arith, is.counted, length-append values one);
     }
 
 -- the array of some values has one more
-pub array_goes_on : (document new key value : List ℕ) (kind count : ℕ) → IsFramed document → key ≡ decimal count → new ≡ enclosed (body_of document ++ spell (made_of kind key value)) → IsArray document count → IsArray new (count + 1)
+pub array_goes_on : (document new key value : List ℕ) (kind count : ℕ) → IsFramed document → key ≡ decimal count → new ≡ enclosed (element_bytes document ++ spell (made_of kind key value)) → IsArray document count → IsArray new (count + 1)
 array_goes_on document new key value kind count framed number grown array =
-    let grown_at = grown ∙ ap (λ k. enclosed (body_of document ++ spell (made_of kind k value))) number in
+    let grown_at = grown ∙ ap (λ k. enclosed (element_bytes document ++ spell (made_of kind k value))) number in
     ∥∥₁_map array (λ some. (some.0 ++ record { kind = kind; value = value } ∷ [], array_pushed document new value kind count some.0 framed some.1 grown_at))
 
 -- an array is no longer than one that begins with its values
@@ -88,7 +88,7 @@ pub entries_more : (documents : List (List ℕ)) (i : ℕ) (d : List ℕ) → i 
 entries_more documents i d within = map_more (λ x. record { kind = 0x03; value = x }) documents i d within
 
 -- one document more
-pub document_pushed : (document new value item : List ℕ) (count new_count i : ℕ) (documents : List (List ℕ)) → i < length documents → IsFramed document → IsArrayOf document count (document_entries (take i documents)) → value ≡ item → item ≡ get_or documents i item → new ≡ enclosed (body_of document ++ spell (made_of 0x03 (decimal count) value)) → new_count ≡ count + 1 → IsArrayOf new new_count (document_entries (take (i + 1) documents))
+pub document_pushed : (document new value item : List ℕ) (count new_count i : ℕ) (documents : List (List ℕ)) → i < length documents → IsFramed document → IsArrayOf document count (document_entries (take i documents)) → value ≡ item → item ≡ get_or documents i item → new ≡ enclosed (element_bytes document ++ spell (made_of 0x03 (decimal count) value)) → new_count ≡ count + 1 → IsArrayOf new new_count (document_entries (take (i + 1) documents))
 document_pushed document new value item count new_count i documents within framed is read at grown counted =
     let more = entries_more documents i item within ∙ ap (λ v. document_entries (take i documents) ++ record { kind = 0x03; value = v } ∷ []) (sym (read ∙ at)) in
     let next = array_pushed document new value 0x03 count (document_entries (take i documents)) framed is grown in
@@ -102,10 +102,10 @@ document_all document count i items documents passed are is = subst (λ ds. IsAr
 pub whole_too_long : (document value item : List ℕ) (count i : ℕ) (documents : List (List ℕ)) → i < length documents → IsFramed document → IsArrayOf document count (document_entries (take i documents)) → value ≡ item → item ≡ get_or documents i item → maximum_length < length document + length (spell (made_of 0x03 (decimal count) value)) → maximum_length < length (array_of (document_entries documents))
 whole_too_long document value item count i documents within framed is read at long =
     let element = made_of 0x03 (decimal count) value in
-    let next = document_pushed document (enclosed (body_of document ++ spell element)) value item count (count + 1) i documents within framed is read at refl refl in
+    let next = document_pushed document (enclosed (element_bytes document ++ spell element)) value item count (count + 1) i documents within framed is read at refl refl in
     let all : document_entries (take (i + 1) documents) ++ document_entries (drop (i + 1) documents) ≡ document_entries documents = sym (map-append (λ x. record { kind = 0x03; value = x }) (take (i + 1) documents) (drop (i + 1) documents)) ∙ ap document_entries (take-append-drop (i + 1) documents) in
     let below = longer_array (document_entries (take (i + 1) documents)) (document_entries (drop (i + 1) documents)) in
-    omega (arith, long, below, ap (λ w. length (array_of w)) all, ap length next.spelled, length-enclosed (body_of document ++ spell element), length-append (body_of document) (spell element), length-body_of document framed)
+    omega (arith, long, below, ap (λ w. length (array_of w)) all, ap length next.spelled, length-enclosed (element_bytes document ++ spell element), length-append (element_bytes document) (spell element), length-element_bytes document framed)
 
 -- what the refusal of `append` says where the key is a number
 pub too_long_at_number : (document : List ℕ) (value : List ℕ) (key number : List ℕ) (P : Type 0) → key ≡ number → (Contains number 0 → ⊥) → ((P → (Contains key 0 → ⊥) × (maximum_length < length document + length (0 ∷ (key ++ 0 ∷ value)))) × ((Contains key 0 → ⊥) × (maximum_length < length document + length (0 ∷ (key ++ 0 ∷ value))) → P)) → (P → maximum_length < length document + length (0 ∷ (number ++ 0 ∷ value))) × (maximum_length < length document + length (0 ∷ (number ++ 0 ∷ value)) → P)

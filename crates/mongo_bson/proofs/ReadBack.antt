@@ -6,7 +6,7 @@ use Rattle.std.specs.Str.{IsUtf8}
 use Rattle.std.proofs.lemmas.List.{append_assoc, append-nil, length-append, get_or_at, take_at}
 use Rattle.std.proofs.lemmas.List.Concat.{flat_map-append}
 use Rattle.std.proofs.lemmas.Nat.{from_le_bytes-to_le_bytes_4}
-use Rattle.mongo_bson.specs.Framed.{IsFramed, body_of, enclosed, maximum_length}
+use Rattle.mongo_bson.specs.Framed.{IsFramed, element_bytes, enclosed, maximum_length}
 use Rattle.mongo_bson.specs.Document.{Element, fixed, boolean, string, document, binary, Holds, IsCstring, IsString, IsBinary, IsElement, AddsElement, spell, text_of}
 use Rattle.mongo_bson.specs.Reading.{HoldsKind}
 use Rattle.mongo_bson.specs.Value.{kind_of, bytes_of, element_of}
@@ -15,7 +15,7 @@ use Rattle.mongo_bson.specs.declared.fault.BsonFault.{BsonFault}
 use Rattle.mongo_bson.specs.declared.raw_value.RawValue.{RawValue}
 use Rattle.mongo_bson.specs.declared.raw_value.RawValue.TheVariants.{Double, Str, Document, Array, Binary, ObjectId, Bool as Boolean, DateTime, Null, Int32, Int64, Other}
 use Rattle.mongo_bson.proofs.Passed.{all_push}
-use Rattle.mongo_bson.proofs.Enclosed.{body_of-enclosed}
+use Rattle.mongo_bson.proofs.Enclosed.{element_bytes-enclosed}
 
 -- a text, counted and ended, is a string
 text_is_string : (text : List ℕ) → IsUtf8 text → length text < maximum_length → IsString (to_le_bytes w32 (length text + 1) ++ (text ++ 0 ∷ []))
@@ -61,18 +61,18 @@ pub written_element : (key : List ℕ) (value : RawValue) → IsCstring key → 
 written_element key value name is = let held = written_holds value is in record { shape = held.0; known = held.1; key = name; value = held.2 }
 
 -- a document that an element was appended to has it as its last
-pub one_more : (old new : List ℕ) (element : Element) → IsFramed new → new ≡ enclosed (body_of old ++ spell element) → AddsElement old new element
+pub one_more : (old new : List ℕ) (element : Element) → IsFramed new → new ≡ enclosed (element_bytes old ++ spell element) → AddsElement old new element
 one_more old new element framed grown elements is e =
-    let body = body_of old ++ spell element in
+    let body = element_bytes old ++ spell element in
     let short : length body + 5 < 2 ^ 32 = omega (arith, ap length grown, length-append body (0 ∷ []), framed.most) in
     let one : flat_map spell (element ∷ []) ≡ spell element = append-nil (spell element) in
     record {
       framed = framed;
-      filled = ap body_of grown ∙ body_of-enclosed body short ∙ ap (λ w. w ++ spell element) is.filled ∙ ap (λ w. flat_map spell elements ++ w) (sym one) ∙ sym (flat_map-append spell elements (element ∷ []));
+      filled = ap element_bytes grown ∙ element_bytes-enclosed body short ∙ ap (λ w. w ++ spell element) is.filled ∙ ap (λ w. flat_map spell elements ++ w) (sym one) ∙ sym (flat_map-append spell elements (element ∷ []));
       each = all_push IsElement elements element is.each e;
     }
 
-pub one_more_on_ok : (r : Result (Unit {0}) BsonFault) (old new : List ℕ) (element : Element) → IsFramed new → OnOk r (new ≡ enclosed (body_of old ++ spell element)) → OnOk r (AddsElement old new element)
+pub one_more_on_ok : (r : Result (Unit {0}) BsonFault) (old new : List ℕ) (element : Element) → IsFramed new → OnOk r (new ≡ enclosed (element_bytes old ++ spell element)) → OnOk r (AddsElement old new element)
 one_more_on_ok (Ok done) old new element framed grown = one_more old new element framed grown
 one_more_on_ok (Err fault) old new element framed grown = tt
 

@@ -12,7 +12,7 @@ use Rattle.std.proofs.lemmas.List.{get_or-map, length-map, get_or_default}
 use Rattle.std.proofs.lemmas.List.Sorted.{searchable_from_sorted, Contains-permutation, IsPermutation-map, IsPermutation-sym}
 use Rattle.std.proofs.lemmas.Map.Text.{is_eq-slice_cmp}
 use Rattle.std.proofs.lemmas.Slice.Eq.{bytes_eq-Decides}
-use Rattle.mongo_bson.specs.Framed.{body_of}
+use Rattle.mongo_bson.specs.Framed.{element_bytes}
 use Rattle.mongo_bson.specs.Document.{Element}
 use Rattle.mongo_bson.specs.Keys.{Fill, keys_of, bytes_of_texts}
 use Rattle.mongo_bson.specs.Merge.{HaveCommon, TellsShared}
@@ -64,7 +64,7 @@ pub common_moved_back : (xs zs : List (Bor (List ℕ))) (ys : List (List ℕ)) �
 common_moved_back xs zs ys moved common = common_moved zs xs ys (IsPermutation-sym xs zs moved) common
 
 -- what the test on the keys tells of the documents
-pub tells_shared : (this other : List ℕ) (mine others : List Element) (xs ys : List (List ℕ)) (shared : Bool) → Fill (body_of this) mine → Fill (body_of other) others → xs ≡ keys_of mine → ys ≡ keys_of others → (IsTrue shared → HaveCommon xs ys) × (HaveCommon xs ys → IsTrue shared) → TellsShared this other shared
+pub tells_shared : (this other : List ℕ) (mine others : List Element) (xs ys : List (List ℕ)) (shared : Bool) → Fill (element_bytes this) mine → Fill (element_bytes other) others → xs ≡ keys_of mine → ys ≡ keys_of others → (IsTrue shared → HaveCommon xs ys) × (HaveCommon xs ys → IsTrue shared) → TellsShared this other shared
 tells_shared this other mine others xs ys true fill fill_other same same_other test =
     record { both = record { mine = mine; others = others; fill = fill; fill_other = fill_other }; common = subst (HaveCommon (keys_of mine)) same_other (subst (λ w. HaveCommon w ys) same (test.0 refl)) }
 tells_shared this other mine others xs ys false fill fill_other same same_other test =

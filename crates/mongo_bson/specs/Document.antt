@@ -2,7 +2,7 @@
 use Rattle.std.specs.Prelude.{◌≡◌, ◌≢◌, ℕ, zero, suc, ◌+◌, ◌-◌, ◌≤◌, ◌==◌, ◌⊎◌, Option, None, Some, List, [], ◌∷◌, ◌++◌, length, take, drop, slice_index, flat_map, IsUtf8, if◌then◌else◌, ⊤}
 use Rattle.std.specs.List.{AllByRecursion}
 use Rattle.std.specs.Int.{from_le_bytes, w32}
-use Rattle.mongo_bson.specs.Framed.{IsFramed, body_of, maximum_length}
+use Rattle.mongo_bson.specs.Framed.{IsFramed, element_bytes, maximum_length}
 
 -- an element: its kind byte, its key, and the bytes of its value
 pub record Element : Type 0 where
@@ -114,7 +114,7 @@ pub record IsElement (e : Element) : Type 0 where
 -- b is the document of these elements, which fill it exactly
 pub record IsDocument (b : List ℕ) (elements : List Element) : Type 0 where
   pub framed : IsFramed b
-  pub filled : body_of b ≡ flat_map spell elements
+  pub filled : element_bytes b ≡ flat_map spell elements
   pub each : AllByRecursion IsElement elements
 
 -- the document has one element more, at its end

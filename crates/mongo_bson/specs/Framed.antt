@@ -13,10 +13,10 @@ pub record IsFramed (b : List ℕ) : Type 0 where
   pub counted : from_le_bytes w32 b ≡ length b
   pub ended : slice_index b (length b - 1) ≡ 0
 
--- what stands between the length and the final zero
-abbrev pub body_of : List ℕ → List ℕ
-body_of b = take (length b - 5) (drop 4 b)
+-- the bytes of its elements: what stands between the length and the final zero
+abbrev pub element_bytes : List ℕ → List ℕ
+element_bytes b = take (length b - 5) (drop 4 b)
 
 -- the document whose elements lie as these bytes
 abbrev pub enclosed : List ℕ → List ℕ
-enclosed body = to_le_bytes w32 (length body + 5) ++ (body ++ 0 ∷ [])
+enclosed elements = to_le_bytes w32 (length elements + 5) ++ (elements ++ 0 ∷ [])

@@ -1,22 +1,22 @@
 ghost use Rattle.std.specs.Prelude.{◌≡◌, ◌↔◌, IsTrue, IsErr, IfOk, IfErr};
-ghost use Rattle.mongo_bson.specs.Framed.{body_of};
+ghost use Rattle.mongo_bson.specs.Framed.{element_bytes};
 ghost use Rattle.mongo_bson.specs.Steps.{IsBroken};
 ghost use Rattle.mongo_bson.specs.Find.{FirstKey};
 ghost use Rattle.mongo_bson.specs.Checks.{IsModifier, IsUpdate, IsReplacement};
 
 use crate::element::take_element;
-use crate::raw_document::body;
+use crate::raw_document::element_bytes;
 use crate::{BsonFault, RawDocument};
 
 /// The key of the first element, or None where the document is empty.
 ///
 /// `Malformed` where it isn't empty and no element stands first.
 pub fn first_key<'a>(document: RawDocument<'a>) -> Result<Option<&'a str>, BsonFault>
-    ensures first { IfOk result (FirstKey (body_of document.entry.bytes.now)) }
-    ensures malformed { IfErr result (λ fault. (fault ≡ BsonFault.Malformed) × IsBroken (body_of document.entry.bytes.now)) }
-    ensures no_element { IsErr result ↔ IsBroken (body_of document.entry.bytes.now) }
+    ensures first { IfOk result (FirstKey (element_bytes document.entry.bytes.now)) }
+    ensures malformed { IfErr result (λ fault. (fault ≡ BsonFault.Malformed) × IsBroken (element_bytes document.entry.bytes.now)) }
+    ensures no_element { IsErr result ↔ IsBroken (element_bytes document.entry.bytes.now) }
 {
-    let elements = body(document.bytes);
+    let elements = element_bytes(document.bytes);
     if elements.is_empty() {
         return Ok(None);
     }
@@ -31,7 +31,7 @@ pub fn first_key<'a>(document: RawDocument<'a>) -> Result<Option<&'a str>, BsonF
 /// `UpdateEmpty` where the document is empty, `UpdateNotModifiers` where its first key doesn't begin with `$`,
 /// `Malformed` where no element stands first.
 pub fn update_document_check(document: RawDocument<'_>) -> Result<(), BsonFault>
-    ensures { IsUpdate (body_of document.entry.bytes.now) result }
+    ensures { IsUpdate (element_bytes document.entry.bytes.now) result }
 {
     match first_key(document) {
         Ok(Some(key)) => {
@@ -51,7 +51,7 @@ pub fn update_document_check(document: RawDocument<'_>) -> Result<(), BsonFault>
 /// `ReplacementHasModifiers` where the first key begins with `$`, `Malformed` where it isn't empty and no element
 /// stands first.
 pub fn replacement_document_check(document: RawDocument<'_>) -> Result<(), BsonFault>
-    ensures { IsReplacement (body_of document.entry.bytes.now) result }
+    ensures { IsReplacement (element_bytes document.entry.bytes.now) result }
 {
     match first_key(document) {
         Ok(Some(key)) => {
@@ -68,7 +68,7 @@ pub fn replacement_document_check(document: RawDocument<'_>) -> Result<(), BsonF
 
 /// The same as [`replacement_document_check`], under the name that the driver has for documents in bytes.
 pub fn replacement_raw_document_check(document: RawDocument<'_>) -> Result<(), BsonFault>
-    ensures { IsReplacement (body_of document.entry.bytes.now) result }
+    ensures { IsReplacement (element_bytes document.entry.bytes.now) result }
 {
     replacement_document_check(document)
 }

@@ -38,7 +38,7 @@ fn text_of_cstring<'a>(front: &'a [u8], is_ascii: bool) -> Option<&'a str>
     str::from_utf8(front).ok()
 }
 
-// The end of the cstring at the front, in one pass that also joins its bytes.
+// The end of the cstring at the front, in one pass that also sees whether what stands before it is ASCII.
 pub(crate) fn cstring_end(bytes: &[u8]) -> Option<CstringEnd>
     ensures zero { MatchOption result (All (λ b. b ≢ 0) bytes.now) (λ end. IsFirstZero bytes.now end.at) }
     ensures ascii { MatchOption result ⊤ (λ end. IsTrue end.is_ascii → IsAscii (take end.at bytes.now)) }

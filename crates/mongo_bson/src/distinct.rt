@@ -7,7 +7,7 @@ ghost use Rattle.mongo_bson.specs.Keys.{Fill, keys_of, bytes_of_texts, AreApart}
 ghost use Rattle.mongo_bson.specs.Refusals.{ReadRefuses, HadMemory};
 
 use crate::element::take_element;
-use crate::raw_document::body;
+use crate::raw_document::element_bytes;
 use crate::{BsonFault, RawDocument};
 use std::alloc::Global;
 
@@ -23,7 +23,7 @@ impl<'a> RawDocument<'a> {
         ensures malformed { IsErrOf result BsonFault.Malformed ↔ (HadMemory result × ((elements : List Element) → IsDocument self.now.bytes.now elements → ⊥)) }
         ensures refused { IfErr result ReadRefuses }
     {
-        let mut keys = keys_in(alloc, body(self.bytes))?;
+        let mut keys = keys_in(alloc, element_bytes(self.bytes))?;
         Ok(is_without_repeat(keys.as_mut_slice()))
     }
 }

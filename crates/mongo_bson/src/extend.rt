@@ -2,13 +2,13 @@ ghost use Rattle.std.specs.Prelude.{◌≡◌, ◌↔◌, ◌++◌, ◌+◌, ◌
 ghost use Rattle.std.specs.Ordering.{nat_cmp};
 ghost use Rattle.std.specs.List.Sorted.{IsSorted};
 ghost use Rattle.std.specs.Cmp.Lexicographic.{slice_cmp};
-ghost use Rattle.mongo_bson.specs.Framed.{IsFramed, body_of, enclosed, maximum_length};
+ghost use Rattle.mongo_bson.specs.Framed.{IsFramed, element_bytes, enclosed, maximum_length};
 ghost use Rattle.mongo_bson.specs.Keys.{bytes_of_texts};
 ghost use Rattle.mongo_bson.specs.Merge.{HaveCommon, BothFilled, ShareKey, ShareNoKey, TellsShared};
 ghost use Rattle.mongo_bson.specs.Refusals.{ExtendRefuses, ReadRefuses, HadMemory};
 
 use crate::distinct::keys_in;
-use crate::raw_document::body;
+use crate::raw_document::element_bytes;
 use crate::{BsonFault, RawDocumentBuf};
 use std::alloc::Global;
 
@@ -24,17 +24,17 @@ pub fn extend_raw_document_buf(
     this: &mut RawDocumentBuf,
     other: &RawDocumentBuf,
 ) -> Result<(), BsonFault>
-    ensures added { OnOk result (this.new ≡ enclosed (body_of this.old ++ body_of other.now)) }
+    ensures added { OnOk result (this.new ≡ enclosed (element_bytes this.old ++ element_bytes other.now)) }
     ensures apart { OnOk result (ShareNoKey this.old other.now) }
     ensures malformed { IsErrOf result BsonFault.Malformed ↔ (HadMemory result × (BothFilled this.old other.now → ⊥)) }
     ensures duplicate_key { IsErrOf result BsonFault.DuplicateKey ↔ (HadMemory result × ShareKey this.old other.now) }
-    ensures too_long { IsErrOf result BsonFault.TooLong ↔ (HadMemory result × ShareNoKey this.old other.now × (maximum_length < length this.old + length (body_of other.now))) }
+    ensures too_long { IsErrOf result BsonFault.TooLong ↔ (HadMemory result × ShareNoKey this.old other.now × (maximum_length < length this.old + length (element_bytes other.now))) }
     ensures unchanged { OnErr result (this.new ≡ this.old) }
     ensures refused { IfErr result ExtendRefuses }
 {
     match share_key(alloc, this.as_bytes(), other.as_bytes()) {
         Ok(true) => Err(BsonFault::DuplicateKey),
-        Ok(false) => this.append_elements(body(other.as_bytes())),
+        Ok(false) => this.append_elements(element_bytes(other.as_bytes())),
         Err(fault) => Err(fault),
     }
 }
@@ -47,8 +47,8 @@ fn share_key(alloc: Global, this: &[u8], other: &[u8]) -> Result<bool, BsonFault
     ensures malformed { IsErrOf result BsonFault.Malformed → BothFilled this.now other.now → ⊥ }
     ensures refused { IfErr result ReadRefuses }
 {
-    let mut mine = keys_in(alloc, body(this))?;
-    let mut others = keys_in(alloc, body(other))?;
+    let mut mine = keys_in(alloc, element_bytes(this))?;
+    let mut others = keys_in(alloc, element_bytes(other))?;
     Ok(share_text(mine.as_mut_slice(), others.as_mut_slice()))
 }
 

@@ -1,11 +1,11 @@
 ghost use Rattle.std.specs.Prelude.{◌≡◌, ◌↔◌, Option, IsErr, IfOk, MatchOption, IfErr};
-ghost use Rattle.mongo_bson.specs.Framed.{body_of};
+ghost use Rattle.mongo_bson.specs.Framed.{element_bytes};
 ghost use Rattle.mongo_bson.specs.Reading.{element_read};
 ghost use Rattle.mongo_bson.specs.Find.{IsFirstOf, LacksKey, BreaksOff, FindsValue, FindsBytes};
 
 use crate::element::{RawElement, take_element};
 use crate::meaning::value_of;
-use crate::raw_document::body;
+use crate::raw_document::element_bytes;
 use crate::{BsonFault, RawDocument, RawValue};
 
 impl<'a> RawDocument<'a> {
@@ -13,11 +13,11 @@ impl<'a> RawDocument<'a> {
     ///
     /// `Malformed` where the elements break off before one of that key, in no other case.
     pub fn get(&self, key: &str) -> Result<Option<RawValue<'a>>, BsonFault>
-        ensures found { IfOk result (FindsValue (body_of self.now.bytes.now) key.now) }
-        ensures malformed { IfErr result (λ fault. (fault ≡ BsonFault.Malformed) × BreaksOff (body_of self.now.bytes.now) key.now) }
-        ensures breaks_off { IsErr result ↔ BreaksOff (body_of self.now.bytes.now) key.now }
+        ensures found { IfOk result (FindsValue (element_bytes self.now.bytes.now) key.now) }
+        ensures malformed { IfErr result (λ fault. (fault ≡ BsonFault.Malformed) × BreaksOff (element_bytes self.now.bytes.now) key.now) }
+        ensures breaks_off { IsErr result ↔ BreaksOff (element_bytes self.now.bytes.now) key.now }
     {
-        match find(body(self.bytes), key) {
+        match find(element_bytes(self.bytes), key) {
             Ok(Some(element)) => Ok(Some(value_of(element.kind, element.value))),
             Ok(None) => Ok(None),
             Err(fault) => Err(fault),
@@ -28,11 +28,11 @@ impl<'a> RawDocument<'a> {
     ///
     /// `Malformed` as by [`RawDocument::get`].
     pub fn get_bytes(&self, key: &str) -> Result<Option<(u8, &'a [u8])>, BsonFault>
-        ensures found { IfOk result (FindsBytes (body_of self.now.bytes.now) key.now) }
-        ensures malformed { IfErr result (λ fault. (fault ≡ BsonFault.Malformed) × BreaksOff (body_of self.now.bytes.now) key.now) }
-        ensures breaks_off { IsErr result ↔ BreaksOff (body_of self.now.bytes.now) key.now }
+        ensures found { IfOk result (FindsBytes (element_bytes self.now.bytes.now) key.now) }
+        ensures malformed { IfErr result (λ fault. (fault ≡ BsonFault.Malformed) × BreaksOff (element_bytes self.now.bytes.now) key.now) }
+        ensures breaks_off { IsErr result ↔ BreaksOff (element_bytes self.now.bytes.now) key.now }
     {
-        match find(body(self.bytes), key) {
+        match find(element_bytes(self.bytes), key) {
             Ok(Some(element)) => Ok(Some((element.kind, element.value))),
             Ok(None) => Ok(None),
             Err(fault) => Err(fault),

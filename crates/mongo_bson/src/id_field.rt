@@ -1,11 +1,11 @@
 ghost use Rattle.std.specs.Prelude.{◌≡◌, ◌↔◌, ◌+◌, ◌-◌, ◌<◌, ◌++◌, length, IfOk, IfErr, IsErrOf, OnOk, OnErr};
-ghost use Rattle.mongo_bson.specs.Framed.{IsFramed, body_of, enclosed, maximum_length};
+ghost use Rattle.mongo_bson.specs.Framed.{IsFramed, element_bytes, enclosed, maximum_length};
 ghost use Rattle.mongo_bson.specs.Document.{spell};
 ghost use Rattle.mongo_bson.specs.Find.{LacksKey, BreaksOff};
 ghost use Rattle.mongo_bson.specs.Merge.{HasIdNow, id_key, id_element};
 ghost use Rattle.mongo_bson.specs.Refusals.{IdRefuses, PushRefuses, HadMemory};
 
-use crate::raw_document::body;
+use crate::raw_document::element_bytes;
 use crate::writing::{has_room_for, push_element, push_elements};
 use crate::{BsonFault, Bytes, ObjectId, OwnedValue, RawDocumentBuf, RawValue};
 use std::alloc::Global;
@@ -24,8 +24,8 @@ pub fn get_or_prepend_id_field(
     id: ObjectId,
 ) -> Result<OwnedValue, BsonFault>
     ensures id { IfOk result (λ value. HasIdNow document.old document.new id.0 value.kind value.bytes) }
-    ensures malformed { IsErrOf result BsonFault.Malformed ↔ BreaksOff (body_of document.old) id_key }
-    ensures too_long { IsErrOf result BsonFault.TooLong ↔ (HadMemory result × LacksKey (body_of document.old) id_key × (maximum_length < length document.old + length (spell (id_element id.0)))) }
+    ensures malformed { IsErrOf result BsonFault.Malformed ↔ BreaksOff (element_bytes document.old) id_key }
+    ensures too_long { IsErrOf result BsonFault.TooLong ↔ (HadMemory result × LacksKey (element_bytes document.old) id_key × (maximum_length < length document.old + length (spell (id_element id.0)))) }
     ensures unchanged { OnErr result (document.new ≡ document.old) }
     ensures refused { IfErr result IdRefuses }
 {
@@ -54,7 +54,7 @@ fn prepend_id(
     id: ObjectId,
 ) -> Result<OwnedValue, BsonFault>
     ensures id { IfOk result (λ value. (value.kind ≡ 0x07) × (value.bytes ≡ id.0)) }
-    ensures first { OnOk result (document.new ≡ enclosed (spell (id_element id.0) ++ body_of document.old)) }
+    ensures first { OnOk result (document.new ≡ enclosed (spell (id_element id.0) ++ element_bytes document.old)) }
     ensures too_long { IsErrOf result BsonFault.TooLong ↔ (HadMemory result × (maximum_length < length document.old + length (spell (id_element id.0)))) }
     ensures unchanged { OnErr result (document.new ≡ document.old) }
     ensures refused { IfErr result PushRefuses }
@@ -72,7 +72,7 @@ fn prepend_id(
 // A copy of the document with the object id put first.
 fn with_id_first(alloc: Global, document: &[u8], id: ObjectId) -> Result<RawDocumentBuf, BsonFault>
     requires { IsFramed document.now }
-    ensures first { IfOk result (λ with_id. with_id ≡ enclosed (spell (id_element id.0) ++ body_of document.now)) }
+    ensures first { IfOk result (λ with_id. with_id ≡ enclosed (spell (id_element id.0) ++ element_bytes document.now)) }
     ensures too_long { IsErrOf result BsonFault.TooLong ↔ (maximum_length < length document.now + length (spell (id_element id.0))) }
     ensures refused { IfErr result PushRefuses }
 {
@@ -82,6 +82,6 @@ fn with_id_first(alloc: Global, document: &[u8], id: ObjectId) -> Result<RawDocu
     let mut held = Vec::with_capacity(alloc, document.len() + ID_ELEMENT)?;
     held.extend_from_slice(&[5, 0, 0, 0, 0])?;
     push_element(&mut held, "_id", RawValue::ObjectId(id))?;
-    push_elements(&mut held, body(document))?;
+    push_elements(&mut held, element_bytes(document))?;
     Ok(RawDocumentBuf { held })
 }

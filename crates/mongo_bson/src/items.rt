@@ -75,7 +75,7 @@ impl<T: TryClone + Drop> Items<T> {
         ensures copied { IfOk result (λ copy. copy ≡ self.now) }
         ensures refused { IfErr result (λ fault. fault ≡ BsonFault.OutOfMemory) }
     {
-        let mut copies = Vec::new(alloc);
+        let mut copies = Vec::with_capacity(alloc, self.held.len())?;
         for item in self.held.as_slice() {
             copies.push(item.try_clone(alloc)?)?;
         }

@@ -1,18 +1,18 @@
 ghost use Rattle.std.specs.Prelude.{◌≡◌, length};
 ghost use Rattle.std.specs.Iterator.{at_most};
-ghost use Rattle.mongo_bson.specs.Framed.{body_of};
+ghost use Rattle.mongo_bson.specs.Framed.{element_bytes};
 ghost use Rattle.mongo_bson.specs.Steps.{NextElement};
 
 use crate::element::take_element;
 use crate::meaning::value_of;
-use crate::raw_document::body;
+use crate::raw_document::element_bytes;
 use crate::{BsonFault, RawDocument, RawValue};
 
 /// The elements of a document one after another, each a key and a value that borrow the document's bytes.
 ///
 /// Where no element stands at the front of what is left, it gives `Malformed` once and then ends. It gives at most as
 /// many items as the document has bytes.
-#[derive(Debug, Clone, Copy, Drop)]
+#[derive(Debug, Clone, Drop)]
 pub struct Iter<'a> {
     pub(crate) rest: &'a [u8],
 }
@@ -20,10 +20,10 @@ pub struct Iter<'a> {
 impl<'a> RawDocument<'a> {
     /// The elements of the document.
     pub fn iter(&self) -> Iter<'a>
-        ensures { result.rest.now ≡ body_of self.now.bytes.now }
+        ensures { result.rest.now ≡ element_bytes self.now.bytes.now }
     {
         Iter {
-            rest: body(self.bytes),
+            rest: element_bytes(self.bytes),
         }
     }
 }

@@ -1,6 +1,6 @@
 ghost use Rattle.std.specs.Prelude.{◌≡◌, ◌++◌, ◌+◌, ◌-◌, ◌<◌, ◌≤◌, ◌↔◌, ◌==◌, [], length, IfOk, IfErr, IsErrOf, OnOk, OnErr};
 ghost use Rattle.std.specs.Fmt.{decimal};
-ghost use Rattle.mongo_bson.specs.Framed.{IsFramed, body_of, enclosed, maximum_length};
+ghost use Rattle.mongo_bson.specs.Framed.{IsFramed, element_bytes, enclosed, maximum_length};
 ghost use Rattle.mongo_bson.specs.Document.{AddsElement, spell};
 ghost use Rattle.mongo_bson.specs.Value.{element_of};
 ghost use Rattle.mongo_bson.specs.Array.{IsArray};
@@ -36,7 +36,7 @@ impl RawArrayBuf {
     ///
     /// `TooLong` where the array would pass 2147483647 bytes. A refusal leaves the array as it was.
     pub fn push(&mut self, value: RawValue<'_>) -> Result<(), BsonFault>
-        ensures added { OnOk result (self.new.document ≡ enclosed (body_of self.old.document ++ spell (element_of (decimal self.old.count) value.entry))) }
+        ensures added { OnOk result (self.new.document ≡ enclosed (element_bytes self.old.document ++ spell (element_of (decimal self.old.count) value.entry))) }
         ensures one_more { OnOk result (AddsElement self.old.document self.new.document (element_of (decimal self.old.count) value.entry)) }
         ensures counted { OnOk result (self.new.count ≡ self.old.count + 1) }
         ensures too_long { IsErrOf result BsonFault.TooLong ↔ (maximum_length < length self.old.document + length (spell (element_of (decimal self.old.count) value.entry))) }

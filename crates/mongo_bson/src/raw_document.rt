@@ -1,5 +1,5 @@
 ghost use Rattle.std.specs.Prelude.{◌≡◌, ◌↔◌, IsTrue, IsOk, IfOk, IfErr};
-ghost use Rattle.mongo_bson.specs.Framed.{IsFramed, body_of};
+ghost use Rattle.mongo_bson.specs.Framed.{IsFramed, element_bytes};
 
 use crate::{BsonFault, RawDocumentBuf};
 use std::alloc::Global;
@@ -50,13 +50,13 @@ impl<'a> RawDocument<'a> {
     }
 }
 
-// What stands between the length and the final zero of a document.
-pub(crate) fn body<'a>(document: &'a [u8]) -> &'a [u8]
+// The bytes of a document's elements, which stand between its length and its final zero.
+pub(crate) fn element_bytes<'a>(document: &'a [u8]) -> &'a [u8]
     requires { IsFramed document.now }
-    ensures { result.now ≡ body_of document.now }
+    ensures { result.now ≡ element_bytes document.now }
 {
     match document {
-        [_, _, _, _, body @ .., _] => body,
+        [_, _, _, _, elements @ .., _] => elements,
         _ => unreachable!(),
     }
 }

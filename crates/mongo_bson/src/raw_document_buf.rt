@@ -3,7 +3,7 @@ ghost use Rattle.std.specs.Cmp.Lexicographic.{pointwise};
 ghost use Rattle.std.specs.Cmp.Rules.{comparing};
 ghost use Rattle.std.specs.Prelude.{◌==◌};
 ghost use Rattle.std.proofs.Common.{rules};
-ghost use Rattle.mongo_bson.specs.Framed.{IsFramed, body_of, enclosed, maximum_length};
+ghost use Rattle.mongo_bson.specs.Framed.{IsFramed, element_bytes, enclosed, maximum_length};
 ghost use Rattle.mongo_bson.specs.Document.{AddsElement, spell};
 ghost use Rattle.mongo_bson.specs.Value.{element_of};
 ghost use Rattle.mongo_bson.specs.Writable.{AddsValue};
@@ -44,7 +44,7 @@ impl RawDocumentBuf {
     }
 
     /// Takes memory for so many bytes more and no further ones, where it isn't there: elements of that size are put in
-    /// without asking for more. The document stays as it is.
+    /// without asking for more. The document stays as it is; what memory is taken, no clause says.
     pub fn reserve_exact(&mut self, additional: usize) -> Result<(), BsonFault>
         ensures unchanged { self.new ≡ self.old }
         ensures refused { IfErr result (λ fault. fault ≡ BsonFault.OutOfMemory) }
@@ -78,7 +78,7 @@ impl RawDocumentBuf {
     /// A refusal leaves the document as it was.
     #[inline(always)]
     pub fn append(&mut self, key: &str, value: RawValue<'_>) -> Result<(), BsonFault>
-        ensures added { OnOk result (self.new ≡ enclosed (body_of self.old ++ spell (element_of key.now value.entry))) }
+        ensures added { OnOk result (self.new ≡ enclosed (element_bytes self.old ++ spell (element_of key.now value.entry))) }
         ensures one_more { OnOk result (AddsElement self.old self.new (element_of key.now value.entry)) }
         ensures adds_value { OnOk result (AddsValue self.old self.new key.now value.entry) }
         ensures key_has_zero { IsErrOf result BsonFault.KeyHasZero ↔ Contains key.now 0 }
@@ -98,7 +98,7 @@ impl RawDocumentBuf {
 
     // Puts elements at the end. `TooLong` where the document would pass 2147483647 bytes.
     pub(crate) fn append_elements(&mut self, elements: &[u8]) -> Result<(), BsonFault>
-        ensures added { OnOk result (self.new ≡ enclosed (body_of self.old ++ elements.now)) }
+        ensures added { OnOk result (self.new ≡ enclosed (element_bytes self.old ++ elements.now)) }
         ensures too_long { IsErrOf result BsonFault.TooLong ↔ (maximum_length < length self.old + length elements.now) }
         ensures unchanged { OnErr result (self.new ≡ self.old) }
         ensures refused { IfErr result PushRefuses }

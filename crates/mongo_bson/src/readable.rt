@@ -5,7 +5,7 @@ ghost use Rattle.mongo_bson.specs.Reading.{HoldsKind, IsOnlyInside, HoldsNoDocum
 
 use crate::RawDocument;
 use crate::element::{RawElement, take_element};
-use crate::raw_document::body;
+use crate::raw_document::element_bytes;
 use crate::shape::counted_len;
 
 // How many levels of documents may stand in one another.
@@ -31,7 +31,7 @@ fn is_readable(document: &[u8], levels: u32) -> bool
     if levels == 0 {
         return false;
     }
-    let mut rest = body(document);
+    let mut rest = element_bytes(document);
     'elements: while !rest.is_empty() {
         let Some((element, after)) = take_element(rest) else {
             return false;

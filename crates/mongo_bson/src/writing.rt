@@ -1,6 +1,6 @@
 ghost use Rattle.std.specs.Prelude.{◌≡◌, ◌↔◌, ◌+◌, ◌-◌, ◌^◌, ◌<◌, ◌≤◌, ◌++◌, ◌∷◌, [], length, take, drop, slice_set, Contains, IsTrue, IfErr, OnOk, OnErr};
 ghost use Rattle.std.specs.Int.{to_le_bytes, w32};
-ghost use Rattle.mongo_bson.specs.Framed.{IsFramed, body_of, enclosed, maximum_length};
+ghost use Rattle.mongo_bson.specs.Framed.{IsFramed, element_bytes, enclosed, maximum_length};
 ghost use Rattle.mongo_bson.specs.Document.{spell};
 ghost use Rattle.mongo_bson.specs.Value.{kind_of, bytes_of, element_of};
 
@@ -23,7 +23,7 @@ pub(crate) fn push_element(
 ) -> Result<(), BsonFault>
     requires framed { IsFramed document.old.items }
     requires room { length document.old.items + length (spell (element_of key.now value)) ≤ maximum_length }
-    ensures added { OnOk result (document.new.items ≡ enclosed (body_of document.old.items ++ spell (element_of key.now value.entry))) }
+    ensures added { OnOk result (document.new.items ≡ enclosed (element_bytes document.old.items ++ spell (element_of key.now value.entry))) }
     ensures unchanged { OnErr result (document.new.items ≡ document.old.items) }
     ensures framed { IsFramed document.new.items }
     ensures refused { IfErr result (λ fault. fault ≡ BsonFault.OutOfMemory) }
@@ -45,7 +45,7 @@ pub(crate) fn push_element(
 pub(crate) fn push_elements(document: &mut Vec<u8>, elements: &[u8]) -> Result<(), BsonFault>
     requires framed { IsFramed document.old.items }
     requires room { length document.old.items + length elements.now ≤ maximum_length }
-    ensures added { OnOk result (document.new.items ≡ enclosed (body_of document.old.items ++ elements.now)) }
+    ensures added { OnOk result (document.new.items ≡ enclosed (element_bytes document.old.items ++ elements.now)) }
     ensures unchanged { OnErr result (document.new.items ≡ document.old.items) }
     ensures framed { IsFramed document.new.items }
     ensures refused { IfErr result (λ fault. fault ≡ BsonFault.OutOfMemory) }

@@ -3,7 +3,7 @@ use Rattle.std.proofs.Common.{◌≡◌, ℕ, ◌≤◌, sym, subst, IfErr, Resu
 use Rattle.std.specs.Result.{IsErrAnd}
 use Rattle.std.specs.List.{flat_map}
 use Rattle.mongo_bson.specs.Document.{spell}
-use Rattle.mongo_bson.specs.Framed.{body_of, enclosed}
+use Rattle.mongo_bson.specs.Framed.{element_bytes, enclosed}
 use Rattle.mongo_bson.specs.declared.fault.BsonFault.{BsonFault}
 use Rattle.mongo_bson.specs.declared.fault.BsonFault.TheVariants.{TooLong, OutOfMemory}
 use Rattle.mongo_bson.proofs.Enclosed.{length-enclosed}
@@ -30,5 +30,5 @@ passed_on : {T : Type 0} (answer : Result T BsonFault) (fault : BsonFault) (docu
 passed_on (Ok x) fault document passed is = absurd passed
 passed_on (Err e) fault document passed is = subst (λ f. TooLongFor f document) (sym passed) is
 
-pub arguments_refused : {T : Type 0} (answer : Result T BsonFault) (fault : BsonFault) (body db : List ℕ) (a : GenericArguments) → IsErrAnd answer (λ e. e ≡ fault) → TooLongFor fault (flat_map spell (carried_elements a)) → IfErr answer (λ e. TooLongFor e (enclosed (body_of body ++ flat_map spell (argument_elements db a))))
-arguments_refused answer fault body db a passed is = passed_on answer fault _ passed (in_command fault (body_of body) db a is)
+pub arguments_refused : {T : Type 0} (answer : Result T BsonFault) (fault : BsonFault) (body db : List ℕ) (a : GenericArguments) → IsErrAnd answer (λ e. e ≡ fault) → TooLongFor fault (flat_map spell (carried_elements a)) → IfErr answer (λ e. TooLongFor e (enclosed (element_bytes body ++ flat_map spell (argument_elements db a))))
+arguments_refused answer fault body db a passed is = passed_on answer fault _ passed (in_command fault (element_bytes body) db a is)

@@ -4,7 +4,7 @@ use Rattle.std.specs.Borrow.{Bor}
 use Rattle.std.specs.List.{AllByRecursion}
 use Rattle.std.specs.Bool.{Decides}
 use Rattle.std.proofs.lemmas.Slice.Eq.{bytes_eq-Decides}
-use Rattle.mongo_bson.specs.Framed.{body_of}
+use Rattle.mongo_bson.specs.Framed.{element_bytes}
 use Rattle.mongo_bson.specs.Document.{Element, IsDocument, IsReadable, maximum_depth}
 use Rattle.mongo_bson.specs.Find.{IsFirstOf, LacksKey, BreaksOff, FindsValue, FindsBytes}
 use Rattle.mongo_bson.specs.declared.raw_value.RawValue.{RawValue}
@@ -36,24 +36,24 @@ field_absent : (key : List ℕ) (elements : List Element) → AllByRecursion (λ
 field_absent key [] other = refl
 field_absent key (x ∷ xs) other = passed (bytes_eq x.key key) x (field_of key xs) (other_bytes x.key key other.0) ∙ field_absent key xs other.1
 
-pub field_first : (b key : List ℕ) (elements : List Element) (e : Element) → IsDocument b elements → IsFirstOf (body_of b) key e → field_of key elements ≡ Some e
+pub field_first : (b key : List ℕ) (elements : List Element) (e : Element) → IsDocument b elements → IsFirstOf (element_bytes b) key e → field_of key elements ≡ Some e
 field_first b key elements e is first =
     let stands = first_in_document b key e elements is first in
     ap (field_of key) stands.place ∙ field_there key stands.before stands.after e stands.other first.key_is
 
-pub field_none : (b key : List ℕ) (elements : List Element) → IsDocument b elements → LacksKey (body_of b) key → field_of key elements ≡ None
+pub field_none : (b key : List ℕ) (elements : List Element) → IsDocument b elements → LacksKey (element_bytes b) key → field_of key elements ≡ None
 field_none b key elements is none = field_absent key elements (none_in_document b key elements is none)
 
 -- a value that is found by key is the field's
-pub value_found : (b key : List ℕ) (elements : List Element) (found : Option RawValue) → IsDocument b elements → FindsValue (body_of b) key found → IsValueOf (field_of key elements) found
+pub value_found : (b key : List ℕ) (elements : List Element) (found : Option RawValue) → IsDocument b elements → FindsValue (element_bytes b) key found → IsValueOf (field_of key elements) found
 value_found b key elements None is none = subst (λ f. IsValueOf f None) (sym (field_none b key elements is none)) tt
 value_found b key elements (Some value) is first = subst (λ f. IsValueOf f (Some value)) (sym (field_first b key elements first.0 is first.1)) first.2
 
 -- bytes that are found by key are the field's, or there is none
-pub bytes_found : (b key : List ℕ) (elements : List Element) (found : ℕ × Bor (List ℕ)) → IsDocument b elements → FindsBytes (body_of b) key (Some found) → field_of key elements ≡ Some (record { kind = found.0; key = key; value = found.1.now })
+pub bytes_found : (b key : List ℕ) (elements : List Element) (found : ℕ × Bor (List ℕ)) → IsDocument b elements → FindsBytes (element_bytes b) key (Some found) → field_of key elements ≡ Some (record { kind = found.0; key = key; value = found.1.now })
 bytes_found b key elements found is first = field_first b key elements (record { kind = found.0; key = key; value = found.1.now }) is first
 
-pub bytes_none : (b key : List ℕ) (elements : List Element) → IsDocument b elements → FindsBytes (body_of b) key None → field_of key elements ≡ None
+pub bytes_none : (b key : List ℕ) (elements : List Element) → IsDocument b elements → FindsBytes (element_bytes b) key None → field_of key elements ≡ None
 bytes_none b key elements is none = field_none b key elements is none
 
 -- a readable document has elements, in which no search breaks off
@@ -61,5 +61,5 @@ pub elements_of : (b : List ℕ) → IsReadable maximum_depth b → (elements : 
 unfolding IsReadable
 elements_of b readable = (readable.0, readable.1)
 
-pub readable_unbroken : (b key : List ℕ) → IsReadable maximum_depth b → BreaksOff (body_of b) key → ⊥
+pub readable_unbroken : (b key : List ℕ) → IsReadable maximum_depth b → BreaksOff (element_bytes b) key → ⊥
 readable_unbroken b key readable broken = let elements = elements_of b readable in broken_no_document b key elements.0 elements.1 broken

@@ -5,9 +5,9 @@ use Rattle.std.specs.Fmt.{decimal}
 use Rattle.std.proofs.lemmas.List.{map-append}
 use Rattle.std.proofs.lemmas.Grind.{flat_map-append}
 use Rattle.mongo_bson.specs.Document.{spell}
-use Rattle.mongo_bson.specs.Framed.{body_of, enclosed}
+use Rattle.mongo_bson.specs.Framed.{element_bytes, enclosed}
 use Rattle.mongo_bson.specs.declared.raw_array_buf.RawArrayBuf.{RawArrayBuf}
-use Rattle.mongo_bson.proofs.Enclosed.{length-enclosed, body_of-enclosed, length-body_of}
+use Rattle.mongo_bson.proofs.Enclosed.{length-enclosed, element_bytes-enclosed, length-element_bytes}
 use Rattle.mongo_wire.specs.Frame.{sequence, section_bytes, sequence_bytes}
 use Rattle.mongo_wire.specs.declared.document_sequence.DocumentSequence.{DocumentSequence}
 use Rattle.mongo_command.specs.Command.{argument_elements, command_document}
@@ -54,22 +54,22 @@ sequence_lengthens index document = λ old new identifier command short long cou
 array_size : (old new : RawArrayBuf) (document : List ℕ) → GrowsArray old document new → length new.document ≡ length old.document + array_growth old.count document
 array_size old new document g =
     let element = numbered_document old.count document in
-    omega (arith, ap length g.document_is, length-enclosed (body_of old.document ++ spell element), length-append (body_of old.document) (spell element), length-append (decimal old.count) (0 ∷ document), length-body_of old.document g.framed)
+    omega (arith, ap length g.document_is, length-enclosed (element_bytes old.document ++ spell element), length-append (element_bytes old.document) (spell element), length-append (decimal old.count) (0 ∷ document), length-element_bytes old.document g.framed)
 
 -- what stands in the body of a command that carries an array
-body_carried : (array : RawArrayBuf) (identifier : List ℕ) (old new : Command) → CarriesArray array identifier old new → body_of new.body ≡ body_of old.body ++ spell (collection_element identifier array)
+body_carried : (array : RawArrayBuf) (identifier : List ℕ) (old new : Command) → CarriesArray array identifier old new → element_bytes new.body ≡ element_bytes old.body ++ spell (collection_element identifier array)
 body_carried array identifier old new c =
-    let whole = body_of old.body ++ spell (collection_element identifier array) in
+    let whole = element_bytes old.body ++ spell (collection_element identifier array) in
     let is : new.body ≡ enclosed whole = ap (λ x. x.body) c.command_is in
-    ap body_of is ∙ body_of-enclosed whole (omega (arith, c.framed.most, ap length is, length-enclosed whole))
+    ap element_bytes is ∙ element_bytes-enclosed whole (omega (arith, c.framed.most, ap length is, length-enclosed whole))
 
-array_carried_size : (array : RawArrayBuf) (identifier : List ℕ) (old new : Command) → CarriesArray array identifier old new → frame_size new ≡ 28 + length (body_of old.body) + length identifier + length array.document + length (flat_map spell (argument_elements old.target_db old.arguments)) + sections_size old.document_sequences
+array_carried_size : (array : RawArrayBuf) (identifier : List ℕ) (old new : Command) → CarriesArray array identifier old new → frame_size new ≡ 28 + length (element_bytes old.body) + length identifier + length array.document + length (flat_map spell (argument_elements old.target_db old.arguments)) + sections_size old.document_sequences
 array_carried_size array identifier old new c =
     let arguments = flat_map spell (argument_elements new.target_db new.arguments) in
     let element = collection_element identifier array in
     let same_arguments : length arguments ≡ length (flat_map spell (argument_elements old.target_db old.arguments)) = ap (λ x. length (flat_map spell (argument_elements x.target_db x.arguments))) c.command_is in
     let same_sections : sections_size new.document_sequences ≡ sections_size old.document_sequences = ap (λ x. sections_size x.document_sequences) c.command_is in
-    omega (arith, frame_size-is new, same_arguments, same_sections, length-enclosed (body_of new.body ++ arguments), length-append (body_of new.body) arguments, ap length (body_carried array identifier old new c), length-append (body_of old.body) (spell element), length-append identifier (0 ∷ array.document))
+    omega (arith, frame_size-is new, same_arguments, same_sections, length-enclosed (element_bytes new.body ++ arguments), length-append (element_bytes new.body) arguments, ap length (body_carried array identifier old new c), length-append (element_bytes old.body) (spell element), length-append identifier (0 ∷ array.document))
 
 pub array_lengthens : (index : ℕ) (document : List ℕ) → LengthensBy (λ (array : RawArrayBuf). array.count) GrowsArray CarriesArray index document (array_growth index document)
 array_lengthens index document = λ old new identifier command short long counted grows before after.

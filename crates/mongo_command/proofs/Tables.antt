@@ -2,7 +2,7 @@
 use Rattle.std.proofs.Common.{◌≡◌, ℕ, Result, Ok, Err, List, [], ◌∷◌, ◌++◌, subst}
 use Rattle.std.specs.Result.{IsErrAnd}
 use Rattle.mongo_bson.specs.Document.{Element, IsWellFormed}
-use Rattle.mongo_bson.specs.Framed.{IsFramed, body_of}
+use Rattle.mongo_bson.specs.Framed.{IsFramed, element_bytes}
 use Rattle.mongo_bson.specs.Steps.{TakesElement, IsBroken}
 use Rattle.mongo_bson.specs.declared.raw_value.RawValue.{RawValue}
 use Rattle.mongo_bson.proofs.OneElement.{one_document}
@@ -59,16 +59,16 @@ value_at Reads (x ∷ xs) more e (v ∷ vs) each = value_at Reads xs more e vs e
 
 -- ---- write errors
 
-pub all_errors : (document rest : List ℕ) (errors : List IndexedWriteError) → IsFramed document → ReadsEachSoFar ReadsWriteError (body_of document) rest errors → rest ≡ [] → HoldsWriteErrors document errors
+pub all_errors : (document rest : List ℕ) (errors : List IndexedWriteError) → IsFramed document → ReadsEachSoFar ReadsWriteError (element_bytes document) rest errors → rest ≡ [] → HoldsWriteErrors document errors
 all_errors document rest errors framed so_far over =
     record { items = so_far.elements; filled = passes_all document rest so_far.elements framed so_far.passes over; each = so_far.each }
 
 -- none fill a document of which an element can't be read
-pub errors_broken_off : (document rest : List ℕ) (read : List IndexedWriteError) → ReadsEachSoFar ReadsWriteError (body_of document) rest read → IsBroken rest → (errors : List IndexedWriteError) → HoldsWriteErrors document errors → ⊥
+pub errors_broken_off : (document rest : List ℕ) (read : List IndexedWriteError) → ReadsEachSoFar ReadsWriteError (element_bytes document) rest read → IsBroken rest → (errors : List IndexedWriteError) → HoldsWriteErrors document errors → ⊥
 errors_broken_off document rest read so_far none errors holds = no_element document rest so_far.elements so_far.passes none holds.items holds.filled
 
 -- nor one of which an element is no write error
-pub no_write_error : (document rest after key : List ℕ) (value : RawValue) (read : List IndexedWriteError) (fault : FieldFault) (answer : Result (List IndexedWriteError) FieldFault) → IsErrAnd answer (λ e. e ≡ fault) → ReadsEachSoFar ReadsWriteError (body_of document) rest read → TakesElement rest key value after → ReadsValue ReadsWriteError value (Err fault) → Answers HoldsWriteErrors document answer
+pub no_write_error : (document rest after key : List ℕ) (value : RawValue) (read : List IndexedWriteError) (fault : FieldFault) (answer : Result (List IndexedWriteError) FieldFault) → IsErrAnd answer (λ e. e ≡ fault) → ReadsEachSoFar ReadsWriteError (element_bytes document) rest read → TakesElement rest key value after → ReadsValue ReadsWriteError value (Err fault) → Answers HoldsWriteErrors document answer
 no_write_error document rest after key value read fault answer passed so_far takes none =
     let e = takes.element in
     part_fault HoldsWriteErrors ReadsWriteError document e fault answer passed

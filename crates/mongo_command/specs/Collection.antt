@@ -3,7 +3,7 @@
 use Rattle.std.specs.Prelude.{◌≡◌, ℕ, ◌+◌, ◌-◌, ◌<◌, List, [], ◌∷◌, ◌++◌, length, Contains, ⊤}
 use Rattle.std.specs.Fmt.{decimal}
 use Rattle.mongo_bson.specs.Document.{Element, spell}
-use Rattle.mongo_bson.specs.Framed.{IsFramed, body_of, enclosed, maximum_length}
+use Rattle.mongo_bson.specs.Framed.{IsFramed, element_bytes, enclosed, maximum_length}
 use Rattle.mongo_bson.specs.declared.raw_array_buf.RawArrayBuf.{RawArrayBuf}
 use Rattle.mongo_bson.specs.declared.fault.BsonFault.TheVariants.{KeyHasZero, TooLong}
 use Rattle.mongo_wire.specs.declared.error.ErrorKind.{ErrorKind}
@@ -49,7 +49,7 @@ numbered_document index document = record { kind = 0x03; key = decimal index; va
 
 pub record GrowsArray (old : RawArrayBuf) (document : List ℕ) (new : RawArrayBuf) : Type 0 where
   pub framed : IsFramed old.document
-  pub document_is : new.document ≡ enclosed (body_of old.document ++ spell (numbered_document old.count document))
+  pub document_is : new.document ≡ enclosed (element_bytes old.document ++ spell (numbered_document old.count document))
   pub counted : new.count ≡ old.count + 1
 
 abbrev pub ArrayPushRefused : RawArrayBuf → List ℕ → ErrorKind → Type 0
@@ -63,7 +63,7 @@ collection_element identifier array = record { kind = 0x04; key = identifier; va
 -- the command whose body has the array as an element more, at its end
 pub record CarriesArray (array : RawArrayBuf) (identifier : List ℕ) (old new : Command) : Type 0 where
   pub named : Contains identifier 0 → ⊥
-  pub command_is : new ≡ record old { body = enclosed (body_of old.body ++ spell (collection_element identifier array)) }
+  pub command_is : new ≡ record old { body = enclosed (element_bytes old.body ++ spell (collection_element identifier array)) }
   pub framed : IsFramed new.body
 
 abbrev pub ArrayAddRefused : RawArrayBuf → List ℕ → Command → ErrorKind → Type 0

@@ -1,6 +1,6 @@
 ghost use Rattle.std.specs.Prelude.{◌≡◌, ◌++◌, ◌∷◌, length, flat_map, IfOk, IfErr, OnOk};
 ghost use Rattle.std.specs.List.{AllByRecursion};
-ghost use Rattle.mongo_bson.specs.Framed.{IsFramed, body_of, enclosed};
+ghost use Rattle.mongo_bson.specs.Framed.{IsFramed, element_bytes, enclosed};
 ghost use Rattle.mongo_bson.specs.Document.{spell};
 ghost use Rattle.mongo_bson.specs.Value.{bytes_of};
 ghost use Rattle.mongo_command.specs.Literal.{text_element, document_of};
@@ -78,9 +78,9 @@ pub(crate) fn append_arguments(
     fields: &[ArgumentField<'_>],
 ) -> Result<(), BsonFault>
     requires named { AllByRecursion IsNamed fields.now }
-    ensures added { OnOk result (document.new ≡ enclosed (body_of document.old ++ flat_map spell (text_element db_key target_db.now ∷ flat_map field_elements fields.now))) }
+    ensures added { OnOk result (document.new ≡ enclosed (element_bytes document.old ++ flat_map spell (text_element db_key target_db.now ∷ flat_map field_elements fields.now))) }
     ensures framed { OnOk result (IsFramed document.new) }
-    ensures refused { IfErr result (λ fault. TooLongFor fault (enclosed (body_of document.old ++ flat_map spell (text_element db_key target_db.now ∷ flat_map field_elements fields.now)))) }
+    ensures refused { IfErr result (λ fault. TooLongFor fault (enclosed (element_bytes document.old ++ flat_map spell (text_element db_key target_db.now ∷ flat_map field_elements fields.now)))) }
 {
     document.append(DB, RawValue::Str(target_db))?;
     append_fields(document, fields)
@@ -108,11 +108,11 @@ pub fn append_fields(
     fields: &[ArgumentField<'_>],
 ) -> Result<(), BsonFault>
     requires framed { IsFramed document.old }
-    requires sealed { document.old ≡ enclosed (body_of document.old) }
+    requires sealed { document.old ≡ enclosed (element_bytes document.old) }
     requires named { AllByRecursion IsNamed fields.now }
-    ensures added { OnOk result (document.new ≡ enclosed (body_of document.old ++ flat_map spell (flat_map field_elements fields.now))) }
+    ensures added { OnOk result (document.new ≡ enclosed (element_bytes document.old ++ flat_map spell (flat_map field_elements fields.now))) }
     ensures framed { OnOk result (IsFramed document.new) }
-    ensures refused { IfErr result (λ fault. TooLongFor fault (enclosed (body_of document.old ++ flat_map spell (flat_map field_elements fields.now)))) }
+    ensures refused { IfErr result (λ fault. TooLongFor fault (enclosed (element_bytes document.old ++ flat_map spell (flat_map field_elements fields.now)))) }
 {
     for field in fields {
         append_field(document, *field)?;
@@ -123,11 +123,11 @@ pub fn append_fields(
 // Puts a field at the end of a document, where it is there.
 fn append_field(document: &mut RawDocumentBuf, field: ArgumentField<'_>) -> Result<(), BsonFault>
     requires framed { IsFramed document.old }
-    requires sealed { document.old ≡ enclosed (body_of document.old) }
+    requires sealed { document.old ≡ enclosed (element_bytes document.old) }
     requires named { IsNamed field }
-    ensures added { OnOk result (document.new ≡ enclosed (body_of document.old ++ flat_map spell (field_elements field.entry))) }
+    ensures added { OnOk result (document.new ≡ enclosed (element_bytes document.old ++ flat_map spell (field_elements field.entry))) }
     ensures framed { OnOk result (IsFramed document.new) }
-    ensures refused { IfErr result (λ fault. TooLongFor fault (enclosed (body_of document.old ++ flat_map spell (field_elements field.entry)))) }
+    ensures refused { IfErr result (λ fault. TooLongFor fault (enclosed (element_bytes document.old ++ flat_map spell (field_elements field.entry)))) }
 {
     match field {
         Some((key, value)) => document.append(key, value),

@@ -1,6 +1,6 @@
 ghost use Rattle.std.specs.Prelude.{◌≡◌, ◌++◌, flat_map, option_map, option_and_then, IfOk, IfErr, OnOk};
 ghost use Rattle.std.specs.List.{AllByRecursion};
-ghost use Rattle.mongo_bson.specs.Framed.{IsFramed, body_of, enclosed};
+ghost use Rattle.mongo_bson.specs.Framed.{IsFramed, element_bytes, enclosed};
 ghost use Rattle.mongo_bson.specs.Document.{spell};
 ghost use Rattle.mongo_command.specs.Command.{carried_elements, argument_elements, read_concern_document};
 ghost use Rattle.mongo_command.specs.Arguments.{field_elements, IsNamed, TooLongFor};
@@ -69,9 +69,9 @@ impl GenericArguments {
         target_db: &str,
         body: &RawDocumentBuf,
     ) -> Result<RawDocumentBuf, BsonFault>
-        ensures document { IfOk result (λ document. document ≡ enclosed (body_of body.now ++ flat_map spell (argument_elements target_db.now self.now))) }
+        ensures document { IfOk result (λ document. document ≡ enclosed (element_bytes body.now ++ flat_map spell (argument_elements target_db.now self.now))) }
         ensures framed { IfOk result (λ document. IsFramed document) }
-        ensures refused { IfErr result (λ fault. TooLongFor fault (enclosed (body_of body.now ++ flat_map spell (argument_elements target_db.now self.now)))) }
+        ensures refused { IfErr result (λ fault. TooLongFor fault (enclosed (element_bytes body.now ++ flat_map spell (argument_elements target_db.now self.now)))) }
     {
         let read_concern = self.read_concern_document(alloc)?;
         let fields = self.fields(&read_concern);
@@ -89,9 +89,9 @@ impl GenericArguments {
         target_db: &str,
         body: &mut RawDocumentBuf,
     ) -> Result<(), BsonFault>
-        ensures document { OnOk result (body.new ≡ enclosed (body_of body.old ++ flat_map spell (argument_elements target_db.now self.now))) }
+        ensures document { OnOk result (body.new ≡ enclosed (element_bytes body.old ++ flat_map spell (argument_elements target_db.now self.now))) }
         ensures framed { OnOk result (IsFramed body.new) }
-        ensures refused { IfErr result (λ fault. TooLongFor fault (enclosed (body_of body.old ++ flat_map spell (argument_elements target_db.now self.now)))) }
+        ensures refused { IfErr result (λ fault. TooLongFor fault (enclosed (element_bytes body.old ++ flat_map spell (argument_elements target_db.now self.now)))) }
     {
         let read_concern = self.read_concern_document(alloc)?;
         let fields = self.fields(&read_concern);

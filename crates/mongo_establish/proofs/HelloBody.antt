@@ -3,7 +3,7 @@
 use Rattle.std.proofs.Common.{◌≡◌, ℕ, ◌+◌, ◌-◌, ◌<◌, ◌≤◌, ◌↔◌, ◌∙◌, refl, ap, sym, subst, Option, None, Some, Result, Ok, Err, IfErr, List, ◌++◌, ◌∷◌, Contains, codes, length, drop, arith}
 use Rattle.std.proofs.lemmas.List.{length-append, length-take-le, length-drop}
 use Rattle.mongo_bson.specs.Document.{Element, spell}
-use Rattle.mongo_bson.specs.Framed.{body_of, maximum_length}
+use Rattle.mongo_bson.specs.Framed.{element_bytes, maximum_length}
 use Rattle.mongo_bson.proofs.Enclosed.{length-enclosed}
 use Rattle.mongo_bson.specs.Refusals.{AppendRefuses}
 use Rattle.mongo_bson.specs.declared.fault.BsonFault.{BsonFault}
@@ -26,13 +26,13 @@ use Rattle.mongo_establish.specs.First.{IsUnmade}
 
 -- a document with an element more is longer by it at least
 pub length_followed : (d : List ℕ) (e : Element) → length d + length (spell e) ≤ length (followed_by_element d e)
-length_followed d e = omega (arith, length-enclosed (body_of d ++ spell e), length-append (body_of d) (spell e), length-take-le (length d - 5) (drop 4 d), length-drop 4 d)
+length_followed d e = omega (arith, length-enclosed (element_bytes d ++ spell e), length-append (element_bytes d) (spell e), length-take-le (length d - 5) (drop 4 d), length-drop 4 d)
 
 -- a document under a key, and with it the body, is no shorter than the document
 pub holds_document : (key value d : List ℕ) → length value ≤ length (with_document key value d)
 holds_document key value d =
     let e : Element = document_element key value in
-    omega (arith, length-enclosed (body_of d ++ spell e), length-append (body_of d) (spell e), length-append key (0 ∷ value))
+    omega (arith, length-enclosed (element_bytes d ++ spell e), length-append (element_bytes d) (spell e), length-append key (0 ∷ value))
 
 pub document_refused : (kind : ErrorKind) (document body : List ℕ) → length document ≤ length body → DocumentRefused kind document → DocumentRefused kind body
 document_refused (InvalidArgument (Bson TooLong)) document body longer r = omega (arith, longer, r)
@@ -66,7 +66,7 @@ introducing_longer metadata body = omega (arith, length_followed body (document_
 pub least_body : (options : HandshakerOptions) (credential : Option Credential) (login : Option (List ℕ)) → 5 ≤ length (hello_with options credential login).body
 least_body options credential login =
     let body = speculating login (asking_mechanisms credential (common_hello options).body) in
-    omega (arith, length-enclosed (body_of body ++ spell (document_element (codes "client") (client_of options.metadata (length body)))))
+    omega (arith, length-enclosed (element_bytes body ++ spell (document_element (codes "client") (client_of options.metadata (length body)))))
 
 -- ---- answers
 

@@ -10,7 +10,7 @@ use Rattle.std.proofs.lemmas.Slice.Eq.{bytes_eq-Decides}
 use Rattle.mongo_bson.specs.Document.{Element, document, IsCstring, IsElement, IsDocument, IsInside, IsReadable, spell}
 use Rattle.mongo_bson.specs.Framed.{IsFramed, maximum_length}
 use Rattle.mongo_bson.specs.declared.raw_value.RawValue.TheVariants.{Str, Binary, Bool as Boolean, Int32}
-use Rattle.mongo_bson.proofs.Enclosed.{length-enclosed, body_of-enclosed, framed-enclosed}
+use Rattle.mongo_bson.proofs.Enclosed.{length-enclosed, element_bytes-enclosed, framed-enclosed}
 use Rattle.mongo_bson.proofs.ReadBack.{written_element}
 use Rattle.mongo_command.specs.Literal.{text_element, document_element, boolean_element, int32_element, document_of, generic_element}
 
@@ -87,7 +87,7 @@ length-document_of es = omega (arith, length-enclosed (flat_map spell es), lengt
 pub document_of-is : (es : List Element) → AllByRecursion IsElement es → spelled_length es + 5 ≤ maximum_length → IsDocument (document_of es) es
 document_of-is es each short = record {
   framed = framed-enclosed (flat_map spell es) (omega (arith, length-spelled es));
-  filled = body_of-enclosed (flat_map spell es) (omega (arith, length-spelled es));
+  filled = element_bytes-enclosed (flat_map spell es) (omega (arith, length-spelled es));
   each = each;
 }
 

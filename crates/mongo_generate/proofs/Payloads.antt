@@ -3,7 +3,7 @@ use Rattle.std.proofs.Common.{◌≡◌, ℕ, ℤ, true, Option, None, Some, Lis
 use Rattle.std.proofs.lemmas.Bool.{false≢true}
 use Rattle.mongo_bson.specs.Document.{Element}
 use Rattle.mongo_bson.specs.Find.{FindsValue, LacksKey, BreaksOff}
-use Rattle.mongo_bson.specs.Framed.{body_of}
+use Rattle.mongo_bson.specs.Framed.{element_bytes}
 use Rattle.mongo_bson.specs.Value.{IsValue, has_variant}
 use Rattle.mongo_bson.specs.declared.raw_value.RawValue.{RawValue}
 use Rattle.mongo_bson.specs.declared.raw_value.RawValue.TheVariants.{Double, Str, Document, Array, Binary, ObjectId, Bool as Boolean, DateTime, Null, Int32, Int64, Other}
@@ -47,17 +47,17 @@ absent : (found : Option Element) (payload : List ℕ) → found ≡ None → Re
 unfolding Required
 absent found payload is reads = subst (λ f. Required ReadsGeneric f payload) is reads
 
-pub payload_found : (document payload : List ℕ) (value : RawValue) → CarriesPayload payload document → FindsValue (body_of document) payload_key (Some value) → IsBinaryOf payload value
+pub payload_found : (document payload : List ℕ) (value : RawValue) → CarriesPayload payload document → FindsValue (element_bytes document) payload_key (Some value) → IsBinaryOf payload value
 payload_found document payload value carries found =
     let e = found.0 in
     let is = field_first document payload_key carries.elements e carries.is_document found.1 in
     content_read e value payload (required (field_of payload_key carries.elements) e payload is carries.payload_is) found.2
 
-pub payload_absent : (document payload : List ℕ) → CarriesPayload payload document → LacksKey (body_of document) payload_key → ⊥
+pub payload_absent : (document payload : List ℕ) → CarriesPayload payload document → LacksKey (element_bytes document) payload_key → ⊥
 payload_absent document payload carries none =
     absent (field_of payload_key carries.elements) payload (field_none document payload_key carries.elements carries.is_document none) carries.payload_is
 
-pub payload_broken : (document payload : List ℕ) → CarriesPayload payload document → BreaksOff (body_of document) payload_key → ⊥
+pub payload_broken : (document payload : List ℕ) → CarriesPayload payload document → BreaksOff (element_bytes document) payload_key → ⊥
 payload_broken document payload carries broken = broken_no_document document payload_key carries.elements carries.is_document broken
 
 -- ---- reading

@@ -6,8 +6,8 @@ use Rattle.std.proofs.lemmas.Grind.{flat_map-append}
 use Rattle.std.proofs.lemmas.Int.{ints}
 use Rattle.std.proofs.lemmas.List.{length-take-le}
 use Rattle.mongo_bson.specs.Document.{Element, IsElement, IsDocument, spell}
-use Rattle.mongo_bson.specs.Framed.{IsFramed, body_of, enclosed, maximum_length}
-use Rattle.mongo_bson.proofs.Enclosed.{length-enclosed, body_of-enclosed, framed-enclosed}
+use Rattle.mongo_bson.specs.Framed.{IsFramed, element_bytes, enclosed, maximum_length}
+use Rattle.mongo_bson.proofs.Enclosed.{length-enclosed, element_bytes-enclosed, framed-enclosed}
 use Rattle.mongo_wire.specs.Frame.{Frame, IsFrame, Section, body, sequence, bodies, section_bytes}
 use Rattle.mongo_wire.specs.Bytes.{IsCommandFrame}
 use Rattle.mongo_wire.specs.Message.{written_frame}
@@ -52,11 +52,11 @@ asked_by pending x nonces = asked_for pending handshaker_options (Some (credenti
 length_command : (c : Command) → length (command_document c) ≤ length c.body + length (flat_map spell (argument_elements c.target_db c.arguments)) + 5
 length_command c =
     let arguments = flat_map spell (argument_elements c.target_db c.arguments) in
-    omega (arith, length-enclosed (body_of c.body ++ arguments), length-append (body_of c.body) arguments, length-take-le (length c.body - 5) (drop 4 c.body), length-drop 4 c.body)
+    omega (arith, length-enclosed (element_bytes c.body ++ arguments), length-append (element_bytes c.body) arguments, length-take-le (length c.body - 5) (drop 4 c.body), length-drop 4 c.body)
 
 framed_command : (c : Command) → length (command_document c) ≤ maximum_length → IsFramed (command_document c)
 framed_command c short =
-    let whole = body_of c.body ++ flat_map spell (argument_elements c.target_db c.arguments) in
+    let whole = element_bytes c.body ++ flat_map spell (argument_elements c.target_db c.arguments) in
     framed-enclosed whole (omega (arith, length-enclosed whole))
 
 -- ---- the hello
@@ -64,7 +64,7 @@ framed_command c short =
 length_with : (key value d : List ℕ) → length (with_document key value d) ≤ length d + length key + length value + 7
 length_with key value d =
     let e : Element = document_element key value in
-    omega (arith, length-enclosed (body_of d ++ spell e), length-append (body_of d) (spell e), length-take-le (length d - 5) (drop 4 d), length-drop 4 d, length-append key (0 ∷ value))
+    omega (arith, length-enclosed (element_bytes d ++ spell e), length-append (element_bytes d) (spell e), length-take-le (length d - 5) (drop 4 d), length-drop 4 d, length-append key (0 ∷ value))
 
 picked : (t : Bool) (d last : List ℕ) (rest : Option (List ℕ)) → length d ≤ 512 → length (unwrap_or rest last) ≤ 512 → length (unwrap_or (if t then Some d else rest) last) ≤ 512
 picked true d last rest here there = here
@@ -136,7 +136,7 @@ close_is : (close : List ℕ) → length close < 2 ^ 29 → close_document close
 close_is close short =
     let first = continue_elements conversation close in
     let last = text_element db_key (codes "admin") in
-    ap (λ b. enclosed (b ++ flat_map spell (last ∷ []))) (body_of-enclosed (flat_map spell first) (omega (arith, length-document_of first, length-enclosed (flat_map spell first)))) ∙ ap enclosed (sym (flat_map-append spell first (last ∷ [])))
+    ap (λ b. enclosed (b ++ flat_map spell (last ∷ []))) (element_bytes-enclosed (flat_map spell first) (omega (arith, length-document_of first, length-enclosed (flat_map spell first)))) ∙ ap enclosed (sym (flat_map-append spell first (last ∷ [])))
 
 close_are : (close : List ℕ) → length close < 2 ^ 29 → AllByRecursion (λ e. IsElement e) (close_elements close)
 close_are close short = (number_is_element sasl_continue_key (pos 1) (cstring sasl_continue_key refl refl) one_fits, (number_is_element conversation_id_key (pos 1) conversation_is_cstring one_fits, (binary_is_element payload_key close payload_is_cstring (omega arith), (text_is_element db_key (codes "admin") (cstring db_key refl refl) (ascii_text (codes "admin") refl) (omega arith), tt))))

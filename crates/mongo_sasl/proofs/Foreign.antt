@@ -1,7 +1,7 @@
 -- A walk over properties that looks for a foreign one.
 use Rattle.std.proofs.Common.{◌≡◌, ℕ, ◌||◌, Bool, true, false, not, List, [], ◌∷◌, ◌++◌, refl, sym, ap, ◌∙◌}
 use Rattle.std.specs.List.{flat_map}
-use Rattle.mongo_bson.specs.Framed.{body_of}
+use Rattle.mongo_bson.specs.Framed.{element_bytes}
 use Rattle.mongo_bson.specs.Document.{Element, IsDocument, spell}
 use Rattle.mongo_bson.specs.Keys.{Fill}
 use Rattle.mongo_bson.specs.Steps.{TakesElement, IsBroken}
@@ -15,7 +15,7 @@ pub record IsLeft (rest : List ℕ) (all : List Element) : Type 0 where
   pub fill : Fill rest more
   pub same : has_foreign_property all ≡ has_foreign_property more
 
-pub left_all : (document rest : List ℕ) → rest ≡ body_of document → (all : List Element) → IsDocument document all → IsLeft rest all
+pub left_all : (document rest : List ℕ) → rest ≡ element_bytes document → (all : List Element) → IsDocument document all → IsLeft rest all
 left_all document rest same all is = record { more = all; fill = record { spelled = same ∙ is.filled; each = is.each }; same = refl }
 
 known_first : (known : Bool) (later : Bool) → known ≡ true → (not known || later) ≡ later

@@ -2,7 +2,7 @@
 use Rattle.std.proofs.Common.{◌≡◌, ◌⊎◌, ◌-◌, ◌≤◌, ◌++◌, length, drop, flat_map, refl, ap, inl, inr, arith, length-append, length-drop}
 use Rattle.std.proofs.lemmas.List.{length-take-le}
 use Rattle.mongo_bson.specs.Document.{spell}
-use Rattle.mongo_bson.specs.Framed.{body_of}
+use Rattle.mongo_bson.specs.Framed.{element_bytes}
 use Rattle.mongo_bson.specs.declared.fault.BsonFault.TheVariants.{TooLong}
 use Rattle.mongo_bson.proofs.Enclosed.{length-enclosed}
 use Rattle.mongo_wire.specs.declared.error.ErrorKind.{ErrorKind}
@@ -18,7 +18,7 @@ longer_document : (c : Command) → 5 ≤ length c.body → length c.body ≤ le
 longer_document c least =
     let more = flat_map spell (argument_elements c.target_db c.arguments) in
     let cut = length-take-le (length c.body - 5) (drop 4 c.body) (omega (arith, length-drop 4 c.body)) in
-    omega (arith, least, cut, length-enclosed (body_of c.body ++ more), length-append (body_of c.body) more)
+    omega (arith, least, cut, length-enclosed (element_bytes c.body ++ more), length-append (element_bytes c.body) more)
 
 -- why a command isn't built is why it isn't sent
 pub not_built : (said : Said) (c : Command) (kind : ErrorKind) → said.document ≡ command_document c → 5 ≤ length c.body → DocumentRefused kind c.body → SendRow said kind ⊎ (kind ≡ OutOfMemory)

@@ -4,7 +4,7 @@ use Rattle.std.specs.Borrow.{Bor}
 use Rattle.std.specs.Option.{ok_or}
 use Rattle.std.specs.Result.{IsErrAnd}
 use Rattle.mongo_bson.specs.Document.{Element, IsDocument, IsWellFormed}
-use Rattle.mongo_bson.specs.Framed.{body_of}
+use Rattle.mongo_bson.specs.Framed.{element_bytes}
 use Rattle.mongo_bson.specs.Find.{FindsBytes}
 use Rattle.mongo_bson.specs.declared.owned_value.OwnedValue.{OwnedValue}
 use Rattle.mongo_wire.specs.declared.auth_fault.AuthFault.TheVariants.{Malformed, Refused}
@@ -67,7 +67,7 @@ no_id None is value reads = reads
 no_id (Some e) is value reads = let some : Some e ≡ None = is in absurd cc
 
 -- the id that is found, or that there is none
-pub id_answer : (b key : List ℕ) (elements : List Element) (found : Option (ℕ × Bor (List ℕ))) → IsDocument b elements → FindsBytes (body_of b) key found → Answers (Required ReadsValue) (field_of key elements) (read_as owned_value_of (ok_or found Unreadable))
+pub id_answer : (b key : List ℕ) (elements : List Element) (found : Option (ℕ × Bor (List ℕ))) → IsDocument b elements → FindsBytes (element_bytes b) key found → Answers (Required ReadsValue) (field_of key elements) (read_as owned_value_of (ok_or found Unreadable))
 id_answer b key elements None is none = no_id (field_of key elements) (bytes_none b key elements is none)
 id_answer b key elements (Some value) is first = id_read (field_of key elements) (record { kind = value.0; key = key; value = value.1.now }) value (bytes_found b key elements value is first) refl refl
 

@@ -1,7 +1,7 @@
 -- Credentials, and what they ask of a hello.
 use Rattle.std.specs.Prelude.{ℕ, ◌+◌, ◌-◌, ◌<◌, Option, None, Some, IsSome, List, ◌++◌, codes, length, ⊤}
 use Rattle.mongo_bson.specs.Document.{Element, spell}
-use Rattle.mongo_bson.specs.Framed.{body_of, enclosed, maximum_length}
+use Rattle.mongo_bson.specs.Framed.{element_bytes, enclosed, maximum_length}
 use Rattle.mongo_bson.specs.declared.fault.BsonFault.TheVariants.{TooLong}
 use Rattle.mongo_wire.specs.declared.error.ErrorKind.{ErrorKind}
 use Rattle.mongo_wire.specs.declared.error.ErrorKind.TheVariants.{InvalidArgument, Authentication, OutOfMemory}
@@ -38,7 +38,7 @@ negotiation_element username = text_element sasl_supported_mechs_key (codes "adm
 -- a document and the question after it, which is asked where there are a user name and no mechanism
 abbrev pub negotiated_by : Option (List ℕ) → Option AuthMechanism → List ℕ → List ℕ
 negotiated_by None mechanism document = document
-negotiated_by (Some username) None document = enclosed (body_of document ++ spell (negotiation_element username))
+negotiated_by (Some username) None document = enclosed (element_bytes document ++ spell (negotiation_element username))
 negotiated_by (Some username) (Some mechanism) document = document
 
 abbrev pub negotiated : Credential → List ℕ → List ℕ

@@ -1,12 +1,12 @@
 -- The body of a `saslStart` with the database named behind it, and the command of it.
 use Rattle.std.proofs.Common.{◌≡◌, ◌≢◌, ℕ, ◌+◌, ◌-◌, ◌^◌, ◌<◌, ◌≤◌, true, false, Bool, suc, Option, Ok, Err, List, ◌++◌, length, codes, flat_map, refl, sym, ap, ◌∙◌, subst, arith, Contains, length-append, append-nil}
 use Rattle.std.proofs.lemmas.Grind.{flat_map-append}
-use Rattle.mongo_bson.specs.Framed.{body_of, enclosed, maximum_length}
+use Rattle.mongo_bson.specs.Framed.{element_bytes, enclosed, maximum_length}
 use Rattle.mongo_bson.specs.Document.{Element, spell}
 use Rattle.mongo_bson.specs.Refusals.{AppendRefuses}
 use Rattle.mongo_bson.specs.declared.fault.BsonFault.{BsonFault}
 use Rattle.mongo_bson.specs.declared.fault.BsonFault.TheVariants.{KeyHasZero, TooLong, OutOfMemory as NoMemory}
-use Rattle.mongo_bson.proofs.Enclosed.{length-enclosed, body_of-enclosed}
+use Rattle.mongo_bson.proofs.Enclosed.{length-enclosed, element_bytes-enclosed}
 use Rattle.mongo_wire.specs.Error.{kind_of_fault}
 use Rattle.mongo_wire.proofs.Arrays.{without_zero}
 use Rattle.mongo_command.specs.declared.command.Command.{Command}
@@ -36,13 +36,13 @@ db_too_long version source message old is long =
     omega (arith, long, ap length is, length-enclosed (flat_map spell elements), length-enclosed (flat_map spell (elements ++ db_elements true source)), ap length (spelled elements source), length-append (flat_map spell elements) (db_bytes source))
 
 -- the database, put behind a body that has room for it
-pub db_added : (version : ScramVersion) (source message old new : List ℕ) → old ≡ start_body (mechanism_of version) message → length old ≤ maximum_length → new ≡ enclosed (body_of old ++ db_bytes source) → new ≡ first_body version true source message
+pub db_added : (version : ScramVersion) (source message old new : List ℕ) → old ≡ start_body (mechanism_of version) message → length old ≤ maximum_length → new ≡ enclosed (element_bytes old ++ db_bytes source) → new ≡ first_body version true source message
 db_added version source message old new is short added =
     let elements = start_elements (mechanism_of version) message in
     let spelt = flat_map spell elements in
     let fits : length spelt + 5 < 2 ^ 32 = omega (arith, short, ap length is, length-enclosed spelt) in
     added
-    ∙ ap (λ body. enclosed (body ++ db_bytes source)) (ap body_of is ∙ body_of-enclosed spelt fits)
+    ∙ ap (λ body. enclosed (body ++ db_bytes source)) (ap element_bytes is ∙ element_bytes-enclosed spelt fits)
     ∙ ap enclosed (spelled elements source)
 
 -- ---- the command
@@ -83,13 +83,13 @@ start_sent version source message include_db api start command is built plain =
 -- the start with the database put behind it
 pub db_sent : (version : ScramVersion) (source text message : List ℕ) (include_db : Bool) (api : Option ServerApi) (start : SaslStart) (command named : Command) (new : List ℕ) → text ≡ source → start ≡ step version source message api → command ≡ start_command start → include_db ≡ true
     → ((Contains (codes "db") 0 → ⊥) × (maximum_length < length command.body + length (db_bytes text)) → ⊥)
-    → new ≡ enclosed (body_of command.body ++ db_bytes text) → named ≡ record command { body = new } → named ≡ first_command version include_db source message api
+    → new ≡ enclosed (element_bytes command.body ++ db_bytes text) → named ≡ record command { body = new } → named ≡ first_command version include_db source message api
 db_sent version source text message include_db api start command named new said is built named_db room added is_named =
     let old : command.body ≡ start_body (mechanism_of version) message = ap (λ (c : Command). c.body) (built ∙ ap start_command is) in
     let short : length command.body ≤ maximum_length = has_room (length command.body) (length (db_bytes text)) (λ long. room (plain_db, long)) in
     is_named
     ∙ ap (λ (c : Command). let k : Command = record c { body = new } in k) (built ∙ ap start_command is)
-    ∙ ap (λ body. sent source body api) (db_added version source message command.body new old short (subst (λ t. new ≡ enclosed (body_of command.body ++ db_bytes t)) said added))
+    ∙ ap (λ body. sent source body api) (db_added version source message command.body new old short (subst (λ t. new ≡ enclosed (element_bytes command.body ++ db_bytes t)) said added))
     ∙ ap (λ db. first_command version db source message api) (sym named_db)
 
 -- what was put had no fault

@@ -2,7 +2,7 @@
 use Rattle.std.proofs.Common.{◌≡◌, ℕ, Bool, true, false, List, codes, bytes_eq, ◌||◌, refl, sym, ap, ◌∙◌, inl, inr}
 use Rattle.std.proofs.lemmas.Bool.{false≢true}
 use Rattle.mongo_bson.proofs.OneAnswer.{one_key}
-use Rattle.mongo_bson.specs.Framed.{body_of}
+use Rattle.mongo_bson.specs.Framed.{element_bytes}
 use Rattle.mongo_sasl.specs.Keys.{sasl_continue_key, sasl_start_key}
 use Rattle.mongo_session.specs.declared.request.Hello.{Hello}
 use Rattle.mongo_session.specs.declared.request.Request.{Request}
@@ -11,9 +11,9 @@ use Rattle.mongo_session.specs.Requests.{IsCommandName, IsGreeting, IsCommandNam
 
 -- a test that a greeting's names pass is passed by the name of each greeting
 passed : (test : List ℕ → Bool) (document name : List ℕ) → test (codes "hello") ≡ true → test (codes "isMaster") ≡ true → test (codes "ismaster") ≡ true → IsCommandNamed document name → IsGreeting document → test name ≡ true
-passed test document name a b c named (inl is) = ap test (one_key (body_of document) name (codes "hello") named is) ∙ a
-passed test document name a b c named (inr (inl is)) = ap test (one_key (body_of document) name (codes "isMaster") named is) ∙ b
-passed test document name a b c named (inr (inr is)) = ap test (one_key (body_of document) name (codes "ismaster") named is) ∙ c
+passed test document name a b c named (inl is) = ap test (one_key (element_bytes document) name (codes "hello") named is) ∙ a
+passed test document name a b c named (inr (inl is)) = ap test (one_key (element_bytes document) name (codes "isMaster") named is) ∙ b
+passed test document name a b c named (inr (inr is)) = ap test (one_key (element_bytes document) name (codes "ismaster") named is) ∙ c
 
 abbrev greets : List ℕ → Bool
 greets name = bytes_eq name (codes "hello") || bytes_eq name (codes "isMaster") || bytes_eq name (codes "ismaster")

@@ -4,7 +4,7 @@ use Rattle.std.proofs.lemmas.Bool.{false≢true}
 use Rattle.std.specs.Int.{from_le_bytes, cast_signed, w32}
 use Rattle.mongo_bson.specs.Document.{Element, text_of}
 use Rattle.mongo_bson.specs.Find.{FindsValue, IsFirstOf}
-use Rattle.mongo_bson.specs.Framed.{body_of}
+use Rattle.mongo_bson.specs.Framed.{element_bytes}
 use Rattle.mongo_bson.specs.Value.{IsValue, has_variant}
 use Rattle.mongo_bson.specs.declared.raw_value.RawValue.{RawValue}
 use Rattle.mongo_bson.specs.declared.raw_value.RawValue.TheVariants.{Double, Str, Document, Array, Binary, ObjectId, Bool as Boolean, DateTime, Null, Int32, Int64, Other}
@@ -20,18 +20,18 @@ use Rattle.mongo_sasl.specs.Keys.{mechanism_key, options_key, payload_key, sasl_
 -- ---- one value
 
 pub one_inside : (document key x y : List ℕ) → HasInside document key x → HasInside document key y → x ≡ y
-one_inside document key x y p q = p.inner_is ∙ ap (λ e. e.value) (one_found (body_of document) key p.element q.element p.first q.first) ∙ sym q.inner_is
+one_inside document key x y p q = p.inner_is ∙ ap (λ e. e.value) (one_found (element_bytes document) key p.element q.element p.first q.first) ∙ sym q.inner_is
 
 pub one_text : (document key x y : List ℕ) → HasText document key x → HasText document key y → x ≡ y
-one_text document key x y p q = p.text_is ∙ ap (λ e. text_of e.value) (one_found (body_of document) key p.element q.element p.first q.first) ∙ sym q.text_is
+one_text document key x y p q = p.text_is ∙ ap (λ e. text_of e.value) (one_found (element_bytes document) key p.element q.element p.first q.first) ∙ sym q.text_is
 
 -- a document of another command isn't named so
 pub named_otherwise : (document name key : List ℕ) → IsCommandName document name → (name ≡ key → ⊥) → IsCommandNamed document key → ⊥
-named_otherwise document name key (inl named) other is = other (one_key (body_of document) name key named is)
+named_otherwise document name key (inl named) other is = other (one_key (element_bytes document) name key named is)
 named_otherwise document name key (inr (unnamed, empty)) other is = unnamed key is
 
-pub stands : (document key : List ℕ) (found : Option RawValue) → FindsValue (body_of document) key found → StandsAt document key found
-stands document key None none = λ e first. found_or_none (body_of document) key e first none
+pub stands : (document key : List ℕ) (found : Option RawValue) → FindsValue (element_bytes document) key found → StandsAt document key found
+stands document key None none = λ e first. found_or_none (element_bytes document) key e first none
 stands document key (Some value) finds = finds
 
 -- ---- the kind of a value that was found
@@ -69,34 +69,34 @@ not_kind (Int64 n) kind wanted bytes is test known same = differs kind 0x12 want
 not_kind (Other other content) kind wanted bytes is test known same = false≢true (sym is.2 ∙ ap has_variant same ∙ known)
 
 -- the first element of the key is of another kind
-other_kind : (document key : List ℕ) (v : RawValue) (wanted : ℕ) → FindsValue (body_of document) key (Some v) → (number v == wanted) ≡ false → has_variant wanted ≡ true
-    → (e : Element) → IsFirstOf (body_of document) key e → e.kind ≡ wanted → ⊥
-other_kind document key v wanted (f, first, is) test known e found same = not_kind v f.kind wanted f.value is test known (ap (λ x. x.kind) (one_found (body_of document) key f e first found) ∙ same)
+other_kind : (document key : List ℕ) (v : RawValue) (wanted : ℕ) → FindsValue (element_bytes document) key (Some v) → (number v == wanted) ≡ false → has_variant wanted ≡ true
+    → (e : Element) → IsFirstOf (element_bytes document) key e → e.kind ≡ wanted → ⊥
+other_kind document key v wanted (f, first, is) test known e found same = not_kind v f.kind wanted f.value is test known (ap (λ x. x.kind) (one_found (element_bytes document) key f e first found) ∙ same)
 
-pub string_held : (document key : List ℕ) (v : RawValue) → FindsValue (body_of document) key (Some v) → HoldsIfAny (HasText document key) (string_of v)
+pub string_held : (document key : List ℕ) (v : RawValue) → FindsValue (element_bytes document) key (Some v) → HoldsIfAny (HasText document key) (string_of v)
 string_held document key (Str text) (e, first, is) = record { element = e; first = first; string = is.0; text_is = is.1 }
 string_held document key other finds = λ text has. other_kind document key other 0x02 finds refl refl has.element has.first has.string
 
-pub binary_held : (document : List ℕ) (v : RawValue) → FindsValue (body_of document) payload_key (Some v) → HoldsIfAny (HasPayload document) (binary_bytes v)
+pub binary_held : (document : List ℕ) (v : RawValue) → FindsValue (element_bytes document) payload_key (Some v) → HoldsIfAny (HasPayload document) (binary_bytes v)
 binary_held document (Binary subtype bytes) (e, first, is) = record { element = e; first = first; binary = is.0; payload_is = is.2 }
 binary_held document other finds = λ payload has. other_kind document payload_key other 0x05 finds refl refl has.element has.first has.binary
 
-pub inner_held : (document key : List ℕ) (v : RawValue) → FindsValue (body_of document) key (Some v) → MatchOption (inner_of v) ((inner : List ℕ) → HasInside document key inner → ⊥) (λ inner. HasInside document key inner.bytes.now)
+pub inner_held : (document key : List ℕ) (v : RawValue) → FindsValue (element_bytes document) key (Some v) → MatchOption (inner_of v) ((inner : List ℕ) → HasInside document key inner → ⊥) (λ inner. HasInside document key inner.bytes.now)
 inner_held document key (Document inner) (e, first, is) = record { element = e; first = first; is_document = is.0; inner_is = is.1 }
 inner_held document key other finds = λ inner has. other_kind document key other 0x03 finds refl refl has.element has.first has.is_document
 
-pub boolean_held : (document key : List ℕ) (v : RawValue) → FindsValue (body_of document) key (Some v) → IsTrueBoolean v ↔ HasTrue document key
+pub boolean_held : (document key : List ℕ) (v : RawValue) → FindsValue (element_bytes document) key (Some v) → IsTrueBoolean v ↔ HasTrue document key
 boolean_held document key (Boolean true) (e, first, is) = (λ _. record { element = e; first = first; boolean = is.0; set = is.1 }, λ _. refl)
 boolean_held document key (Boolean false) (e, first, is) =
-    (λ never. absurd (false≢true never), λ has. absurd (zero_or_one e.value is.1 (ap (λ x. x.value) (one_found (body_of document) key e has.element first has.first) ∙ has.set)))
+    (λ never. absurd (false≢true never), λ has. absurd (zero_or_one e.value is.1 (ap (λ x. x.value) (one_found (element_bytes document) key e has.element first has.first) ∙ has.set)))
   where
     zero_or_one : (bytes : List ℕ) → bytes ≡ 0 ∷ [] → bytes ≡ 1 ∷ [] → ⊥
     zero_or_one bytes zero one = cc
 boolean_held document key other finds = (λ never. absurd never, λ has. absurd (other_kind document key other 0x08 finds refl refl has.element has.first has.boolean))
 
-pub one_held : (document key : List ℕ) (v : RawValue) → FindsValue (body_of document) key (Some v) → SaysOne v ↔ HasOne document key
+pub one_held : (document key : List ℕ) (v : RawValue) → FindsValue (element_bytes document) key (Some v) → SaysOne v ↔ HasOne document key
 one_held document key (Int32 n) (e, first, is) =
-    (λ one. record { element = e; first = first; int32 = is.0; one = sym is.1 ∙ one }, λ has. is.1 ∙ ap (λ x. cast_signed w32 (from_le_bytes w32 x.value)) (one_found (body_of document) key e has.element first has.first) ∙ has.one)
+    (λ one. record { element = e; first = first; int32 = is.0; one = sym is.1 ∙ one }, λ has. is.1 ∙ ap (λ x. cast_signed w32 (from_le_bytes w32 x.value)) (one_found (element_bytes document) key e has.element first has.first) ∙ has.one)
 one_held document key other finds = (λ never. absurd never, λ has. absurd (other_kind document key other 0x10 finds refl refl has.element has.first has.int32))
 
 -- ---- the parts of a login's command

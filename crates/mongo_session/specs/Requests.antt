@@ -1,7 +1,7 @@
 -- What a client asks for: a command, by the first key of its document.
 use Rattle.std.specs.Prelude.{◌≡◌, ℕ, ◌==◌, ◌⊎◌, ◌↔◌, ◌||◌, Bool, true, false, Option, None, Some, List, [], length, drop, codes, bytes_eq, if◌then◌else◌, IsTrue}
 use Rattle.std.specs.List.{position_or_len, after_first}
-use Rattle.mongo_bson.specs.Framed.{body_of}
+use Rattle.mongo_bson.specs.Framed.{element_bytes}
 use Rattle.mongo_bson.specs.Document.{Element}
 use Rattle.mongo_bson.specs.Find.{IsFirstOf, BeginsWithKey}
 use Rattle.mongo_command.specs.Keys.{sasl_supported_mechs_key, speculative_authenticate_key}
@@ -17,14 +17,14 @@ use Rattle.mongo_sasl.specs.Keys.{conversation_id_key, mechanism_key, options_ke
 
 -- the document's command
 abbrev pub IsCommandNamed : List ℕ → List ℕ → Type 0
-IsCommandNamed document name = BeginsWithKey (body_of document) name
+IsCommandNamed document name = BeginsWithKey (element_bytes document) name
 
 -- ---- the parts of a login's command
 
 -- its `payload`: a binary of these bytes
 pub record HasPayload (document payload : List ℕ) : Type 0 where
   pub element : Element
-  pub first : IsFirstOf (body_of document) payload_key element
+  pub first : IsFirstOf (element_bytes document) payload_key element
   pub binary : element.kind ≡ 0x05
   pub payload_is : payload ≡ drop 5 element.value
 

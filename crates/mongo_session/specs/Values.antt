@@ -4,7 +4,7 @@ use Rattle.std.specs.Borrow.{Bor}
 use Rattle.std.specs.Int.{from_le_bytes, cast_signed, w32}
 use Rattle.mongo_bson.specs.Document.{Element, text_of}
 use Rattle.mongo_bson.specs.Find.{IsFirstOf, FindsValue}
-use Rattle.mongo_bson.specs.Framed.{body_of}
+use Rattle.mongo_bson.specs.Framed.{element_bytes}
 use Rattle.mongo_bson.specs.declared.raw_document.RawDocument.{RawDocument}
 use Rattle.mongo_bson.specs.declared.raw_value.RawValue.{RawValue}
 use Rattle.mongo_bson.specs.declared.raw_value.RawValue.TheVariants.{Str, Document, Binary, Bool as Boolean, Int32}
@@ -12,28 +12,28 @@ use Rattle.mongo_bson.specs.declared.raw_value.RawValue.TheVariants.{Str, Docume
 -- a document
 pub record HasInside (document key inner : List ℕ) : Type 0 where
   pub element : Element
-  pub first : IsFirstOf (body_of document) key element
+  pub first : IsFirstOf (element_bytes document) key element
   pub is_document : element.kind ≡ 0x03
   pub inner_is : inner ≡ element.value
 
 -- a string of this text
 pub record HasText (document key text : List ℕ) : Type 0 where
   pub element : Element
-  pub first : IsFirstOf (body_of document) key element
+  pub first : IsFirstOf (element_bytes document) key element
   pub string : element.kind ≡ 0x02
   pub text_is : text ≡ text_of element.value
 
 -- the boolean true
 pub record HasTrue (document key : List ℕ) : Type 0 where
   pub element : Element
-  pub first : IsFirstOf (body_of document) key element
+  pub first : IsFirstOf (element_bytes document) key element
   pub boolean : element.kind ≡ 0x08
   pub set : element.value ≡ 1 ∷ []
 
 -- the int32 1
 pub record HasOne (document key : List ℕ) : Type 0 where
   pub element : Element
-  pub first : IsFirstOf (body_of document) key element
+  pub first : IsFirstOf (element_bytes document) key element
   pub int32 : element.kind ≡ 0x10
   pub one : cast_signed w32 (from_le_bytes w32 element.value) ≡ pos 1
 
@@ -46,8 +46,8 @@ HoldsIfAny P (Some value) = P value.now
 
 -- the value at a key; none where no element has it before the elements end or break off
 abbrev pub StandsAt : List ℕ → List ℕ → Option RawValue → Type 0
-StandsAt document key None = (element : Element) → IsFirstOf (body_of document) key element → ⊥
-StandsAt document key (Some value) = FindsValue (body_of document) key (Some value)
+StandsAt document key None = (element : Element) → IsFirstOf (element_bytes document) key element → ⊥
+StandsAt document key (Some value) = FindsValue (element_bytes document) key (Some value)
 
 -- what a string says
 abbrev pub string_of : RawValue → Option (Bor (List ℕ))

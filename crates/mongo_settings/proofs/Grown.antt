@@ -3,9 +3,9 @@ use Rattle.std.proofs.Common.{◌≡◌, ℕ, ◌+◌, ◌-◌, ◌^◌, ◌<◌
 use Rattle.std.specs.List.{flat_map}
 use Rattle.std.proofs.lemmas.Bool.{lt-ltb, le-ltb}
 use Rattle.std.proofs.lemmas.Grind.{flat_map-append}
-use Rattle.mongo_bson.specs.Framed.{body_of, enclosed, maximum_length}
+use Rattle.mongo_bson.specs.Framed.{element_bytes, enclosed, maximum_length}
 use Rattle.mongo_bson.specs.Document.{Element, spell}
-use Rattle.mongo_bson.proofs.Enclosed.{length-enclosed, body_of-enclosed}
+use Rattle.mongo_bson.proofs.Enclosed.{length-enclosed, element_bytes-enclosed}
 use Rattle.mongo_command.specs.Literal.{document_of}
 use Rattle.mongo_settings.specs.Kinds.{◌>>=◌, MeansNothing}
 use Rattle.mongo_settings.specs.Properties.{document_within, IsPut, CannotPut}
@@ -32,11 +32,11 @@ nothing_done (Some elements) = refl
 pub started : (document : List ℕ) (whole : Option (List Element)) → document ≡ enclosed [] → Grows document whole whole
 started document whole empty = record { done = []; document_is = empty; whole_is = nothing_done whole }
 
-one_more : (done : List Element) (e : Element) (document new : List ℕ) → document ≡ document_of done → length document ≤ maximum_length → new ≡ enclosed (body_of document ++ spell e) → new ≡ document_of (done ++ e ∷ [])
+one_more : (done : List Element) (e : Element) (document new : List ℕ) → document ≡ document_of done → length document ≤ maximum_length → new ≡ enclosed (element_bytes document ++ spell e) → new ≡ document_of (done ++ e ∷ [])
 one_more done e document new is short put =
     let body = flat_map spell done in
     let fits : length body + 5 < 2 ^ 32 = omega (arith, length-enclosed body, ap length is, short) in
-    put ∙ ap (λ b. enclosed (b ++ spell e)) (ap body_of is ∙ body_of-enclosed body fits)
+    put ∙ ap (λ b. enclosed (b ++ spell e)) (ap element_bytes is ∙ element_bytes-enclosed body fits)
     ∙ ap (λ b. enclosed (body ++ b)) (sym (append-nil (spell e))) ∙ ap enclosed (sym (flat_map-append spell done (e ∷ [])))
 
 left_over : (done : List Element) (e : Element) (rest : Option (List Element)) → option_map (λ more. done ++ more) (before (Some e) rest) ≡ option_map (λ more. (done ++ e ∷ []) ++ more) rest

@@ -4,7 +4,7 @@ use Rattle.std.specs.List.{list_any}
 use Rattle.std.proofs.Math.Bool.{or-true}
 use Rattle.std.proofs.lemmas.Bool.{eqb-true, false_from_ne_true}
 use Rattle.std.proofs.lemmas.Map.Views.{Contains-from_any}
-use Rattle.mongo_bson.specs.Framed.{body_of, enclosed, maximum_length}
+use Rattle.mongo_bson.specs.Framed.{element_bytes, enclosed, maximum_length}
 use Rattle.mongo_bson.specs.Document.{Element, spell}
 use Rattle.mongo_bson.specs.Refusals.{AppendRefuses}
 use Rattle.mongo_bson.specs.declared.fault.BsonFault.{BsonFault}
@@ -23,7 +23,7 @@ has_zero key holds = zero_at key holds.0 holds.1 holds.2
 has_none : (key : List ℕ) → (Contains key 0 → ⊥) → list_any (λ b. 0 == b) key ≡ false
 has_none key plain = false_from_ne_true _ (λ is. plain (Contains-from_any {eq = ◌==◌} eqb-true 0 key is))
 
-pub put_under : (key old new : List ℕ) (e : Element) → (Contains key 0 → ⊥) → new ≡ enclosed (body_of old ++ spell e) → IsPut (keyed key (Some e)) old new
+pub put_under : (key old new : List ℕ) (e : Element) → (Contains key 0 → ⊥) → new ≡ enclosed (element_bytes old ++ spell e) → IsPut (keyed key (Some e)) old new
 put_under key old new e plain put = rw (has_none key plain) put
 
 pub not_put_under : (key old : List ℕ) (e : Element) (fault : BsonFault) → AppendRefuses fault → (fault ≡ KeyHasZero → Contains key 0) → (fault ≡ TooLong → (Contains key 0 → ⊥) × (maximum_length < length old + length (spell e)))

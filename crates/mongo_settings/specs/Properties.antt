@@ -4,7 +4,7 @@ use Rattle.std.specs.Fmt.{decimal}
 use Rattle.std.specs.List.{list_any}
 use Rattle.serde_json.specs.Data.{Data, null, boolean, number, string, array, object, Items, no_items, item, Members, no_members, member}
 use Rattle.serde_json.specs.Find.{as_i64, as_object}
-use Rattle.mongo_bson.specs.Framed.{body_of, enclosed, maximum_length}
+use Rattle.mongo_bson.specs.Framed.{element_bytes, enclosed, maximum_length}
 use Rattle.mongo_bson.specs.Document.{Element, spell}
 use Rattle.mongo_command.specs.Literal.{text_element, array_element, int64_element, document_of}
 use Rattle.mongo_settings.specs.Kinds.{◌>>=◌}
@@ -67,7 +67,7 @@ properties_in d = option_and_then document_in (as_object d)
 
 abbrev pub IsPut : Option Element → List ℕ → List ℕ → Type 0
 IsPut None old new = ⊥
-IsPut (Some element) old new = new ≡ enclosed (body_of old ++ spell element)
+IsPut (Some element) old new = new ≡ enclosed (element_bytes old ++ spell element)
 
 -- why it isn't put: there is none, or the document would be longer than BSON has them; or memory ran out
 abbrev pub CannotPut : SettingsError → Option Element → List ℕ → Type 0

@@ -3,12 +3,12 @@ use Rattle.std.proofs.Common.{◌≡◌, ◌≢◌, ℕ, ◌+◌, ◌-◌, ◌^�
 use Rattle.std.proofs.lemmas.List.{get_or_default}
 use Rattle.std.proofs.lemmas.List.Elements.{All-from_recursion, All-contains}
 use Rattle.std.specs.List.{AllByRecursion}
-use Rattle.mongo_bson.specs.Framed.{body_of, enclosed, IsFramed, maximum_length}
+use Rattle.mongo_bson.specs.Framed.{element_bytes, enclosed, IsFramed, maximum_length}
 use Rattle.mongo_bson.specs.Document.{spell}
 use Rattle.mongo_bson.specs.Refusals.{AppendRefuses, PushRefuses}
 use Rattle.mongo_bson.specs.declared.fault.BsonFault.{BsonFault}
 use Rattle.mongo_bson.specs.declared.fault.BsonFault.TheVariants.{Malformed, KeyHasZero, TooLong, DuplicateKey, UpdateEmpty, UpdateNotModifiers, ReplacementHasModifiers, OutOfMemory}
-use Rattle.mongo_bson.proofs.Enclosed.{length-enclosed, body_of-enclosed, enclosed-body_of}
+use Rattle.mongo_bson.proofs.Enclosed.{length-enclosed, element_bytes-enclosed, enclosed-element_bytes}
 use Rattle.mongo_wire.specs.Error.{kind_of_fault}
 use Rattle.mongo_wire.specs.JoinedDocument.{sequence_element, arrays_bytes, JoinRefused}
 use Rattle.mongo_wire.specs.Measure.{IsWithoutZero}
@@ -41,12 +41,12 @@ spelled_array s = spell (sequence_element s)
 
 -- one more sequence is in the document
 pub array_added : (sequences : List DocumentSequence) (i : ℕ) (s : DocumentSequence) → i < length sequences → s ≡ get_or sequences i s
-    → (body old new : List ℕ) → old ≡ enclosed (body ++ arrays_bytes (take i sequences)) → length old ≤ maximum_length → new ≡ enclosed (body_of old ++ spelled_array s)
+    → (body old new : List ℕ) → old ≡ enclosed (body ++ arrays_bytes (take i sequences)) → length old ≤ maximum_length → new ≡ enclosed (element_bytes old ++ spelled_array s)
     → new ≡ enclosed (body ++ arrays_bytes (take (i + 1) sequences))
 array_added sequences i s within at body old new p short q =
     let before = body ++ arrays_bytes (take i sequences) in
     let fits : length before + 5 < 2 ^ 32 = omega (arith, length-enclosed before, ap length p, short) in
-    q ∙ ap (λ b. enclosed (b ++ spelled_array s)) (ap body_of p ∙ body_of-enclosed before fits)
+    q ∙ ap (λ b. enclosed (b ++ spelled_array s)) (ap element_bytes p ∙ element_bytes-enclosed before fits)
     ∙ ap enclosed (append_assoc body (arrays_bytes (take i sequences)) (spelled_array s) ∙ ap (λ w. body ++ w) (sym (joined_more spelled_array sequences i s within at)))
 
 -- where a sequence has no room, all of them have none
@@ -58,8 +58,8 @@ all_too_long sequences i s within at body old p long =
     omega (arith, long, ap length p, length-enclosed (body ++ before), length-enclosed (body ++ arrays_bytes sequences), length-append body before, length-append body (arrays_bytes sequences), length_within spelled_array sequences i s within at)
 
 -- a copy of a document is what its body makes, since its bytes are bytes
-pub copied_whole : (bytes : List ℕ) (r : Result (List ℕ) BsonFault) → IsFramed bytes → ((i : ℕ) → get_or bytes i 0 < 256) → IfOk r (λ d. d ≡ bytes) → IfOk r (λ d. d ≡ enclosed (body_of bytes))
-copied_whole bytes (Ok document) framed small is = is ∙ sym (enclosed-body_of bytes framed (λ i other within. subst (λ byte. byte < 256) (get_or_default bytes i 0 other within) (small i)))
+pub copied_whole : (bytes : List ℕ) (r : Result (List ℕ) BsonFault) → IsFramed bytes → ((i : ℕ) → get_or bytes i 0 < 256) → IfOk r (λ d. d ≡ bytes) → IfOk r (λ d. d ≡ enclosed (element_bytes bytes))
+copied_whole bytes (Ok document) framed small is = is ∙ sym (enclosed-element_bytes bytes framed (λ i other within. subst (λ byte. byte < 256) (get_or_default bytes i 0 other within) (small i)))
 copied_whole bytes (Err fault) framed small is = tt
 
 pub copied_framed : (bytes : List ℕ) (r : Result (List ℕ) BsonFault) → IsFramed bytes → IfOk r (λ d. d ≡ bytes) → IfOk r (λ d. IsFramed d)
@@ -68,8 +68,8 @@ copied_framed bytes (Err fault) framed is = tt
 
 -- why the joined document isn't made, where the names hold no zero
 pub join_refused : (fault : BsonFault) (m : Message) (sequences : List DocumentSequence) → HasNames m → sequences ≡ m.document_sequences
-    → PushRefuses fault → (fault ≡ TooLong → maximum_length < length (enclosed (body_of m.document_payload ++ arrays_bytes sequences))) → JoinRefused (kind_of_fault fault) m
-join_refused TooLong m sequences names same refused long = (names, subst (λ s. maximum_length < length (enclosed (body_of m.document_payload ++ arrays_bytes s))) same (long refl))
+    → PushRefuses fault → (fault ≡ TooLong → maximum_length < length (enclosed (element_bytes m.document_payload ++ arrays_bytes sequences))) → JoinRefused (kind_of_fault fault) m
+join_refused TooLong m sequences names same refused long = (names, subst (λ s. maximum_length < length (enclosed (element_bytes m.document_payload ++ arrays_bytes s))) same (long refl))
 join_refused OutOfMemory m sequences names same refused long = names
 join_refused Malformed m sequences names same refused long = absurd refused
 join_refused KeyHasZero m sequences names same refused long = absurd refused

@@ -1,6 +1,6 @@
 -- A message as one document: its body, and each of its sequences as an array under its identifier.
 use Rattle.std.specs.Prelude.{ℕ, ◌-◌, ◌<◌, List, ◌++◌, length, flat_map}
-use Rattle.mongo_bson.specs.Framed.{body_of, enclosed, maximum_length}
+use Rattle.mongo_bson.specs.Framed.{element_bytes, enclosed, maximum_length}
 use Rattle.mongo_bson.specs.Document.{Element, spell}
 use Rattle.mongo_bson.specs.Array.{array_of, document_entries}
 use Rattle.mongo_wire.specs.Message.{HasNames}
@@ -19,7 +19,7 @@ abbrev pub arrays_bytes : List DocumentSequence → List ℕ
 arrays_bytes sequences = flat_map (λ s. spell (sequence_element s)) sequences
 
 abbrev pub joined_document : Message → List ℕ
-joined_document m = enclosed (body_of m.document_payload ++ arrays_bytes m.document_sequences)
+joined_document m = enclosed (element_bytes m.document_payload ++ arrays_bytes m.document_sequences)
 
 -- an identifier holds a zero, or else the document passes 2147483647 bytes, or memory ran out
 abbrev pub JoinRefused : ErrorKind → Message → Type 0

@@ -1,6 +1,6 @@
 ghost use Rattle.std.specs.Prelude.{◌≡◌, ◌+◌, ◌-◌, ◌<◌, ◌≤◌, ◌++◌, length, IfOk, IfErr, OnOk, IsErrOf};
 ghost use Rattle.std.specs.List.{AllByRecursion};
-ghost use Rattle.mongo_bson.specs.Framed.{body_of, enclosed, IsFramed, maximum_length};
+ghost use Rattle.mongo_bson.specs.Framed.{element_bytes, enclosed, IsFramed, maximum_length};
 ghost use Rattle.mongo_bson.specs.Document.{spell};
 ghost use Rattle.mongo_bson.specs.Refusals.{PushRefuses};
 ghost use Rattle.mongo_wire.specs.JoinedDocument.{joined_document, JoinRefused, sequence_element, arrays_bytes};
@@ -46,9 +46,9 @@ fn with_arrays(
     sequences: &[DocumentSequence],
 ) -> Result<RawDocumentBuf, BsonFault>
     requires { AllByRecursion IsWithoutZero sequences.now }
-    ensures document { IfOk result (λ document. document ≡ enclosed (body_of body.now ++ arrays_bytes sequences.now)) }
+    ensures document { IfOk result (λ document. document ≡ enclosed (element_bytes body.now ++ arrays_bytes sequences.now)) }
     ensures fits { IfOk result (λ document. length document ≤ maximum_length) }
-    ensures too_long { IsErrOf result BsonFault.TooLong → maximum_length < length (enclosed (body_of body.now ++ arrays_bytes sequences.now)) }
+    ensures too_long { IsErrOf result BsonFault.TooLong → maximum_length < length (enclosed (element_bytes body.now ++ arrays_bytes sequences.now)) }
     ensures refused { IfErr result PushRefuses }
 {
     let mut document = copy_of_document(alloc, body.as_bytes())?;
@@ -65,7 +65,7 @@ fn with_arrays(
 // is what its body makes only then.
 fn copy_of_document(alloc: Global, bytes: &[u8]) -> Result<RawDocumentBuf, BsonFault>
     requires { IsFramed bytes.now }
-    ensures copied { IfOk result (λ document. document ≡ enclosed (body_of bytes.now)) }
+    ensures copied { IfOk result (λ document. document ≡ enclosed (element_bytes bytes.now)) }
     ensures framed { IfOk result (λ document. IsFramed document) }
     ensures refused { IfErr result (λ fault. fault ≡ BsonFault.OutOfMemory) }
 {
@@ -84,7 +84,7 @@ fn add_array(
     sequence: &DocumentSequence,
 ) -> Result<(), BsonFault>
     requires { IsWithoutZero sequence.now }
-    ensures added { OnOk result (document.new ≡ enclosed (body_of document.old ++ spell (sequence_element sequence.now))) }
+    ensures added { OnOk result (document.new ≡ enclosed (element_bytes document.old ++ spell (sequence_element sequence.now))) }
     ensures framed { OnOk result (IsFramed document.new) }
     ensures too_long { IsErrOf result BsonFault.TooLong → maximum_length < length document.old + length (spell (sequence_element sequence.now)) }
     ensures refused { IfErr result PushRefuses }

@@ -17,8 +17,8 @@ elements-init t c =
     let some : 0 < levels = omega arith in
     record {
       some = some;
-      to = λ r. reads_readable levels document some c.requires (subst (Reads (levels - 1)) c.body-rest.ensures r);
-      from = λ r. subst (Reads (levels - 1)) (sym c.body-rest.ensures) (readable_reads levels document some r);
+      to = λ r. reads_readable levels document some c.requires (subst (Reads (levels - 1)) c.element_bytes-rest.ensures r);
+      from = λ r. subst (Reads (levels - 1)) (sym c.element_bytes-rest.ensures) (readable_reads levels document some r);
     }
 
 pub returns-in_default : goal.returns-in_default

@@ -1,6 +1,6 @@
 use Rattle.std.proofs.Common.{◌++◌, ◌∙◌, ap, sym, append-nil}
 use Rattle.std.specs.List.{flat_map}
-use Rattle.mongo_bson.specs.Framed.{body_of, enclosed}
+use Rattle.mongo_bson.specs.Framed.{element_bytes, enclosed}
 use Rattle.mongo_bson.specs.Document.{spell}
 use Rattle.mongo_bson.specs.Value.{element_of}
 use Rattle.mongo_command.specs.Arguments.{field_elements}
@@ -15,7 +15,7 @@ returns-in-Some-clause-framed c = c.append.ensures.framed
 pub returns-in-None-clause-added : goal.returns-in-None-clause-added
 returns-in-None-clause-added c =
     let document = c.args.document.now in
-    c.requires.sealed ∙ ap enclosed (sym (append-nil (body_of document))) ∙ ap (λ field. enclosed (body_of document ++ flat_map spell (field_elements field))) (sym c.in-None.is)
+    c.requires.sealed ∙ ap enclosed (sym (append-nil (element_bytes document))) ∙ ap (λ field. enclosed (element_bytes document ++ flat_map spell (field_elements field))) (sym c.in-None.is)
 
 pub returns-in-None-clause-framed : goal.returns-in-None-clause-framed
 returns-in-None-clause-framed c = c.requires.framed

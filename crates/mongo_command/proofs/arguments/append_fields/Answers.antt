@@ -2,7 +2,7 @@ use Rattle.std.proofs.Common.{◌≡◌, ◌++◌, ◌+◌, ◌∷◌, [], ap, s
 use Rattle.std.specs.List.{flat_map}
 use Rattle.std.proofs.lemmas.List.{drop_more, drop_all}
 use Rattle.std.proofs.lemmas.Result.{err_from_is_err_and}
-use Rattle.mongo_bson.specs.Framed.{body_of}
+use Rattle.mongo_bson.specs.Framed.{element_bytes}
 use Rattle.mongo_bson.specs.Document.{spell}
 use Rattle.mongo_command.specs.Arguments.{field_elements}
 use Rattle.mongo_command.proofs.CommandDocument.{sealed_grown, whole_grown, whole_too_long, all_written}
@@ -29,4 +29,4 @@ returns-in_err-append_field-clause-refused c =
 pub returns-clause-added : goal.returns-clause-added
 returns-clause-added c =
     let over : drop c.loop-field.field-index c.args.fields.now ≡ [] = drop_all c.loop-field.field-index c.args.fields.now c.loop-field-test.false in
-    all_written c.loop-field.document _ c.loop-field.invariant.sealed (ap (λ xs. body_of c.loop-field.document ++ flat_map spell (flat_map field_elements xs)) (sym over) ∙ c.loop-field.invariant.whole)
+    all_written c.loop-field.document _ c.loop-field.invariant.sealed (ap (λ xs. element_bytes c.loop-field.document ++ flat_map spell (flat_map field_elements xs)) (sym over) ∙ c.loop-field.invariant.whole)

@@ -1,4 +1,4 @@
-use Rattle.mongo_bson.specs.Framed.{body_of}
+use Rattle.mongo_bson.specs.Framed.{element_bytes}
 use Rattle.mongo_command.specs.WriteReply.{ReadsWriteError}
 use Rattle.mongo_command.proofs.Elements.{taken, stopped}
 use Rattle.mongo_command.proofs.Tables.{errors_broken_off, no_write_error, more_each}
@@ -17,4 +17,4 @@ pub loop-item-preserved : goal.loop-item-preserved
 loop-item-preserved c =
     let takes = taken c.loop-item.item-iterator c.next.new.self c.in-Some.item c.in-Ok._index c.in-Ok.value c.in-Some.ensures.steps c.in-Ok.is in
     let reads = c.in_ok-error.ensures.read takes.element takes.value_is in
-    rw c.in_ok-push.ensures.added (more_each ReadsWriteError (body_of c.args.array.bytes.now) c.loop-item.item-iterator.rest.now c.next.new.self.rest.now c.in-Ok._index.now c.in-Ok.value c.loop-item.errors c.in_ok-error.error c.loop-item.invariant takes reads)
+    rw c.in_ok-push.ensures.added (more_each ReadsWriteError (element_bytes c.args.array.bytes.now) c.loop-item.item-iterator.rest.now c.next.new.self.rest.now c.in-Ok._index.now c.in-Ok.value c.loop-item.errors c.in_ok-error.error c.loop-item.invariant takes reads)

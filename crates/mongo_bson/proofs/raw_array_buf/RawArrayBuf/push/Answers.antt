@@ -1,7 +1,7 @@
 use Rattle.std.proofs.Common.{◌≡◌, ◌≤◌, ◌++◌, length, Err, sym, ap, subst, arith}
 use Rattle.std.specs.Fmt.{decimal}
 use Rattle.std.specs.List.{Contains}
-use Rattle.mongo_bson.specs.Framed.{IsFramed, body_of, enclosed}
+use Rattle.mongo_bson.specs.Framed.{IsFramed, element_bytes, enclosed}
 use Rattle.mongo_bson.specs.Array.{IsArray}
 use Rattle.mongo_bson.specs.Document.{AddsElement, spell}
 use Rattle.mongo_bson.specs.Value.{kind_of, bytes_of, element_of}
@@ -41,7 +41,7 @@ returns-in-Ok-clause-one_more c =
 pub returns-in-Ok-clause-added : goal.returns-in-Ok-clause-added
 returns-in-Ok-clause-added c =
     let array = c.args.self.now in
-    subst (λ key. c.append.new.self ≡ enclosed (body_of array.document ++ spell (element_of key c.args.value))) (number_text _ _ array.count (omega arith) c.format.ensures.text) c.in-Ok.ensures.added
+    subst (λ key. c.append.new.self ≡ enclosed (element_bytes array.document ++ spell (element_of key c.args.value))) (number_text _ _ array.count (omega arith) c.format.ensures.text) c.in-Ok.ensures.added
 
 pub returns-in-Ok-clause-too_long : goal.returns-in-Ok-clause-too_long
 returns-in-Ok-clause-too_long c =

@@ -10,6 +10,6 @@ returns-clause-distinct c =
     let keys = ap bytes_of_texts c.as_mut_slice.ensures.value ∙ found.2 in
     let test = c.is_without_repeat.ensures in (
       elements,
-      record { framed = c.args.self.now.framed; filled = sym c.body.ensures ∙ found.1.spelled; each = found.1.each },
+      record { framed = c.args.self.now.framed; filled = sym c.element_bytes.ensures ∙ found.1.spelled; each = found.1.each },
       (λ yes. distinct_from_apart elements (subst AreApart keys (test.0 yes)), λ distinct. test.1 (subst AreApart (sym keys) (apart_from_distinct elements distinct))),
     )

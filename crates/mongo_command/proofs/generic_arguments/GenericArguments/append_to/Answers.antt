@@ -2,7 +2,7 @@ use Rattle.std.proofs.Common.{◌≡◌, ◌∷◌, ◌++◌, List, subst, IfErr
 use Rattle.std.specs.List.{flat_map}
 use Rattle.std.proofs.lemmas.Result.{err_from_is_err_and}
 use Rattle.mongo_bson.specs.Document.{Element, spell}
-use Rattle.mongo_bson.specs.Framed.{body_of, enclosed}
+use Rattle.mongo_bson.specs.Framed.{element_bytes, enclosed}
 use Rattle.mongo_command.specs.Literal.{text_element}
 use Rattle.mongo_command.specs.Arguments.{TooLongFor}
 use Rattle.mongo_command.specs.Keys.{db_key}
@@ -11,11 +11,11 @@ use Rattle.mongo_command.proofs.generic_arguments.GenericArguments.append_to.Goa
 
 pub returns-clause-document : goal.returns-clause-document
 returns-clause-document c =
-    subst (λ (es : List Element). OnOk c.append_arguments.result (c.append_arguments.new.document ≡ enclosed (body_of c.args.body.now ++ flat_map spell (text_element db_key c.args.target_db.now ∷ es)))) c.fields-fields.ensures.elements (rw c.in_ok-reserve_exact.ensures.unchanged at c.append_arguments.ensures.added)
+    subst (λ (es : List Element). OnOk c.append_arguments.result (c.append_arguments.new.document ≡ enclosed (element_bytes c.args.body.now ++ flat_map spell (text_element db_key c.args.target_db.now ∷ es)))) c.fields-fields.ensures.elements (rw c.in_ok-reserve_exact.ensures.unchanged at c.append_arguments.ensures.added)
 
 pub returns-clause-refused : goal.returns-clause-refused
 returns-clause-refused c =
-    subst (λ (es : List Element). IfErr c.append_arguments.result (λ fault. TooLongFor fault (enclosed (body_of c.args.body.now ++ flat_map spell (text_element db_key c.args.target_db.now ∷ es))))) c.fields-fields.ensures.elements (rw c.in_ok-reserve_exact.ensures.unchanged at c.append_arguments.ensures.refused)
+    subst (λ (es : List Element). IfErr c.append_arguments.result (λ fault. TooLongFor fault (enclosed (element_bytes c.args.body.now ++ flat_map spell (text_element db_key c.args.target_db.now ∷ es))))) c.fields-fields.ensures.elements (rw c.in_ok-reserve_exact.ensures.unchanged at c.append_arguments.ensures.refused)
 
 pub append_arguments-requires : goal.append_arguments-requires
 append_arguments-requires c = record { named = c.fields-fields.ensures.named }

@@ -2,7 +2,7 @@ use Rattle.std.proofs.Common.{◌∙◌, ◌∷◌, ◌++◌, List, ap, subst}
 use Rattle.std.specs.List.{flat_map}
 use Rattle.std.proofs.lemmas.Result.{err_from_is_err_and}
 use Rattle.mongo_bson.specs.Document.{Element, spell}
-use Rattle.mongo_bson.specs.Framed.{body_of, enclosed}
+use Rattle.mongo_bson.specs.Framed.{element_bytes, enclosed}
 use Rattle.mongo_command.specs.Literal.{text_element}
 use Rattle.mongo_command.specs.Arguments.{TooLongFor}
 use Rattle.mongo_command.specs.Keys.{db_key}
@@ -12,12 +12,12 @@ use Rattle.mongo_command.proofs.generic_arguments.GenericArguments.document_with
 pub returns-clause-document : goal.returns-clause-document
 returns-clause-document c =
     rw c.in_ok-document.ensures.copied at c.in_ok-append_arguments.ensures.added
-    ∙ ap (λ (es : List Element). enclosed (body_of c.args.body.now ++ flat_map spell (text_element db_key c.args.target_db.now ∷ es))) c.fields-fields.ensures.elements
+    ∙ ap (λ (es : List Element). enclosed (element_bytes c.args.body.now ++ flat_map spell (text_element db_key c.args.target_db.now ∷ es))) c.fields-fields.ensures.elements
 
 pub returns-in_err-append_arguments-clause-refused : goal.returns-in_err-append_arguments-clause-refused
 returns-in_err-append_arguments-clause-refused c =
     let e = err_from_is_err_and c.from_residual-in_err-append_arguments.result c.from_residual-in_err-append_arguments.ensures.1 in
-    rw (e.1, e.2) (subst (λ (es : List Element). TooLongFor c.in_err-append_arguments.field-0.0 (enclosed (body_of c.args.body.now ++ flat_map spell (text_element db_key c.args.target_db.now ∷ es)))) c.fields-fields.ensures.elements (rw c.in_ok-document.ensures.copied at c.in_err-append_arguments.ensures.refused))
+    rw (e.1, e.2) (subst (λ (es : List Element). TooLongFor c.in_err-append_arguments.field-0.0 (enclosed (element_bytes c.args.body.now ++ flat_map spell (text_element db_key c.args.target_db.now ∷ es)))) c.fields-fields.ensures.elements (rw c.in_ok-document.ensures.copied at c.in_err-append_arguments.ensures.refused))
 
 pub returns-in_err-document-clause-refused : goal.returns-in_err-document-clause-refused
 returns-in_err-document-clause-refused c =

@@ -1,5 +1,5 @@
 use Rattle.std.proofs.Common.{◌≡◌, ℕ, List, Option, None, Some, sym, ◌∙◌, subst, rules}
-use Rattle.mongo_bson.specs.Framed.{body_of}
+use Rattle.mongo_bson.specs.Framed.{element_bytes}
 use Rattle.mongo_bson.specs.Find.{FindsValue}
 use Rattle.mongo_bson.specs.Number.{u64_of_kind}
 use Rattle.mongo_bson.specs.Value.{IsValue}
@@ -12,7 +12,7 @@ use Rattle.mongo_command.specs.Keys.{n_key}
 use Rattle.mongo_command.proofs.raw_command_response.RawCommandResponse.extract_n.Goals as goal
 
 -- an `n` that reads as no number
-no_number : (document : List ℕ) (value : RawValue) (kind : ErrorKind) (read : Option ℕ) → kind ≡ InvalidResponse NNotNumber → FindsValue (body_of document) n_key (Some value) → ((k : ℕ) (bytes : List ℕ) → IsValue k bytes value → read ≡ u64_of_kind k bytes) → read ≡ None → CountRefused kind document
+no_number : (document : List ℕ) (value : RawValue) (kind : ErrorKind) (read : Option ℕ) → kind ≡ InvalidResponse NNotNumber → FindsValue (element_bytes document) n_key (Some value) → ((k : ℕ) (bytes : List ℕ) → IsValue k bytes value → read ≡ u64_of_kind k bytes) → read ≡ None → CountRefused kind document
 no_number document value kind read is found meaning none =
     subst (λ k. CountRefused k document) (sym is) (found.0, found.1, sym (meaning found.0.kind found.0.value found.2) ∙ none)
 
