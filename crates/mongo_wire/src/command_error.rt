@@ -4,7 +4,7 @@ use mongo_bson::{BsonFault, Text, Texts};
 use std::alloc::Global;
 
 /// A server's answer that a command failed. Texts that the reply lacks are empty, labels that it lacks are none.
-#[derive(Debug, Drop, PartialEq)]
+#[derive(Debug, PartialEq)]
 pub struct CommandError {
     /// The server's number for the error.
     pub code: i32,
@@ -14,6 +14,18 @@ pub struct CommandError {
     pub message: Text,
     /// The error labels.
     pub labels: Texts,
+}
+
+// Dropped by a call, so that the proofs of its owners don't walk through its parts.
+impl Drop for CommandError {
+    fn drop(self) {
+        let CommandError {
+            code: _,
+            code_name: _,
+            message: _,
+            labels: _,
+        } = self;
+    }
 }
 
 impl CommandError {

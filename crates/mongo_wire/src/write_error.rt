@@ -120,12 +120,22 @@ impl WriteFailureCause {
 }
 
 /// A single write that was refused.
-#[derive(Debug, Drop)]
+#[derive(Debug)]
 pub struct WriteFailure {
     /// The first cause.
     pub cause: WriteFailureCause,
     /// The error labels of the reply.
     pub labels: Texts,
+}
+
+// Dropped by a call, so that the proofs of its owners don't walk through its parts.
+impl Drop for WriteFailure {
+    fn drop(self) {
+        let WriteFailure {
+            cause: _,
+            labels: _,
+        } = self;
+    }
 }
 
 impl WriteFailure {
@@ -142,7 +152,7 @@ impl WriteFailure {
 }
 
 /// An insert of which something was refused.
-#[derive(Debug, Drop)]
+#[derive(Debug)]
 pub struct InsertManyError {
     /// The refused writes, where the reply has them.
     pub write_errors: Option<WriteErrors>,
@@ -150,6 +160,17 @@ pub struct InsertManyError {
     pub write_concern_error: Option<WriteConcernError>,
     /// The error labels of the reply.
     pub labels: Texts,
+}
+
+// Dropped by a call, so that the proofs of its owners don't walk through its parts.
+impl Drop for InsertManyError {
+    fn drop(self) {
+        let InsertManyError {
+            write_errors: _,
+            write_concern_error: _,
+            labels: _,
+        } = self;
+    }
 }
 
 impl InsertManyError {
