@@ -10,7 +10,7 @@ use Rattle.mongo_wire.specs.declared.op_code.OpCode.TheVariants.{Reply, Query, C
 use Rattle.mongo_wire.specs.Header.{signed_at, op_code_of}
 use Rattle.mongo_wire.specs.Message.{ReadRefused}
 use Rattle.mongo_wire.specs.Outside.{State}
-use Rattle.mongo_wire.specs.Rows.{code_row, length_row, IsRow}
+use Rattle.mongo_wire.specs.Rows.{code_row, length_row, FrameRow}
 use Rattle.mongo_command.specs.Exchange.{ReceiveRefused}
 use Rattle.mongo_command.specs.Fault.{is_kept}
 
@@ -36,7 +36,7 @@ length_kept maximum length None number kind row = some_kept (InvalidResponse (Op
 length_kept maximum length (Some code) number kind row = over_kept (int_lt maximum length) length code kind row
 
 -- the rows of a frame
-row_kept : (maximum : ℤ) (taken : List ℕ) (kind : ErrorKind) → IsRow maximum taken kind → is_kept kind ≡ true
+row_kept : (maximum : ℤ) (taken : List ℕ) (kind : ErrorKind) → FrameRow maximum taken kind → is_kept kind ≡ true
 row_kept maximum taken kind (inl short) = ap is_kept short.kind_is
 row_kept maximum taken kind (inr (inl header)) = length_kept maximum (signed_at 0 taken) (op_code_of (signed_at 12 taken)) (signed_at 12 taken) kind header.row
 row_kept maximum taken kind (inr (inr (inl short))) = ap is_kept short.kind_is

@@ -12,7 +12,7 @@ use Rattle.mongo_wire.specs.Error.{kind_of_frame_fault}
 use Rattle.mongo_wire.specs.Header.{code_number, signed_at}
 use Rattle.mongo_wire.specs.Message.{ReadRefused}
 use Rattle.mongo_wire.specs.Outside.{State, ReadStops, RanOut}
-use Rattle.mongo_wire.specs.Rows.{IsRow, IsStarted, IsUnfinished, IsEmptied, TakesRow}
+use Rattle.mongo_wire.specs.Rows.{FrameRow, IsStarted, IsUnfinished, IsEmptied, TakesRow}
 use Rattle.mongo_wire.specs.declared.error.ErrorKind.{ErrorKind}
 use Rattle.mongo_wire.specs.declared.error.ErrorKind.TheVariants.{InvalidArgument, InvalidResponse, EndOfInput}
 use Rattle.mongo_wire.specs.declared.fault.FrameFault.{FrameFault}
@@ -98,13 +98,13 @@ started : (maximum : ℤ) (taken : List ℕ) → IsUnfinished maximum taken → 
 started maximum taken (inl short) = inl (omega (arith, short))
 started maximum taken (inr (passes, short)) = inr (passes, omega (arith, ints, short))
 
-row_started : (maximum : ℤ) (taken : List ℕ) (kind : ErrorKind) → IsRow maximum taken kind → IsStarted maximum taken
+row_started : (maximum : ℤ) (taken : List ℕ) (kind : ErrorKind) → FrameRow maximum taken kind → IsStarted maximum taken
 row_started maximum taken kind (inl short) = inl (omega (arith, short.short))
 row_started maximum taken kind (inr (inl row)) = inl (omega (arith, row.header))
 row_started maximum taken kind (inr (inr (inl short))) = inr (short.passes, omega (arith, ints, short.short))
 row_started maximum taken kind (inr (inr (inr none))) = inr (none.passes, omega (arith, ints, none.whole))
 
-row_whole : (maximum : ℤ) (taken : List ℕ) (kind : ErrorKind) → (kind ≡ EndOfInput → ⊥) → IsRow maximum taken kind → 16 ≤ length taken
+row_whole : (maximum : ℤ) (taken : List ℕ) (kind : ErrorKind) → (kind ≡ EndOfInput → ⊥) → FrameRow maximum taken kind → 16 ≤ length taken
 row_whole maximum taken kind whole (inl short) = absurd (whole short.kind_is)
 row_whole maximum taken kind whole (inr (inl row)) = omega (arith, row.header)
 row_whole maximum taken kind whole (inr (inr (inl short))) = short.passes.whole

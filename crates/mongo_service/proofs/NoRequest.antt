@@ -5,7 +5,7 @@ use Rattle.std.proofs.lemmas.Int.{ints}
 use Rattle.std.specs.Ordering.{int_eq}
 use Rattle.std.specs.Prelude.{if◌then◌else◌}
 use Rattle.mongo_wire.specs.Header.{code_number, op_code_of, signed_at}
-use Rattle.mongo_wire.specs.Rows.{IsRow, IsUnfinished}
+use Rattle.mongo_wire.specs.Rows.{FrameRow, IsUnfinished}
 use Rattle.mongo_wire.specs.declared.error.ErrorKind.{ErrorKind}
 use Rattle.mongo_wire.specs.declared.error.ErrorKind.TheVariants.{EndOfInput, InvalidResponse}
 use Rattle.mongo_wire.specs.declared.fault.ResponseFault.TheVariants.{Sections}
@@ -86,7 +86,7 @@ no_body head body size sixteen code counted whole none frame rest document e wit
     none document (subst (λ b. IsQueryBody b document) same.0 q.is_body)
 
 -- an OP_MSG's bytes that call for a row
-pub no_message : (taken : List ℕ) (kind : ErrorKind) → 16 ≤ length taken → signed_at 12 taken ≡ code_number Message → (kind ≡ EndOfInput → ⊥) → IsRow message_maximum taken kind → BeginsNoRequest taken
+pub no_message : (taken : List ℕ) (kind : ErrorKind) → 16 ≤ length taken → signed_at 12 taken ≡ code_number Message → (kind ≡ EndOfInput → ⊥) → FrameRow message_maximum taken kind → BeginsNoRequest taken
 no_message taken kind whole code other row frame rest document e within (inl (parts, is_frame, body_is)) =
     row_no_frame message_maximum taken rest frame [] kind parts row (λ ends. absurd (other ends)) is_frame within (sym e ∙ sym (append-nil frame))
 no_message taken kind whole code other row frame rest document e within (inr q) = two_codes (signed_at 12 taken) code (sym (begun 12 taken rest frame (omega arith) e) ∙ query_code frame document q)
@@ -135,7 +135,7 @@ pub unfinished : (maximum : ℤ) (taken : List ℕ) → IsUnfinished maximum tak
 unfinished maximum taken (inl short) = few_bytes taken (omega (arith, short))
 unfinished maximum taken (inr (passes, short)) = cut_short taken short
 
-pub ended_within : (maximum : ℤ) (taken : List ℕ) → IsRow maximum taken EndOfInput → IsNoRequest taken
+pub ended_within : (maximum : ℤ) (taken : List ℕ) → FrameRow maximum taken EndOfInput → IsNoRequest taken
 ended_within maximum taken (inl short) = few_bytes taken (omega (arith, short.short))
 ended_within maximum taken (inr (inl row)) = few_bytes taken (omega (arith, row.header))
 ended_within maximum taken (inr (inr (inl short))) = cut_short taken short.short

@@ -8,7 +8,7 @@ use Rattle.std.specs.Io.KnownBytes.{Consumes}
 use Rattle.mongo_wire.specs.Outside.{State, ReadsOn, ReadStops, ConsumesAtMost, ConsumesFewer, RanOut}
 use Rattle.mongo_wire.specs.Frame.{Frame, IsFrame}
 use Rattle.mongo_wire.specs.Header.{signed_at}
-use Rattle.mongo_wire.specs.Rows.{Passes, IsRow, TakesRow, TakesStarted, TakesUnfinished, IsEmptied, header_row, length_row, code_row}
+use Rattle.mongo_wire.specs.Rows.{Passes, FrameRow, TakesRow, TakesStarted, TakesUnfinished, IsEmptied, header_row, length_row, code_row}
 use Rattle.mongo_wire.specs.Message.{ReadRefused, IsUnreadable}
 use Rattle.std.proofs.lemmas.List.{drop_at}
 use Rattle.mongo_wire.specs.Held.{NoFrame, IsHeld}
@@ -89,7 +89,7 @@ passes maximum head more sixteen row = record { whole = omega (arith, length-app
 size_with : (head more : List ℕ) → length head ≡ 16 → signed_at 0 (head ++ more) ≡ signed_at 0 head
 size_with head more sixteen = signed_in 0 head more (omega arith)
 
-short_frame : (maximum : ℤ) (head more : List ℕ) (wanted : ℕ) → length head ≡ 16 → header_row maximum head ≡ None → pos (16 + wanted) ≡ signed_at 0 head → length more < wanted → IsRow maximum (head ++ more) EndOfInput
+short_frame : (maximum : ℤ) (head more : List ℕ) (wanted : ℕ) → length head ≡ 16 → header_row maximum head ≡ None → pos (16 + wanted) ≡ signed_at 0 head → length more < wanted → FrameRow maximum (head ++ more) EndOfInput
 short_frame maximum head more wanted sixteen row size few =
     inr (inr (inl (record {
       passes = passes maximum head more sixteen row;

@@ -12,7 +12,7 @@ use Rattle.mongo_bson.proofs.Cstrings.{one_cstring}
 use Rattle.mongo_bson.proofs.Sizes.{document_size, one_size, number_at_front}
 use Rattle.mongo_wire.specs.Frame.{Frame, IsFrame, Section, body, sequence, IsSection, IsSequence, IsChecksum, section_bytes, sequence_bytes, bodies, sequences_of, int32, uint32, message_code, known_flags}
 use Rattle.mongo_wire.specs.Header.{header_length, number_at, signed_at, op_code_of}
-use Rattle.mongo_wire.specs.Rows.{IsRow, ShortHeader, HeaderRow, ShortFrame, NoSections, header_row, length_row}
+use Rattle.mongo_wire.specs.Rows.{FrameRow, ShortHeader, HeaderRow, ShortFrame, NoSections, header_row, length_row}
 use Rattle.mongo_wire.specs.declared.op_code.OpCode.TheVariants as op_code
 use Rattle.mongo_wire.specs.declared.error.ErrorKind.{ErrorKind}
 use Rattle.mongo_wire.specs.declared.error.ErrorKind.TheVariants.{EndOfInput, InvalidResponse}
@@ -237,7 +237,7 @@ other_no_frame maximum taken rest frame more kind parts row is e =
     row.none parts (subst (λ l. IsFrame l parts) (sym front.0) is)
 
 -- bytes that call for a row begin with no frame within the maximum
-pub row_no_frame : (maximum : ℤ) (taken rest frame more : List ℕ) (kind : ErrorKind) (parts : Frame) → IsRow maximum taken kind → (kind ≡ EndOfInput → rest ≡ [])
+pub row_no_frame : (maximum : ℤ) (taken rest frame more : List ℕ) (kind : ErrorKind) (parts : Frame) → FrameRow maximum taken kind → (kind ≡ EndOfInput → rest ≡ [])
     → IsFrame frame parts → pos (length frame) ≤ℤ maximum → taken ++ rest ≡ frame ++ more → ⊥
 row_no_frame maximum taken rest frame more kind parts row ends is within e =
     elim row [
@@ -283,7 +283,7 @@ On maximum b taken kind = OnShort b taken kind ⊎ (OnHeader maximum b taken kin
 no_more : (taken rest : List ℕ) → rest ≡ [] → taken ≡ taken ++ rest
 no_more taken rest e = sym (append-nil taken) ∙ ap (λ l. taken ++ l) (sym e)
 
-on_all : (maximum : ℤ) (taken rest : List ℕ) (kind : ErrorKind) → IsRow maximum taken kind → (kind ≡ EndOfInput → rest ≡ []) → On maximum (taken ++ rest) taken kind
+on_all : (maximum : ℤ) (taken rest : List ℕ) (kind : ErrorKind) → FrameRow maximum taken kind → (kind ≡ EndOfInput → rest ≡ []) → On maximum (taken ++ rest) taken kind
 on_all maximum taken rest kind row ends =
     let whole = length-append taken rest in
     elim row [
@@ -355,7 +355,7 @@ one_on maximum b t u k l p q =
     ]
 
 -- bytes call for at most one row, and it takes the same of them
-pub one_row : (maximum : ℤ) (taken rest other more : List ℕ) (kind also : ErrorKind) → IsRow maximum taken kind → IsRow maximum other also → (kind ≡ EndOfInput → rest ≡ [])
+pub one_row : (maximum : ℤ) (taken rest other more : List ℕ) (kind also : ErrorKind) → FrameRow maximum taken kind → FrameRow maximum other also → (kind ≡ EndOfInput → rest ≡ [])
     → (also ≡ EndOfInput → more ≡ []) → taken ++ rest ≡ other ++ more → (kind ≡ also) × (taken ≡ other)
 one_row maximum taken rest other more kind also p q ends stops e =
     one_on maximum (other ++ more) taken other kind also (subst (λ b. On maximum b taken kind) e (on_all maximum taken rest kind p ends)) (on_all maximum other more also q stops)

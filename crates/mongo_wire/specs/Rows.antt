@@ -54,8 +54,8 @@ pub record NoSections (maximum : ℤ) (taken : List ℕ) (kind : ErrorKind) : Ty
   pub none : (parts : Frame) → IsFrame taken parts → ⊥
   pub kind_is : kind ≡ InvalidResponse Sections
 
-abbrev pub IsRow : ℤ → List ℕ → ErrorKind → Type 0
-IsRow maximum taken kind = ShortHeader taken kind ⊎ (HeaderRow maximum taken kind ⊎ (ShortFrame maximum taken kind ⊎ NoSections maximum taken kind))
+abbrev pub FrameRow : ℤ → List ℕ → ErrorKind → Type 0
+FrameRow maximum taken kind = ShortHeader taken kind ⊎ (HeaderRow maximum taken kind ⊎ (ShortFrame maximum taken kind ⊎ NoSections maximum taken kind))
 
 -- bytes that call for no row yet and aren't a whole frame
 abbrev pub IsUnfinished : ℤ → List ℕ → Type 0
@@ -67,7 +67,7 @@ IsStarted maximum taken = (length taken ≤ header_length) ⊎ (Passes maximum t
 
 -- the bytes that were taken of those that were left call for this row
 abbrev pub TakesRow : ErrorKind → ℤ → Option (List ℕ) → Option (List ℕ) → Type 0
-TakesRow kind maximum old new = (taken : List ℕ) × Consumes old new taken × IsRow maximum taken kind
+TakesRow kind maximum old new = (taken : List ℕ) × Consumes old new taken × FrameRow maximum taken kind
 
 -- nothing is left
 abbrev pub IsEmptied : Option (List ℕ) → Type 0
