@@ -1,6 +1,6 @@
 -- Numbers that stand in bytes, and the bytes that spell them.
-use Rattle.std.proofs.Common.{◌≡◌, ℕ, suc, zero, ◌+◌, ◌*◌, ◌^◌, ◌<◌, ◌≤◌, List, [], ◌∷◌, length, take, drop, get_or, ap, ◌∙◌, FitsSigned, arith, length-drop}
-use Rattle.std.proofs.lemmas.List.{length-take-le, get_or-drop, get_or-take}
+use Rattle.std.proofs.Common.{◌≡◌, ℕ, suc, zero, ◌+◌, ◌*◌, ◌^◌, ◌<◌, ◌≤◌, List, [], ◌∷◌, ◌++◌, length, take, drop, get_or, sym, ap, ◌∙◌, FitsSigned, arith, length-drop}
+use Rattle.std.proofs.lemmas.List.{length-take-le, get_or-drop, get_or-take, take_all, take-append-drop, drop-drop}
 use Rattle.std.proofs.lemmas.Nat.{le_bytes_4}
 use Rattle.std.proofs.lemmas.Int.{of_z-to_z}
 use Rattle.std.proofs.Math.Facts.{sfits_to_z}
@@ -44,3 +44,12 @@ field at bytes small p =
 pub signed_field : (at : ℕ) (bytes : List ℕ) → IsBytes bytes → at + 4 ≤ length bytes → int32 (cast_signed w32 (number_at at bytes)) ≡ take 4 (drop at bytes)
 signed_field at bytes small p =
     ap (to_le_bytes w32) (of_z-to_z w32 (number_at at bytes) (number_fits at bytes small)) ∙ field at bytes small p
+
+-- the four bytes at a place, and the rest
+piece : (at : ℕ) (xs : List ℕ) → drop at xs ≡ take 4 (drop at xs) ++ drop (at + 4) xs
+piece at xs = sym (take-append-drop 4 (drop at xs)) ∙ ap (λ l. take 4 (drop at xs) ++ l) (drop-drop 4 at xs)
+
+pub fours : (head : List ℕ) → length head ≡ 16 → head ≡ take 4 head ++ (take 4 (drop 4 head) ++ (take 4 (drop 8 head) ++ take 4 (drop 12 head)))
+fours head e =
+    let last : drop 12 head ≡ take 4 (drop 12 head) = sym (take_all 4 (drop 12 head) (omega (arith, length-drop 12 head))) in
+    piece 0 head ∙ ap (λ l. take 4 head ++ l) (piece 4 head ∙ ap (λ l. take 4 (drop 4 head) ++ l) (piece 8 head ∙ ap (λ l. take 4 (drop 8 head) ++ l) last))

@@ -7,7 +7,7 @@ use Rattle.std.proofs.KnownBytes.{Consumes-trans}
 use Rattle.std.specs.Io.KnownBytes.{Consumes}
 use Rattle.mongo_wire.specs.Outside.{State, ReadsOn, ReadStops, ConsumesAtMost, ConsumesFewer, RanOut}
 use Rattle.mongo_wire.specs.Frame.{Frame, IsFrame}
-use Rattle.mongo_wire.specs.Header.{signed_at}
+use Rattle.mongo_wire.specs.Header.{signed_at, op_code_of}
 use Rattle.mongo_wire.specs.Rows.{Passes, FrameRow, TakesRow, TakesStarted, TakesUnfinished, IsEmptied, header_row, length_row, code_row}
 use Rattle.mongo_wire.specs.Message.{ReadRefused, IsUnreadable}
 use Rattle.std.proofs.lemmas.List.{drop_at}
@@ -79,6 +79,11 @@ pub header_refused : (kind : ErrorKind) (maximum : ℤ) (old new : State) (head 
 header_refused kind maximum old new head taken sixteen row =
     row_cases (λ k. TakesRow k maximum old.left new.left → ReadRefused k maximum old new) maximum (signed_at 0 head) _ (signed_at 12 head) kind row (λ fault t. t) (λ fault t. t)
     (head, taken, inr (inl (record { header = sixteen; row = row })))
+
+-- the row of an op code that is unknown
+pub unknown_row : (maximum : ℤ) (head : List ℕ) (fault : ResponseFault) → (fault ≡ OpCodeFault (signed_at 12 head)) × (op_code_of (signed_at 12 head) ≡ None) → header_row maximum head ≡ Some (InvalidResponse fault)
+unknown_row maximum head fault (fault_is, unknown) =
+    ap (λ code. length_row maximum (signed_at 0 head) code (signed_at 12 head)) unknown ∙ ap (λ f. Some (InvalidResponse f)) (sym fault_is)
 
 -- ---- what follows the header was refused
 

@@ -191,7 +191,7 @@ row_in maximum xs ys p =
 pub frame_size : (f : List ℕ) (p : Frame) → IsFrame f p → signed_at 0 f ≡ pos (length f)
 frame_size f p is =
     let number : number_at 0 f ≡ length f = ap (number_at 0) is.spelled ∙ number_at_front (uint32 (length f)) (after_length f p is) (omega arith) ∙ from_le_bytes-to_le_bytes_4 (length f) (omega (arith, is.length_fits)) in
-    ap (cast_signed w32) number ∙ to_z_pos w32 (length f) is.length_fits
+    ap (cast_signed w32) number ∙ to_z_pos w32 (length f) (omega (arith, is.length_fits))
 
 pub frame_code : (f : List ℕ) (p : Frame) → IsFrame f p → signed_at 12 f ≡ pos message_code
 frame_code f p is = ap (signed_at 12) is.spelled

@@ -6,12 +6,11 @@ ghost use Rattle.std.specs.Io.KnownBytes.{Consumes};
 ghost use Rattle.mongo_wire.specs.contracts.frame_buffer.FrameBuffer.{the_row};
 ghost use Rattle.mongo_wire.specs.Error.{kind_of_frame_fault};
 ghost use Rattle.mongo_wire.specs.Outside.{State, ReadsOn, HasEnded, HasMore, risen};
-ghost use Rattle.mongo_wire.specs.Header.{maximum_of};
+ghost use Rattle.mongo_wire.specs.Header.{maximum_of, header_bytes};
 ghost use Rattle.mongo_wire.specs.Message.{ReadRefused, IsUnreadable, WhereFrameStands};
 ghost use Rattle.mongo_wire.specs.Ref.{IsFrameRead, ShowsAgain, FoundAgain};
-ghost use Rattle.mongo_wire.specs.Buffer.{IsFrameTaken, HoldsNothing, IsCleared, FindsAgain, TakesAgain, ReadsInto, NextInto, StaysWithin, GrowsFor, frames_taken};
+ghost use Rattle.mongo_wire.specs.Buffer.{IsFrameTaken, IsCleared, FindsAgain, TakesAgain, ReadsInto, NextInto, StaysWithin, GrowsFor, frames_taken};
 
-use crate::header::start_of;
 use crate::held_frame::HeldFrame;
 use crate::reading::{fill_or_end, take_into};
 use crate::{Error, FrameBuffer, FrameFault, Header, MessageRef, ResponseFault, Source};
@@ -124,43 +123,50 @@ impl FrameBuffer {
         self.clear();
         let mut head = [0u8; Header::LENGTH];
         match fill_or_end(source, &mut head) {
-            Ok(true) => match self.take_rest(source, &head, maximum) {
-                Ok(()) => Ok(true),
-                Err(fault) => Err(fault),
+            Ok(true) => match Header::decode(&head) {
+                Ok(header) => match self.take_after(source, header, maximum) {
+                    Ok(()) => Ok(true),
+                    Err(fault) => Err(fault),
+                },
+                Err(fault) => Err(FrameFault::InvalidResponse(fault)),
             },
             Ok(false) => Ok(false),
             Err(fault) => Err(fault),
         }
     }
 
-    // Takes what follows a header that came, into a buffer that holds nothing. `before` is what the source
-    // meant before the header.
-    fn take_rest<S: Source>(
+    /// Takes the rest of a frame whose header was read before, as [`FrameBuffer::take_frame`] takes a whole frame, in every
+    /// refusal but those of the header's own bytes.
+    ///
+    /// So whoever reads headers first, which may be of other op codes, has no bytes to put back. In the clauses `before` is what
+    /// the source meant before the header.
+    pub fn take_after<S: Source>(
         &mut self,
         source: &mut S,
-        head: &[u8; 16],
+        header: Header,
         maximum: Option<i32>,
     ) -> Result<(), FrameFault>
-        requires nothing { HoldsNothing self.old }
-        ensures taken { (before : State) → Consumes before.left (S.state source.old).left head.now → OnOk result (IsFrameTaken (maximum_of maximum) before (S.state source.new) self.new) }
-        ensures refused { (before : State) → Consumes before.left (S.state source.old).left head.now → ReadsOn before (S.state source.old) → IfErr result (λ fault. ReadRefused (kind_of_frame_fault fault) (maximum_of maximum) before (S.state source.new)) }
+        ensures taken { (before : State) → Consumes before.left (S.state source.old).left (header_bytes header) → OnOk result (IsFrameTaken (maximum_of maximum) before (S.state source.new) self.new) }
+        ensures refused { (before : State) → Consumes before.left (S.state source.old).left (header_bytes header) → ReadsOn before (S.state source.old) →
+            IfErr result (λ fault. ReadRefused (kind_of_frame_fault fault) (maximum_of maximum) before (S.state source.new)) }
         ensures counted { OnOk result (frames_taken self.new ≡ risen (frames_taken self.old)) }
         ensures emptied { OnErr result (IsCleared self.old self.new) }
         ensures came { GrowsFor (S.state source.old) (S.state source.new) self.old self.new }
         ensures within { StaysWithin (maximum_of maximum) self.old self.new }
         ensures on { ReadsOn (S.state source.old) (S.state source.new) }
     {
-        let start = match start_of(head, maximum) {
-            Ok(start) => start,
+        self.clear();
+        let rest = match header.rest_within(maximum) {
+            Ok(rest) => rest,
             Err(fault) => return Err(fault),
         };
-        match take_into(source, &mut self.store, 0, start.rest) {
+        match take_into(source, &mut self.store, 0, rest) {
             Ok(()) => {}
             Err(fault) => return Err(fault),
         }
-        match HeldFrame::of(head, start.header, &self.store.as_slice()[..start.rest]) {
+        match HeldFrame::of(header, &self.store.as_slice()[..rest]) {
             Some(frame) => {
-                self.keep(frame, start.rest);
+                self.keep(frame, rest);
                 Ok(())
             }
             None => Err(FrameFault::InvalidResponse(ResponseFault::Sections)),

@@ -1,8 +1,7 @@
-ghost use Rattle.std.specs.Prelude.{◌≡◌, ◌+◌, ◌≤◌, ℤ, pos, ◌≤ℤ◌, length, None, Some, IfOk, IfErr};
+ghost use Rattle.std.specs.Prelude.{◌≡◌, ◌+◌, ◌≤◌, pos, ◌≤ℤ◌, length, None, Some, IfOk, IfErr};
 ghost use Rattle.mongo_wire.specs.Error.{kind_of_frame_fault};
-ghost use Rattle.mongo_wire.specs.Frame.{message_code};
-ghost use Rattle.mongo_wire.specs.Header.{signed_at, number_at, op_code_of, header_with, maximum_of};
-ghost use Rattle.mongo_wire.specs.Rows.{header_row, length_row};
+ghost use Rattle.mongo_wire.specs.Header.{signed_at, number_at, op_code_of, header_with, header_bytes, maximum_of};
+ghost use Rattle.mongo_wire.specs.Rows.{length_row};
 ghost use Rattle.mongo_wire.specs.declared.op_code.OpCode.TheVariants as op_code;
 
 use crate::message::FIRST_MAXIMUM;
@@ -30,6 +29,8 @@ impl Header {
     /// `OpCode(number)` where the op code is none of 1, 2004, 2012 and 2013.
     pub fn decode(bytes: &[u8; 16]) -> Result<Header, ResponseFault>
         ensures header { IfOk result (λ header. (op_code_of (signed_at 12 bytes.now) ≡ Some header.op_code) × (header ≡ header_with bytes.now header.op_code)) }
+        // It is spelled by just these bytes.
+        ensures spelled { IfOk result (λ header. header_bytes header ≡ bytes.now) }
         ensures unknown { IfErr result (λ fault. (fault ≡ ResponseFault.OpCode (signed_at 12 bytes.now)) × (op_code_of (signed_at 12 bytes.now) ≡ None)) }
     {
         let op_code = OpCode::from_i32(signed(bytes, 12))?;
@@ -41,12 +42,12 @@ impl Header {
         })
     }
 
-    // The length of the frame, 16 to the maximum, where an OP_MSG follows. Else the row that the header calls for.
-    pub(crate) fn length_within(&self, maximum: Option<i32>) -> Result<usize, FrameFault>
-        ensures passes { IfOk result (λ n. length_row (maximum_of maximum) self.now.length (Some self.now.op_code) (pos 0) ≡ None) }
-        ensures length { IfOk result (λ n. (pos n ≡ self.now.length) × (16 ≤ n)) }
-        ensures message { IfOk result (λ n. self.now.op_code ≡ op_code.Message) }
-        ensures within { IfOk result (λ n. pos n ≤ℤ maximum_of maximum) }
+    // How many bytes follow the header of an OP_MSG within the maximum. Else the row that the header calls for.
+    pub(crate) fn rest_within(&self, maximum: Option<i32>) -> Result<usize, FrameFault>
+        ensures passes { IfOk result (λ rest. length_row (maximum_of maximum) self.now.length (Some self.now.op_code) (pos 0) ≡ None) }
+        ensures length { IfOk result (λ rest. pos (16 + rest) ≡ self.now.length) }
+        ensures message { IfOk result (λ rest. self.now.op_code ≡ op_code.Message) }
+        ensures within { IfOk result (λ rest. pos (16 + rest) ≤ℤ maximum_of maximum) }
         ensures row { IfErr result (λ fault. length_row (maximum_of maximum) self.now.length (Some self.now.op_code) (pos 0) ≡ Some (kind_of_frame_fault fault)) }
     {
         if self.length > maximum.unwrap_or(FIRST_MAXIMUM) {
@@ -60,38 +61,10 @@ impl Header {
                 if self.length < Header::LENGTH as i32 {
                     Err(FrameFault::InvalidArgument(ArgumentFault::CheckedFailure))
                 } else {
-                    Ok(self.length as usize)
+                    Ok(self.length as usize - Header::LENGTH)
                 }
             }
         }
-    }
-}
-
-// A header that an OP_MSG follows, and how many bytes follow it.
-#[derive(Clone, Copy, Debug)]
-pub(crate) struct FrameStart {
-    pub(crate) header: Header,
-    pub(crate) rest: usize,
-}
-
-// The start of a frame within the maximum. Else the row that the header calls for.
-pub(crate) fn start_of(head: &[u8; 16], maximum: Option<i32>) -> Result<FrameStart, FrameFault>
-    ensures passes { IfOk result (λ start. header_row (maximum_of maximum) head.now ≡ None) }
-    ensures header { IfOk result (λ start. start.header ≡ header_with head.now op_code.Message) }
-    ensures code { IfOk result (λ start. signed_at 12 head.now ≡ pos message_code) }
-    ensures size { IfOk result (λ start. pos (16 + start.rest) ≡ signed_at 0 head.now) }
-    ensures within { IfOk result (λ start. pos (16 + start.rest) ≤ℤ maximum_of maximum) }
-    ensures row { IfErr result (λ fault. header_row (maximum_of maximum) head.now ≡ Some (kind_of_frame_fault fault)) }
-{
-    match Header::decode(head) {
-        Ok(header) => match header.length_within(maximum) {
-            Ok(length) => Ok(FrameStart {
-                header,
-                rest: length - Header::LENGTH,
-            }),
-            Err(fault) => Err(fault),
-        },
-        Err(fault) => Err(FrameFault::InvalidResponse(fault)),
     }
 }
 

@@ -1,7 +1,7 @@
 ghost use Rattle.std.specs.Prelude.{◌≡◌, ◌+◌, ◌≤◌, ◌++◌, ℕ, pos, drop, length, Option, MatchOption};
 ghost use Rattle.mongo_wire.specs.Content.{HasNoSections, LiesAt};
-ghost use Rattle.mongo_wire.specs.Frame.{IsChecksum, message_code};
-ghost use Rattle.mongo_wire.specs.Header.{signed_at, header_with};
+ghost use Rattle.mongo_wire.specs.Frame.{IsChecksum};
+ghost use Rattle.mongo_wire.specs.Header.{header_bytes};
 ghost use Rattle.mongo_wire.specs.declared.op_code.OpCode.TheVariants as op_code;
 
 use crate::Header;
@@ -31,12 +31,10 @@ impl HeldFrame {
     ghost use Rattle.mongo_wire.specs.Held.{NoFrame, IsHeld};
 
     // The frame that a header and what follows it make. None where it isn't in the grammar of OP_MSG.
-    pub(crate) fn of(head: &[u8], header: Header, bytes: &[u8]) -> Option<HeldFrame>
-        requires whole_header { length head.now ≡ 16 }
-        requires header { header ≡ header_with head.now op_code.Message }
-        requires code { signed_at 12 head.now ≡ pos message_code }
-        requires whole { pos (16 + length bytes.now) ≡ signed_at 0 head.now }
-        ensures { MatchOption result (NoFrame (head.now ++ bytes.now)) (IsHeld (head.now ++ bytes.now)) }
+    pub(crate) fn of(header: Header, bytes: &[u8]) -> Option<HeldFrame>
+        requires message { header.op_code ≡ op_code.Message }
+        requires whole { pos (16 + length bytes.now) ≡ header.length }
+        ensures { MatchOption result (NoFrame (header_bytes header ++ bytes.now)) (IsHeld (header_bytes header ++ bytes.now)) }
     {
         if bytes.len() < 4 {
             return None;

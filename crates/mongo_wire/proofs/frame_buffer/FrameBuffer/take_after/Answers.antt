@@ -1,0 +1,99 @@
+use Rattle.std.proofs.Common.{rules, arith, ◌∙◌, ◌≡◌, ◌≤◌, ◌≤ℤ◌, pos, ◌⊎◌, sym, ℕ, ◌-◌, ◌++◌, length, take, inl, subst, ap, vec_capacity}
+use Rattle.std.proofs.lemmas.List.{length-take-le}
+use Rattle.std.specs.Io.KnownBytes.{Consumes}
+use Rattle.mongo_wire.specs.Error.{kind_of_frame_fault}
+use Rattle.mongo_wire.specs.Outside.{ReadStops, risen}
+use Rattle.mongo_wire.specs.Header.{maximum_of, header_bytes}
+use Rattle.mongo_wire.specs.Buffer.{memory_of}
+use Rattle.mongo_wire.specs.Held.{NoFrame, IsHeld}
+use Rattle.mongo_wire.proofs.Found.{parts_lie}
+use Rattle.mongo_wire.proofs.ReadStopped.{reads_still}
+use Rattle.mongo_wire.proofs.HeaderBack.{sixteen_bytes, length_back, row_back}
+use Rattle.mongo_wire.proofs.FrameRead.{header_refused, within_rest, rest_stopped, sections_refused, frame_taken}
+use Rattle.mongo_wire.proofs.frame_buffer.FrameBuffer.take_after.Goals as goal
+
+-- nothing comes before what is wanted
+whole : (n : ℕ) → n - 0 ≡ n
+whole n = omega arith
+
+pub returns-in-Err-clause-refused : goal.returns-in-Err-clause-refused
+returns-in-Err-clause-refused g c = λ before p on.
+    header_refused (kind_of_frame_fault c.in-Err.fault) (maximum_of c.args.maximum) before _ (header_bytes c.args.header) p (sixteen_bytes c.args.header) (row_back (maximum_of c.args.maximum) c.args.header (search rules) ∙ c.in-Err.ensures.row)
+
+pub returns-in-Err-take_into-clause-refused : goal.returns-in-Err-take_into-clause-refused
+returns-in-Err-take_into-clause-refused g c = λ before p on.
+    let start = c.in-Ok.ensures in
+    let refused = c.in-Err-take_into.ensures in
+    let state = g.S.Outside.state in
+    let stops = subst (λ n. ReadStops (kind_of_frame_fault c.in-Err-take_into.fault) (state c.args.source.now) (state c.take_into.new.source) n) (whole c.in-Ok.rest) refused.refused in
+    rest_stopped (kind_of_frame_fault c.in-Err-take_into.fault) (maximum_of c.args.maximum) before _ _ (header_bytes c.args.header) c.in-Ok.rest p on refused.on.tells (sixteen_bytes c.args.header) (row_back (maximum_of c.args.maximum) c.args.header (search rules) ∙ start.passes) (start.length ∙ sym (length_back c.args.header (search rules))) refused.some stops
+
+pub returns-in-None-clause-refused : goal.returns-in-None-clause-refused
+returns-in-None-clause-refused g c = λ before p on.
+    let start = c.in-Ok.ensures in
+    let rest = c.in-Ok.rest in
+    let bytes = take rest c.take_into.new.store.items in
+    let size : length bytes ≡ rest = length-take-le rest c.take_into.new.store.items c.in-Ok-take_into.ensures.all in
+    let state = g.S.Outside.state in
+    let taken = subst (λ n. Consumes (state c.args.source.now).left (state c.take_into.new.source).left (take n c.take_into.new.store.items)) (whole rest) c.in-Ok-take_into.ensures.taken in
+    sections_refused (maximum_of c.args.maximum) before (state c.args.source.now) (state c.take_into.new.source) (header_bytes c.args.header) bytes p taken (sixteen_bytes c.args.header) (row_back (maximum_of c.args.maximum) c.args.header (search rules) ∙ start.passes) (rw size (start.length ∙ sym (length_back c.args.header (search rules))))
+    (subst (λ s. NoFrame (header_bytes c.args.header ++ take rest s)) c.as_slice.ensures.value c.in-None.ensures)
+
+pub keep-requires-clause-lies : goal.keep-requires-clause-lies
+keep-requires-clause-lies g c =
+    parts_lie c.args.header _ c.in-Some.frame (subst (λ s. IsHeld (header_bytes c.args.header ++ take c.in-Ok.rest s) c.in-Some.frame) c.as_slice.ensures.value c.in-Some.ensures)
+
+pub returns-in-Some-clause-taken : goal.returns-in-Some-clause-taken
+returns-in-Some-clause-taken g c = λ before p.
+    let rest = c.in-Ok.rest in
+    let bytes = take rest c.take_into.new.store.items in
+    let size : length bytes ≡ rest = length-take-le rest c.take_into.new.store.items c.in-Ok-take_into.ensures.all in
+    let state = g.S.Outside.state in
+    let taken = subst (λ n. Consumes (state c.args.source.now).left (state c.take_into.new.source).left (take n c.take_into.new.store.items)) (whole rest) c.in-Ok-take_into.ensures.taken in
+    frame_taken (maximum_of c.args.maximum) before (state c.args.source.now) (state c.take_into.new.source) (header_bytes c.args.header) bytes rest c.in-Some.frame c.keep.new.self p taken (sixteen_bytes c.args.header) size c.in-Ok.ensures.within
+    (subst (λ s. IsHeld (header_bytes c.args.header ++ take rest s) c.in-Some.frame) c.as_slice.ensures.value c.in-Some.ensures) c.keep.ensures.last c.keep.ensures.held
+
+pub returns-in-Err-take_into-clause-came : goal.returns-in-Err-take_into-clause-came
+returns-in-Err-take_into-clause-came g c = λ had left had_is left_is. omega (arith, ap (λ s. vec_capacity s) c.clear.ensures.store, c.in-Err-take_into.ensures.came had left had_is left_is)
+
+pub returns-in-Some-clause-came : goal.returns-in-Some-clause-came
+returns-in-Some-clause-came g c = λ had left had_is left_is. omega (arith, ap (λ s. vec_capacity s) c.clear.ensures.store, c.keep.ensures.memory, c.in-Ok-take_into.ensures.came had left had_is left_is)
+
+pub returns-in-None-clause-came : goal.returns-in-None-clause-came
+returns-in-None-clause-came g c = λ had left had_is left_is. omega (arith, ap (λ s. vec_capacity s) c.clear.ensures.store, c.in-Ok-take_into.ensures.came had left had_is left_is)
+
+pub returns-in-Err-clause-on : goal.returns-in-Err-clause-on
+returns-in-Err-clause-on g c = reads_still (g.S.Outside.state c.args.source.now)
+
+pub returns-in-Err-take_into-clause-on : goal.returns-in-Err-take_into-clause-on
+returns-in-Err-take_into-clause-on g c = c.in-Err-take_into.ensures.on
+
+pub returns-in-None-clause-on : goal.returns-in-None-clause-on
+returns-in-None-clause-on g c = c.in-Ok-take_into.ensures.on
+
+pub returns-in-Some-clause-on : goal.returns-in-Some-clause-on
+returns-in-Some-clause-on g c = c.in-Ok-take_into.ensures.on
+
+pub returns-in-Some-clause-counted : goal.returns-in-Some-clause-counted
+returns-in-Some-clause-counted g c = c.keep.ensures.frames ∙ ap risen c.clear.ensures.frames
+
+pub returns-in-Err-clause-came : goal.returns-in-Err-clause-came
+returns-in-Err-clause-came g c = λ had left had_is left_is. omega (arith, ap (λ s. vec_capacity s) c.clear.ensures.store)
+
+pub returns-in-Err-clause-within : goal.returns-in-Err-clause-within
+returns-in-Err-clause-within g c = inl (omega (arith, ap (λ s. vec_capacity s) c.clear.ensures.store))
+
+pub returns-in-Err-clause-emptied : goal.returns-in-Err-clause-emptied
+returns-in-Err-clause-emptied g c = record { nothing = c.clear.ensures.nothing; frames = c.clear.ensures.frames }
+
+pub returns-in-Err-take_into-clause-within : goal.returns-in-Err-take_into-clause-within
+returns-in-Err-take_into-clause-within g c = within_rest (maximum_of c.args.maximum) _ _ c.in-Ok.rest c.in-Ok.ensures.within (omega (arith, ap (λ s. vec_capacity s) c.clear.ensures.store, c.in-Err-take_into.ensures.wanted))
+
+pub returns-in-None-clause-within : goal.returns-in-None-clause-within
+returns-in-None-clause-within g c = within_rest (maximum_of c.args.maximum) _ _ c.in-Ok.rest c.in-Ok.ensures.within (omega (arith, ap (λ s. vec_capacity s) c.clear.ensures.store, c.in-Ok-take_into.ensures.wanted))
+
+pub returns-in-Some-clause-within : goal.returns-in-Some-clause-within
+returns-in-Some-clause-within g c =
+    let maximum = maximum_of c.args.maximum in
+    let had = memory_of c.args.self.now in
+    subst (λ memory. (memory ≤ had) ⊎ (pos memory ≤ℤ maximum)) (sym c.keep.ensures.memory) (within_rest maximum had _ c.in-Ok.rest c.in-Ok.ensures.within (omega (arith, ap (λ s. vec_capacity s) c.clear.ensures.store, c.in-Ok-take_into.ensures.wanted)))
