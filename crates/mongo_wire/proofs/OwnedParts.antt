@@ -1,8 +1,8 @@
 -- What was copied of sections is what they hold.
-use Rattle.std.proofs.Common.{◌≡◌, ◌≢◌, ℕ, List, [], ◌∷◌, ◌++◌, refl, sym, ap, ◌∙◌, subst, arith, append-nil, append_assoc}
+use Rattle.std.proofs.Common.{◌≡◌, ◌≢◌, ◌+◌, ◌≤◌, ℕ, length, length-append, List, [], ◌∷◌, ◌++◌, refl, sym, ap, ◌∙◌, subst, arith, append-nil, append_assoc}
 use Rattle.std.specs.List.{AllByRecursion, flat_map}
 use Rattle.mongo_bson.specs.Framed.{IsFramed}
-use Rattle.mongo_wire.specs.Frame.{Section, body, sequence, IsSection, IsSequence, section_bytes, sequences_of}
+use Rattle.mongo_wire.specs.Frame.{Section, body, sequence, IsSection, IsSequence, section_bytes, bodies, sequences_of}
 use Rattle.mongo_bson.specs.declared.raw_document.RawDocument.{RawDocument}
 use Rattle.mongo_wire.specs.Sections.{AreDocuments, HasNoDocument, BeginsWithSection, SplitsSequenceSection, AreSections, HasNoSection, Shows, ShowsSequence}
 use Rattle.mongo_wire.specs.declared.sections.SectionRef.TheVariants.{Body, Sequence}
@@ -82,6 +82,22 @@ owned_stop bytes rest sequences (ss, each, spelled) so some none =
     stop : (us : List Section) → AllByRecursion IsSection us → rest ≡ flat_map section_bytes us ++ [] → ⊥
     stop [] all left = some left
     stop (u ∷ us) all left = none u (flat_map section_bytes us ++ []) all.0 (left ∙ append_assoc (section_bytes u) (flat_map section_bytes us) [])
+
+-- the bodies' sections are no longer than all sections
+bodies_within : (ss : List Section) → length (flat_map (λ d. 0 ∷ d) (bodies ss)) ≤ length (flat_map section_bytes ss)
+bodies_within [] = omega arith
+bodies_within (body d ∷ ss) = omega (arith, bodies_within ss, length-append (0 ∷ d) (flat_map section_bytes ss), length-append (0 ∷ d) (flat_map (λ d. 0 ∷ d) (bodies ss)))
+bodies_within (sequence s ∷ ss) = omega (arith, bodies_within ss, length-append (section_bytes (sequence s)) (flat_map section_bytes ss))
+
+-- they are all there is where they are as long
+no_sequences : (ss : List Section) → length (flat_map section_bytes ss) ≤ length (flat_map (λ d. 0 ∷ d) (bodies ss)) → sequences_of ss ≡ []
+no_sequences [] within = refl
+no_sequences (body d ∷ ss) within = no_sequences ss (omega (arith, within, length-append (0 ∷ d) (flat_map section_bytes ss), length-append (0 ∷ d) (flat_map (λ d. 0 ∷ d) (bodies ss))))
+no_sequences (sequence s ∷ ss) within = absurd (omega (arith, within, bodies_within ss, length-append (section_bytes (sequence s)) (flat_map section_bytes ss)))
+
+pub only_body : (ss : List Section) (b : List ℕ) → bodies ss ≡ b ∷ [] → length (flat_map section_bytes ss) ≤ 1 + length b → sequences_of ss ≡ []
+only_body ss b one within =
+    no_sequences ss (omega (arith, within, ap (λ bs. length (flat_map (λ d. 0 ∷ d) bs)) one, length-append (0 ∷ b) []))
 
 -- ---- documents
 

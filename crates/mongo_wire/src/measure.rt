@@ -13,7 +13,7 @@ use crate::{ArgumentFault, DocumentSequence, Header, Message};
 pub(crate) const FLAGS_END: usize = Header::LENGTH + 4;
 
 // How many bytes a section's kind takes.
-const KIND_LENGTH: usize = 1;
+pub(crate) const KIND_LENGTH: usize = 1;
 
 // How many bytes a checksum takes.
 const CHECKSUM_LENGTH: u64 = 4;

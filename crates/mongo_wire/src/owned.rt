@@ -1,16 +1,17 @@
-ghost use Rattle.std.specs.Prelude.{◌≡◌, ℕ, List, flat_map, IfOk, IfErr};
+ghost use Rattle.std.specs.Prelude.{◌≡◌, [], ◌∷◌, ℕ, List, flat_map, IfOk, IfErr};
 ghost use Rattle.std.specs.List.{AllByRecursion};
 ghost use Rattle.mongo_bson.specs.Framed.{IsFramed};
-ghost use Rattle.mongo_wire.specs.Frame.{Frame, Section, IsSection, IsSequence, section_bytes, sequences_of};
+ghost use Rattle.mongo_wire.specs.Frame.{Frame, Section, IsSection, IsSequence, section_bytes, bodies, sequences_of};
 ghost use Rattle.mongo_wire.specs.Sections.{AreDocuments, AreSections, ShowsSequence};
 ghost use Rattle.mongo_wire.specs.Buffer.{HoldsFrame};
 ghost use Rattle.mongo_wire.specs.Ref.{IsOwned};
 ghost use Rattle.mongo_wire.specs.declared.error.ErrorKind.TheVariants.{OutOfMemory};
 ghost use Rattle.mongo_wire.specs.declared.document_sequence.DocumentSequence.{DocumentSequence as SequenceValue};
 
+use crate::measure::KIND_LENGTH;
 use crate::sections::{SectionRef, SequenceRef, split_section, take_document};
 use crate::{DocumentSequence, Error, FrameBuffer, Message, Sequences};
-use mongo_bson::{BsonFault, Documents, Text};
+use mongo_bson::{BsonFault, Documents, RawDocument, Text};
 use std::alloc::Global;
 
 // A message of its own from the buffer that holds its frame. Its body keeps the buffer's memory.
@@ -26,7 +27,7 @@ pub(crate) fn owned_message(alloc: Global, buffer: FrameBuffer) -> Result<Messag
     let response_to = message.header.response_to;
     let flags = message.flags;
     let checksum = message.checksum;
-    let document_sequences = owned_sequences(alloc, message.sections)?;
+    let document_sequences = sequences_beside(alloc, message.document_payload, message.sections)?;
     Ok(Message {
         document_payload: buffer.into_document(),
         document_sequences,
@@ -35,6 +36,25 @@ pub(crate) fn owned_message(alloc: Global, buffer: FrameBuffer) -> Result<Messag
         checksum,
         request_id: None,
     })
+}
+
+// The sequences of the sections that fill the bytes and of which this is the only body.
+fn sequences_beside(
+    alloc: Global,
+    body: RawDocument<'_>,
+    bytes: &[u8],
+) -> Result<Sequences, BsonFault>
+    requires { AreSections bytes.now }
+    ensures copied { (sections : List Section) → AllByRecursion IsSection sections → bodies sections ≡ body.entry.bytes.now ∷ [] → bytes.now ≡ flat_map section_bytes sections →
+        IfOk result (λ sequences. sequences ≡ sequences_of sections) }
+    ensures refused { IfErr result (λ fault. fault ≡ BsonFault.OutOfMemory) }
+{
+    // Sections are walked once, to judge them, unless there are sequences: their copies wait until all of the frame is judged.
+    if bytes.len() == KIND_LENGTH + body.as_bytes().len() {
+        Ok(Sequences::new(alloc))
+    } else {
+        owned_sequences(alloc, bytes)
+    }
 }
 
 // The sequences of the sections that fill the bytes.

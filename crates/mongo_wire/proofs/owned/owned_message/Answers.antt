@@ -1,4 +1,4 @@
-use Rattle.std.proofs.Common.{to_z, of_z, refl, ap, ◌∙◌}
+use Rattle.std.proofs.Common.{to_z, of_z, refl, sym, ap, ◌∙◌, [], ◌∷◌}
 use Rattle.std.proofs.lemmas.Bool.{false≢true}
 use Rattle.std.proofs.lemmas.Int.{to_z-of_z}
 use Rattle.std.specs.Int.{w32}
@@ -9,8 +9,8 @@ unreachable-requires c =
     let (frame, parts, holds) = c.requires.holds in
     absurd (false≢true (c.in-None.ensures.some frame parts holds))
 
-pub owned_sequences-requires : goal.owned_sequences-requires
-owned_sequences-requires c =
+pub sequences_beside-requires : goal.sequences_beside-requires
+sequences_beside-requires c =
     let (frame, parts, holds) = c.requires.holds in
     let shown = c.in-Some.ensures.shown frame parts holds in
     (shown.is_frame.sections, shown.is_frame.each, shown.sections_are)
@@ -22,7 +22,7 @@ pub returns-clause-copied : goal.returns-clause-copied
 returns-clause-copied c = λ frame parts holds.
     let shown = c.in-Some.ensures.shown frame parts holds in
     let is = shown.is_frame in
-    let copied = c.in_ok-document_sequences.ensures.copied is.sections is.each shown.sections_are in
+    let copied = c.in_ok-document_sequences.ensures.copied is.sections is.each (is.one_body ∙ ap (λ b. b ∷ []) (sym shown.body_is)) shown.sections_are in
     record {
       body_is = c.into_document.ensures.document frame parts holds;
       sequences_are = copied ∙ is.sequences_are;
