@@ -2,7 +2,7 @@
 use Rattle.std.proofs.Common.{of_z, ◌≡◌, ℕ, ℤ, pos, ◌+◌, ◌-◌, ◌≤◌, slice_range, Option, Some, List, [], ◌∷◌, ◌++◌, length, take, drop, refl, sym, ap, ◌∙◌, subst, bit_and, FitsSigned, arith}
 use Rattle.std.specs.List.{AllByRecursion, flat_map}
 use Rattle.std.specs.Int.{to_le_bytes, w32}
-use Rattle.std.proofs.lemmas.List.{take_all, take-take, drop-drop, drop_at, drop-take, take-append-drop, length-append, length-drop, length-take-le, append_assoc}
+use Rattle.std.proofs.lemmas.List.{take-take, drop_at, drop-take, length-append, length-drop, length-take-le, append_assoc}
 use Rattle.std.proofs.lemmas.List.Edits.{take-paste}
 use Rattle.std.proofs.Math.Seq.{paste}
 use Rattle.mongo_wire.specs.Buffer.{HoldsFrame}

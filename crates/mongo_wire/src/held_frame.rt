@@ -6,6 +6,7 @@ ghost use Rattle.mongo_wire.specs.declared.op_code.OpCode.TheVariants as op_code
 
 use crate::Header;
 use crate::header::number;
+use crate::measure::{CHECKSUM_LENGTH, FLAGS_LENGTH, KIND_LENGTH};
 use crate::sections::{SectionRef, take_section};
 
 // Where the parts of a frame lie in the bytes after its header: the only body, and the sections, which begin at 4, after
@@ -36,7 +37,7 @@ impl HeldFrame {
         requires whole { pos (16 + length bytes.now) ≡ header.length }
         ensures { MatchOption result (NoFrame (header_bytes header ++ bytes.now)) (IsHeld (header_bytes header ++ bytes.now)) }
     {
-        if bytes.len() < 4 {
+        if bytes.len() < FLAGS_LENGTH {
             return None;
         }
         let word = number(bytes, 0);
@@ -54,16 +55,16 @@ impl HeldFrame {
     }
 }
 
-// Where the sections that follow the flags lie, one of them with a body. At most 4 bytes may follow them, too few for
-// another one.
+// Where the sections that follow the flags lie, one of them with a body. A checksum's bytes at most may follow them, too few
+// for another one.
 fn find_sections(bytes: &[u8]) -> Option<Offsets>
     requires { 4 ≤ length bytes.now }
     ensures { MatchOption result (HasNoSections (drop 4 bytes.now)) (LiesAt bytes.now) }
 {
-    let (_flags, sections) = bytes.split_at(4);
+    let (_flags, sections) = bytes.split_at(FLAGS_LENGTH);
     let mut rest = sections;
     let mut body = None;
-    'sections: while rest.len() > 4 {
+    'sections: while rest.len() > CHECKSUM_LENGTH {
         match take_section(rest) {
             Some((SectionRef::Sequence(_sequence), after)) => rest = after,
             Some((SectionRef::Body(_document), after)) => {
@@ -71,7 +72,7 @@ fn find_sections(bytes: &[u8]) -> Option<Offsets>
                     return None;
                 }
                 body = Some(Offsets {
-                    body_start: bytes.len() - rest.len() + 1,
+                    body_start: bytes.len() - rest.len() + KIND_LENGTH,
                     body_end: bytes.len() - after.len(),
                     sections_end: bytes.len() - after.len(),
                 });
@@ -97,7 +98,7 @@ fn read_checksum(word: u32, tail: &[u8]) -> Option<Option<u32>>
     if tail.is_empty() {
         return Some(None);
     }
-    if tail.len() != 4 {
+    if tail.len() != CHECKSUM_LENGTH {
         return None;
     }
     if word % 2 == 1 {

@@ -28,7 +28,6 @@ mod fault;
 mod frame_buffer;
 mod frames;
 mod header;
-mod header_bytes;
 mod held_frame;
 mod joined_document;
 mod measure;

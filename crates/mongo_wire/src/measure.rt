@@ -6,17 +6,20 @@ ghost use Rattle.mongo_wire.specs.Header.{maximum_of};
 ghost use Rattle.mongo_wire.specs.Message.{Fits, ArgumentRow, frame_length, sections_of, checksum_bytes};
 ghost use Rattle.mongo_wire.specs.Measure.{IsWithoutZero, HasIdentifier, HasCountedSize, HoldsDocuments, sequences_bytes};
 
-use crate::message::FIRST_MAXIMUM;
+use crate::message::DEFAULT_MAX_MESSAGE_SIZE_BYTES;
 use crate::{ArgumentFault, DocumentSequence, Header, Message};
 
+// How many bytes the flags take.
+pub(crate) const FLAGS_LENGTH: usize = 4;
+
 // Where a frame's flags end and its sections begin.
-pub(crate) const FLAGS_END: usize = Header::LENGTH + 4;
+pub(crate) const FLAGS_END: usize = Header::LENGTH + FLAGS_LENGTH;
 
 // How many bytes a section's kind takes.
 pub(crate) const KIND_LENGTH: usize = 1;
 
 // How many bytes a checksum takes.
-const CHECKSUM_LENGTH: u64 = 4;
+pub(crate) const CHECKSUM_LENGTH: usize = 4;
 
 // The length of the message's frame, where it can be written within the maximum.
 //
@@ -35,7 +38,7 @@ pub(crate) fn measured(message: &Message, maximum: Option<i32>) -> Result<u32, A
     let Some(size) = sequences_size(sequences) else {
         return Err(ArgumentFault::SequenceTooLong);
     };
-    let maximum = maximum.unwrap_or(FIRST_MAXIMUM);
+    let maximum = maximum.unwrap_or(DEFAULT_MAX_MESSAGE_SIZE_BYTES);
     if maximum < 0 {
         return Err(ArgumentFault::MaximumNegative);
     }
@@ -52,12 +55,12 @@ fn whole_length(body: usize, sequences: u64, checksum: Option<u32>) -> u64
     requires { body ≤ maximum_length }
     ensures { result ≡ min (21 + body + sequences + length (checksum_bytes checksum)) (2 ^ 64 - 1) }
 {
-    let with_body = (FLAGS_END + KIND_LENGTH + body) as u64;
+    let with_body = FLAGS_END + KIND_LENGTH + body;
     let rest = match checksum {
         Some(_) => with_body + CHECKSUM_LENGTH,
         None => with_body,
     };
-    sequences.saturating_add(rest)
+    sequences.saturating_add(rest as u64)
 }
 
 // Whether no identifier holds a zero byte.

@@ -15,7 +15,7 @@ use mongo_bson::{BsonFault, RawDocumentBuf};
 use std::alloc::Global;
 
 /// The greatest frame where no maximum is given: 48 MiB.
-pub const FIRST_MAXIMUM: i32 = 50_331_648;
+pub(crate) const DEFAULT_MAX_MESSAGE_SIZE_BYTES: i32 = 50_331_648;
 
 /// An OP_MSG.
 #[derive(Debug, Drop)]

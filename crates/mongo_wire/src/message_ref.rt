@@ -3,6 +3,7 @@ ghost use Rattle.mongo_wire.specs.Frame.{Frame};
 ghost use Rattle.mongo_wire.specs.Held.{IsHeldFrame, LiesIn};
 
 use crate::held_frame::HeldFrame;
+use crate::measure::FLAGS_LENGTH;
 use crate::{Header, MessageFlags};
 use bitflags::Flags;
 use mongo_bson::RawDocument;
@@ -32,7 +33,7 @@ impl<'b> MessageRef<'b> {
         ensures document { result.document_payload.bytes.now ≡ slice_range bytes.now held.offsets.body_start held.offsets.body_end }
     {
         let document = &bytes[held.offsets.body_start..held.offsets.body_end];
-        let sections = &bytes[4..held.offsets.sections_end];
+        let sections = &bytes[FLAGS_LENGTH..held.offsets.sections_end];
         match RawDocument::from_bytes(document) {
             Ok(document_payload) => MessageRef {
                 header: held.header,

@@ -9,7 +9,7 @@ ghost use Rattle.mongo_wire.specs.declared.fault.ArgumentFault.{ArgumentFault};
 ghost use Rattle.mongo_wire.specs.declared.error.ErrorKind.TheVariants.{InvalidArgument};
 
 use crate::measure::FLAGS_END;
-use crate::message::FIRST_MAXIMUM;
+use crate::message::DEFAULT_MAX_MESSAGE_SIZE_BYTES;
 use crate::write_message::message_header;
 use crate::writing::{flush_out, write_pieces};
 use crate::{ArgumentFault, Error, ErrorKind, MessageFlags, Sink};
@@ -55,7 +55,7 @@ fn sections_length(sections: &[u8], maximum: Option<i32>) -> Result<u32, Argumen
     ensures counted { IfOk result (λ size. (size ≡ 20 + length sections.now) × (size ≤ maximum_length)) }
     ensures refused { IfErr result (λ fault. SectionsRow fault (maximum_of maximum) sections.now) }
 {
-    let maximum = maximum.unwrap_or(FIRST_MAXIMUM);
+    let maximum = maximum.unwrap_or(DEFAULT_MAX_MESSAGE_SIZE_BYTES);
     if maximum < 0 {
         return Err(ArgumentFault::MaximumNegative);
     }

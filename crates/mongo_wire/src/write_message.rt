@@ -8,7 +8,7 @@ ghost use Rattle.mongo_wire.specs.Frame.{sequence_bytes, int32, uint32, message_
 ghost use Rattle.mongo_wire.specs.Message.{frame_length, before_checksum, checksum_bytes};
 ghost use Rattle.mongo_wire.specs.Measure.{HasCountedSize, documents_bytes, sequence_section, sequences_bytes};
 
-use crate::header_bytes::numbers_bytes;
+use crate::header::numbers_bytes;
 use crate::writing::{write_out, write_pieces};
 use crate::{DocumentSequence, Error, Message, MessageFlags, OpCode, Sink};
 use mongo_bson::RawDocumentBuf;

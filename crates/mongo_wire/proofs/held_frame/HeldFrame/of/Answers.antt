@@ -9,7 +9,7 @@ returns-in_err-offsets c = rw c.from_residual.ensures (no_frame c.args.header c.
 pub returns-in-Some : goal.returns-in-Some
 returns-in-Some c =
     let bytes = c.args.bytes.now in
-    let content = content_found bytes c.split_at.result.1.now c.in_ok-offsets.offsets c.number-word.result c.in-Some.checksum (λ i. (c.type_inv.bytes i).fits) c.if-bytes-lt4.false c.in_ok-offsets.ensures c.split_at.ensures.back c.in-Some.ensures c.number-word.ensures in
+    let content = content_found bytes c.split_at.result.1.now c.in_ok-offsets.offsets c.number-word.result c.in-Some.checksum (λ i. (c.type_inv.bytes i).fits) c.if-bytes-lt-FLAGS_LENGTH.false c.in_ok-offsets.ensures c.split_at.ensures.back c.in-Some.ensures c.number-word.ensures in
     frame_found c.args.header bytes c.number-word.result c.in-Some.checksum c.in_ok-offsets.offsets (search rules) (search rules) (search rules) c.requires.message c.requires.whole content
 
 pub returns-in-None : goal.returns-in-None
