@@ -5,13 +5,13 @@ use Rattle.std.specs.Io.KnownBytes.{Appends, Consumes, Keeps}
 use Rattle.mongo_wire.specs.declared.error.ErrorKind.{ErrorKind}
 use Rattle.mongo_wire.specs.declared.error.ErrorKind.TheVariants.{ReadFault, WriteFault, EndOfInput, OutOfMemory}
 
--- a count rose, or stands at its last value
-abbrev pub Rose : ℕ → ℕ → Type 0
-Rose before now = min (before + 1) (2 ^ 64 - 1) ≤ now
-
 -- one more, or the last value
 abbrev pub risen : ℕ → ℕ
 risen count = min (count + 1) (2 ^ 64 - 1)
+
+-- a count rose, or stands at its last value
+abbrev pub Rose : ℕ → ℕ → Type 0
+Rose before now = risen before ≤ now
 
 -- What an object outside means at a moment: the bytes that it has left and those written to it, where it tells them, how
 -- many of these are flushed, and its counts. A source has written nothing, and a sink has nothing left.
@@ -22,6 +22,10 @@ pub record State : Type 0 where
   pub written : Option (List ℕ)
   pub flushed : ℕ
   pub write_faults : ℕ
+
+-- what an object means that tells nothing: its counts
+abbrev pub untold : ℕ → ℕ → ℕ → State
+untold read_faults ends write_faults = record { left = None; read_faults = read_faults; ends = ends; written = None; flushed = 0; write_faults = write_faults }
 
 -- a write leaves what is left to be read as it is
 pub record Unread (old new : State) : Type 0 where
