@@ -1,7 +1,7 @@
 -- What the small reads of a source answer.
 use Rattle.std.specs.Prelude.{◌≡◌, ℕ, ℤ, pos, ◌<◌, ◌≤◌, ◌<ℤ◌, ◌≤ℤ◌, ◌⊎◌, Option, None, Some, List, length, ⊤}
 use Rattle.std.specs.Io.KnownBytes.{Consumes}
-use Rattle.mongo_wire.specs.Outside.{State, Rose, ConsumesFewer, RanOut}
+use Rattle.mongo_wire.specs.Outside.{State, Rose, ReadStops}
 use Rattle.mongo_wire.specs.Header.{header_length, number_at, signed_at, op_code_of, header_with}
 use Rattle.mongo_wire.specs.Rows.{IsEmptied}
 use Rattle.mongo_wire.specs.declared.header.Header.{Header}
@@ -18,9 +18,7 @@ IsOfSource kind = ⊥
 
 -- Why filling so many bytes was refused, and what it has consumed. It takes no memory.
 abbrev pub FillStops : ErrorKind → State → State → ℕ → Type 0
-FillStops ReadFault old new wanted = Rose old.read_faults new.read_faults × ConsumesFewer old.left new.left wanted
-FillStops EndOfInput old new wanted = Rose old.ends new.ends × RanOut old.left new.left wanted
-FillStops kind old new wanted = ⊥
+FillStops kind old new wanted = IsOfSource kind × ReadStops kind old new wanted
 
 -- ---- headers
 

@@ -15,7 +15,8 @@
 //! `specs/Rows.antt` that the bytes call for; what was taken by then is said, and nothing past it is read. A write appends
 //! just the message's frame and flushes it, or leaves a front of it. A fault of the outside is answered only where its count rose.
 //!
-//! A call that takes an allocator may answer want of memory; where nothing else is said, that is its only refusal.
+//! A call that reads into memory or copies may answer want of memory, in the place of any other answer; where nothing else is
+//! said, that is its only refusal.
 #![tactic(auto)]
 
 mod auth_fault;

@@ -12,7 +12,7 @@ const PIECE: usize = 4096;
 /// Fills the buffer with the next bytes of the source.
 ///
 /// `ReadFault` where the source failed, `EndOfInput` where it ended before the buffer was full.
-pub fn fill<S: Source>(source: &mut S, buf: &mut [u8]) -> Result<(), FrameFault>
+pub(crate) fn fill<S: Source>(source: &mut S, buf: &mut [u8]) -> Result<(), FrameFault>
     ensures filled { OnOk result (Consumes (S.state source.old).left (S.state source.new).left buf.new) }
     ensures refused { IfErr result (λ fault. ReadStops (kind_of_frame_fault fault) (S.state source.old) (S.state source.new) (length buf.old)) }
     ensures of_source { IfErr result (λ fault. IsOfSource (kind_of_frame_fault fault)) }

@@ -93,6 +93,12 @@ impl WriteConcernError {
     }
 }
 
+impl TryClone for WriteConcernError {
+    fn try_clone(&self, alloc: Global) -> Result<WriteConcernError, BsonFault> {
+        WriteConcernError::try_clone(self, alloc)
+    }
+}
+
 /// Why a single write was refused.
 #[derive(Debug, Drop)]
 pub enum WriteFailureCause {
@@ -179,14 +185,9 @@ impl InsertManyError {
         ensures copied { IfOk result (λ error. error ≡ self.now) }
         ensures refused { IfErr result (λ fault. fault ≡ BsonFault.OutOfMemory) }
     {
-        let write_errors = copy_of(alloc, &self.write_errors)?;
-        let write_concern_error = match &self.write_concern_error {
-            Some(error) => Some(error.try_clone(alloc)?),
-            None => None,
-        };
         Ok(InsertManyError {
-            write_errors,
-            write_concern_error,
+            write_errors: copy_of(alloc, &self.write_errors)?,
+            write_concern_error: copy_of(alloc, &self.write_concern_error)?,
             labels: self.labels.try_clone(alloc)?,
         })
     }

@@ -26,7 +26,7 @@ pub fn write_all<K: Sink>(sink: &mut K, bytes: &[u8]) -> Result<(), SinkError>
 /// Writes all bytes to the sink, as [`write_all`], and answers the error of this crate.
 ///
 /// `WriteFault` where the sink failed, `OutOfMemory` where it wanted memory; a front of the bytes is written then.
-pub fn write_out<K: Sink>(sink: &mut K, bytes: &[u8]) -> Result<(), Error>
+pub(crate) fn write_out<K: Sink>(sink: &mut K, bytes: &[u8]) -> Result<(), Error>
     ensures written { OnOk result (Appends (K.state sink.old).written (K.state sink.new).written bytes.now) }
     ensures refused { IfErr result (λ e. WriteStops e.kind (K.state sink.old) (K.state sink.new) bytes.now) }
     ensures on { WritesOn (K.state sink.old) (K.state sink.new) }
@@ -40,7 +40,7 @@ pub fn write_out<K: Sink>(sink: &mut K, bytes: &[u8]) -> Result<(), Error>
 /// Flushes the sink.
 ///
 /// `WriteFault` where the sink failed, `OutOfMemory` where it wanted memory.
-pub fn flush_out<K: Sink>(sink: &mut K) -> Result<(), Error>
+pub(crate) fn flush_out<K: Sink>(sink: &mut K) -> Result<(), Error>
     ensures flushed { OnOk result (IsFlushed (K.state sink.new)) }
     ensures kept { Keeps (K.state sink.old).written (K.state sink.new).written }
     ensures refused { IfErr result (λ e. WriteStops e.kind (K.state sink.old) (K.state sink.new) []) }
@@ -55,7 +55,7 @@ pub fn flush_out<K: Sink>(sink: &mut K) -> Result<(), Error>
 /// Writes three pieces, one after another.
 ///
 /// `WriteFault` where the sink failed, `OutOfMemory` where it wanted memory; a front of the bytes is written then.
-pub fn write_pieces<K: Sink>(
+pub(crate) fn write_pieces<K: Sink>(
     sink: &mut K,
     first: &[u8],
     second: &[u8],
