@@ -1,10 +1,10 @@
-ghost use Rattle.std.specs.Prelude.{◌≡◌, ◌<◌, ◌≤◌, ◌↔◌, [], length, true, IfOk, OnOk, OnErr, IsErr, IsErrOf};
+ghost use Rattle.std.specs.Prelude.{◌≡◌, ◌<◌, ◌≤◌, ◌↔◌, [], length, true, IfOk, IfErr, OnOk, OnErr, IsErr, IsErrOf};
 ghost use Rattle.std.specs.Io.KnownBytes.{Keeps, ReadConsumes, WriteAppends};
 ghost use Rattle.mongo_wire.specs.Outside.{Rose, IsFlushed, ReadCounts, ReadsOn, WritesOn, risen};
 ghost use Rattle.mongo_wire.specs.Memory.{bytes_left, bytes_written};
 
 use crate::{Failed, MemoryLink, Outside, Sink, SinkError, Source};
-use mongo_bson::Bytes;
+use mongo_bson::{BsonFault, Bytes};
 use std::alloc::Global;
 
 /// A [`Link`] over lists in memory that fails at chosen calls and moves a few bytes at a time. It tells both lists.
@@ -22,7 +22,7 @@ pub struct FailingLink {
 }
 
 impl FailingLink {
-    ghost use Rattle.mongo_wire.specs.Failing.{fails_at};
+    ghost use Rattle.mongo_wire.specs.Failing.{fails_at, state_of};
 
     /// A link that gives the bytes of `input`, and to which nothing was written. A call fails where its byte in
     /// `failing` isn't 0; calls past the end of `failing` don't. A read or a write moves at most `most` bytes. It takes
@@ -62,6 +62,22 @@ impl FailingLink {
         ensures { result.now ≡ bytes_left self.now.link }
     {
         self.link.left()
+    }
+
+    /// A copy of the link, in memory of its own: it means what the link means, and fails at the same calls.
+    pub fn try_clone(&self, alloc: Global) -> Result<FailingLink, BsonFault>
+        ensures state { IfOk result (λ copy. state_of copy ≡ state_of self.now) }
+        ensures schedule { IfOk result (λ copy. (copy.failing ≡ self.now.failing) × (copy.most ≡ self.now.most) × (copy.calls ≡ self.now.calls)) }
+        ensures refused { IfErr result (λ fault. fault ≡ BsonFault.OutOfMemory) }
+    {
+        Ok(FailingLink {
+            link: self.link.try_clone(alloc)?,
+            failing: self.failing.try_clone(alloc)?,
+            most: self.most,
+            calls: self.calls,
+            read_faults: self.read_faults,
+            write_faults: self.write_faults,
+        })
     }
 
     // Counts a call, and says whether it fails.

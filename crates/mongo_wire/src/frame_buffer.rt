@@ -4,7 +4,7 @@ ghost use Rattle.mongo_wire.specs.Held.{LiesIn};
 
 use crate::MessageRef;
 use crate::held_frame::HeldFrame;
-use mongo_bson::{Bytes, RawDocumentBuf};
+use mongo_bson::{BsonFault, Bytes, RawDocumentBuf};
 use std::alloc::Global;
 
 /// A buffer that holds one frame at a time: the bytes that follow its header. Its memory is used again for each frame, and grows only as
@@ -25,7 +25,7 @@ pub struct FrameBuffer {
 }
 
 impl FrameBuffer {
-    ghost use Rattle.std.specs.Prelude.{◌≡◌, ◌≤◌, ℕ, List, None, Some, vec_len, take, IsSome, IsNone, IfSome};
+    ghost use Rattle.std.specs.Prelude.{◌≡◌, ◌≤◌, ℕ, List, None, Some, vec_len, take, IsSome, IsNone, IfSome, IfOk, IfErr};
     ghost use Rattle.mongo_wire.specs.Outside.{risen};
     ghost use Rattle.mongo_wire.specs.Frame.{Frame};
     ghost use Rattle.mongo_wire.specs.Ref.{IsRefOf};
@@ -93,6 +93,21 @@ impl FrameBuffer {
             }
             None => unreachable!(),
         }
+    }
+
+    /// A copy of the buffer, in memory of its own for just the bytes that are held.
+    pub fn try_clone(&self, alloc: Global) -> Result<FrameBuffer, BsonFault>
+        ensures held { IfOk result (λ copy. held_bytes copy ≡ held_bytes self.now) }
+        ensures last { IfOk result (λ copy. copy.last ≡ self.now.last) }
+        ensures frames { IfOk result (λ copy. frames_taken copy ≡ frames_taken self.now) }
+        ensures refused { IfErr result (λ fault. fault ≡ BsonFault.OutOfMemory) }
+    {
+        Ok(FrameBuffer {
+            store: Vec::from_slice(alloc, self.as_bytes())?,
+            size: self.size,
+            last: self.last,
+            frames: self.frames,
+        })
     }
 
     // Holds nothing from here on.

@@ -1,7 +1,7 @@
-ghost use Rattle.std.specs.Prelude.{◌≡◌, ◌≤◌, [], length, Some};
+ghost use Rattle.std.specs.Prelude.{◌≡◌, ◌≤◌, [], length, Some, IfOk, IfErr};
 
 use crate::{Failed, Outside, Sink, SinkError, Source};
-use mongo_bson::Bytes;
+use mongo_bson::{BsonFault, Bytes};
 use std::alloc::Global;
 use std::io::Read;
 
@@ -60,6 +60,23 @@ impl MemoryLink {
         ensures { result.now ≡ bytes_left self.now }
     {
         &self.input.as_slice()[self.at..]
+    }
+
+    /// A copy of the link, in memory of its own.
+    pub fn try_clone(&self, alloc: Global) -> Result<MemoryLink, BsonFault>
+        ensures left { IfOk result (λ copy. bytes_left copy ≡ bytes_left self.now) }
+        ensures written { IfOk result (λ copy. bytes_written copy ≡ bytes_written self.now) }
+        ensures flushed { IfOk result (λ copy. copy.flushed ≡ self.now.flushed) }
+        ensures ends { IfOk result (λ copy. copy.ends ≡ self.now.ends) }
+        ensures refused { IfErr result (λ fault. fault ≡ BsonFault.OutOfMemory) }
+    {
+        Ok(MemoryLink {
+            input: Vec::from_slice(alloc, self.input.as_slice())?,
+            at: self.at,
+            output: Vec::from_slice(alloc, self.output.as_slice())?,
+            flushed: self.flushed,
+            ends: self.ends,
+        })
     }
 }
 
