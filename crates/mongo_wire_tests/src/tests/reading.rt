@@ -182,6 +182,19 @@ fn a_refused_read_shows_nothing(rt: HostRuntime) -> Result<(), Fail> {
     Ok(())
 }
 
+#[test]
+fn a_frame_is_taken_after_its_header_or_refused(rt: HostRuntime) -> Result<(), Fail> {
+    let (first, second, third, was_held, _) = three_reads(Way::TakeAfter, rt.alloc())?;
+    let wanted = three_seen(Way::TakeAfter);
+    assert!(rt; (first, second, third, was_held) == (wanted.0, wanted.1, wanted.2, wanted.3));
+    for (length, op_code) in REFUSED {
+        // a header of an unknown op code is no header, and leaves the buffer as it was
+        let refused = is_refused(Way::TakeAfter, rt.alloc(), length, op_code)?;
+        assert!(rt; refused == (op_code != 7), "{:?}", (length, op_code));
+    }
+    Ok(())
+}
+
 // What a read of these bytes and so many zeros answers, and how many bytes and frames the buffer took.
 fn padded_read(
     way: Way,

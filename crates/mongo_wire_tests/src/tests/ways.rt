@@ -1,12 +1,14 @@
 // The calls that read a frame into a buffer, and what each answers.
 use super::{Cause, Told, end, told_by};
-use mongo_wire::{FrameBuffer, MessageRef, Source, next_frame, read_frame};
+use mongo_wire::{FrameBuffer, Header, MessageRef, Source, next_frame, read_frame};
 use std::alloc::Global;
 
 // One of these calls.
 #[derive(Clone, Copy, Debug)]
 pub(crate) enum Way {
     TakeFrame,
+    // after its header, which is read first
+    TakeAfter,
     ReadFrame,
     NextFrame,
     Read,
@@ -52,10 +54,26 @@ fn shown<T: Shows + Drop, E: Cause + Drop>(frame: Result<T, E>) -> Answer {
     }
 }
 
-fn by_take_frame<S: Source>(source: &mut S, buffer: &mut FrameBuffer) -> Answer {
-    match end(buffer.take_frame(source, None)) {
+// What the buffer shows after a call that took a frame.
+fn held_after<E: Cause + Drop>(taken: Result<(), E>, buffer: &FrameBuffer) -> Answer {
+    match end(taken) {
         Told::Done => Ok(buffer.message().numbers()),
         told => Err(told),
+    }
+}
+
+fn by_take_frame<S: Source>(source: &mut S, buffer: &mut FrameBuffer) -> Answer {
+    let taken = buffer.take_frame(source, None);
+    held_after(taken, buffer)
+}
+
+fn by_take_after<S: Source>(source: &mut S, buffer: &mut FrameBuffer) -> Answer {
+    match Header::read_from(source) {
+        Ok(header) => {
+            let taken = buffer.take_after(source, header, None);
+            held_after(taken, buffer)
+        }
+        Err(error) => Err(told_by(error)),
     }
 }
 
@@ -68,6 +86,7 @@ pub(crate) fn read_by<S: Source>(
 ) -> Answer {
     match way {
         Way::TakeFrame => by_take_frame(source, buffer),
+        Way::TakeAfter => by_take_after(source, buffer),
         Way::ReadFrame => shown(read_frame(alloc, source, None, buffer)),
         Way::NextFrame => shown(next_frame(alloc, source, None, buffer)),
         Way::Read => shown(buffer.read(source, None)),
