@@ -1,4 +1,5 @@
--- What the writer of a command's generic arguments holds: the fields that it still has to write.
+-- The fields that a document is built of: the elements that they are written as, how many bytes these take, and why a document
+-- of them isn't built.
 use Rattle.std.specs.Prelude.{ℕ, ◌-◌, ◌^◌, ◌<◌, min, Option, None, Some, List, [], ◌∷◌, length, flat_map, Contains, ⊤}
 use Rattle.std.specs.Borrow.{Bor}
 use Rattle.mongo_bson.specs.Framed.{maximum_length}
@@ -22,7 +23,7 @@ abbrev pub IsNamed : Option (Bor (List ℕ) × RawValue) → Type 0
 IsNamed None = ⊤
 IsNamed (Some field) = Contains field.0.now 0 → ⊥
 
--- why a document isn't written: it would be longer than an int32 can say, or memory ran out
+-- why a document isn't built: it would be longer than an int32 can say, or memory ran out
 abbrev pub TooLongFor : BsonFault → List ℕ → Type 0
 TooLongFor TooLong document = maximum_length < length document
 TooLongFor OutOfMemory document = ⊤

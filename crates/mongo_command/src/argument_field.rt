@@ -14,10 +14,10 @@ const ONE: u64 = 0x3FF0_0000_0000_0000;
 // The length of a document without elements.
 const EMPTY_DOCUMENT: usize = 5;
 
-/// A field of a document that may be there: its key and its value.
+/// A field of a document: its key and its value. None is a field that isn't there, of which nothing is written.
 pub type ArgumentField<'a> = Option<(&'static str, RawValue<'a>)>;
 
-/// A text.
+/// The field `key`, a text.
 pub fn text_field<'a>(key: &'static str, text: &'a Text) -> ArgumentField<'a>
     requires { ¬ Contains key.now 0 }
     ensures elements { field_elements result ≡ text_element key.now text.now ∷ [] }
@@ -26,7 +26,7 @@ pub fn text_field<'a>(key: &'static str, text: &'a Text) -> ArgumentField<'a>
     Some((key, RawValue::Str(text.as_str())))
 }
 
-/// A text that may be there.
+/// The field `key`, a text, or none where there is no text.
 pub fn optional_text_field<'a>(key: &'static str, text: &'a Option<Text>) -> ArgumentField<'a>
     requires { ¬ Contains key.now 0 }
     ensures elements { field_elements result ≡ present (text_element key.now) text.now }
@@ -38,7 +38,7 @@ pub fn optional_text_field<'a>(key: &'static str, text: &'a Option<Text>) -> Arg
     }
 }
 
-/// A document.
+/// The field `key`, a document.
 pub fn document_field<'a>(key: &'static str, document: &'a RawDocumentBuf) -> ArgumentField<'a>
     requires { ¬ Contains key.now 0 }
     ensures elements { field_elements result ≡ document_element key.now document.now ∷ [] }
@@ -47,7 +47,7 @@ pub fn document_field<'a>(key: &'static str, document: &'a RawDocumentBuf) -> Ar
     Some((key, RawValue::Document(document.borrow())))
 }
 
-/// A document that may be there.
+/// The field `key`, a document, or none where there is no document.
 pub fn optional_document_field<'a>(
     key: &'static str,
     document: &'a Option<RawDocumentBuf>,
@@ -62,7 +62,7 @@ pub fn optional_document_field<'a>(
     }
 }
 
-/// A boolean.
+/// The field `key`, a boolean.
 pub fn boolean_field(key: &'static str, boolean: bool) -> ArgumentField<'static>
     requires { ¬ Contains key.now 0 }
     ensures elements { field_elements result ≡ boolean_element key.now boolean ∷ [] }
@@ -71,7 +71,7 @@ pub fn boolean_field(key: &'static str, boolean: bool) -> ArgumentField<'static>
     Some((key, RawValue::Bool(boolean)))
 }
 
-/// A boolean that may be there.
+/// The field `key`, a boolean, or none where there is no boolean.
 pub fn optional_boolean_field(key: &'static str, boolean: Option<bool>) -> ArgumentField<'static>
     requires { ¬ Contains key.now 0 }
     ensures elements { field_elements result ≡ present (boolean_element key.now) boolean }
@@ -83,7 +83,7 @@ pub fn optional_boolean_field(key: &'static str, boolean: Option<bool>) -> Argum
     }
 }
 
-/// A binary of the generic subtype.
+/// The field `key`, a binary of the generic subtype.
 pub fn generic_binary_field<'a>(key: &'static str, bytes: &'a [u8]) -> ArgumentField<'a>
     requires { ¬ Contains key.now 0 }
     ensures elements { field_elements result ≡ generic_element key.now bytes.now ∷ [] }
@@ -92,7 +92,7 @@ pub fn generic_binary_field<'a>(key: &'static str, bytes: &'a [u8]) -> ArgumentF
     Some((key, RawValue::Binary(GENERIC, bytes)))
 }
 
-/// `ok: 1.0`, as a reply that is no error has it.
+/// The field `ok`, the double 1.0, as a reply that is no error has it.
 pub fn ok_field() -> ArgumentField<'static>
     ensures elements { field_elements result ≡ ok_element ∷ [] }
     ensures named { IsNamed result }
@@ -100,7 +100,7 @@ pub fn ok_field() -> ArgumentField<'static>
     Some((OK, RawValue::Double(ONE)))
 }
 
-/// A 32-bit number.
+/// The field `key`, a 32-bit number.
 pub fn int32_field(key: &'static str, number: i32) -> ArgumentField<'static>
     requires { ¬ Contains key.now 0 }
     ensures elements { field_elements result ≡ int32_element key.now number ∷ [] }
@@ -109,7 +109,7 @@ pub fn int32_field(key: &'static str, number: i32) -> ArgumentField<'static>
     Some((key, RawValue::Int32(number)))
 }
 
-/// A 32-bit number that may be there.
+/// The field `key`, a 32-bit number, or none where there is no number.
 pub fn optional_int32_field(key: &'static str, number: Option<i32>) -> ArgumentField<'static>
     requires { ¬ Contains key.now 0 }
     ensures elements { field_elements result ≡ present (int32_element key.now) number }
@@ -121,7 +121,7 @@ pub fn optional_int32_field(key: &'static str, number: Option<i32>) -> ArgumentF
     }
 }
 
-/// A 64-bit number.
+/// The field `key`, a 64-bit number.
 pub fn int64_field(key: &'static str, number: i64) -> ArgumentField<'static>
     requires { ¬ Contains key.now 0 }
     ensures elements { field_elements result ≡ int64_element key.now number ∷ [] }
@@ -130,7 +130,7 @@ pub fn int64_field(key: &'static str, number: i64) -> ArgumentField<'static>
     Some((key, RawValue::Int64(number)))
 }
 
-/// A 64-bit number that may be there.
+/// The field `key`, a 64-bit number, or none where there is no number.
 pub fn optional_int64_field(key: &'static str, number: Option<i64>) -> ArgumentField<'static>
     requires { ¬ Contains key.now 0 }
     ensures elements { field_elements result ≡ present (int64_element key.now) number }
@@ -142,7 +142,7 @@ pub fn optional_int64_field(key: &'static str, number: Option<i64>) -> ArgumentF
     }
 }
 
-// A timestamp that may be there, of which these are the bytes.
+// The field `key`, a timestamp of these bytes, or none where there are no bytes.
 pub(crate) fn optional_timestamp_field<'a>(
     key: &'static str,
     bytes: &'a Option<[u8; 8]>,
@@ -157,7 +157,7 @@ pub(crate) fn optional_timestamp_field<'a>(
     }
 }
 
-// The version of a server API that may be there.
+// The field `apiVersion`, the version of a server API, or none where there is no server API.
 pub(crate) fn optional_version_field(server_api: Option<ServerApi>) -> ArgumentField<'static>
     ensures elements { field_elements result ≡ present (text_element api_version_key) (option_map (λ api. version_text api.version) server_api) }
     ensures named { IsNamed result }
@@ -168,7 +168,7 @@ pub(crate) fn optional_version_field(server_api: Option<ServerApi>) -> ArgumentF
     }
 }
 
-// A write concern that may be there, unless it is empty.
+// The field `writeConcern`, or none where there is no write concern, or an empty one.
 pub(crate) fn optional_write_concern_field<'a>(
     concern: &'a Option<RawDocumentBuf>,
 ) -> ArgumentField<'a>
