@@ -1,4 +1,4 @@
--- Keys that stand in more than one table, as the protocol spells them.
+-- Keys that stand in more than one table, or in a table and in a lemma, as the protocol spells them.
 use Rattle.std.specs.Prelude.{ℕ, List, codes}
 
 abbrev pub ok_key : List ℕ
@@ -31,6 +31,15 @@ db_key = codes "$db"
 abbrev pub api_version_key : List ℕ
 api_version_key = codes "apiVersion"
 
+abbrev pub api_strict_key : List ℕ
+api_strict_key = codes "apiStrict"
+
+abbrev pub api_deprecation_errors_key : List ℕ
+api_deprecation_errors_key = codes "apiDeprecationErrors"
+
+abbrev pub read_concern_key : List ℕ
+read_concern_key = codes "readConcern"
+
 abbrev pub write_concern_key : List ℕ
 write_concern_key = codes "writeConcern"
 
@@ -51,6 +60,9 @@ sasl_supported_mechs_key = codes "saslSupportedMechs"
 
 abbrev pub speculative_authenticate_key : List ℕ
 speculative_authenticate_key = codes "speculativeAuthenticate"
+
+abbrev pub last_write_date_key : List ℕ
+last_write_date_key = codes "lastWriteDate"
 
 abbrev pub is_writable_primary_key : List ℕ
 is_writable_primary_key = codes "isWritablePrimary"
