@@ -100,10 +100,8 @@ pub fn document_of(alloc: Global, fields: &[ArgumentField<'_>]) -> Result<RawDoc
     Ok(document)
 }
 
-/// Puts the fields that are there at the end of a document, in their order.
-///
-/// `TooLong` where the document would pass 2147483647 bytes.
-pub fn append_fields(
+// Puts the fields that are there at the end of a document, in their order.
+fn append_fields(
     document: &mut RawDocumentBuf,
     fields: &[ArgumentField<'_>],
 ) -> Result<(), BsonFault>

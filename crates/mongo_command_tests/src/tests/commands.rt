@@ -5,7 +5,7 @@ use super::rows::{RowCheck, check_rows, parts, wants};
 use mongo_bson::{Bytes, ObjectId, RawDocumentBuf, RawValue, Text};
 use mongo_command::{
     AwaitableHelloOptions, Command, Connection, ServerApi, ServerApiVersion, TopologyVersion,
-    append_fields, hello_command,
+    document_of, hello_command,
 };
 use mongo_wire::{Error, MemoryLink, RequestIds};
 use std::alloc::Global;
@@ -18,14 +18,14 @@ const SERVER_API: ServerApi = ServerApi {
 };
 
 // The document of a command.
-fn document_of(alloc: Global, command: &Command) -> Result<RawDocumentBuf, Fail> {
+fn command_document(alloc: Global, command: &Command) -> Result<RawDocumentBuf, Fail> {
     given(command.to_document(alloc))
 }
 
 // Whether the document of a command has these fields.
 fn has_fields(alloc: Global, command: &Command, fields: &str) -> Result<bool, Fail> {
     let wanted = document(alloc, fields)?;
-    Ok(document_of(alloc, command)?.as_bytes() == wanted.as_bytes())
+    Ok(command_document(alloc, command)?.as_bytes() == wanted.as_bytes())
 }
 
 // A command of this body to the database `admin`.
@@ -348,21 +348,19 @@ fn a_hello_has_the_name_that_the_server_knows(rt: HostRuntime) -> Result<(), Fai
     Ok(())
 }
 
-// The document of a field, none and another, which are put in together.
-fn appended(alloc: Global) -> Result<RawDocumentBuf, Fail> {
-    let mut document = RawDocumentBuf::new(alloc)?;
+// The document of a field, none and another.
+fn document_of_two(alloc: Global) -> Result<RawDocumentBuf, Fail> {
     let fields = [
         Some(("ping", RawValue::Int32(1))),
         None,
         Some(("$db", RawValue::Str("admin"))),
     ];
-    append_fields(&mut document, &fields)?;
-    Ok(document)
+    given(document_of(alloc, &fields))
 }
 
-/// Fields are put at the end in their order, and one that is none adds nothing.
+/// Fields are written in their order, and one that is none adds nothing.
 #[test]
-fn fields_that_are_there_are_appended(rt: HostRuntime) -> Result<(), Fail> {
-    assert_eq!(rt; appended(rt.alloc())?.as_bytes(), PING);
+fn fields_that_are_there_are_written(rt: HostRuntime) -> Result<(), Fail> {
+    assert_eq!(rt; document_of_two(rt.alloc())?.as_bytes(), PING);
     Ok(())
 }
