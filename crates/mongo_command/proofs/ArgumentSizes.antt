@@ -14,6 +14,11 @@ size_of_one key value size is =
     let whole : length (spelled ++ []) ≡ length key + length (bytes_of value) + 2 = omega (arith, ap length (append-nil spelled), length-append key (0 ∷ bytes_of value)) in
     omega (arith, is, whole)
 
+-- one element and some more
+pub size_of_first : (e : Element) (es : List Element) (first more sum : ℕ) → first ≡ size_of_elements (e ∷ []) → more ≡ size_of_elements es → sum ≡ min (first + more) (2 ^ 64 - 1) → sum ≡ size_of_elements (e ∷ es)
+size_of_first e es first more sum one rest is =
+    omega (arith, one, rest, is, ap length (append-nil (spell e)), length-append (spell e) (flat_map spell es))
+
 pub size_of_more : {X : Type 0} (elements : X → List Element) (xs : List X) (i : ℕ) (x : X) (size here sum : ℕ) → i < length xs → x ≡ get_or xs i x
     → size ≡ size_of_elements (flat_map elements (take i xs)) → here ≡ size_of_elements (elements x) → sum ≡ min (size + here) (2 ^ 64 - 1)
     → sum ≡ size_of_elements (flat_map elements (take (i + 1) xs))

@@ -30,8 +30,17 @@ pub(crate) fn copy_with_room(
     }
 }
 
-// How many bytes fields take in a document, for which memory is taken ahead: as many as a `usize` says, where they are more.
-pub(crate) fn size_of_fields(fields: &[ArgumentField<'_>]) -> usize
+// How many bytes `$db` and the fields that are there take in a document, for which memory is taken ahead: as many as a `usize`
+// says, where they are more.
+pub(crate) fn size_of_arguments(target_db: &str, fields: &[ArgumentField<'_>]) -> usize
+    ensures { result ≡ size_of_elements (text_element db_key target_db.now ∷ flat_map field_elements fields.now) }
+{
+    let db = Some((DB, RawValue::Str(target_db)));
+    size_of_field(&db).saturating_add(size_of_fields(fields))
+}
+
+// How many bytes fields take.
+fn size_of_fields(fields: &[ArgumentField<'_>]) -> usize
     ensures { result ≡ size_of_elements (flat_map field_elements fields.now) }
 {
     let mut size: usize = 0;
@@ -42,7 +51,7 @@ pub(crate) fn size_of_fields(fields: &[ArgumentField<'_>]) -> usize
 }
 
 // How many bytes a field takes in a document: its kind, its key, a zero and its value.
-pub(crate) fn size_of_field(field: &Option<(&str, RawValue<'_>)>) -> usize
+fn size_of_field(field: &ArgumentField<'_>) -> usize
     ensures { result ≡ size_of_elements (field_elements field.now) }
 {
     match field {

@@ -10,11 +10,11 @@ use crate::argument_field::{
     ArgumentField, optional_boolean_field, optional_document_field, optional_int64_field,
     optional_version_field, optional_write_concern_field,
 };
-use crate::arguments::{append_arguments, copy_with_room, size_of_field, size_of_fields};
+use crate::arguments::{append_arguments, copy_with_room, size_of_arguments};
 use crate::copies::copies_of;
-use crate::keys::{CLUSTER_TIME, DB};
+use crate::keys::CLUSTER_TIME;
 use crate::read_concern::ReadConcern;
-use mongo_bson::{BsonFault, RawDocumentBuf, RawValue};
+use mongo_bson::{BsonFault, RawDocumentBuf};
 use std::alloc::Global;
 
 // The fields that a command of any name can carry beside its body, in the order in which they are sent.
@@ -75,8 +75,7 @@ impl GenericArguments {
     {
         let read_concern = self.read_concern_document(alloc)?;
         let fields = self.fields(&read_concern);
-        let db = (DB, RawValue::Str(target_db));
-        let room = size_of_field(&Some(db)).saturating_add(size_of_fields(&fields));
+        let room = size_of_arguments(target_db, &fields);
         let mut document = copy_with_room(alloc, body, room)?;
         append_arguments(&mut document, target_db, &fields)?;
         Ok(document)
@@ -95,13 +94,13 @@ impl GenericArguments {
     {
         let read_concern = self.read_concern_document(alloc)?;
         let fields = self.fields(&read_concern);
-        let db = (DB, RawValue::Str(target_db));
-        let room = size_of_field(&Some(db)).saturating_add(size_of_fields(&fields));
+        let room = size_of_arguments(target_db, &fields);
         body.reserve_exact(room)?;
         append_arguments(body, target_db, &fields)
     }
 
-    // The arguments but `$db`, in their order.
+    // The arguments but `$db`, in their order. `$db` comes before them: it is always there, and as it is put in, any body
+    // becomes a document that fields can be put behind.
     fn fields<'a>(&'a self, read_concern: &'a Option<RawDocumentBuf>) -> [ArgumentField<'a>; 12]
         requires { read_concern.now ≡ option_map read_concern_document self.now.read_concern }
         ensures elements { flat_map field_elements result ≡ carried_elements self.now }
