@@ -4,15 +4,7 @@ use Rattle.std.specs.List.{flat_map}
 use Rattle.std.proofs.lemmas.Grind.{flat_map-append}
 use Rattle.std.proofs.lemmas.List.{append-nil, take_more}
 use Rattle.mongo_bson.specs.Document.{Element, spell}
-use Rattle.mongo_bson.specs.Value.{bytes_of, element_of}
-use Rattle.mongo_bson.specs.declared.raw_value.RawValue.{RawValue}
 use Rattle.mongo_command.specs.Arguments.{size_of_elements}
-
-pub size_of_one : (key : List ℕ) (value : RawValue) (size : ℕ) → size ≡ min (min (length (bytes_of value) + length key) (2 ^ 64 - 1) + 2) (2 ^ 64 - 1) → size ≡ size_of_elements (element_of key value ∷ [])
-size_of_one key value size is =
-    let spelled = spell (element_of key value) in
-    let whole : length (spelled ++ []) ≡ length key + length (bytes_of value) + 2 = omega (arith, ap length (append-nil spelled), length-append key (0 ∷ bytes_of value)) in
-    omega (arith, is, whole)
 
 -- one element and some more
 pub size_of_first : (e : Element) (es : List Element) (first more sum : ℕ) → first ≡ size_of_elements (e ∷ []) → more ≡ size_of_elements es → sum ≡ min (first + more) (2 ^ 64 - 1) → sum ≡ size_of_elements (e ∷ es)
