@@ -18,12 +18,12 @@ const EMPTY_DOCUMENT: usize = 5;
 pub type ArgumentField<'a> = Option<(&'static str, RawValue<'a>)>;
 
 /// The field `key`, a text.
-pub fn text_field<'a>(key: &'static str, text: &'a Text) -> ArgumentField<'a>
+pub fn text_field<'a>(key: &'static str, text: &'a str) -> ArgumentField<'a>
     requires { ¬ Contains key.now 0 }
     ensures elements { field_elements result ≡ text_element key.now text.now ∷ [] }
     ensures named { IsNamed result }
 {
-    Some((key, RawValue::Str(text.as_str())))
+    Some((key, RawValue::Str(text)))
 }
 
 /// The field `key`, a text, or none where there is no text.
@@ -33,7 +33,7 @@ pub fn optional_text_field<'a>(key: &'static str, text: &'a Option<Text>) -> Arg
     ensures named { IsNamed result }
 {
     match text {
-        Some(text) => text_field(key, text),
+        Some(text) => text_field(key, text.as_str()),
         None => None,
     }
 }
@@ -163,7 +163,7 @@ pub(crate) fn optional_version_field(server_api: Option<ServerApi>) -> ArgumentF
     ensures named { IsNamed result }
 {
     match server_api {
-        Some(api) => Some((API_VERSION, RawValue::Str(api.version.as_str()))),
+        Some(api) => text_field(API_VERSION, api.version.as_str()),
         None => None,
     }
 }
@@ -177,7 +177,7 @@ pub(crate) fn optional_write_concern_field<'a>(
 {
     match concern {
         Some(concern) if concern.as_bytes().len() > EMPTY_DOCUMENT => {
-            Some((WRITE_CONCERN, RawValue::Document(concern.borrow())))
+            document_field(WRITE_CONCERN, concern)
         }
         _ => None,
     }

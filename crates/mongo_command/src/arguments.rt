@@ -7,7 +7,7 @@ ghost use Rattle.mongo_command.specs.Literal.{text_element, document_of};
 ghost use Rattle.mongo_command.specs.Arguments.{field_elements, size_of_elements, IsNamed, TooLongFor};
 ghost use Rattle.mongo_command.specs.Keys.{db_key};
 
-use crate::argument_field::ArgumentField;
+use crate::argument_field::{ArgumentField, text_field};
 use crate::keys::DB;
 use mongo_bson::{BsonFault, Bytes, RawDocumentBuf, RawValue};
 use std::alloc::Global;
@@ -35,8 +35,7 @@ pub(crate) fn copy_with_room(
 pub(crate) fn size_of_arguments(target_db: &str, fields: &[ArgumentField<'_>]) -> usize
     ensures { result ≡ size_of_elements (text_element db_key target_db.now ∷ flat_map field_elements fields.now) }
 {
-    let db = Some((DB, RawValue::Str(target_db)));
-    size_of_field(&db).saturating_add(size_of_fields(fields))
+    size_of_field(&text_field(DB, target_db)).saturating_add(size_of_fields(fields))
 }
 
 // How many bytes fields take.

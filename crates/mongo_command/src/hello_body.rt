@@ -6,7 +6,7 @@ ghost use Rattle.mongo_command.specs.HelloCommand.{hello_name, asked_hello_ok, t
 
 use crate::argument_field::{
     ArgumentField, int32_field, int64_field, optional_boolean_field, optional_document_field,
-    optional_int64_field,
+    optional_int64_field, text_field,
 };
 use crate::arguments::document_of;
 use crate::keys::{COUNTER, HELLO_OK, PROCESS_ID, TOPOLOGY_VERSION};
@@ -68,7 +68,7 @@ fn hello_fields<'a>(
     [
         int32_field(hello_name(modern), 1),
         optional_boolean_field(HELLO_OK, asked_hello_ok(modern, hello_ok)),
-        Some(("backpressure", RawValue::Str("2"))),
+        text_field("backpressure", "2"),
         optional_document_field(TOPOLOGY_VERSION, topology_version),
         optional_int64_field("maxAwaitTimeMS", await_time(awaitable)),
     ]
