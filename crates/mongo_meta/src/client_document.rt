@@ -143,7 +143,7 @@ fn joined<'a>(
             optional_document_field("application", application),
             document_field("driver", driver),
             document_field("os", os),
-            text_field("platform", platform),
+            text_field("platform", platform.as_str()),
             optional_document_field("env", env),
         ],
     )

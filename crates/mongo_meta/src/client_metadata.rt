@@ -34,7 +34,7 @@ impl AppMetadata {
         ensures document { IfOk result (λ document. document ≡ application_document self.now) }
         ensures refused { IfErr result (λ fault. TooLongFor fault (application_document self.now)) }
     {
-        document_of(alloc, &[text_field("name", &self.name)])
+        document_of(alloc, &[text_field("name", self.name.as_str())])
     }
 }
 
@@ -91,8 +91,8 @@ impl DriverMetadata {
         document_of(
             alloc,
             &[
-                text_field("name", &self.name),
-                text_field("version", &self.version),
+                text_field("name", self.name.as_str()),
+                text_field("version", self.version.as_str()),
             ],
         )
     }

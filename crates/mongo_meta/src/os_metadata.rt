@@ -59,7 +59,7 @@ impl OsMetadata {
         document_of(
             alloc,
             &[
-                text_field("type", &self.os_type),
+                text_field("type", self.os_type.as_str()),
                 optional_text_field("name", &self.name),
                 optional_text_field("architecture", &self.architecture),
                 optional_text_field("version", &self.version),
@@ -72,6 +72,6 @@ impl OsMetadata {
         ensures document { IfOk result (λ document. document ≡ os_document (type_alone self.now)) }
         ensures refused { IfErr result (λ fault. TooLongFor fault (os_document (type_alone self.now))) }
     {
-        document_of(alloc, &[text_field("type", &self.os_type)])
+        document_of(alloc, &[text_field("type", self.os_type.as_str())])
     }
 }
