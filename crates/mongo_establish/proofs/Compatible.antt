@@ -6,6 +6,7 @@ use Rattle.mongo_wire.specs.declared.message.Message.{Message}
 use Rattle.mongo_wire.specs.Outside.{State}
 use Rattle.mongo_command.specs.Exchange.{ExchangeRefused}
 use Rattle.mongo_command.specs.declared.connection.Connection.{Connection}
+use Rattle.mongo_command.specs.Connection.{kept_fault}
 use Rattle.mongo_command.specs.Conversation.{Plan, ending, reading, saying, plain_message, Stopped}
 use Rattle.mongo_command.proofs.OneReply.{description_row_other}
 use Rattle.mongo_command.proofs.Leads.{never_ending, never_unless, never_reading, never_saying}
@@ -24,6 +25,7 @@ use Rattle.mongo_establish.specs.Speculation.{mechanism_before, ConversationRow,
 use Rattle.mongo_establish.specs.Spoken.{conversation_of, HasConversation}
 use Rattle.mongo_establish.proofs.Conversations.{joins}
 use Rattle.mongo_sasl.proofs.Fits.{Fits}
+use Rattle.mongo_sasl.proofs.StoppedKeeping.{stopped_of}
 use Rattle.mongo_scram.proofs.ScramFits.{credential_other}
 
 -- ---- a plan that never refuses so
@@ -88,6 +90,8 @@ pub compatible : (asked : Asked) (opened connection : Connection) (kind : ErrorK
 unfolding login_plan
 compatible asked opened connection kind old new after s is =
     elim (subst (λ k. StoppedHandshake asked opened connection k old new after) is s) [
-      | inl hello ↦ no_stop (hello_plan asked) old new asked.first_id after (fits_hello asked) hello.hello
-      | inr login ↦ no_stop (login_plan asked login.greeting) login.middle new login.between after (fits_login_by (logging_in asked login.greeting) asked login.greeting) login.login
+      | inl hello ↦ no_stop (hello_plan asked) old new asked.first_id after (fits_hello asked) (stopped_of (hello_plan asked) IncompatibleServer old new asked.first_id after (kept_fault connection) hello.hello)
+      | inr login ↦
+          no_stop (login_plan asked login.greeting) login.middle new login.between after (fits_login_by (logging_in asked login.greeting) asked login.greeting)
+          (stopped_of (login_plan asked login.greeting) IncompatibleServer login.middle new login.between after (kept_fault connection) login.login)
     ]

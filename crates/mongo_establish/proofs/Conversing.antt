@@ -8,10 +8,10 @@ use Rattle.mongo_command.specs.declared.connection.Connection.{Connection}
 use Rattle.mongo_command.specs.Connection.{kept_fault}
 use Rattle.mongo_command.specs.declared.server_api.ServerApi.{ServerApi}
 use Rattle.mongo_command.specs.declared.stream_description.StreamDescription.{StreamDescription}
-use Rattle.mongo_command.specs.Conversation.{Event, Turn, Plan, ending, followed_by, Reached, Stopped}
+use Rattle.mongo_command.specs.Conversation.{Event, Turn, Plan, ending, followed_by, Reached}
 use Rattle.mongo_command.specs.Exchange.{frame_maximum}
-use Rattle.mongo_command.proofs.Steps.{reached_ending, reached_more, stopped_more}
-use Rattle.mongo_command.proofs.FollowedBy.{reached_both, stopped_first}
+use Rattle.mongo_command.proofs.Steps.{reached_ending, reached_more}
+use Rattle.mongo_command.proofs.FollowedBy.{reached_both}
 use Rattle.mongo_sasl.specs.declared.credential.Credential.{Credential}
 use Rattle.mongo_sasl.specs.EndsByScript.{standing, EndsByScript}
 use Rattle.mongo_sasl.specs.Plain.{plain_handed, plain_plan}
@@ -23,8 +23,11 @@ use Rattle.mongo_scram.specs.Client.{speculated_of, handed_to}
 use Rattle.mongo_scram.specs.Costs.{Ledgers, Balance, balance, CostsNothing, Accepted, StoppedScram}
 use Rattle.mongo_scram.specs.EndsByScram.{EndsByScram}
 use Rattle.mongo_scram.specs.Plan.{Handed, scram_plan}
+use Rattle.mongo_sasl.specs.Stops.{StoppedKeeping}
 use Rattle.mongo_sasl.proofs.Handed.{on_refusal}
-use Rattle.mongo_scram.proofs.ScramCosts.{accepted_reached, stopped_whole}
+use Rattle.mongo_sasl.proofs.StoppedKeeping.{keeping_more, keeping_first}
+use Rattle.mongo_scram.proofs.ScramCosts.{accepted_reached}
+use Rattle.mongo_scram.proofs.LoginSteps.{StopsScram}
 use Rattle.mongo_establish.specs.declared.conversation.Conversation.{Conversation}
 use Rattle.mongo_establish.specs.declared.conversation.Conversation.TheVariants.{Scram, Plain as PlainText, X509}
 use Rattle.mongo_establish.specs.declared.answered_round.AnsweredRound.{AnsweredRound}
@@ -44,8 +47,8 @@ followed plan greeting = followed_by plan (λ done. ending greeting)
 then_reached : {A : Type 0} (plan : Plan A) (answer : A) (greeting : Greeting) (old new : State) (before after : ℤ) → Reached plan answer old new before after → Reached (followed plan greeting) greeting old new before after
 then_reached plan answer greeting old new before after r = reached_both plan (λ done. ending greeting) answer greeting old new new before after after r (reached_ending greeting new after)
 
-then_stopped : {A : Type 0} (plan : Plan A) (greeting : Greeting) (kind : ErrorKind) (old new : State) (before after : ℤ) → Stopped plan kind old new before after → Stopped (followed plan greeting) kind old new before after
-then_stopped plan greeting kind old new before after s = stopped_first plan (λ done. ending greeting) kind old new before after s
+then_stopped : {A : Type 0} {kept : Option ErrorKind} (plan : Plan A) (greeting : Greeting) (kind : ErrorKind) (old new : State) (before after : ℤ) → StoppedKeeping plan kind old new before after kept → StoppedKeeping (followed plan greeting) kind old new before after kept
+then_stopped plan greeting kind old new before after s = keeping_first plan (λ done. ending greeting) kind old new before after s
 
 -- ---- SCRAM
 
@@ -63,11 +66,11 @@ scram_accepted version asked credential greeting buffer old new is = record {
   costs = record { buffer = buffer; accepted = is };
 }
 
-scram_stopped : (version : ScramVersion) (asked : Asked) (credential : Credential) (greeting : Greeting) (kind : ErrorKind) (old new : Balance) → StoppedScram (scram_handed_by version asked credential greeting) kind old new → ConversationStopped (Scram version) asked credential greeting kind old new
+scram_stopped : (version : ScramVersion) (asked : Asked) (credential : Credential) (greeting : Greeting) (kind : ErrorKind) (kept : Option ErrorKind) (old new : Balance) → StopsScram (scram_handed_by version asked credential greeting) kind kept old new → ConversationStopped (Scram version) asked credential greeting kind kept old new
 unfolding conversation_plan
-scram_stopped version asked credential greeting kind old new is = record {
-  stopped = then_stopped (scram_plan (scram_handed_by version asked credential greeting)) greeting kind old.state new.state old.id new.id (stopped_whole (scram_handed_by version asked credential greeting) kind old new is);
-  costs = is;
+scram_stopped version asked credential greeting kind kept old new is = record {
+  stopped = then_stopped (scram_plan (scram_handed_by version asked credential greeting)) greeting kind old.state new.state old.id new.id is.1;
+  costs = is.0;
 }
 
 module _ (version : ScramVersion) (asked : Asked) (credential : Credential) (round : Option AnsweredRound) (opened left : Connection) (api : Option ServerApi) (same : api ≡ asked.options.auth_options.server_api) (begun : Option ScramRound) (begins : begun ≡ scram_round round) where
@@ -82,20 +85,19 @@ module _ (version : ScramVersion) (asked : Asked) (credential : Credential) (rou
   scram_done greeting (Err e) buffer old new described went accepted = tt
 
   scram_failed : (greeting : Greeting) (r : Result (Unit {0}) Error) (old new : Balance) → opened.stream_description ≡ Some greeting.description → IsRoundBy (Some (Scram version)) credential asked greeting round
-      → IfErr r (λ e. StoppedScram handed e.kind old new) → IfErr r (λ e. ConversationStopped (Scram version) asked credential greeting e.kind old new)
-  scram_failed greeting (Ok done) old new described went stopped = tt
-  scram_failed greeting (Err e) old new described went stopped =
+      → IfErr r (λ e. StoppedScram handed e.kind old new) → IfErr r (λ e. StoppedKeeping (scram_plan handed) e.kind old.state new.state old.id new.id (kept_fault left)) → IfErr r (λ e. ConversationStopped (Scram version) asked credential greeting e.kind (kept_fault left) old new)
+  scram_failed greeting (Ok done) old new described went costs stopped = tt
+  scram_failed greeting (Err e) old new described went costs stopped =
       let is = handed_same version asked credential greeting api round begun opened.stream_description same begins went described in
-      scram_stopped version asked credential greeting e.kind old new (subst (λ h. StoppedScram h e.kind old new) is stopped)
+      scram_stopped version asked credential greeting e.kind (kept_fault left) old new (subst (λ h. StopsScram h e.kind (kept_fault left) old new) is (costs, stopped))
 
   -- what a login by SCRAM promises is what its conversation does
   pub scram_converses : {L : Type 0} (state : L → State) (link link' : L) (before after : ℤ) (buffer buffer' : FrameBuffer) (r : Result (Unit {0}) Error) (early late : Ledgers) → kept_fault opened ≡ None
       → EndsByScram state handed r (standing opened link before buffer) (standing left link' after buffer') early late → Converses r (Scram version) asked credential round opened left (balance (state link) before early) (balance (state link') after late)
   scram_converses state link link' before after buffer buffer' r early late faultless login = record {
     accepted = λ greeting described went. scram_done greeting r buffer' _ _ described went login.accepted;
-    refused = λ greeting described went. scram_failed greeting r _ _ described went (login.refused faultless);
+    refused = λ greeting described went. scram_failed greeting r _ _ described went (login.refused faultless) (login.script.stops.refused faultless);
     faultless = login.script.faultless faultless;
-    keeps = login.script.stops.keeps faultless;
     rest = login.script.stops.rest;
     counts = login.script.stops.counts;
     entries = login.entries;
@@ -119,10 +121,10 @@ module _ (own conversation : Conversation) (is : conversation ≡ own) (free : s
   free_done greeting (Err e) old new nothing described went reached = tt
 
   free_failed : (greeting : Greeting) (r : Result (Unit {0}) Error) (old new : Balance) → CostsNothing old.ledgers new.ledgers → opened.stream_description ≡ Some greeting.description → IsRoundBy (Some own) credential asked greeting round
-      → IfErr r (λ e. Stopped plan e.kind old.state new.state old.id new.id) → IfErr r (λ e. ConversationStopped own asked credential greeting e.kind old new)
+      → IfErr r (λ e. StoppedKeeping plan e.kind old.state new.state old.id new.id (kept_fault left)) → IfErr r (λ e. ConversationStopped own asked credential greeting e.kind (kept_fault left) old new)
   free_failed greeting (Ok done) old new nothing described went stopped = tt
   free_failed greeting (Err e) old new nothing described went stopped = record {
-    stopped = stopped_more (followed plan greeting) (conversation_plan own asked credential greeting) e.kind old.state new.state old.id new.id (part greeting described went) (then_stopped plan greeting e.kind old.state new.state old.id new.id stopped);
+    stopped = keeping_more (followed plan greeting) (conversation_plan own asked credential greeting) e.kind old.state new.state old.id new.id (part greeting described went) (then_stopped plan greeting e.kind old.state new.state old.id new.id stopped);
     costs = subst (λ version. StoppedCosts version asked credential greeting e.kind old new) (sym free) nothing;
   }
 
@@ -136,7 +138,6 @@ module _ (own conversation : Conversation) (is : conversation ≡ own) (free : s
         accepted = λ greeting described went. free_done greeting r old new nothing described went login.accepted;
         refused = λ greeting described went. free_failed greeting r old new nothing described went (login.stops.refused faultless);
         faultless = login.faultless faultless;
-        keeps = login.stops.keeps faultless;
         rest = login.stops.rest;
         counts = login.stops.counts;
         entries = on_refusal r _ nothing.entries;

@@ -4,11 +4,13 @@ use Rattle.mongo_wire.specs.declared.error.ErrorKind.{ErrorKind}
 use Rattle.mongo_wire.specs.declared.error.ErrorKind.TheVariants.{OutOfMemory}
 use Rattle.mongo_wire.specs.Outside.{State, Rose}
 use Rattle.mongo_command.specs.declared.connection.Connection.{Connection}
+use Rattle.mongo_command.specs.Connection.{kept_fault}
 use Rattle.mongo_command.specs.Conversation.{Said, Turn, refuses, ends, HasOneTurn, Plan, IsSaid, Reached, Stopped, Leads, LeftBy}
 use Rattle.mongo_command.proofs.FollowedBy.{stopped_first, stopped_second}
 use Rattle.mongo_command.proofs.Steps.{stopped_row}
 use Rattle.mongo_command.proofs.OneSaid.{one_said}
 use Rattle.mongo_command.proofs.Leads.{one_way, no_refusal, only_refusal, reached_led, stopped_led}
+use Rattle.mongo_sasl.proofs.StoppedKeeping.{stopped_of}
 use Rattle.mongo_establish.specs.declared.establisher.HandshakePhase.{HandshakePhase}
 use Rattle.mongo_establish.specs.declared.establisher.HandshakePhase.TheVariants.{PreHello, PostHello}
 use Rattle.mongo_establish.specs.declared.generation.ConnectionGeneration.{ConnectionGeneration}
@@ -38,7 +40,10 @@ login_stops asked greeting kind old middle new between after hello s = stopped_s
 -- whatever part of a handshake was stopped
 pub shaking_stops : (asked : Asked) (opened connection : Connection) (kind : ErrorKind) (old new : State) (after : ℤ) → StoppedHandshake asked opened connection kind old new after → Stopped (handshake_plan asked) kind old new asked.first_id after
 shaking_stops asked opened connection kind old new after s =
-    elim s [ inl h ↦ hello_stops asked kind old new after h.hello | inr l ↦ login_stops asked l.greeting kind old l.middle new l.between after l.hello l.login ]
+    elim s [
+      | inl h ↦ hello_stops asked kind old new after (stopped_of (hello_plan asked) kind old new asked.first_id after (kept_fault connection) h.hello)
+      | inr l ↦ login_stops asked l.greeting kind old l.middle new l.between after l.hello (stopped_of (login_plan asked l.greeting) kind l.middle new l.between after (kept_fault connection) l.login)
+    ]
 
 -- the establishment was stopped with its handshake
 pub handshake_stops : (asked : Asked) (kind : ErrorKind) (old new : State) (after : ℤ) → Stopped (handshake_plan asked) kind old new asked.first_id after → Stopped (establishment_plan asked) kind old new asked.first_id after

@@ -6,8 +6,11 @@ use Rattle.mongo_command.specs.declared.connection.Connection.{Connection}
 use Rattle.mongo_command.specs.declared.stream_description.StreamDescription.{StreamDescription}
 use Rattle.mongo_command.specs.declared.hello.HelloReply.{HelloReply}
 use Rattle.mongo_command.specs.declared.server_address.ServerAddress.{ServerAddress}
+use Rattle.mongo_command.specs.Connection.{kept_fault}
 use Rattle.mongo_command.specs.Conversation.{Plan, unless, saying, Reached, Stopped}
 use Rattle.mongo_sasl.specs.declared.credential.Credential.{Credential}
+use Rattle.mongo_sasl.specs.Stops.{StoppedKeeping}
+use Rattle.mongo_sasl.proofs.StoppedKeeping.{stopped_of}
 use Rattle.mongo_establish.specs.declared.establisher.EstablishError.{EstablishError}
 use Rattle.mongo_establish.specs.declared.establisher.HandshakePhase.{HandshakePhase}
 use Rattle.mongo_establish.specs.declared.establisher.HandshakePhase.TheVariants.{PreHello, PostHello}
@@ -60,8 +63,9 @@ module _ (pending : PendingConnection) (options : HandshakerOptions) (credential
   login_reached : (greeting : Greeting) (old new : State) (before after : ℤ) → Reached (login_plan over greeting) greeting old new before after → Reached (login_plan wanted greeting) greeting old new before after
   login_reached = reached_alike (pending_over opened) pending options credential nonces id id
 
-  login_stopped : (greeting : Greeting) (kind : ErrorKind) (old new : State) (before after : ℤ) → Stopped (login_plan over greeting) kind old new before after → Stopped (login_plan wanted greeting) kind old new before after
-  login_stopped = stopped_alike (pending_over opened) pending options credential nonces id id
+  login_stopped : (greeting : Greeting) (kind : ErrorKind) (old new : State) (before after : ℤ) (kept : Option ErrorKind) → StoppedKeeping (login_plan over greeting) kind old new before after kept → Stopped (login_plan wanted greeting) kind old new before after
+  login_stopped greeting kind old new before after kept s =
+      stopped_of (login_plan wanted greeting) kind old new before after kept (stopped_alike (pending_over opened) pending options credential nonces id id greeting kind old new before after s)
 
   -- ---- a handshake that was followed to its end
 
@@ -92,7 +96,7 @@ module _ (pending : PendingConnection) (options : HandshakerOptions) (credential
   stopped_hello : (phase : HandshakePhase) (connection : Connection) (kind : ErrorKind) (old new : State) (after : ℤ) → phase ≡ phase_at connection.stream_description pending.generation → StoppedHello over opened connection kind old new after → StoppedIn phase wanted kind old new after
   stopped_hello phase connection kind old new after is s =
       let early : phase ≡ PreHello pending.generation = is ∙ ap (λ d. phase_at d pending.generation) s.undescribed in
-      subst (λ p. StoppedIn p wanted kind old new after) (sym early) (refl, hello_stopped kind old new id after s.hello)
+      subst (λ p. StoppedIn p wanted kind old new after) (sym early) (refl, hello_stopped kind old new id after (stopped_of (hello_plan over) kind old new id after (kept_fault connection) s.hello))
 
   stopped_login : (phase : HandshakePhase) (connection : Connection) (kind : ErrorKind) (old new : State) (after : ℤ) → phase ≡ phase_at connection.stream_description pending.generation → StoppedLogin over opened connection kind old new after → StoppedIn phase wanted kind old new after
   stopped_login phase connection kind old new after is s =
@@ -102,7 +106,7 @@ module _ (pending : PendingConnection) (options : HandshakerOptions) (credential
         between = s.between;
         hello = hello_reached s.greeting old s.middle id s.between s.hello;
         generation_is = refl;
-        stopped = inl (login_stopped s.greeting kind s.middle new s.between after s.login);
+        stopped = inl (login_stopped s.greeting kind s.middle new s.between after (kept_fault connection) s.login);
       })
 
   -- the phase is what the connection's description says

@@ -12,14 +12,16 @@ use Rattle.mongo_command.specs.declared.server_address.ServerAddress.{ServerAddr
 use Rattle.mongo_command.specs.declared.stream_description.StreamDescription.{StreamDescription}
 use Rattle.mongo_command.specs.Command.{command_document}
 use Rattle.mongo_command.specs.Connection.{kept_fault, KeepsRest}
-use Rattle.mongo_command.specs.Conversation.{Plan, AreMet, Stopped, Reached, plain_message}
+use Rattle.mongo_command.specs.Conversation.{Plan, AreMet, Reached, plain_message}
 use Rattle.mongo_command.specs.Exchange.{command_message, frame_maximum, CountsStay, DocumentRefused}
 use Rattle.mongo_command.specs.Hello.{IsHelloResponse, HelloRefused, description_demands, DescriptionRefused, description_of}
 use Rattle.mongo_command.specs.HelloExchange.{RunsHello, RunHelloRefused}
 use Rattle.mongo_command.proofs.Rest.{keeps_all}
-use Rattle.mongo_command.proofs.Steps.{reached_ending, reached_unless, reached_reading, reached_saying, stopped_memory, stopped_row, stopped_saying, stopped_later}
+use Rattle.mongo_command.proofs.Steps.{reached_ending, reached_unless, reached_reading, reached_saying}
 use Rattle.mongo_sasl.specs.declared.credential.Credential.{Credential}
-use Rattle.mongo_sasl.proofs.Unsent.{unbuilt_stopped as unsent}
+use Rattle.mongo_sasl.specs.Stops.{StoppedKeeping, RefusedAtOnce}
+use Rattle.mongo_sasl.proofs.NotBuilt.{not_built}
+use Rattle.mongo_sasl.proofs.StoppedKeeping.{keeping_saying, at_once_keeping, refused_later}
 use Rattle.mongo_establish.specs.declared.options.HandshakerOptions.{HandshakerOptions}
 use Rattle.mongo_establish.specs.Client.{hello_with}
 use Rattle.mongo_establish.specs.Established.{HoldsGreeting, GreetedBy, UngreetedBy}
@@ -32,15 +34,15 @@ use Rattle.mongo_establish.proofs.HelloPlan.{no_row}
 -- ---- the reply
 
 -- a hello's reply that was refused
-no_hello : (address : ServerAddress) (kind : ErrorKind) (document : List ℕ) (new : State) (after : ℤ) → HelloRefused kind document → Stopped (after_hello address document) kind new new after after
-no_hello address kind document new after (inl row) = stopped_row _ _ kind new after (inl row)
-no_hello address kind document new after (inr memory) = stopped_memory _ kind new after memory
+no_hello : (address : ServerAddress) (kind : ErrorKind) (document : List ℕ) → HelloRefused kind document → RefusedAtOnce (after_hello address document) kind
+no_hello address kind document (inl row) = inl (inl (inl row))
+no_hello address kind document (inr memory) = inr (inl memory)
 
 -- one whose description isn't made
-no_description : (address : ServerAddress) (kind : ErrorKind) (reply : HelloReply) (new : State) (after : ℤ) → IsHelloResponse reply.raw_command_response reply.command_response reply.cluster_time → DescriptionRefused kind reply.command_response → Stopped (after_hello address reply.raw_command_response) kind new new after after
-no_description address kind reply new after reads (inl row) =
-    stopped_row _ _ kind new after (inr (λ other refuses. refuses.0 reply.command_response reply.cluster_time reads, record { response = reply.command_response; time = reply.cluster_time; reads = reads; row = row }))
-no_description address kind reply new after reads (inr memory) = stopped_memory _ kind new after memory
+no_description : (address : ServerAddress) (kind : ErrorKind) (reply : HelloReply) → IsHelloResponse reply.raw_command_response reply.command_response reply.cluster_time → DescriptionRefused kind reply.command_response → RefusedAtOnce (after_hello address reply.raw_command_response) kind
+no_description address kind reply reads (inl row) =
+    inl (inl (inr (λ other refuses. refuses.0 reply.command_response reply.cluster_time reads, record { response = reply.command_response; time = reply.cluster_time; reads = reads; row = row })))
+no_description address kind reply reads (inr memory) = inr (inl memory)
 
 -- one that describes
 describes : (address : ServerAddress) (reply : HelloReply) (new : State) (after : ℤ) → IsHelloResponse reply.raw_command_response reply.command_response reply.cluster_time → AreMet (description_demands reply.command_response) → Reached (after_hello address reply.raw_command_response) (greeting_in address reply) new new after after
@@ -65,21 +67,23 @@ module _ (options : HandshakerOptions) (credential : Option Credential) (login :
   abbrev message : Message
   message = plain_message (command_document (hello_with options credential login))
 
-  ungreeted : (connection : Connection) (kind : ErrorKind) (old new : State) (before after : ℤ) → KeepsRest opened connection → Stopped plan kind old new before after → UngreetedBy options credential login opened connection kind old new before after
+  ungreeted : (connection : Connection) (kind : ErrorKind) (old new : State) (before after : ℤ) → KeepsRest opened connection → StoppedKeeping plan kind old new before after (kept_fault connection) → UngreetedBy options credential login opened connection kind old new before after
   ungreeted connection kind old new before after rest stopped = record { stopped = stopped; undescribed = rest.description ∙ fresh; rest = rest }
 
+  -- one that leaves no fault
+  still : (connection : Connection) (kind : ErrorKind) (old new : State) (before after : ℤ) → kept_fault connection ≡ None → StoppedKeeping plan kind old new before after None → StoppedKeeping plan kind old new before after (kept_fault connection)
+  still connection kind old new before after faultless stopped = subst (StoppedKeeping plan kind old new before after) (sym faultless) stopped
+
   -- its body would be too long, or memory ran out
-  unbuilt : (kind : ErrorKind) (old : State) (before : ℤ) → DocumentRefused kind (hello_with options credential login).body → Stopped plan kind old old before before
-  unbuilt kind old before r =
+  pub unbuilt : (kind : ErrorKind) → DocumentRefused kind (hello_with options credential login).body → RefusedAtOnce plan kind
+  unbuilt kind r =
       let hello = hello_with options credential login in
-      unsent (hello_said_with options credential login) (after_hello opened.address) hello kind old before refl (least_body options credential login) r
+      not_built (hello_said_with options credential login) (after_hello opened.address) hello kind refl (least_body options credential login) r
 
-  pub unbuilt_stopped : (kind : ErrorKind) (old : State) (before : ℤ) → DocumentRefused kind (hello_with options credential login).body → UngreetedBy options credential login opened opened kind old old before before
-  unbuilt_stopped kind old before r = ungreeted opened kind old old before before (keeps_all opened) (unbuilt kind old before r)
-
-  pub unbuilt_greeting : {T : Type 0} (r : Result T Error) (old : State) (before : ℤ) → IfErr r (λ e. DocumentRefused e.kind (hello_with options credential login).body) → IfErr r (λ e. UngreetedBy options credential login opened opened e.kind old old before before)
-  unbuilt_greeting (Ok x) old before h = tt
-  unbuilt_greeting (Err e) old before h = unbuilt_stopped e.kind old before h
+  pub unbuilt_greeting : {T : Type 0} (r : Result T Error) (old : State) (before : ℤ) → kept_fault opened ≡ None → IfErr r (λ e. DocumentRefused e.kind (hello_with options credential login).body) → IfErr r (λ e. UngreetedBy options credential login opened opened e.kind old old before before)
+  unbuilt_greeting (Ok x) old before faultless h = tt
+  unbuilt_greeting (Err e) old before faultless h =
+      ungreeted opened e.kind old old before before (keeps_all opened) (still opened e.kind old old before before faultless (at_once_keeping plan e.kind old before (unbuilt e.kind h)))
 
   module _ (hello : Command) (made : hello ≡ hello_with options credential login) where
     refused_so : (kind : ErrorKind) (old new : State) (before after : ℤ) (kept : Option ErrorKind) → RunHelloRefused kind (frame_maximum opened.stream_description) (command_message hello) old new before after kept → RunHelloRefused kind first_maximum message old new before after kept
@@ -87,12 +91,12 @@ module _ (options : HandshakerOptions) (credential : Option Credential) (login :
         subst (λ c. RunHelloRefused kind first_maximum (command_message c) old new before after kept) made
         (subst (λ most. RunHelloRefused kind most (command_message hello) old new before after kept) (maximum_before opened.stream_description fresh) r)
 
-    unrun : (kind : ErrorKind) (old new : State) (before after : ℤ) (kept : Option ErrorKind) → CountsStay old new → RunHelloRefused kind first_maximum message old new before after kept → Stopped plan kind old new before after
+    unrun : (kind : ErrorKind) (old new : State) (before after : ℤ) (kept : Option ErrorKind) → CountsStay old new → RunHelloRefused kind first_maximum message old new before after kept → StoppedKeeping plan kind old new before after kept
     unrun kind old new before after kept counts r =
         let said = hello_said_with options credential login in
         elim r [
-          | inl x ↦ stopped_saying said (after_hello opened.address) kind old new before after kept x counts
-          | inr n ↦ stopped_later said (after_hello opened.address) n.document kind old new new before after after n.exchanges counts (no_hello opened.address kind n.document new after n.refused)
+          | inl x ↦ keeping_saying said (after_hello opened.address) kind old new before after kept x counts
+          | inr n ↦ subst (StoppedKeeping plan kind old new before after) (sym n.kept_is) (refused_later said (after_hello opened.address) n.document kind old new before after n.exchanges counts (no_hello opened.address kind n.document n.refused))
         ]
 
     -- it was refused
@@ -109,11 +113,12 @@ module _ (options : HandshakerOptions) (credential : Option Credential) (login :
           (subst (λ most. RunsHello most (command_message hello) old new before after reply) (maximum_before opened.stream_description fresh) runs)
 
       -- its reply doesn't describe the server
-      pub undescribed_greeting : {T : Type 0} (r : Result T Error) (connection : Connection) → connection ≡ ran → IfErr r (λ e. DescriptionRefused e.kind reply.command_response) → IfErr r (λ e. UngreetedBy options credential login opened connection e.kind old new before after)
-      undescribed_greeting (Ok x) connection same h = tt
-      undescribed_greeting (Err e) connection same h =
+      pub undescribed_greeting : {T : Type 0} (r : Result T Error) (connection : Connection) → connection ≡ ran → kept_fault ran ≡ None → IfErr r (λ e. DescriptionRefused e.kind reply.command_response) → IfErr r (λ e. UngreetedBy options credential login opened connection e.kind old new before after)
+      undescribed_greeting (Ok x) connection same faultless h = tt
+      undescribed_greeting (Err e) connection same faultless h =
           ungreeted connection e.kind old new before after (subst (KeepsRest opened) (sym same) rest)
-          (stopped_later (hello_said_with options credential login) (after_hello opened.address) reply.raw_command_response e.kind old new new before after after runs_so.exchanges counts (no_description opened.address e.kind reply new after runs.reads h))
+          (still connection e.kind old new before after (ap kept_fault same ∙ faultless)
+          (refused_later (hello_said_with options credential login) (after_hello opened.address) reply.raw_command_response e.kind old new before after runs_so.exchanges counts (no_description opened.address e.kind reply runs.reads h)))
 
       holds : (connection : Connection) → reply.server_address ≡ opened.address → IsDescribedBy ran connection reply → HoldsGreeting opened connection (greeting_in opened.address reply)
       unfolding greeting_in

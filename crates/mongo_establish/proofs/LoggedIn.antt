@@ -6,12 +6,14 @@ use Rattle.mongo_wire.specs.declared.error.ErrorKind.TheVariants.{Authentication
 use Rattle.mongo_wire.specs.declared.auth_fault.AuthFault.TheVariants.{MongoDbCr as MongoDbCrFault}
 use Rattle.mongo_wire.specs.Outside.{State}
 use Rattle.mongo_command.specs.declared.stream_description.StreamDescription.{StreamDescription}
-use Rattle.mongo_command.specs.Conversation.{HasNone, Reached, Stopped}
-use Rattle.mongo_command.proofs.Steps.{reached_ending, reached_unless, reached_reading, stopped_row, stopped_unless, stopped_reading}
+use Rattle.mongo_command.specs.Conversation.{HasNone, Reached}
+use Rattle.mongo_command.proofs.Steps.{reached_ending, reached_unless, reached_reading}
 use Rattle.mongo_sasl.specs.declared.credential.Credential.{Credential}
 use Rattle.mongo_sasl.specs.declared.mechanism.AuthMechanism.{AuthMechanism}
 use Rattle.mongo_sasl.specs.declared.mechanism.AuthMechanism.TheVariants.{MongoDbCr, ScramSha1, ScramSha256}
 use Rattle.mongo_sasl.specs.Mechanism.{IsNegotiated}
+use Rattle.mongo_sasl.specs.Stops.{StoppedKeeping, RefusedAtOnce}
+use Rattle.mongo_sasl.proofs.StoppedKeeping.{keeping_unless, keeping_reading, at_once_keeping}
 use Rattle.mongo_scram.specs.Costs.{Balance, CostsNothing}
 use Rattle.mongo_establish.specs.declared.conversation.Conversation.{Conversation}
 use Rattle.mongo_establish.specs.declared.answered_round.AnsweredRound.{AnsweredRound}
@@ -96,16 +98,15 @@ unfolding mechanism_plan
 validated_reached mechanism conversation asked credential greeting old new before after has none r =
     reached_reading (HasConversation mechanism) (validated mechanism asked credential greeting) conversation greeting old new before after has (reached_unless _ _ greeting old new before after none r)
 
-validated_stopped : (mechanism : AuthMechanism) (conversation : Conversation) (asked : Asked) (credential : Credential) (greeting : Greeting) (kind : ErrorKind) (old new : State) (before after : ℤ) → HasConversation mechanism conversation → HasNone (InvalidRow (speculative_reply asked greeting) mechanism credential)
-    → Stopped (conversation_plan conversation asked credential greeting) kind old new before after → Stopped (mechanism_plan mechanism asked credential greeting) kind old new before after
+validated_stopped : {kept : Option ErrorKind} (mechanism : AuthMechanism) (conversation : Conversation) (asked : Asked) (credential : Credential) (greeting : Greeting) (kind : ErrorKind) (old new : State) (before after : ℤ) → HasConversation mechanism conversation → HasNone (InvalidRow (speculative_reply asked greeting) mechanism credential)
+    → StoppedKeeping (conversation_plan conversation asked credential greeting) kind old new before after kept → StoppedKeeping (mechanism_plan mechanism asked credential greeting) kind old new before after kept
 unfolding mechanism_plan
 validated_stopped mechanism conversation asked credential greeting kind old new before after has none s =
-    stopped_reading (HasConversation mechanism) (validated mechanism asked credential greeting) conversation kind old new before after has (stopped_unless _ _ kind old new before after none s)
+    keeping_reading (HasConversation mechanism) (validated mechanism asked credential greeting) conversation kind old new before after has (keeping_unless _ _ kind old new before after none s)
 
-row_stopped : (mechanism : AuthMechanism) (conversation : Conversation) (asked : Asked) (credential : Credential) (greeting : Greeting) (kind : ErrorKind) (old : State) (before : ℤ) → HasConversation mechanism conversation → InvalidRow (speculative_reply asked greeting) mechanism credential kind → Stopped (mechanism_plan mechanism asked credential greeting) kind old old before before
+row_refused : (mechanism : AuthMechanism) (conversation : Conversation) (asked : Asked) (credential : Credential) (greeting : Greeting) (kind : ErrorKind) → HasConversation mechanism conversation → InvalidRow (speculative_reply asked greeting) mechanism credential kind → RefusedAtOnce (mechanism_plan mechanism asked credential greeting) kind
 unfolding mechanism_plan
-row_stopped mechanism conversation asked credential greeting kind old before has row =
-    stopped_reading (HasConversation mechanism) (validated mechanism asked credential greeting) conversation kind old old before before has (stopped_row _ _ kind old before row)
+row_refused mechanism conversation asked credential greeting kind has row = inl (conversation, has, inl row)
 
 -- ---- a login
 
@@ -123,17 +124,17 @@ module _ (asked : Asked) (greeting : Greeting) (credential : Credential) (round 
   login_reached old new before after r =
       subst (λ w. Reached (login_by w asked greeting) greeting old new before after) (sym (a_user asked greeting credential holds who)) (reached_reading (IsMechanism credential.mechanism (speculative_reply asked greeting) greeting.description) (λ m. mechanism_plan m asked credential greeting) mechanism greeting old new before after by_mechanism r)
 
-  login_stopped : (kind : ErrorKind) (old new : State) (before after : ℤ) → Stopped (mechanism_plan mechanism asked credential greeting) kind old new before after → Stopped (login_plan asked greeting) kind old new before after
+  login_stopped : {kept : Option ErrorKind} (kind : ErrorKind) (old new : State) (before after : ℤ) → StoppedKeeping (mechanism_plan mechanism asked credential greeting) kind old new before after kept → StoppedKeeping (login_plan asked greeting) kind old new before after kept
   unfolding login_plan
-  login_stopped kind old new before after s =
-      subst (λ w. Stopped (login_by w asked greeting) kind old new before after) (sym (a_user asked greeting credential holds who)) (stopped_reading (IsMechanism credential.mechanism (speculative_reply asked greeting) greeting.description) (λ m. mechanism_plan m asked credential greeting) mechanism kind old new before after by_mechanism s)
+  login_stopped {kept = kept} kind old new before after s =
+      subst (λ w. StoppedKeeping (login_by w asked greeting) kind old new before after kept) (sym (a_user asked greeting credential holds who)) (keeping_reading (IsMechanism credential.mechanism (speculative_reply asked greeting) greeting.description) (λ m. mechanism_plan m asked credential greeting) mechanism kind old new before after by_mechanism s)
 
   -- the mechanism doesn't take the credential, which it is asked only where no first round was answered
   invalid_row : (kind : ErrorKind) → is_some round ≡ false → InvalidRow None mechanism credential kind → InvalidRow (speculative_reply asked greeting) mechanism credential kind
   invalid_row kind none row = subst (λ reply. InvalidRow reply mechanism credential kind) (sym (none_is (speculative_reply asked greeting) (sym went.there ∙ none))) row
 
-  pub invalid_stopped : (kind : ErrorKind) (old : State) (before : ℤ) → is_some round ≡ false → InvalidRow None mechanism credential kind → Stopped (login_plan asked greeting) kind old old before before
-  invalid_stopped kind old before none row = login_stopped kind old old before before (row_stopped mechanism conversation asked credential greeting kind old before has (invalid_row kind none row))
+  pub invalid_stopped : (kind : ErrorKind) (old : State) (before : ℤ) → is_some round ≡ false → InvalidRow None mechanism credential kind → StoppedKeeping (login_plan asked greeting) kind old old before before None
+  invalid_stopped kind old before none row = login_stopped kind old old before before (at_once_keeping (mechanism_plan mechanism asked credential greeting) kind old before (row_refused mechanism conversation asked credential greeting kind has (invalid_row kind none row)))
 
   pub invalid_costs : (kind : ErrorKind) (old : Balance) → is_some round ≡ false → InvalidRow None mechanism credential kind → CostsNothing old.ledgers old.ledgers → StoppedLoginCosts asked greeting kind old old
   invalid_costs kind old none row nothing =
@@ -154,10 +155,10 @@ module _ (asked : Asked) (greeting : Greeting) (credential : Credential) (round 
           costs = subst (λ o. AcceptedCosts (scram_in o) asked credential greeting old new) (sym has) h.costs;
         })
 
-    pub stopped_stopped : (kind : ErrorKind) (old new : Balance) → ConversationStopped conversation asked credential greeting kind old new → Stopped (login_plan asked greeting) kind old.state new.state old.id new.id
+    pub stopped_stopped : {kept : Option ErrorKind} (kind : ErrorKind) (old new : Balance) → ConversationStopped conversation asked credential greeting kind kept old new → StoppedKeeping (login_plan asked greeting) kind old.state new.state old.id new.id kept
     stopped_stopped kind old new h = login_stopped kind old.state new.state old.id new.id (validated_stopped mechanism conversation asked credential greeting kind old.state new.state old.id new.id has no_row h.stopped)
 
-    pub stopped_costs : (kind : ErrorKind) (old new : Balance) → ConversationStopped conversation asked credential greeting kind old new → StoppedLoginCosts asked greeting kind old new
+    pub stopped_costs : {kept : Option ErrorKind} (kind : ErrorKind) (old new : Balance) → ConversationStopped conversation asked credential greeting kind kept old new → StoppedLoginCosts asked greeting kind old new
     stopped_costs kind old new h =
         subst (λ w. StoppedLoginCostsOf w asked greeting kind old new) (sym (a_user asked greeting credential holds who)) (record {
           mechanism = mechanism;

@@ -4,11 +4,11 @@ use Rattle.mongo_wire.specs.declared.error.Error.{Error}
 use Rattle.mongo_wire.specs.declared.error.ErrorKind.{ErrorKind}
 use Rattle.mongo_command.specs.declared.connection.Connection.{Connection}
 use Rattle.mongo_command.specs.declared.stream_description.StreamDescription.{StreamDescription}
+use Rattle.mongo_command.specs.Connection.{kept_fault}
 use Rattle.mongo_command.specs.Conversation.{HasNone}
 use Rattle.mongo_sasl.specs.declared.credential.Credential.{Credential}
 use Rattle.mongo_sasl.specs.declared.mechanism.AuthMechanism.{AuthMechanism}
-use Rattle.mongo_sasl.specs.EndsByScript.{KeepsAfter}
-use Rattle.mongo_sasl.proofs.KeptAfter.{own_keeps}
+use Rattle.mongo_sasl.specs.Stops.{StoppedKeeping}
 use Rattle.mongo_scram.specs.Costs.{Balance, CostsNothing}
 use Rattle.mongo_establish.specs.declared.conversation.Conversation.{Conversation}
 use Rattle.mongo_establish.specs.declared.answered_round.AnsweredRound.{AnsweredRound}
@@ -19,9 +19,9 @@ use Rattle.mongo_establish.specs.First.{IsRoundBy, IsRoundOf}
 use Rattle.mongo_establish.specs.Greeting.{Greeting}
 use Rattle.mongo_establish.specs.Login.{holds_users, IsMechanism, InvalidRow}
 use Rattle.mongo_establish.specs.LoggingIn.{IsCredentialTaken, Converses, LogsIn, LoginStops}
+use Rattle.mongo_establish.specs.Plan.{login_plan}
 use Rattle.mongo_establish.specs.Speculation.{mechanism_before, SpeaksFor, HelloRow}
 use Rattle.mongo_establish.specs.Spoken.{conversation_of, HasConversation}
-use Rattle.mongo_establish.proofs.Keeping.{invalid_own}
 use Rattle.mongo_establish.proofs.LoggedIn.{nobody, nobody_costs, no_credential, no_users, converses, went_by, invalid_stopped, invalid_costs, conversed_reached, conversed_costs, stopped_stopped, stopped_costs}
 
 same_description : (a b : StreamDescription) → Some a ≡ Some b → a ≡ b
@@ -82,18 +82,13 @@ module _ (opened : Connection) (options : HandshakerOptions) (given : Option Cre
   went greeting r = subst (λ c. IsRoundOf c asked greeting round) who r
 
   -- the mechanism doesn't take the credential
-  pub log_in_invalid : {T : Type 0} (r : Result T Error) (old : Balance) → CostsNothing old.ledgers old.ledgers → IfErr r (λ e. (is_some round ≡ false) × InvalidRow None mechanism credential e.kind)
-      → IfErr r (λ e. LoginStops asked held round e.kind old old)
-  log_in_invalid (Ok x) old nothing h = tt
-  log_in_invalid (Err e) old nothing h = record {
-    stopped = λ greeting described r. invalid_stopped asked greeting credential round mechanism who (users greeting described) (went greeting r) (mechanisms greeting described) found.0 found.1 e.kind old.state old.id h.0 h.1;
+  pub log_in_invalid : {T : Type 0} (r : Result T Error) (kept : Option ErrorKind) (old : Balance) → kept ≡ None → CostsNothing old.ledgers old.ledgers → IfErr r (λ e. (is_some round ≡ false) × InvalidRow None mechanism credential e.kind)
+      → IfErr r (λ e. LoginStops asked held round e.kind kept old old)
+  log_in_invalid (Ok x) kept old none nothing h = tt
+  log_in_invalid (Err e) kept old none nothing h = record {
+    stopped = λ greeting described r. subst (StoppedKeeping (login_plan asked greeting) e.kind old.state old.state old.id old.id) (sym none) (invalid_stopped asked greeting credential round mechanism who (users greeting described) (went greeting r) (mechanisms greeting described) found.0 found.1 e.kind old.state old.id h.0 h.1);
     costs = λ greeting described r. invalid_costs asked greeting credential round mechanism who (users greeting described) (went greeting r) (mechanisms greeting described) found.0 found.1 e.kind old h.0 h.1 nothing;
   }
-
-  -- and leaves a connection without a fault
-  pub invalid_keeps : {T : Type 0} (r : Result T Error) (kept : Option ErrorKind) → IfErr r (λ e. (is_some round ≡ false) × InvalidRow None mechanism credential e.kind) → kept ≡ None → IfErr r (λ e. KeepsAfter e.kind kept)
-  invalid_keeps (Ok x) kept h none = tt
-  invalid_keeps (Err e) kept h none = own_keeps e.kind kept (invalid_own mechanism credential e.kind h.1) none
 
   module _ (taken : IsCredentialTaken (is_some round) mechanism credential) (conversation : Conversation) (has : HasConversation mechanism conversation) where
     -- its round is the conversation's
@@ -117,7 +112,7 @@ module _ (opened : Connection) (options : HandshakerOptions) (given : Option Cre
     log_in_accepted (Err e) left old new h = tt
 
     -- it was stopped
-    pub log_in_stopped : (r : Result (Unit {0}) Error) (left : Connection) (old new : Balance) → Converses r conversation (this (Some credential)) credential round opened left old new → IfErr r (λ e. LoginStops asked held round e.kind old new)
+    pub log_in_stopped : (r : Result (Unit {0}) Error) (left : Connection) (old new : Balance) → Converses r conversation (this (Some credential)) credential round opened left old new → IfErr r (λ e. LoginStops asked held round e.kind (kept_fault left) old new)
     log_in_stopped (Ok done) left old new h = tt
     log_in_stopped (Err e) left old new h =
         let stopped = (here (Err e) left old new h).refused in

@@ -7,9 +7,11 @@ use Rattle.mongo_wire.specs.Outside.{State}
 use Rattle.mongo_command.specs.declared.connection.Connection.{Connection}
 use Rattle.mongo_command.specs.declared.hello.HelloReply.{HelloReply}
 use Rattle.mongo_command.specs.declared.server_address.ServerAddress.{ServerAddress}
+use Rattle.mongo_command.specs.Connection.{kept_fault}
 use Rattle.mongo_command.specs.Conversation.{Reached, Stopped}
 use Rattle.mongo_command.specs.Hello.{description_of}
 use Rattle.mongo_command.proofs.Steps.{reached_unless, stopped_unless}
+use Rattle.mongo_sasl.proofs.StoppedKeeping.{stopped_of}
 use Rattle.mongo_establish.specs.declared.establisher.HandshakePhase.TheVariants.{PreHello}
 use Rattle.mongo_establish.specs.declared.generation.PoolGeneration.TheVariants.{Normal}
 use Rattle.mongo_establish.specs.declared.options.HandshakerOptions.{HandshakerOptions}
@@ -65,7 +67,7 @@ module _ (address : ServerAddress) (number : ℕ) (options : HandshakerOptions) 
       stopped_unless _ _ kind old new id after (λ k row. row) (subst (λ a. Stopped (hello_exchange options None None a) kind old new id after) at s)
 
   pub unmonitored : {T : Type 0} (r : Result T Error) (connection : Connection) (old new : State) (after : ℤ) → IfErr r (λ e. UngreetedBy options None None opened connection e.kind old new id after) → IfErr r (λ e. Stopped (hello_plan alone) e.kind old new id after)
-  unmonitored r connection old new after = IfErr-weaker r _ _ (λ e h. stopped e.kind old new after h.stopped)
+  unmonitored r connection old new after = IfErr-weaker r _ _ (λ e h. stopped e.kind old new after (stopped_of (hello_exchange options None None opened.address) e.kind old new id after (kept_fault connection) h.stopped))
 
   pub unmonitored_whole : {T : Type 0} (r : Result T Error) (old new : State) (after : ℤ) → IfErr r (λ e. Stopped (hello_plan alone) e.kind old new id after) → IfErr r (λ e. Stopped (establishment_plan alone) e.kind old new id after)
   unmonitored_whole r old new after = IfErr-weaker r _ _ (λ e s. stopped_whole (PreHello (Normal 0)) alone e.kind old new after (refl, s))

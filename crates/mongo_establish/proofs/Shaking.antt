@@ -7,11 +7,13 @@ use Rattle.mongo_wire.specs.Outside.{State}
 use Rattle.mongo_command.specs.declared.connection.Connection.{Connection}
 use Rattle.mongo_command.specs.declared.hello.HelloReply.{HelloReply}
 use Rattle.mongo_command.specs.Connection.{kept_fault, KeepsRest}
-use Rattle.mongo_command.specs.Conversation.{HasNone, or_else, Reached, Stopped}
+use Rattle.mongo_command.specs.Conversation.{HasNone, or_else, Reached}
 use Rattle.mongo_command.specs.Hello.{description_of}
 use Rattle.mongo_command.proofs.Rest.{keeps_all}
-use Rattle.mongo_command.proofs.Steps.{reached_unless, stopped_row, stopped_unless}
+use Rattle.mongo_command.proofs.Steps.{reached_unless}
 use Rattle.mongo_sasl.specs.declared.credential.Credential.{Credential}
+use Rattle.mongo_sasl.specs.Stops.{StoppedKeeping, RefusedAtOnce}
+use Rattle.mongo_sasl.proofs.StoppedKeeping.{stopped_of, keeping_unless, at_once_more, at_once_keeping}
 use Rattle.mongo_scram.specs.Client.{speculated_of}
 use Rattle.mongo_scram.specs.Costs.{Ledgers, Balance, balance, CostsNothing}
 use Rattle.mongo_establish.specs.declared.client_first.ClientFirst.{ClientFirst}
@@ -29,7 +31,7 @@ use Rattle.mongo_establish.specs.Speculation.{HelloRow, answer_to, left_in, spec
 use Rattle.mongo_establish.proofs.EstablishedScript.{handshake_reached, script_by, scripted_by}
 use Rattle.mongo_establish.proofs.FirstRounds.{first_speculation, round_of}
 use Rattle.mongo_establish.proofs.HelloBody.{unmade_refused}
-use Rattle.mongo_establish.proofs.HelloExchange.{unbuilt_stopped}
+use Rattle.mongo_establish.proofs.HelloExchange.{unbuilt}
 use Rattle.mongo_establish.proofs.LoginAlike.{pending_over, reached_alike, stopped_alike, costs_alike, stopped_login_costs_alike}
 
 -- ---- results
@@ -68,19 +70,24 @@ module _ (opened : Connection) (options : HandshakerOptions) (credential : Optio
     abbrev NoFirst : ErrorKind → Type 0
     NoFirst kind = or_else (HelloRow credential) (IsUnmade (speculation credential nonces.first)) kind
 
-    unmade : (kind : ErrorKind) (old : State) → NoFirst kind → Stopped (hello_plan asked) kind old old id id
+    unmade : (kind : ErrorKind) → NoFirst kind → RefusedAtOnce (hello_plan asked) kind
     unfolding hello_plan
-    unmade kind old (inl row) = stopped_row _ _ kind old id row
-    unmade kind old (inr none) =
+    unmade kind (inl row) = inl (inl row)
+    unmade kind (inr none) =
         let login = speculation credential nonces.first in
-        stopped_unless _ _ kind old old id id none.0 (unbuilt_stopped options credential login opened fresh kind old id (unmade_refused options credential login kind none.1)).stopped
+        at_once_more (hello_exchange options credential login opened.address) (hello_plan asked) kind (λ turn h. inr (none.0, h)) (unbuilt options credential login opened fresh kind (unmade_refused options credential login kind none.1))
 
-    pub unmade_stopped : {T : Type 0} (r : Result T Error) (old : State) → IfErr r (λ e. NoFirst e.kind) → IfErr r (λ e. StoppedHandshake asked opened opened e.kind old old id)
-    unmade_stopped (Ok x) old h = tt
-    unmade_stopped (Err e) old h = inl (record { hello = unmade e.kind old h; undescribed = fresh; rest = keeps_all opened })
+    unmade_keeping : (kind : ErrorKind) (old : State) → NoFirst kind → StoppedKeeping (hello_plan asked) kind old old id id None
+    unmade_keeping kind old h = at_once_keeping (hello_plan asked) kind old id (unmade kind h)
+
+    pub unmade_stopped : {T : Type 0} (r : Result T Error) (old : State) → kept_fault opened ≡ None → IfErr r (λ e. NoFirst e.kind) → IfErr r (λ e. StoppedHandshake asked opened opened e.kind old old id)
+    unmade_stopped (Ok x) old faultless h = tt
+    unmade_stopped (Err e) old faultless h =
+        inl (record { hello = subst (StoppedKeeping (hello_plan asked) e.kind old old id id) (sym faultless) (unmade_keeping e.kind old h); undescribed = fresh; rest = keeps_all opened })
 
     pub unmade_costs : {T : Type 0} (r : Result T Error) (e : Error) (old : State) (ledgers : Ledgers) → IsErrAnd r (λ x. x ≡ e) → CostsNothing ledgers ledgers → NoFirst e.kind → CostsOf r asked (balance old id ledgers) (balance old id ledgers)
-    unmade_costs r e old ledgers same nothing h = costs_of_err r e asked (balance old id ledgers) (balance old id ledgers) same (inl (record { hello = unmade e.kind old h; nothing = nothing }))
+    unmade_costs r e old ledgers same nothing h =
+        costs_of_err r e asked (balance old id ledgers) (balance old id ledgers) same (inl (record { hello = stopped_of (hello_plan asked) e.kind old old id id None (unmade_keeping e.kind old h); nothing = nothing }))
 
   -- ---- the hello
 
@@ -88,10 +95,10 @@ module _ (opened : Connection) (options : HandshakerOptions) (credential : Optio
     abbrev sent : Option (List ℕ)
     sent = option_map first_document first
 
-    stopped_so : (kind : ErrorKind) (old new : State) (after : ℤ) → Stopped (hello_exchange options credential sent opened.address) kind old new id after → Stopped (hello_plan asked) kind old new id after
+    stopped_so : {kept : Option ErrorKind} (kind : ErrorKind) (old new : State) (after : ℤ) → StoppedKeeping (hello_exchange options credential sent opened.address) kind old new id after kept → StoppedKeeping (hello_plan asked) kind old new id after kept
     unfolding hello_plan
-    stopped_so kind old new after s =
-        stopped_unless _ _ kind old new id after made (subst (λ login. Stopped (hello_exchange options credential login opened.address) kind old new id after) (first_speculation credential nonces.first first is_first) s)
+    stopped_so {kept = kept} kind old new after s =
+        keeping_unless _ _ kind old new id after made (subst (λ login. StoppedKeeping (hello_exchange options credential login opened.address) kind old new id after kept) (first_speculation credential nonces.first first is_first) s)
 
     reached_so : (greeting : Greeting) (old new : State) (after : ℤ) → Reached (hello_exchange options credential sent opened.address) greeting old new id after → Reached (hello_plan asked) greeting old new id after
     unfolding hello_plan
@@ -103,7 +110,7 @@ module _ (opened : Connection) (options : HandshakerOptions) (credential : Optio
     ungreeted_stopped (Err e) connection old new after h = inl (record { hello = stopped_so e.kind old new after h.stopped; undescribed = h.undescribed; rest = h.rest })
 
     pub ungreeted_costs : {T : Type 0} (r : Result T Error) (e : Error) (connection : Connection) (old new : State) (after : ℤ) (ledgers : Ledgers) → IsErrAnd r (λ x. x ≡ e) → CostsNothing ledgers ledgers → UngreetedBy options credential sent opened connection e.kind old new id after → CostsOf r asked (balance old id ledgers) (balance new after ledgers)
-    ungreeted_costs r e connection old new after ledgers same nothing h = costs_of_err r e asked (balance old id ledgers) (balance new after ledgers) same (inl (record { hello = stopped_so e.kind old new after h.stopped; nothing = nothing }))
+    ungreeted_costs r e connection old new after ledgers same nothing h = costs_of_err r e asked (balance old id ledgers) (balance new after ledgers) same (inl (record { hello = stopped_of (hello_plan asked) e.kind old new id after (kept_fault connection) (stopped_so e.kind old new after h.stopped); nothing = nothing }))
 
     -- ---- the login
 
@@ -135,7 +142,7 @@ module _ (opened : Connection) (options : HandshakerOptions) (credential : Optio
           }
 
       pub login_stopped : {T : Type 0} (r : Result T Error) (connection : Connection) (early : Ledgers) (new : Balance) → KeepsRest described connection
-          → IfErr r (λ e. LoginStops anew described.stream_description round e.kind (balance middle between early) new) → IfErr r (λ e. StoppedHandshake asked opened connection e.kind old new.state new.id)
+          → IfErr r (λ e. LoginStops anew described.stream_description round e.kind (kept_fault connection) (balance middle between early) new) → IfErr r (λ e. StoppedHandshake asked opened connection e.kind old new.state new.id)
       login_stopped (Ok x) connection early new later h = tt
       login_stopped (Err e) connection early new later h = inr (record {
         greeting = greeting;
@@ -146,7 +153,7 @@ module _ (opened : Connection) (options : HandshakerOptions) (credential : Optio
         held = held connection later;
       })
 
-      pub login_stopped_costs : {T : Type 0} (r : Result T Error) (e : Error) (early : Ledgers) (new : Balance) → IsErrAnd r (λ x. x ≡ e) → LoginStops anew described.stream_description round e.kind (balance middle between early) new → CostsOf r asked (balance old id early) new
+      pub login_stopped_costs : {T : Type 0} {kept : Option ErrorKind} (r : Result T Error) (e : Error) (early : Ledgers) (new : Balance) → IsErrAnd r (λ x. x ≡ e) → LoginStops anew described.stream_description round e.kind kept (balance middle between early) new → CostsOf r asked (balance old id early) new
       login_stopped_costs r e early new same h = costs_of_err r e asked (balance old id early) new same (inr (record {
         greeting = greeting;
         middle = middle;

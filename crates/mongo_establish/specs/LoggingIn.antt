@@ -5,11 +5,11 @@ use Rattle.mongo_wire.specs.declared.error.ErrorKind.{ErrorKind}
 use Rattle.mongo_command.specs.declared.connection.Connection.{Connection}
 use Rattle.mongo_command.specs.declared.stream_description.StreamDescription.{StreamDescription}
 use Rattle.mongo_command.specs.Connection.{kept_fault, KeepsRest}
-use Rattle.mongo_command.specs.Conversation.{Reached, Stopped}
+use Rattle.mongo_command.specs.Conversation.{Reached}
 use Rattle.mongo_command.specs.Exchange.{CountsStay}
 use Rattle.mongo_sasl.specs.declared.credential.Credential.{Credential}
 use Rattle.mongo_sasl.specs.declared.mechanism.AuthMechanism.{AuthMechanism}
-use Rattle.mongo_sasl.specs.EndsByScript.{KeepsAfter}
+use Rattle.mongo_sasl.specs.Stops.{StoppedKeeping}
 use Rattle.mongo_sasl.specs.Validation.{IsValidated}
 use Rattle.mongo_scram.specs.Costs.{Balance, SameEntries}
 use Rattle.mongo_establish.specs.declared.conversation.Conversation.{Conversation}
@@ -28,18 +28,17 @@ pub record Conversed (conversation : Conversation) (asked : Asked) (credential :
   pub reached : Reached (conversation_plan conversation asked credential greeting) greeting old.state new.state old.id new.id
   pub costs : AcceptedCosts (scram_in (Some conversation)) asked credential greeting old new
 
--- it was stopped
-pub record ConversationStopped (conversation : Conversation) (asked : Asked) (credential : Credential) (greeting : Greeting) (kind : ErrorKind) (old new : Balance) : Type 0 where
-  pub stopped : Stopped (conversation_plan conversation asked credential greeting) kind old.state new.state old.id new.id
+-- it was stopped, which leaves the connection to keep this
+pub record ConversationStopped (conversation : Conversation) (asked : Asked) (credential : Credential) (greeting : Greeting) (kind : ErrorKind) (kept : Option ErrorKind) (old new : Balance) : Type 0 where
+  pub stopped : StoppedKeeping (conversation_plan conversation asked credential greeting) kind old.state new.state old.id new.id kept
   pub costs : StoppedCosts (scram_in (Some conversation)) asked credential greeting kind old new
 
 -- what an answer means and leaves, by each greeting that says what the connection holds and what the first round is
 pub record Converses (result : Result (Unit {0}) Error) (conversation : Conversation) (asked : Asked) (credential : Credential) (round : Option AnsweredRound) (opened left : Connection) (old new : Balance) : Type 0 where
   pub accepted : (greeting : Greeting) → opened.stream_description ≡ Some greeting.description → IsRoundBy (Some conversation) credential asked greeting round → OnOk result (Conversed conversation asked credential greeting old new)
-  pub refused : (greeting : Greeting) → opened.stream_description ≡ Some greeting.description → IsRoundBy (Some conversation) credential asked greeting round → IfErr result (λ e. ConversationStopped conversation asked credential greeting e.kind old new)
-  -- an accepted one leaves the connection without a fault, a refused one with the fault that `KeepsAfter` says
+  pub refused : (greeting : Greeting) → opened.stream_description ≡ Some greeting.description → IsRoundBy (Some conversation) credential asked greeting round → IfErr result (λ e. ConversationStopped conversation asked credential greeting e.kind (kept_fault left) old new)
+  -- an accepted one leaves the connection without a fault
   pub faultless : OnOk result (kept_fault left ≡ None)
-  pub keeps : IfErr result (λ e. KeepsAfter e.kind (kept_fault left))
   -- nothing else of the connection changes, and no count of the link falls
   pub rest : KeepsRest opened left
   pub counts : CountsStay old.state new.state
@@ -58,7 +57,7 @@ pub record LogsIn (asked : Asked) (held : Option StreamDescription) (round : Opt
   pub reached : (greeting : Greeting) → held ≡ Some greeting.description → IsRoundOf asked.credential asked greeting round → Reached (login_plan asked greeting) greeting old.state new.state old.id new.id
   pub costs : (greeting : Greeting) → held ≡ Some greeting.description → IsRoundOf asked.credential asked greeting round → LoginCosts asked greeting old new
 
--- it was stopped
-pub record LoginStops (asked : Asked) (held : Option StreamDescription) (round : Option AnsweredRound) (kind : ErrorKind) (old new : Balance) : Type 0 where
-  pub stopped : (greeting : Greeting) → held ≡ Some greeting.description → IsRoundOf asked.credential asked greeting round → Stopped (login_plan asked greeting) kind old.state new.state old.id new.id
+-- it was stopped, which leaves the connection to keep this
+pub record LoginStops (asked : Asked) (held : Option StreamDescription) (round : Option AnsweredRound) (kind : ErrorKind) (kept : Option ErrorKind) (old new : Balance) : Type 0 where
+  pub stopped : (greeting : Greeting) → held ≡ Some greeting.description → IsRoundOf asked.credential asked greeting round → StoppedKeeping (login_plan asked greeting) kind old.state new.state old.id new.id kept
   pub costs : (greeting : Greeting) → held ≡ Some greeting.description → IsRoundOf asked.credential asked greeting round → StoppedLoginCosts asked greeting kind old new

@@ -48,7 +48,6 @@ impl Handshaker {
     ghost use Rattle.mongo_command.specs.Connection.{kept_fault};
     ghost use Rattle.mongo_command.specs.Conversation.{Said, Turn, refuses, Leads, LeftBy};
     ghost use Rattle.mongo_command.specs.Exchange.{CountsStay, DocumentRefused};
-    ghost use Rattle.mongo_sasl.specs.EndsByScript.{KeepsAfter};
     ghost use Rattle.mongo_scram.specs.Cache.{entries_of};
     ghost use Rattle.mongo_scram.specs.Costs.{ledgers, balance};
     ghost use Rattle.mongo_establish.specs.Asked.{asked_over};
@@ -97,7 +96,8 @@ impl Handshaker {
         ensures shook { IfOk result (ShookHands (asked_over connection.old (options_in self.now) (option_copied credential.entry) inputs.now.nonces state.old.ids) connection.old connection.new
             (L.state link.old) (L.state link.new) state.new.ids) }
 
-        // A refusal says why it comes, how far the handshake had come and what it left.
+        // A refusal says why it comes, how far the handshake had come and what it left: the connection keeps the fault of an exchange
+        // that failed, where that left one, and else none.
         ensures refused { IfErr result (λ e. StoppedHandshake (asked_over connection.old (options_in self.now) (option_copied credential.entry) inputs.now.nonces state.old.ids) connection.old connection.new e.kind
             (L.state link.old) (L.state link.new) state.new.ids) }
 
@@ -117,9 +117,6 @@ impl Handshaker {
         ensures costs { CostsOf result (asked_over connection.old (options_in self.now) (option_copied credential.entry) inputs.now.nonces state.old.ids)
             (balance (L.state link.old) state.old.ids (ledgers steps.old state.old.salted)) (balance (L.state link.new) state.new.ids (ledgers steps.new state.new.salted)) }
         ensures entries { OnErr result (entries_of state.new.salted ≡ entries_of state.old.salted) }
-        // After a refusal the connection keeps the fault where it is one that ends a connection, and else none. Want of memory
-        // may be kept, where a command's id was drawn.
-        ensures keeps { IfErr result (λ e. KeepsAfter e.kind (kept_fault connection.new)) }
         ensures counts { CountsStay (L.state link.old) (L.state link.new) }
     {
         let first = speculative_first(alloc, credential, &connection.address, &inputs.nonces)?;
@@ -155,7 +152,6 @@ impl Handshaker {
             (L.state link.old) (L.state link.new) ids.old ids.new) }
         ensures refused { IfErr result (λ e. UngreetedBy (options_in self.now) (option_copied credential.entry) (option_map first_document first.now) connection.old connection.new e.kind
             (L.state link.old) (L.state link.new) ids.old ids.new) }
-        ensures keeps { IfErr result (λ e. KeepsAfter e.kind (kept_fault connection.new)) }
         ensures counts { CountsStay (L.state link.old) (L.state link.new) }
     {
         let hello = self.login_hello(alloc, credential, first)?;

@@ -4,7 +4,6 @@ ghost use Rattle.std.specs.Prelude.{◌≡◌, true, false, Option, None, Some, 
 ghost use Rattle.mongo_wire.specs.declared.error.ErrorKind.{ErrorKind};
 ghost use Rattle.mongo_command.specs.Connection.{kept_fault, KeepsRest};
 ghost use Rattle.mongo_command.specs.Exchange.{CountsStay};
-ghost use Rattle.mongo_sasl.specs.EndsByScript.{KeepsAfter};
 ghost use Rattle.mongo_scram.specs.Cache.{entries_of};
 ghost use Rattle.mongo_scram.specs.Costs.{ledgers, balance};
 ghost use Rattle.mongo_establish.specs.declared.conversation.Conversation.TheVariants.{Scram};
@@ -41,12 +40,11 @@ pub(crate) fn log_in<L: Link, G: Ledger>(
     requires faultless { kept_fault connection.old ≡ None }
     ensures logged_in { OnOk result (LogsIn (asked_over connection.old options.now (option_copied credential.entry) inputs.now.nonces state.old.ids) connection.old.stream_description round
         (balance (L.state link.old) state.old.ids (ledgers steps.old state.old.salted)) (balance (L.state link.new) state.new.ids (ledgers steps.new state.new.salted))) }
-    ensures refused { IfErr result (λ e. LoginStops (asked_over connection.old options.now (option_copied credential.entry) inputs.now.nonces state.old.ids) connection.old.stream_description round e.kind
+    ensures refused { IfErr result (λ e. LoginStops (asked_over connection.old options.now (option_copied credential.entry) inputs.now.nonces state.old.ids) connection.old.stream_description round e.kind (kept_fault connection.new)
         (balance (L.state link.old) state.old.ids (ledgers steps.old state.old.salted)) (balance (L.state link.new) state.new.ids (ledgers steps.new state.new.salted))) }
     ensures entries { OnErr result (entries_of state.new.salted ≡ entries_of state.old.salted) }
     ensures connection { KeepsRest connection.old connection.new }
     ensures faultless { OnOk result (kept_fault connection.new ≡ None) }
-    ensures keeps { IfErr result (λ e. KeepsAfter e.kind (kept_fault connection.new)) }
     ensures counts { CountsStay (L.state link.old) (L.state link.new) }
 {
     let Some(credential) = credential else {

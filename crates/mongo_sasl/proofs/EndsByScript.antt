@@ -15,7 +15,7 @@ use Rattle.mongo_sasl.proofs.Handed.{handed_on, on_answer}
 use Rattle.mongo_sasl.proofs.Joining.{JoinsLogin}
 use Rattle.mongo_sasl.proofs.LastReply.{ends_reached}
 use Rattle.mongo_sasl.proofs.LoginEvents.{login_leads}
-use Rattle.mongo_sasl.proofs.StopsBy.{not_both}
+use Rattle.mongo_sasl.proofs.StopsBy.{not_both, stopped_by}
 
 module _ {A : Type 0} (plan : Plan A) (login : List (List ℕ) → List (List ℕ) → Type 0) (maximum : ℤ) (joins : JoinsLogin plan login maximum) (old new : State) (before after : ℤ) where
   -- over told bytes an answer is what they call for
@@ -46,8 +46,8 @@ module _ {L A : Type 0} (state : L → State) (plan : Plan A) (login : List (Lis
     faultless = faultless;
     at_once = at_once;
     stops = stops;
-    complete = λ bytes none is has unfailed unwritten. completed plan login maximum joins (state old.link) (state new.link) old.id new.id r bytes (stops.refused none) is has unfailed unwritten;
-    exact = λ bytes taken unread outcome commands none is leads unfailed unwritten. led plan login maximum joins (state old.link) (state new.link) old.id new.id r bytes taken unread outcome commands reached (stops.refused none) is leads unfailed unwritten;
+    complete = λ bytes none is has unfailed unwritten. completed plan login maximum joins (state old.link) (state new.link) old.id new.id r bytes (stopped_by state plan r old new stops none) is has unfailed unwritten;
+    exact = λ bytes taken unread outcome commands none is leads unfailed unwritten. led plan login maximum joins (state old.link) (state new.link) old.id new.id r bytes taken unread outcome commands reached (stopped_by state plan r old new stops none) is leads unfailed unwritten;
   }
 
   -- one that was refused, and hands the refusal on

@@ -2,7 +2,8 @@ pub mod OneReply
 pub mod NotBuilt
 pub mod Unsent
 pub mod Handed
-pub mod KeptAfter
+pub mod StoppedKeeping
+pub mod DrawnIds
 pub mod StopsBy
 pub mod LastReply
 pub mod LoginEvents

@@ -1,5 +1,5 @@
 -- What an X.509 login does is a step of its plan.
-use Rattle.std.proofs.Common.{◌≡◌, ◌⊎◌, ℕ, ℤ, Bool, true, false, refl, sym, ◌∙◌, subst, inl, inr, arith, Result, Ok, Err, List, [], ◌∷◌, codes, pos, IfErr, OnOk, flat_map}
+use Rattle.std.proofs.Common.{◌≡◌, ◌⊎◌, ℕ, ℤ, Bool, true, false, refl, sym, ◌∙◌, subst, inl, inr, arith, Option, None, Result, Ok, Err, List, [], ◌∷◌, codes, pos, IfErr, OnOk, flat_map}
 use Rattle.std.proofs.lemmas.Bool.{false≢true}
 use Rattle.mongo_bson.specs.Document.{spell}
 use Rattle.mongo_bson.proofs.Enclosed.{length-enclosed}
@@ -8,18 +8,19 @@ use Rattle.mongo_wire.specs.declared.error.ErrorKind.{ErrorKind}
 use Rattle.mongo_wire.specs.declared.error.ErrorKind.TheVariants.{OutOfMemory}
 use Rattle.mongo_wire.specs.Outside.{State}
 use Rattle.mongo_command.specs.Command.{present}
-use Rattle.mongo_command.specs.Conversation.{plain_message, ends, saying, reading, ending, Reached, Stopped}
+use Rattle.mongo_command.specs.Conversation.{plain_message, ends, saying, Reached}
 use Rattle.mongo_command.specs.Exchange.{DocumentRefused, CountsStay, Exchanges}
 use Rattle.mongo_command.specs.Literal.{text_element, int32_element}
-use Rattle.mongo_command.proofs.Steps.{reached_ending, stopped_memory, stopped_row, stopped_later}
+use Rattle.mongo_command.proofs.Steps.{reached_ending}
 use Rattle.mongo_sasl.specs.declared.mechanism.AuthMechanism.TheVariants.{MongoDbX509}
-use Rattle.mongo_sasl.specs.EndsByScript.{BeginsWithCommand}
+use Rattle.mongo_sasl.specs.Stops.{StoppedKeeping, BeginsWithCommand, RefusedAtOnce}
 use Rattle.mongo_sasl.specs.Login.{EndsByReply}
-use Rattle.mongo_sasl.specs.X509.{Takes, IsCertificateTaken, X509Row, x509_body, x509_command, X509Handed, x509_said, x509_heard, x509_plan_from, x509_plan}
+use Rattle.mongo_sasl.specs.X509.{IsCertificateTaken, X509Row, x509_body, x509_command, X509Handed, x509_said, x509_heard, x509_plan_from, x509_plan}
 use Rattle.mongo_sasl.specs.Keys.{authenticate_key, mechanism_key}
 use Rattle.mongo_sasl.specs.Mechanism.{name_of}
 use Rattle.mongo_sasl.proofs.LastReply.{ends_by_reply}
-use Rattle.mongo_sasl.proofs.Unsent.{unbuilt_stopped}
+use Rattle.mongo_sasl.proofs.NotBuilt.{not_built}
+use Rattle.mongo_sasl.proofs.StoppedKeeping.{refused_later}
 use Rattle.mongo_sasl.proofs.X509Plan.{taken_no_row}
 
 module _ (handed : X509Handed) (later : handed.speculated ≡ false) where
@@ -28,14 +29,14 @@ module _ (handed : X509Handed) (later : handed.speculated ≡ false) where
   x509_begins = subst (λ s. BeginsWithCommand (x509_plan_from s handed)) (sym later) (x509_said handed, refl)
 
   -- a login that isn't answered yet
-  pub x509_stopped : (kind : ErrorKind) (old new : State) (before after : ℤ) → Stopped (saying (x509_said handed) x509_heard) kind old new before after → Stopped (x509_plan handed) kind old new before after
-  x509_stopped kind old new before after r = subst (λ s. Stopped (x509_plan_from s handed) kind old new before after) (sym later) r
+  pub x509_stopped : {kept : Option ErrorKind} (kind : ErrorKind) (old new : State) (before after : ℤ) → StoppedKeeping (saying (x509_said handed) x509_heard) kind old new before after kept → StoppedKeeping (x509_plan handed) kind old new before after kept
+  x509_stopped {kept = kept} kind old new before after r = subst (λ s. StoppedKeeping (x509_plan_from s handed) kind old new before after kept) (sym later) r
 
   -- the command wasn't built
-  pub x509_unbuilt : (kind : ErrorKind) (old : State) (before : ℤ) → DocumentRefused kind (x509_body handed.credential.username) → Stopped (x509_plan handed) kind old old before before
-  x509_unbuilt kind old before unbuilt =
-      x509_stopped kind old old before before
-      (unbuilt_stopped (x509_said handed) x509_heard (x509_command handed.credential handed.server_api) kind old before refl
+  pub x509_unbuilt : (kind : ErrorKind) → DocumentRefused kind (x509_body handed.credential.username) → RefusedAtOnce (x509_plan handed) kind
+  x509_unbuilt kind unbuilt =
+      subst (λ s. RefusedAtOnce (x509_plan_from s handed) kind) (sym later)
+      (not_built (x509_said handed) x509_heard (x509_command handed.credential handed.server_api) kind refl
       (omega (arith, length-enclosed (flat_map spell (int32_element authenticate_key (pos 1) ∷ text_element mechanism_key (name_of MongoDbX509) ∷ present (text_element (codes "username")) handed.credential.username)))) unbuilt)
 
   -- the server took the certificate
@@ -47,15 +48,15 @@ module _ (handed : X509Handed) (later : handed.speculated ≡ false) where
       (inr (taken_no_row reply is.0 is.1, (is.0, is.1, refl))) e counts))
   x509_replied (Err x) reply held old new before after same e counts is = tt
 
-  heard_stopped : (reply : List ℕ) (kind : ErrorKind) (new : State) (after : ℤ) → X509Row reply kind ⊎ (kind ≡ OutOfMemory) → Stopped (x509_heard reply) kind new new after after
-  heard_stopped reply kind new after (inl row) = stopped_row (X509Row reply) (reading (Takes reply) (λ elements. ending tt)) kind new after row
-  heard_stopped reply kind new after (inr memory) = stopped_memory (x509_heard reply) kind new after memory
+  heard_refused : (reply : List ℕ) (kind : ErrorKind) → X509Row reply kind ⊎ (kind ≡ OutOfMemory) → RefusedAtOnce (x509_heard reply) kind
+  heard_refused reply kind (inl row) = inl (inl row)
+  heard_refused reply kind (inr memory) = inr (inl memory)
 
   -- it didn't
-  pub x509_refused : {T : Type 0} (r : Result T Error) (reply : List ℕ) (old new : State) (before after : ℤ) → Exchanges handed.maximum (plain_message (x509_said handed).document) old new before after reply → CountsStay old new → IfErr r (λ e. X509Row reply e.kind ⊎ (e.kind ≡ OutOfMemory)) → IfErr r (λ e. Stopped (x509_plan handed) e.kind old new before after)
+  pub x509_refused : {T : Type 0} (r : Result T Error) (reply : List ℕ) (old new : State) (before after : ℤ) → Exchanges handed.maximum (plain_message (x509_said handed).document) old new before after reply → CountsStay old new → IfErr r (λ e. X509Row reply e.kind ⊎ (e.kind ≡ OutOfMemory)) → IfErr r (λ e. StoppedKeeping (x509_plan handed) e.kind old new before after None)
   x509_refused (Ok x) reply old new before after e counts h = tt
   x509_refused (Err x) reply old new before after e counts h =
-      x509_stopped x.kind old new before after (stopped_later (x509_said handed) x509_heard reply x.kind old new new before after after e counts (heard_stopped reply x.kind new after h))
+      x509_stopped x.kind old new before after (refused_later (x509_said handed) x509_heard reply x.kind old new before after e counts (heard_refused reply x.kind h))
 
 -- the hello was answered
 pub x509_at_once : (handed : X509Handed) (old : State) (before : ℤ) → handed.speculated ≡ true → Reached (x509_plan handed) tt old old before before

@@ -1,5 +1,5 @@
 -- Credentials, and what they ask of a hello.
-use Rattle.std.specs.Prelude.{ℕ, ◌+◌, ◌-◌, ◌<◌, Option, None, Some, IsSome, List, ◌++◌, codes, length, ⊤}
+use Rattle.std.specs.Prelude.{ℕ, ◌+◌, ◌<◌, Option, None, Some, IsSome, List, ◌++◌, codes, length, ⊤}
 use Rattle.mongo_bson.specs.Document.{Element, spell}
 use Rattle.mongo_bson.specs.Framed.{element_bytes, enclosed, maximum_length}
 use Rattle.mongo_bson.specs.declared.fault.BsonFault.TheVariants.{TooLong}

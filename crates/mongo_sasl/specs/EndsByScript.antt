@@ -1,16 +1,17 @@
 -- What a login answers, and what it leaves of its connection, its link, its ids and its buffer: the same for every mechanism.
-use Rattle.std.specs.Prelude.{◌≡◌, ℕ, ℤ, ◌⊎◌, Result, Option, None, Some, List, [], IfErr, OnOk, if◌then◌else◌}
+use Rattle.std.specs.Prelude.{◌≡◌, ℕ, ℤ, ◌⊎◌, Result, None, Some, List, [], IfErr, OnOk}
 use Rattle.mongo_wire.specs.declared.error.Error.{Error}
 use Rattle.mongo_wire.specs.declared.error.ErrorKind.{ErrorKind}
 use Rattle.mongo_wire.specs.declared.error.ErrorKind.TheVariants.{OutOfMemory}
 use Rattle.mongo_wire.specs.declared.frame_buffer.FrameBuffer.{FrameBuffer}
+use Rattle.mongo_wire.specs.Bytes.{next_id}
 use Rattle.mongo_wire.specs.Buffer.{frames_taken, held_document, IsFrameTaken}
 use Rattle.mongo_wire.specs.Outside.{State, Rose, risen}
 use Rattle.mongo_command.specs.declared.connection.Connection.{Connection}
 use Rattle.mongo_command.specs.Connection.{kept_fault, KeepsRest}
-use Rattle.mongo_command.specs.Conversation.{Said, Turn, says, ends, Plan, Reached, Stopped, Leads}
+use Rattle.mongo_command.specs.Conversation.{Said, Turn, ends, Plan, Reached, Leads}
 use Rattle.mongo_command.specs.Exchange.{CountsStay}
-use Rattle.mongo_command.specs.Fault.{is_kept}
+use Rattle.mongo_sasl.specs.Stops.{StoppedKeeping, BeginsWithCommand, RefusedAtOnce}
 use Rattle.mongo_sasl.specs.Login.{HasLogin, AnswersLed, EndsByReply}
 
 -- what a call stands on: its connection, its link, the next id, and the buffer that its replies pass through
@@ -23,27 +24,21 @@ pub record Standing (L : Type 0) : Type 0 where
 abbrev pub standing : {L : Type 0} → Connection → L → ℤ → FrameBuffer → Standing L
 standing connection link id buffer = record { connection = connection; link = link; id = id; buffer = buffer }
 
--- what a refusal leaves a connection to keep: the fault where it is one that ends a connection, else none; want of memory may
--- be, where it cut an exchange
-abbrev pub KeepsAfter : ErrorKind → Option ErrorKind → Type 0
-KeepsAfter OutOfMemory kept = (kept ≡ None) ⊎ (kept ≡ Some OutOfMemory)
-KeepsAfter kind kept = kept ≡ (if is_kept kind then Some kind else None)
-
--- the plan's first turn is a command
-abbrev pub BeginsWithCommand : {A : Type 0} → Plan A → Type 0
-BeginsWithCommand plan = (said : Said) × plan [] (says said)
+-- At most one id was drawn: none, and then nothing was sent and the buffer is what it was, or the next one.
+pub record DrawsOnce {L : Type 0} (old new : Standing L) : Type 0 where
+  pub drawn : ((new.id ≡ old.id) × (new.buffer ≡ old.buffer)) ⊎ (new.id ≡ next_id old.id)
 
 -- Why a call that goes by a plan is refused, and what it leaves however it ends.
 pub record StopsBy {L T A : Type 0} (state : L → State) (plan : Plan A) (result : Result T Error) (old new : Standing L) : Type 0 where
-  -- a refusal says why it comes and what it left
-  pub refused : kept_fault old.connection ≡ None → IfErr result (λ e. Stopped plan e.kind (state old.link) (state new.link) old.id new.id)
-  -- After it the connection keeps the fault where it is one that ends a connection, and else none. Want of memory may be
-  -- kept, where it cut an exchange.
-  pub keeps : kept_fault old.connection ≡ None → IfErr result (λ e. KeepsAfter e.kind (kept_fault new.connection))
+  -- A refusal says why it comes and what it left: the connection keeps the fault of an exchange that failed, where that left
+  -- one, and else none.
+  pub refused : kept_fault old.connection ≡ None → IfErr result (λ e. StoppedKeeping plan e.kind (state old.link) (state new.link) old.id new.id (kept_fault new.connection))
   -- over a connection that keeps a fault nothing is done
   pub untouched : (kind : ErrorKind) → kept_fault old.connection ≡ Some kind → (new.link ≡ old.link) × (new.id ≡ old.id) × (new.buffer ≡ old.buffer) × (kept_fault new.connection ≡ Some kind)
-  -- and a refusal answers that fault in place of the plan's first command, or stops the plan before any exchange
-  pub answers : (kind : ErrorKind) → kept_fault old.connection ≡ Some kind → IfErr result (λ e. ((e.kind ≡ kind) × BeginsWithCommand plan) ⊎ Stopped plan e.kind (state old.link) (state old.link) old.id old.id)
+  -- and a refusal answers that fault in place of the plan's first command, or comes before it
+  pub answers : (kind : ErrorKind) → kept_fault old.connection ≡ Some kind → IfErr result (λ e. ((e.kind ≡ kind) × BeginsWithCommand plan) ⊎ RefusedAtOnce plan e.kind)
+  -- where no id was drawn, nothing was sent, and the buffer is what it was
+  pub buffer : new.id ≡ old.id → new.buffer ≡ old.buffer
   -- nothing else of the connection changes
   pub rest : KeepsRest old.connection new.connection
   -- what the link tells stays told, and no count falls

@@ -9,6 +9,7 @@ pub mod Reply
 pub mod View
 pub mod Commands
 pub mod Login
+pub mod Stops
 pub mod EndsByScript
 pub mod Plain
 pub mod X509

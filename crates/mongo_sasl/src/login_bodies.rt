@@ -2,8 +2,8 @@ ghost use Rattle.std.specs.Prelude.{◌≡◌, IfOk, IfErr};
 ghost use Rattle.mongo_command.specs.Arguments.{TooLongFor};
 ghost use Rattle.mongo_sasl.specs.Commands.{start_body, continue_body, skip_empty_exchange};
 
-use crate::keys::{CONVERSATION_ID, MECHANISM, OPTIONS, PAYLOAD, SASL_CONTINUE, SASL_START};
 use crate::AuthMechanism;
+use crate::keys::{CONVERSATION_ID, MECHANISM, OPTIONS, PAYLOAD, SASL_CONTINUE, SASL_START};
 use mongo_bson::{BsonFault, Bytes, GENERIC, OwnedValue, RawDocument, RawDocumentBuf, RawValue};
 use mongo_command::document_of;
 use std::alloc::Global;

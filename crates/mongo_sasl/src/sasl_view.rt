@@ -8,8 +8,8 @@ ghost use Rattle.mongo_sasl.specs.Reply.{ReadsValue, ReadsGeneric, IsSaslTable, 
 ghost use Rattle.mongo_sasl.specs.View.{owned_value_of, sasl_response_of, read_as, kind_of_field_fault};
 ghost use Rattle.mongo_sasl.specs.Keys.{conversation_id_key};
 
-use crate::keys::{CONVERSATION_ID, DONE, PAYLOAD};
 use crate::SaslResponse;
+use crate::keys::{CONVERSATION_ID, DONE, PAYLOAD};
 use mongo_bson::{BsonFault, Bytes, GENERIC, OwnedValue, RawDocument, RawValue, Text, get_int_raw};
 use mongo_command::keys::{ERRMSG, OK};
 use mongo_command::{FieldFault, Fields};

@@ -1,12 +1,13 @@
 -- What a login's last exchange shows of its closing.
-use Rattle.std.proofs.Common.{◌≡◌, ℕ, ℤ, refl, ap, ◌∙◌, subst, List, drop}
+use Rattle.std.proofs.Common.{◌≡◌, ℕ, ℤ, refl, ap, ◌∙◌, subst, Option, List, drop}
 use Rattle.mongo_bson.specs.declared.owned_value.OwnedValue.{OwnedValue}
 use Rattle.mongo_wire.specs.declared.error.ErrorKind.{ErrorKind}
 use Rattle.mongo_wire.specs.declared.frame_buffer.FrameBuffer.{FrameBuffer}
 use Rattle.mongo_wire.specs.Buffer.{IsFrameTaken}
 use Rattle.mongo_wire.specs.Outside.{State}
-use Rattle.mongo_command.specs.Conversation.{Said, Stopped}
+use Rattle.mongo_command.specs.Conversation.{Said}
 use Rattle.mongo_sasl.specs.Login.{EndsByReply}
+use Rattle.mongo_sasl.specs.Stops.{StoppedKeeping, RefusedAtOnce}
 use Rattle.mongo_scram.specs.declared.scram_version.ScramVersion.{ScramVersion}
 use Rattle.mongo_scram.specs.declared.messages.ClientFirst.{ClientFirst}
 use Rattle.mongo_scram.specs.declared.messages.ClientFinal.{ClientFinal}
@@ -67,9 +68,14 @@ closing_ends handed c tag final maximum document old new before after same is = 
 pub closing_taken : (handed : Handed) (maximum : ℤ) (old new : State) (buffer : FrameBuffer) → maximum ≡ handed.maximum → IsFrameTaken maximum old new buffer → IsFrameTaken handed.maximum old new buffer
 closing_taken handed maximum old new buffer same = subst (λ m. IsFrameTaken m old new buffer) same
 
-pub closing_stopped : (handed : Handed) (c : Challenge) (tag : List ℕ) (final : ClientFinal) (maximum : ℤ) (kind : ErrorKind) (old new : State) (before after : ℤ) → maximum ≡ handed.maximum → IsFinal handed c tag final
-    → Stopped (last_exchange (final_said final maximum) (final_conversation final) (verifier (digest_of handed.version) tag (auth_message_of final)) c) kind old new before after → Stopped (closing handed c) kind old new before after
-closing_stopped handed c tag final maximum kind old new before after same is = subst (λ (x : Closing). Stopped (last_exchange x.0 x.1 x.2 c) kind old new before after) (same_closing handed c tag final maximum same is)
+-- a stop of the last exchange is one of the closing, and so is a refusal before it
+pub closing_stopped : {kept : Option ErrorKind} (handed : Handed) (c : Challenge) (tag : List ℕ) (final : ClientFinal) (maximum : ℤ) (kind : ErrorKind) (old new : State) (before after : ℤ) → maximum ≡ handed.maximum → IsFinal handed c tag final
+    → StoppedKeeping (last_exchange (final_said final maximum) (final_conversation final) (verifier (digest_of handed.version) tag (auth_message_of final)) c) kind old new before after kept → StoppedKeeping (closing handed c) kind old new before after kept
+closing_stopped {kept = kept} handed c tag final maximum kind old new before after same is = subst (λ (x : Closing). StoppedKeeping (last_exchange x.0 x.1 x.2 c) kind old new before after kept) (same_closing handed c tag final maximum same is)
+
+pub closing_refused : (handed : Handed) (c : Challenge) (tag : List ℕ) (final : ClientFinal) (maximum : ℤ) (kind : ErrorKind) → maximum ≡ handed.maximum → IsFinal handed c tag final
+    → RefusedAtOnce (last_exchange (final_said final maximum) (final_conversation final) (verifier (digest_of handed.version) tag (auth_message_of final)) c) kind → RefusedAtOnce (closing handed c) kind
+closing_refused handed c tag final maximum kind same is = subst (λ (x : Closing). RefusedAtOnce (last_exchange x.0 x.1 x.2 c) kind) (same_closing handed c tag final maximum same is)
 
 -- the last reply ends the login
 pub ends_login : (handed : Handed) (c : Challenge) (tag : List ℕ) (final : ClientFinal) (document : List ℕ) → IsFinal handed c tag final → TakesLastMessage (final_conversation final) (verifier (digest_of handed.version) tag (auth_message_of final)) document → EndsLogin handed c document

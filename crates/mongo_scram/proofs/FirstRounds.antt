@@ -12,10 +12,10 @@ use Rattle.mongo_command.specs.declared.connection.Connection.{Connection}
 use Rattle.mongo_command.specs.Connection.{kept_fault}
 use Rattle.mongo_command.specs.declared.command.Command.{Command}
 use Rattle.mongo_command.specs.Exchange.{command_message, DocumentRefused, CountsStay, Exchanges, ExchangeRefused}
-use Rattle.mongo_command.specs.Conversation.{Plan, plain_message, saying, Stopped}
-use Rattle.mongo_command.proofs.Steps.{stopped_memory, stopped_row, stopped_saying, stopped_later}
+use Rattle.mongo_command.specs.Conversation.{Plan, plain_message, saying}
 use Rattle.mongo_sasl.specs.Commands.{start_elements}
 use Rattle.mongo_sasl.specs.EndsByScript.{Standing, StopsBy}
+use Rattle.mongo_sasl.specs.Stops.{StoppedKeeping, RefusedAtOnce}
 use Rattle.mongo_sasl.proofs.Handed.{on_answer}
 use Rattle.mongo_sasl.proofs.StopsBy.{not_both, no_exchange}
 use Rattle.mongo_scram.specs.declared.messages.ClientFirst.{ClientFirst}
@@ -28,8 +28,8 @@ use Rattle.mongo_scram.specs.User.{User}
 use Rattle.mongo_scram.specs.Plan.{Handed, Challenge, message_by, nonce_by, start_said, challenged, opened}
 use Rattle.mongo_scram.specs.Replies.{CarriesFirst, FirstReplyRow}
 use Rattle.mongo_scram.specs.Login.{handed_by, LeavesOneExchange, Replies, Opens, frames_opened}
-use Rattle.mongo_sasl.proofs.Unsent.{unbuilt_stopped}
-use Rattle.mongo_scram.proofs.OwnRows.{first_reply_own}
+use Rattle.mongo_sasl.proofs.NotBuilt.{not_built}
+use Rattle.mongo_sasl.proofs.StoppedKeeping.{keeping_saying, refused_later}
 
 -- the command of the first message, as the plan has it
 abbrev start_command : Handed → User → Command
@@ -59,16 +59,16 @@ same_body handed user first is =
 
 -- ---- its command
 
-pub start_unbuilt : (handed : Handed) (user : User) (first : ClientFirst) (kind : ErrorKind) (old : State) (before : ℤ) → IsStart handed user first → DocumentRefused kind (first_body handed.version (includes_db first) (first_source first) (message_of first)) → Stopped (saying (start_said handed user) (challenged handed user)) kind old old before before
-start_unbuilt handed user first kind old before is unbuilt =
-    unbuilt_stopped (start_said handed user) (challenged handed user) (start_command handed user) kind old before refl
+pub start_unbuilt : (handed : Handed) (user : User) (first : ClientFirst) (kind : ErrorKind) → IsStart handed user first → DocumentRefused kind (first_body handed.version (includes_db first) (first_source first) (message_of first)) → RefusedAtOnce (saying (start_said handed user) (challenged handed user)) kind
+start_unbuilt handed user first kind is unbuilt =
+    not_built (start_said handed user) (challenged handed user) (start_command handed user) kind refl
     (omega (arith, length-enclosed (flat_map spell (start_elements (mechanism_of handed.version) (message_by handed user) ++ []))))
     (subst (DocumentRefused kind) (same_body handed user first is) unbuilt)
 
 pub start_unanswered : (handed : Handed) (user : User) (first : ClientFirst) (command : Command) (kind : ErrorKind) (old new : State) (before after : ℤ) (kept : Option ErrorKind) → IsStart handed user first → command ≡ first_command handed.version (includes_db first) (first_source first) (message_of first) (server_api_of first) → CountsStay old new
-    → ExchangeRefused kind handed.maximum (command_message command) old new before after kept → Stopped (saying (start_said handed user) (challenged handed user)) kind old new before after
+    → ExchangeRefused kind handed.maximum (command_message command) old new before after kept → StoppedKeeping (saying (start_said handed user) (challenged handed user)) kind old new before after kept
 start_unanswered handed user first command kind old new before after kept start is counts refused =
-    stopped_saying (start_said handed user) (challenged handed user) kind old new before after kept (subst (λ x. ExchangeRefused kind handed.maximum (command_message x) old new before after kept) (is ∙ same_command handed user first start) refused) counts
+    keeping_saying (start_said handed user) (challenged handed user) kind old new before after kept (subst (λ x. ExchangeRefused kind handed.maximum (command_message x) old new before after kept) (is ∙ same_command handed user first start) refused) counts
 
 -- the exchange was that of the command
 pub start_exchanged : (handed : Handed) (user : User) (first : ClientFirst) (command : Command) (old new : State) (before after : ℤ) (reply : List ℕ) → IsStart handed user first → command ≡ first_command handed.version (includes_db first) (first_source first) (message_of first) (server_api_of first)
@@ -78,15 +78,15 @@ start_exchanged handed user first command old new before after reply start is e 
 
 -- ---- its reply
 
-reply_stopped : (handed : Handed) (user : User) (reply : List ℕ) (kind : ErrorKind) (new : State) (after : ℤ) → FirstReplyRow reply kind ⊎ (kind ≡ OutOfMemory) → Stopped (challenged handed user reply) kind new new after after
-reply_stopped handed user reply kind new after (inl row) = stopped_row (FirstReplyRow reply) _ kind new after row
-reply_stopped handed user reply kind new after (inr memory) = stopped_memory (challenged handed user reply) kind new after memory
+reply_refused : (handed : Handed) (user : User) (reply : List ℕ) (kind : ErrorKind) → FirstReplyRow reply kind ⊎ (kind ≡ OutOfMemory) → RefusedAtOnce (challenged handed user reply) kind
+reply_refused handed user reply kind (inl row) = inl (inl row)
+reply_refused handed user reply kind (inr memory) = inr (inl memory)
 
 pub start_refused : (handed : Handed) (user : User) (reply held : List ℕ) (kind : ErrorKind) (old new : State) (before after : ℤ) → reply ≡ held → Exchanges handed.maximum (plain_message (start_said handed user).document) old new before after held → CountsStay old new → FirstReplyRow reply kind ⊎ (kind ≡ OutOfMemory)
-    → Stopped (saying (start_said handed user) (challenged handed user)) kind old new before after
+    → StoppedKeeping (saying (start_said handed user) (challenged handed user)) kind old new before after None
 start_refused handed user reply held kind old new before after same e counts row =
-    stopped_later (start_said handed user) (challenged handed user) held kind old new new before after after e counts
-    (reply_stopped handed user held kind new after (subst (λ r. FirstReplyRow r kind ⊎ (kind ≡ OutOfMemory)) same row))
+    refused_later (start_said handed user) (challenged handed user) held kind old new before after e counts
+    (reply_refused handed user held kind (subst (λ r. FirstReplyRow r kind ⊎ (kind ≡ OutOfMemory)) same row))
 
 pub start_opens : (handed : Handed) (user : User) (opened : Opened) (reply held : List ℕ) (old new : State) (before after : ℤ) → handed.speculated ≡ None → IsStart handed user opened.client_first → nonce_of opened.client_first ≡ nonce_by handed → reply ≡ held
     → Exchanges handed.maximum (plain_message (start_said handed user).document) old new before after held → CountsStay old new → CarriesFirst reply opened.server_first → Opens handed user opened old new before after
@@ -104,15 +104,14 @@ abbrev opened_by : ScramLogin → ℤ → User → Option FirstRound → Plan Ch
 opened_by login maximum user found = opened (speculated_of found) (handed_by login found maximum) user
 
 module _ {T : Type 0} (login : ScramLogin) (found : Option FirstRound) (maximum : ℤ) (user : User) where
-  round_stopped : (r : Result T Error) (round : FirstRound) (new : State) (after : ℤ) → found ≡ Some round → IfErr r (λ e. FirstReplyRow round.server_first e.kind ⊎ (e.kind ≡ OutOfMemory)) → IfErr r (λ e. Stopped (opened_by login maximum user found) e.kind new new after after)
-  round_stopped (Ok x) round new after is h = tt
-  round_stopped (Err x) round new after is h =
-      subst (λ f. Stopped (opened_by login maximum user f) x.kind new new after after) (sym is) (reply_stopped (handed_by login (Some round) maximum) user round.server_first x.kind new after h)
+  round_refused : (r : Result T Error) (round : FirstRound) → found ≡ Some round → IfErr r (λ e. FirstReplyRow round.server_first e.kind ⊎ (e.kind ≡ OutOfMemory)) → IfErr r (λ e. RefusedAtOnce (opened_by login maximum user found) e.kind)
+  round_refused (Ok x) round is h = tt
+  round_refused (Err x) round is h =
+      subst (λ f. RefusedAtOnce (opened_by login maximum user f) x.kind) (sym is) (reply_refused (handed_by login (Some round) maximum) user round.server_first x.kind h)
 
   -- a round that went with the hello makes no exchange
   pub round_stops : {L : Type 0} (state : L → State) (r : Result T Error) (round : FirstRound) (old : Standing L) → found ≡ Some round → IfErr r (λ e. FirstReplyRow round.server_first e.kind ⊎ (e.kind ≡ OutOfMemory)) → StopsBy state (opened_by login maximum user found) r old old
-  round_stops state r round old is h =
-      no_exchange state (opened_by login maximum user found) (λ kind. FirstReplyRow round.server_first kind ⊎ (kind ≡ OutOfMemory)) old r (first_reply_own round.server_first) h (round_stopped r round (state old.link) old.id is h)
+  round_stops state r round old is h = no_exchange state (opened_by login maximum user found) old r (round_refused r round is h)
 
   pub start_stops : {L : Type 0} (state : L → State) (r : Result T Error) (old new : Standing L) → found ≡ None → StopsBy state (opened_by login maximum user None) r old new → StopsBy state (opened_by login maximum user found) r old new
   start_stops state r old new is stops = subst (λ f. StopsBy state (opened_by login maximum user f) r old new) (sym is) stops

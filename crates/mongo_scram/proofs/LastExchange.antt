@@ -1,5 +1,5 @@
 -- The last exchange of a login is a step of its plan, and ends it.
-use Rattle.std.proofs.Common.{◌≡◌, ◌⊎◌, ℕ, ℤ, refl, sym, subst, inl, inr, arith, Option, Result, Ok, Err, List, IfErr, OnOk, flat_map}
+use Rattle.std.proofs.Common.{◌≡◌, ◌⊎◌, ℕ, ℤ, refl, sym, subst, inl, inr, arith, Option, None, Result, Ok, Err, List, IfErr, OnOk, flat_map}
 use Rattle.mongo_bson.specs.Document.{spell}
 use Rattle.mongo_bson.specs.declared.owned_value.OwnedValue.{OwnedValue}
 use Rattle.mongo_bson.proofs.Enclosed.{length-enclosed}
@@ -10,33 +10,33 @@ use Rattle.mongo_wire.specs.Buffer.{held_document, IsFrameTaken}
 use Rattle.mongo_wire.specs.Outside.{State}
 use Rattle.mongo_command.specs.declared.command.Command.{Command}
 use Rattle.mongo_command.specs.Exchange.{command_message, DocumentRefused, CountsStay, Exchanges, ExchangeRefused}
-use Rattle.mongo_command.specs.Conversation.{Said, plain_message, Stopped, ending}
-use Rattle.mongo_command.proofs.Steps.{stopped_memory, stopped_row, stopped_unless, stopped_reading, stopped_saying, stopped_later}
+use Rattle.mongo_command.specs.Conversation.{Said, plain_message}
 use Rattle.mongo_sasl.specs.Commands.{continue_elements, continue_body}
 use Rattle.mongo_sasl.specs.EndsByScript.{Standing}
 use Rattle.mongo_sasl.specs.Login.{EndsByReply}
+use Rattle.mongo_sasl.specs.Stops.{StoppedKeeping, RefusedAtOnce}
 use Rattle.mongo_sasl.proofs.LastReply.{ends_by_reply}
 use Rattle.mongo_scram.specs.declared.messages.ClientFinal.{ClientFinal}
 use Rattle.mongo_scram.specs.Client.{final_of, final_conversation, final_source_of, final_api_of}
 use Rattle.mongo_scram.specs.Commands.{final_command}
-use Rattle.mongo_scram.specs.Plan.{Challenge, LastMessageRow, last_heard, last_exchange}
-use Rattle.mongo_scram.specs.Replies.{FinalReplyRow}
+use Rattle.mongo_scram.specs.Plan.{Challenge, last_heard, last_exchange}
 use Rattle.mongo_scram.specs.Costs.{TakesLastMessage}
 use Rattle.mongo_scram.specs.Login.{final_said, LastRefusal, EndsLastExchange}
 use Rattle.mongo_scram.proofs.OneMessage.{no_final_row}
-use Rattle.mongo_sasl.proofs.Unsent.{unbuilt_stopped}
+use Rattle.mongo_sasl.proofs.NotBuilt.{not_built}
+use Rattle.mongo_sasl.proofs.StoppedKeeping.{keeping_saying, refused_later}
 
 -- ---- the command
 
-pub final_unbuilt : (final : ClientFinal) (maximum : ℤ) (conversation : OwnedValue) (owed : List ℕ) (c : Challenge) (kind : ErrorKind) (old : State) (before : ℤ) → DocumentRefused kind (continue_body (final_conversation final) (final_of final)) → Stopped (last_exchange (final_said final maximum) conversation owed c) kind old old before before
-final_unbuilt final maximum conversation owed c kind old before unbuilt =
-    unbuilt_stopped (final_said final maximum) (last_heard conversation owed c) (final_command (final_conversation final) (final_source_of final) (final_of final) (final_api_of final)) kind old before refl
+pub final_unbuilt : (final : ClientFinal) (maximum : ℤ) (conversation : OwnedValue) (owed : List ℕ) (c : Challenge) (kind : ErrorKind) → DocumentRefused kind (continue_body (final_conversation final) (final_of final)) → RefusedAtOnce (last_exchange (final_said final maximum) conversation owed c) kind
+final_unbuilt final maximum conversation owed c kind unbuilt =
+    not_built (final_said final maximum) (last_heard conversation owed c) (final_command (final_conversation final) (final_source_of final) (final_of final) (final_api_of final)) kind refl
     (omega (arith, length-enclosed (flat_map spell (continue_elements (final_conversation final) (final_of final))))) unbuilt
 
 pub final_unanswered : (final : ClientFinal) (command : Command) (maximum : ℤ) (conversation : OwnedValue) (owed : List ℕ) (c : Challenge) (kind : ErrorKind) (old new : State) (before after : ℤ) (kept : Option ErrorKind) → command ≡ final_command (final_conversation final) (final_source_of final) (final_of final) (final_api_of final) → CountsStay old new
-    → ExchangeRefused kind maximum (command_message command) old new before after kept → Stopped (last_exchange (final_said final maximum) conversation owed c) kind old new before after
+    → ExchangeRefused kind maximum (command_message command) old new before after kept → StoppedKeeping (last_exchange (final_said final maximum) conversation owed c) kind old new before after kept
 final_unanswered final command maximum conversation owed c kind old new before after kept is counts refused =
-    stopped_saying (final_said final maximum) (last_heard conversation owed c) kind old new before after kept (subst (λ x. ExchangeRefused kind maximum (command_message x) old new before after kept) is refused) counts
+    keeping_saying (final_said final maximum) (last_heard conversation owed c) kind old new before after kept (subst (λ x. ExchangeRefused kind maximum (command_message x) old new before after kept) is refused) counts
 
 -- the exchange was that of the command
 pub final_exchanged : (final : ClientFinal) (command : Command) (maximum : ℤ) (old new : State) (before after : ℤ) (held reply : List ℕ) → command ≡ final_command (final_conversation final) (final_source_of final) (final_of final) (final_api_of final) → reply ≡ held
@@ -55,18 +55,16 @@ taken_ends (Ok x) said conversation owed c reply held old new before after same 
     (inr (no_final_row reply is.last is.carries, (is.last, is.carries, inr (is.taken, refl)))) e counts)
 taken_ends (Err x) said conversation owed c reply held old new before after same e counts is = tt
 
-heard_stopped : (conversation : OwnedValue) (owed : List ℕ) (c : Challenge) (reply : List ℕ) (kind : ErrorKind) (new : State) (after : ℤ) → LastRefusal conversation owed reply kind ⊎ (kind ≡ OutOfMemory) → Stopped (last_heard conversation owed c reply) kind new new after after
-heard_stopped conversation owed c reply kind new after (inl (inl row)) = stopped_row (FinalReplyRow reply) _ kind new after row
-heard_stopped conversation owed c reply kind new after (inl (inr is)) =
-    stopped_unless _ _ kind new new after after (no_final_row reply is.0 is.1)
-    (stopped_reading _ _ is.0 kind new new after after is.1 (stopped_row (LastMessageRow conversation owed is.0) (ending c) kind new after is.2))
-heard_stopped conversation owed c reply kind new after (inr memory) = stopped_memory (last_heard conversation owed c reply) kind new after memory
+heard_refused : (conversation : OwnedValue) (owed : List ℕ) (c : Challenge) (reply : List ℕ) (kind : ErrorKind) → LastRefusal conversation owed reply kind ⊎ (kind ≡ OutOfMemory) → RefusedAtOnce (last_heard conversation owed c reply) kind
+heard_refused conversation owed c reply kind (inl (inl row)) = inl (inl row)
+heard_refused conversation owed c reply kind (inl (inr is)) = inl (inr (no_final_row reply is.0 is.1, (is.0, is.1, inl is.2)))
+heard_refused conversation owed c reply kind (inr memory) = inr (inl memory)
 
 pub refused_stopped : {T : Type 0} (r : Result T Error) (said : Said) (conversation : OwnedValue) (owed : List ℕ) (c : Challenge) (reply : List ℕ) (old new : State) (before after : ℤ) → Exchanges said.maximum (plain_message said.document) old new before after reply → CountsStay old new
-    → IfErr r (λ e. LastRefusal conversation owed reply e.kind ⊎ (e.kind ≡ OutOfMemory)) → IfErr r (λ e. Stopped (last_exchange said conversation owed c) e.kind old new before after)
+    → IfErr r (λ e. LastRefusal conversation owed reply e.kind ⊎ (e.kind ≡ OutOfMemory)) → IfErr r (λ e. StoppedKeeping (last_exchange said conversation owed c) e.kind old new before after None)
 refused_stopped (Ok x) said conversation owed c reply old new before after e counts h = tt
 refused_stopped (Err x) said conversation owed c reply old new before after e counts h =
-    stopped_later said (last_heard conversation owed c) reply x.kind old new new before after after e counts (heard_stopped conversation owed c reply x.kind new after h)
+    refused_later said (last_heard conversation owed c) reply x.kind old new before after e counts (heard_refused conversation owed c reply x.kind h)
 
 -- what the exchange promises where the reply is taken
 pub closes_by : {L T : Type 0} (state : L → State) (r : Result T Error) (said : Said) (conversation : OwnedValue) (owed reply : List ℕ) (old new : Standing L) → reply ≡ held_document new.buffer

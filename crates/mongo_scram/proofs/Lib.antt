@@ -8,7 +8,6 @@ pub mod ReplyRead
 pub mod NoRows
 pub mod Octets
 pub mod ScramPlan
-pub mod OwnRows
 pub mod OpeningEnds
 pub mod ClosingEnds
 pub mod ScramEnds

@@ -6,18 +6,20 @@ use Rattle.mongo_wire.specs.declared.error.ErrorKind.TheVariants.{OutOfMemory}
 use Rattle.mongo_wire.specs.declared.frame_buffer.FrameBuffer.{FrameBuffer}
 use Rattle.mongo_wire.specs.Buffer.{held_document, IsFrameTaken}
 use Rattle.mongo_wire.specs.Outside.{State, risen}
-use Rattle.mongo_command.specs.Conversation.{Plan, Reached, Stopped}
+use Rattle.mongo_command.specs.Conversation.{Plan, Reached}
 use Rattle.mongo_sasl.specs.Login.{EndsByReply}
+use Rattle.mongo_sasl.specs.Stops.{StoppedKeeping, RefusedAtOnce}
 use Rattle.mongo_sasl.proofs.LastReply.{ends_reached}
+use Rattle.mongo_sasl.proofs.StoppedKeeping.{stopped_of, keeping_first, keeping_second}
 use Rattle.mongo_scram.specs.declared.cache.SaltedCache.{SaltedCache}
 use Rattle.mongo_scram.specs.declared.cache.SaltedKey.{SaltedKey}
 use Rattle.mongo_scram.specs.declared.conversation.FirstRound.{FirstRound}
 use Rattle.mongo_scram.specs.declared.login.Opened.{Opened}
 use Rattle.mongo_scram.specs.Cache.{entries_of, rounds_of, Adds}
 use Rattle.mongo_scram.specs.Client.{nonce_of, frames_after}
-use Rattle.mongo_scram.specs.Costs.{Ledgers, ledgers, Balance, balance, key_by, HasEntry, Derives, SameEntries, EndsLogin, Accepted, StoppedScram, FaultCosts, key_for}
+use Rattle.mongo_scram.specs.Costs.{Ledgers, ledgers, Balance, balance, key_by, HasEntry, Derives, SameEntries, CostsNothing, EndsLogin, Accepted, StoppedScram, CloseUnsaid, ScramRefused, key_for}
 use Rattle.mongo_scram.specs.Entry.{salted_of, IsUsable}
-use Rattle.mongo_scram.specs.Plan.{Handed, Challenge, salted_by, opening, closing}
+use Rattle.mongo_scram.specs.Plan.{Handed, Challenge, salted_by, opening, closing, scram_plan}
 use Rattle.mongo_scram.specs.Login.{frames_opened, Opens, IsAnswered}
 use Rattle.mongo_scram.specs.User.{User, IsUser}
 use Rattle.mongo_scram.proofs.OpeningSteps.{opening_reached, opening_at_once}
@@ -45,9 +47,9 @@ kept_derives key first last kept same (inl had) = inl (had.0, record { steps = h
 kept_derives key first last kept same (inr derived) = inr (derived.0, record { steps = derived.1.steps; rounds_are = same ∙ derived.1.rounds_are })
 
 -- a plan that was followed to its end, where memory ran out then
-reached_stopped : {A : Type 0} (plan : Plan A) (answer : A) (kind : ErrorKind) (old new : State) (before after : ℤ) → kind ≡ OutOfMemory → Reached plan answer old new before after → Stopped plan kind old new before after
+reached_stopped : {A : Type 0} (plan : Plan A) (answer : A) (kind : ErrorKind) (old new : State) (before after : ℤ) → kind ≡ OutOfMemory → Reached plan answer old new before after → StoppedKeeping plan kind old new before after None
 reached_stopped plan answer kind old new before after memory r =
-    record { events = r.events; middle = new; between = after; talked = r.talked; given_is = r.given_is; stop = inl (record { cause = inr memory; link = refl; ids = refl }) }
+    record { events = r.events; middle = new; between = after; talked = r.talked; given_is = r.given_is; stop = inl (record { cause = inr memory; link = refl; ids = refl }, refl) }
 
 abbrev Kept : SaltedKey → SaltedCache → SaltedCache → Type 0
 Kept key old new = (HasEntry old key × (entries_of new ≡ entries_of old)) ⊎ Adds (entries_of old) (entries_of new) (key, salted_of key)
@@ -55,6 +57,17 @@ Kept key old new = (HasEntry old key × (entries_of new ≡ entries_of old)) ⊎
 kept_entries : (key : SaltedKey) (first last : Ledgers) (kept : SaltedCache) → SameEntries first last → Kept key last.cache kept → (HasEntry first.cache key × SameEntries first (ledgers last.steps kept)) ⊎ Adds (entries_of first.cache) (entries_of kept) (key, salted_of key)
 kept_entries key first last kept same (inl had) = inl ((had.0.0, subst (λ es. Contains es (key, had.0.0)) same had.0.1), had.1 ∙ same)
 kept_entries key first last kept same (inr adds) = inr (subst (λ es. Adds es (entries_of kept) (key, salted_of key)) same adds)
+
+-- ---- where it was stopped
+
+-- and what that leaves the connection to keep
+abbrev pub StopsScram : Handed → ErrorKind → Option ErrorKind → Balance → Balance → Type 0
+StopsScram handed kind kept old new = StoppedScram handed kind old new × StoppedKeeping (scram_plan handed) kind old.state new.state old.id new.id kept
+
+-- in its opening
+pub stopped_early : {kept : Option ErrorKind} (handed : Handed) (kind : ErrorKind) (old new : Balance) → StoppedKeeping (opening handed) kind old.state new.state old.id new.id kept → CostsNothing old.ledgers new.ledgers → StopsScram handed kind kept old new
+stopped_early {kept = kept} handed kind old new s nothing =
+    (inl (stopped_of (opening handed) kind old.state new.state old.id new.id kept s, nothing), keeping_first (opening handed) (closing handed) kind old.state new.state old.id new.id s)
 
 -- ---- from between the exchanges
 
@@ -75,35 +88,46 @@ module _ (handed : Handed) (user : User) (o : Opened) (key : SaltedKey) (tag : L
   derived = subst (λ k. Derives k old.ledgers middle.ledgers) is.key_is is.answered.derived
 
   -- a stop of the closing
-  pub stopped_late : (kind : ErrorKind) (new : State) (after : ℤ) → Stopped (closing handed challenge) kind middle.state new middle.id after → StoppedScram handed kind old (balance new after middle.ledgers)
-  stopped_late kind new after stopped =
-      inr (record { challenge = challenge; middle = middle.state; between = middle.id; opened = opened; stopped = stopped; derived = inl derived; entries = is.answered.entries })
+  pub stopped_late : {kept : Option ErrorKind} (kind : ErrorKind) (new : State) (after : ℤ) (last : SaltedCache) → Derives (key_by handed challenge) old.ledgers (ledgers middle.ledgers.steps last) → SameEntries old.ledgers (ledgers middle.ledgers.steps last)
+      → StoppedKeeping (closing handed challenge) kind middle.state new middle.id after kept → StopsScram handed kind kept old (balance new after (ledgers middle.ledgers.steps last))
+  stopped_late {kept = kept} kind new after last derives entries s = (
+    inr (record {
+      challenge = challenge;
+      middle = middle.state;
+      between = middle.id;
+      opened = opened;
+      stopped = stopped_of (closing handed challenge) kind middle.state new middle.id after kept s;
+      derived = inl derives;
+      entries = entries;
+    }),
+    keeping_second (opening handed) (closing handed) challenge kind old.state middle.state new old.id middle.id after opened s,
+  )
 
-  -- what was derived by a first round that went with the hello, before the fault is answered
-  pub close_unsaid : IsSome handed.speculated → FaultCosts handed old.ledgers middle.ledgers
-  close_unsaid some =
-      inr (record {
-        challenge = challenge;
-        opened = opening_at_once handed user o old.state middle.state old.id middle.id some is.is_user is.opens is.answered.valid usable.password;
-        derived = derived;
-        entries = is.answered.entries;
-      })
+  -- one before anything is put in
+  pub stopped_between : {kept : Option ErrorKind} (kind : ErrorKind) (new : State) (after : ℤ) → StoppedKeeping (closing handed challenge) kind middle.state new middle.id after kept → StopsScram handed kind kept old (balance new after middle.ledgers)
+  stopped_between kind new after s = stopped_late kind new after middle.ledgers.cache derived is.answered.entries s
+
+  -- what was derived by a first round that went with the hello, before its last message is said
+  pub close_unsaid : IsSome handed.speculated → CloseUnsaid handed old.ledgers middle.ledgers
+  close_unsaid some = record {
+    challenge = challenge;
+    opened = opening_at_once handed user o old.state middle.state old.id middle.id some is.is_user is.opens is.answered.valid usable.password;
+    derived = derived;
+    entries = is.answered.entries;
+  }
+
+  pub close_refused : (kind : ErrorKind) → IsSome handed.speculated → RefusedAtOnce (closing handed challenge) kind → ScramRefused handed kind old.ledgers middle.ledgers
+  unfolding close_unsaid
+  close_refused kind some refused = inr (record { unsaid = close_unsaid some; refused = refused })
 
   -- ---- after the last exchange
 
   pub stopped_last : {T : Type 0} (r : Result T Error) (document : List ℕ) (new : State) (after : ℤ) (kept : SaltedCache) → EndsByReply (closing handed challenge) challenge document middle.state new middle.id after → rounds_of kept ≡ rounds_of middle.ledgers.cache
-      → OnErr r (entries_of kept ≡ entries_of middle.ledgers.cache) → IfErr r (λ e. e.kind ≡ OutOfMemory) → IfErr r (λ e. StoppedScram handed e.kind old (balance new after (ledgers middle.ledgers.steps kept)))
+      → OnErr r (entries_of kept ≡ entries_of middle.ledgers.cache) → IfErr r (λ e. e.kind ≡ OutOfMemory) → IfErr r (λ e. StopsScram handed e.kind None old (balance new after (ledgers middle.ledgers.steps kept)))
   stopped_last (Ok x) document new after kept closed rounds entries memory = tt
   stopped_last (Err e) document new after kept closed rounds entries memory =
-      inr (record {
-        challenge = challenge;
-        middle = middle.state;
-        between = middle.id;
-        opened = opened;
-        stopped = reached_stopped (closing handed challenge) challenge e.kind middle.state new middle.id after memory (ends_reached (closing handed challenge) challenge document middle.state new middle.id after closed);
-        derived = inl (kept_derives (key_by handed challenge) old.ledgers middle.ledgers kept rounds derived);
-        entries = entries ∙ is.answered.entries;
-      })
+      stopped_late e.kind new after kept (kept_derives (key_by handed challenge) old.ledgers middle.ledgers kept rounds derived) (entries ∙ is.answered.entries)
+      (reached_stopped (closing handed challenge) challenge e.kind middle.state new middle.id after memory (ends_reached (closing handed challenge) challenge document middle.state new middle.id after closed))
 
   pub accepted_by : {T : Type 0} (r : Result T Error) (buffer : FrameBuffer) (new : State) (after : ℤ) (kept : SaltedCache) → IsFrameTaken handed.maximum middle.state new buffer → EndsByReply (closing handed challenge) challenge (held_document buffer) middle.state new middle.id after
       → rounds_of kept ≡ rounds_of middle.ledgers.cache → EndsLogin handed challenge (held_document buffer) → OnOk r (Kept key middle.ledgers.cache kept) → OnOk r (Accepted handed buffer old (balance new after (ledgers middle.ledgers.steps kept)))
@@ -131,7 +155,3 @@ frames_both (Some round) old middle new p q = q ∙ ap risen p
 pub unchanged_on : {T E : Type 0} {A : Type 0} (r : Result T E) (old middle new : A) → middle ≡ old → OnErr r (new ≡ middle) → OnErr r (new ≡ old)
 unchanged_on (Ok x) old middle new p q = tt
 unchanged_on (Err e) old middle new p q = q ∙ p
-
--- a stop before an exchange: the link and the ids are as they were
-pub stopped_still : (handed : Handed) (kind : ErrorKind) (old new : Balance) → new.state ≡ old.state → new.id ≡ old.id → StoppedScram handed kind old new → StoppedScram handed kind old (balance old.state old.id new.ledgers)
-stopped_still handed kind old new link ids s = subst (λ state. StoppedScram handed kind old (balance state old.id new.ledgers)) link (subst (λ id. StoppedScram handed kind old (balance new.state id new.ledgers)) ids s)

@@ -4,9 +4,10 @@ use Rattle.std.proofs.lemmas.Bool.{false≢true}
 use Rattle.mongo_wire.specs.declared.error.ErrorKind.{ErrorKind}
 use Rattle.mongo_wire.specs.declared.error.ErrorKind.TheVariants.{OutOfMemory}
 use Rattle.mongo_wire.specs.Outside.{State}
-use Rattle.mongo_command.specs.Conversation.{Said, Turn, says, ends, HasNone, ending, reading, unless, Reached, Stopped}
-use Rattle.mongo_command.proofs.Steps.{reached_ending, reached_unless, reached_reading, reached_saying, stopped_memory, stopped_row, stopped_unless, stopped_reading, stopped_later}
-use Rattle.mongo_sasl.specs.EndsByScript.{BeginsWithCommand}
+use Rattle.mongo_command.specs.Conversation.{Said, Event, Turn, says, ends, HasNone, ending, unless, Reached}
+use Rattle.mongo_command.proofs.Steps.{reached_ending, reached_unless, reached_reading, reached_saying}
+use Rattle.mongo_sasl.specs.Stops.{StoppedKeeping, BeginsWithCommand, RefusedAtOnce}
+use Rattle.mongo_sasl.proofs.StoppedKeeping.{keeping_more, at_once_more, at_once_keeping, refused_later}
 use Rattle.mongo_scram.specs.declared.login.Opened.{Opened}
 use Rattle.mongo_scram.specs.declared.server_first.ServerFirst.{ServerFirst}
 use Rattle.mongo_scram.specs.Client.{nonce_of}
@@ -32,20 +33,25 @@ opened_reached (Some speculated) handed user reply c old new before after replie
     (subst (λ state. Reached (challenged handed user speculated.reply) c state new after after) replied.1
     (subst (λ x. Reached (challenged handed user x) c new new after after) replied.0 r))
 
-opened_stopped : (speculated : Option Speculated) (handed : Handed) (user : User) (reply : List ℕ) (kind : ErrorKind) (old new : State) (before after : ℤ) → Replies speculated (start_said handed user) reply old new before after → Stopped (challenged handed user reply) kind new new after after → Stopped (opened speculated handed user) kind old new before after
-opened_stopped None handed user reply kind old new before after replied r = stopped_later (start_said handed user) (challenged handed user) reply kind old new new before after after replied.0 replied.1 r
-opened_stopped (Some speculated) handed user reply kind old new before after replied r =
-    subst (λ id. Stopped (challenged handed user speculated.reply) kind old new id after) replied.2
-    (subst (λ state. Stopped (challenged handed user speculated.reply) kind state new after after) replied.1
-    (subst (λ x. Stopped (challenged handed user x) kind new new after after) replied.0 r))
+opened_refused : (speculated : Option Speculated) (handed : Handed) (user : User) (reply : List ℕ) (kind : ErrorKind) (old new : State) (before after : ℤ) → Replies speculated (start_said handed user) reply old new before after → RefusedAtOnce (challenged handed user reply) kind → StoppedKeeping (opened speculated handed user) kind old new before after None
+opened_refused None handed user reply kind old new before after replied r = refused_later (start_said handed user) (challenged handed user) reply kind old new before after replied.0 replied.1 r
+opened_refused (Some speculated) handed user reply kind old new before after replied r =
+    subst (λ id. StoppedKeeping (challenged handed user speculated.reply) kind old new id after None) replied.2
+    (subst (λ state. StoppedKeeping (challenged handed user speculated.reply) kind state new after after None) replied.1
+    (at_once_keeping (challenged handed user speculated.reply) kind new after (subst (λ x. RefusedAtOnce (challenged handed user x) kind) replied.0 r)))
 
--- a stop by the credential's tests, and one after them
-pub credential_stopped : (handed : Handed) (kind : ErrorKind) (old : State) (before : ℤ) → CredentialRow handed.credential kind → Stopped (opening handed) kind old old before before
-credential_stopped handed kind old before row = stopped_row (CredentialRow handed.credential) (reading (IsUser handed.credential) (opened handed.speculated handed)) kind old before row
+-- a refusal by the credential's tests, and a stop after them
+pub credential_refused : (handed : Handed) (kind : ErrorKind) → CredentialRow handed.credential kind → RefusedAtOnce (opening handed) kind
+credential_refused handed kind row = inl (inl row)
 
-pub user_stopped : (handed : Handed) (user : User) (kind : ErrorKind) (old new : State) (before after : ℤ) → IsUser handed.credential user → Stopped (opened handed.speculated handed user) kind old new before after → Stopped (opening handed) kind old new before after
-user_stopped handed user kind old new before after is r =
-    stopped_unless (CredentialRow handed.credential) _ kind old new before after (no_credential_row handed.credential user is) (stopped_reading (IsUser handed.credential) (opened handed.speculated handed) user kind old new before after is r)
+after_tests : (handed : Handed) (user : User) → IsUser handed.credential user → (past : List Event) (turn : Turn Challenge) → opened handed.speculated handed user past turn → opening handed past turn
+after_tests handed user is past turn h = inr (no_credential_row handed.credential user is, (user, is, h))
+
+pub user_stopped : {kept : Option ErrorKind} (handed : Handed) (user : User) (kind : ErrorKind) (old new : State) (before after : ℤ) → IsUser handed.credential user → StoppedKeeping (opened handed.speculated handed user) kind old new before after kept → StoppedKeeping (opening handed) kind old new before after kept
+user_stopped handed user kind old new before after is s = keeping_more (opened handed.speculated handed user) (opening handed) kind old new before after (after_tests handed user is) s
+
+pub user_refused : (handed : Handed) (user : User) (kind : ErrorKind) → IsUser handed.credential user → RefusedAtOnce (opened handed.speculated handed user) kind → RefusedAtOnce (opening handed) kind
+user_refused handed user kind is r = at_once_more (opened handed.speculated handed user) (opening handed) kind (after_tests handed user is []) r
 
 challenge_none : (handed : Handed) (user : User) (first : ServerFirst) → IsValidFirst first (nonce_by handed) handed.max_iterations → HasNone (PasswordRow handed.version user.password) → HasNone (ChallengeRow handed (challenge_of user first))
 challenge_none handed user first valid usable = none_else (ServerFirstRow first (nonce_by handed) handed.max_iterations) (PasswordRow handed.version user.password) (valid_first_row first (nonce_by handed) handed.max_iterations valid) usable
@@ -73,6 +79,10 @@ opening_at_once handed user o old new before after some is opens valid usable =
     let turn : challenged handed user opens.reply [] (ends c) = inr (no_first_row opens.reply o.server_first opens.carries, (o.server_first, opens.carries, inr (none, refl))) in
     inr (no_credential_row handed.credential user is, (user, is, opened_at_once handed.speculated handed user opens.reply c old new before after some opens.replied turn))
 
+heard_at_once : (speculated : Option Speculated) (handed : Handed) (user : User) (reply : List ℕ) (kind : ErrorKind) (old new : State) (before after : ℤ) → IsSome speculated → Replies speculated (start_said handed user) reply old new before after → RefusedAtOnce (challenged handed user reply) kind → RefusedAtOnce (opened speculated handed user) kind
+heard_at_once None handed user reply kind old new before after some replied r = absurd (false≢true some)
+heard_at_once (Some speculated) handed user reply kind old new before after some replied r = subst (λ x. RefusedAtOnce (challenged handed user x) kind) replied.0 r
+
 -- it begins with a command only without one
 heard_unsaid : (handed : Handed) (user : User) (reply : List ℕ) (said : Said) → challenged handed user reply [] (says said) → ⊥
 heard_unsaid handed user reply said (inl row) = row
@@ -86,16 +96,23 @@ opened_anew (Some speculated) handed user said turn = absurd (heard_unsaid hande
 pub start_unsaid : (handed : Handed) (user : User) (first last : Ledgers) → IsUser handed.credential user → BeginsWithCommand (opened handed.speculated handed user) → CostsNothing first last → FaultCosts handed first last
 start_unsaid handed user first last is begins nothing = inl (record { user = user; is_user = is; anew = opened_anew handed.speculated handed user begins.0 begins.1; costs = nothing })
 
-answer_row : (handed : Handed) (user : User) (first : ServerFirst) (kind : ErrorKind) (new : State) (after : ℤ) → AnswerRow first (nonce_by handed) handed.max_iterations handed.version user.password kind ⊎ (kind ≡ OutOfMemory)
-    → let c = challenge_of user first in Stopped {A = Challenge} (unless (ChallengeRow handed c) (ending c)) kind new new after after
-answer_row handed user first kind new after (inl row) = stopped_row (ChallengeRow handed (challenge_of user first)) (ending (challenge_of user first)) kind new after row
-answer_row handed user first kind new after (inr memory) = stopped_memory _ kind new after memory
+-- ---- a refusal before anything was derived
 
--- a stop before anything was derived
-pub answer_stopped : (handed : Handed) (user : User) (o : Opened) (nonce : List ℕ) (kind : ErrorKind) (old new : State) (before after : ℤ) → IsUser handed.credential user → Opens handed user o old new before after → nonce ≡ nonce_of o.client_first → AnswerRow o.server_first nonce handed.max_iterations handed.version user.password kind ⊎ (kind ≡ OutOfMemory) → Stopped (opening handed) kind old new before after
-answer_stopped handed user o nonce kind old new before after is opens same row =
-    let here = answer_row handed user o.server_first kind new after (subst (λ n. AnswerRow o.server_first n handed.max_iterations handed.version user.password kind ⊎ (kind ≡ OutOfMemory)) (same ∙ opens.nonce) row) in
-    user_stopped handed user kind old new before after is
-    (opened_stopped handed.speculated handed user opens.reply kind old new before after opens.replied
-    (stopped_unless (FirstReplyRow opens.reply) _ kind new new after after (no_first_row opens.reply o.server_first opens.carries)
-    (stopped_reading (CarriesFirst opens.reply) _ o.server_first kind new new after after opens.carries here)))
+answer_row : (handed : Handed) (c : Challenge) (kind : ErrorKind) → ChallengeRow handed c kind ⊎ (kind ≡ OutOfMemory) → RefusedAtOnce {A = Challenge} (unless (ChallengeRow handed c) (ending c)) kind
+answer_row handed c kind (inl row) = inl (inl row)
+answer_row handed c kind (inr memory) = inr (inl memory)
+
+module _ (handed : Handed) (user : User) (o : Opened) (nonce : List ℕ) (kind : ErrorKind) (old new : State) (before after : ℤ) (is : IsUser handed.credential user) (opens : Opens handed user o old new before after) (same : nonce ≡ nonce_of o.client_first)
+    (row : AnswerRow o.server_first nonce handed.max_iterations handed.version user.password kind ⊎ (kind ≡ OutOfMemory)) where
+  answer_heard : RefusedAtOnce (challenged handed user opens.reply) kind
+  answer_heard =
+      let c = challenge_of user o.server_first in
+      at_once_more (unless (ChallengeRow handed c) (ending c)) (challenged handed user opens.reply) kind (λ turn h. inr (no_first_row opens.reply o.server_first opens.carries, (o.server_first, opens.carries, h)))
+      (answer_row handed c kind (subst (λ n. AnswerRow o.server_first n handed.max_iterations handed.version user.password kind ⊎ (kind ≡ OutOfMemory)) (same ∙ opens.nonce) row))
+
+  pub answer_stopped : StoppedKeeping (opening handed) kind old new before after None
+  answer_stopped = user_stopped handed user kind old new before after is (opened_refused handed.speculated handed user opens.reply kind old new before after opens.replied answer_heard)
+
+  -- with a first round that went with the hello, it comes before any exchange
+  pub answer_refused : IsSome handed.speculated → RefusedAtOnce (opening handed) kind
+  answer_refused some = user_refused handed user kind is (heard_at_once handed.speculated handed user opens.reply kind old new before after some opens.replied answer_heard)

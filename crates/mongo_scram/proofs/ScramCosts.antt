@@ -1,27 +1,21 @@
--- What a login that was accepted or stopped shows of its whole plan.
+-- What a login that was accepted, or refused before its exchanges, shows of its whole plan.
 use Rattle.std.proofs.Common.{refl, sym, subst, inl, inr, []}
 use Rattle.mongo_wire.specs.declared.error.ErrorKind.{ErrorKind}
 use Rattle.mongo_wire.specs.declared.frame_buffer.FrameBuffer.{FrameBuffer}
 use Rattle.mongo_wire.specs.Buffer.{held_document}
-use Rattle.mongo_command.specs.Conversation.{says, ends, Reached, Stopped}
-use Rattle.mongo_command.proofs.FollowedBy.{reached_both, stopped_first, stopped_second}
-use Rattle.mongo_sasl.specs.EndsByScript.{BeginsWithCommand}
+use Rattle.mongo_command.specs.Conversation.{says, ends, Reached}
+use Rattle.mongo_command.proofs.FollowedBy.{reached_both}
+use Rattle.mongo_sasl.specs.Stops.{BeginsWithCommand, RefusedAtOnce}
 use Rattle.mongo_sasl.proofs.LastReply.{ends_reached}
+use Rattle.mongo_sasl.proofs.StoppedKeeping.{at_once_first, at_once_second}
 use Rattle.mongo_scram.specs.Plan.{Handed, start_said, close_said, opened, opening, closing, scram_plan}
-use Rattle.mongo_scram.specs.Costs.{Ledgers, Balance, Accepted, StoppedScram, StartUnsaid, FaultCosts}
+use Rattle.mongo_scram.specs.Costs.{Ledgers, Balance, Accepted, StartUnsaid, FaultCosts, ScramRefused}
 use Rattle.mongo_scram.proofs.OneRow.{no_credential_row}
 
 pub accepted_reached : (handed : Handed) (buffer : FrameBuffer) (old new : Balance) → (is : Accepted handed buffer old new) → Reached (scram_plan handed) is.challenge old.state new.state old.id new.id
 accepted_reached handed buffer old new is =
     reached_both (opening handed) (closing handed) is.challenge is.challenge old.state is.middle new.state old.id is.between new.id is.opened
     (ends_reached (closing handed is.challenge) is.challenge (held_document buffer) is.middle new.state is.between new.id is.closed)
-
-pub stopped_whole : (handed : Handed) (kind : ErrorKind) (old new : Balance) → StoppedScram handed kind old new → Stopped (scram_plan handed) kind old.state new.state old.id new.id
-stopped_whole handed kind old new is =
-    elim is [
-      | inl early ↦ stopped_first (opening handed) (closing handed) kind old.state new.state old.id new.id early.0
-      | inr late ↦ stopped_second (opening handed) (closing handed) late.challenge kind old.state late.middle new.state old.id late.between new.id late.opened late.stopped
-    ]
 
 -- ---- over a connection that keeps a fault
 
@@ -35,3 +29,8 @@ start_turn handed earlier later unsaid =
 pub fault_begins : (handed : Handed) (earlier later : Ledgers) → FaultCosts handed earlier later → BeginsWithCommand (scram_plan handed)
 fault_begins handed earlier later (inl unsaid) = let said = start_said handed unsaid.user in (said, (says said, start_turn handed earlier later unsaid, refl))
 fault_begins handed earlier later (inr unsaid) = (close_said handed unsaid.challenge, (ends unsaid.challenge, unsaid.opened, refl))
+
+-- where it isn't, the whole login is refused at once
+pub refused_whole : (handed : Handed) (kind : ErrorKind) (earlier later : Ledgers) → ScramRefused handed kind earlier later → RefusedAtOnce (scram_plan handed) kind
+refused_whole handed kind earlier later (inl early) = at_once_first (opening handed) (closing handed) kind early.0
+refused_whole handed kind earlier later (inr late) = at_once_second (opening handed) (closing handed) late.unsaid.challenge kind late.unsaid.opened late.refused

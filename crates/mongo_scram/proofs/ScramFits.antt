@@ -1,7 +1,7 @@
 -- SCRAM doesn't refuse by `IncompatibleServer`, which is the refusal of whoever establishes the connection.
 use Rattle.std.proofs.Common.{ℕ, refl, Option, None, Some, List}
 use Rattle.mongo_wire.specs.declared.error.ErrorKind.{ErrorKind}
-use Rattle.mongo_wire.specs.declared.error.ErrorKind.TheVariants.{PasswordNotAscii, IncompatibleServer}
+use Rattle.mongo_wire.specs.declared.error.ErrorKind.TheVariants.{Authentication, PasswordNotAscii, IncompatibleServer}
 use Rattle.mongo_wire.specs.declared.auth_fault.AuthFault.TheVariants.{Malformed, NotCompleted, PasswordControl}
 use Rattle.mongo_command.specs.Conversation.{Plan, ending, reading, unless}
 use Rattle.mongo_command.proofs.Leads.{never_ending, never_unless, never_reading, never_saying}
@@ -9,18 +9,25 @@ use Rattle.mongo_command.proofs.Plans.{all_else, all_row}
 use Rattle.mongo_sasl.specs.declared.credential.Credential.{Credential}
 use Rattle.mongo_sasl.proofs.Fits.{Fits, fits_followed}
 use Rattle.mongo_sasl.proofs.OtherRows.{IsOther, other, other_row}
+use Rattle.mongo_scram.specs.declared.scram_version.ScramVersion.{ScramVersion}
+use Rattle.mongo_scram.specs.declared.scram_version.ScramVersion.TheVariants.{Sha1, Sha256}
 use Rattle.mongo_scram.specs.declared.server_first.ServerFirst.{ServerFirst}
 use Rattle.mongo_scram.specs.declared.server_final.ServerFinal.{ServerFinal}
+use Rattle.mongo_scram.specs.Key.{PasswordRow}
 use Rattle.mongo_scram.specs.User.{User, IsUser, CredentialRow}
 use Rattle.mongo_scram.specs.Plan.{Speculated, Handed, Challenge, start_said, close_said, ChallengeRow, challenged, opened, opening, LastRow, closed, closing, scram_plan}
 use Rattle.mongo_scram.specs.Replies.{CarriesFirst, FirstReplyRow, CarriesFinal, FinalReplyRow}
-use Rattle.mongo_scram.proofs.OwnRows.{each_password_row}
 use Rattle.mongo_scram.proofs.ScramPlan.{challenge_of}
 
 -- ---- rows
 
 pub credential_other : (credential : Credential) (kind : ErrorKind) → CredentialRow credential kind → IsOther kind
 credential_other credential = other_row _
+
+-- what holds of both refusals of a password holds by its row
+each_password_row : (P : ErrorKind → Type 0) → P PasswordNotAscii → P (Authentication PasswordControl) → (version : ScramVersion) (password : List ℕ) (kind : ErrorKind) → PasswordRow version password kind → P kind
+each_password_row P ascii control Sha1 password = λ kind row. absurd row
+each_password_row P ascii control Sha256 password = all_else P _ _ (all_row P _ _ ascii) (all_row P _ _ control)
 
 no_ascii : IsOther PasswordNotAscii
 no_ascii is = cc

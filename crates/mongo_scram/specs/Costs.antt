@@ -8,6 +8,7 @@ use Rattle.mongo_wire.specs.declared.frame_buffer.FrameBuffer.{FrameBuffer}
 use Rattle.mongo_wire.specs.Buffer.{held_document, IsFrameTaken}
 use Rattle.mongo_wire.specs.Outside.{State}
 use Rattle.mongo_command.specs.Conversation.{ends, HasNone, Reached, Stopped}
+use Rattle.mongo_sasl.specs.Stops.{RefusedAtOnce}
 use Rattle.mongo_sasl.specs.Login.{EndsByReply}
 use Rattle.mongo_scram.specs.declared.cache.SaltedCache.{SaltedCache}
 use Rattle.mongo_scram.specs.declared.cache.SaltedKey.{SaltedKey}
@@ -124,3 +125,12 @@ pub record CloseUnsaid (handed : Handed) (earlier later : Ledgers) : Type 0 wher
 -- a first round that went with the hello, what it takes up to its last message.
 abbrev pub FaultCosts : Handed → Ledgers → Ledgers → Type 0
 FaultCosts handed earlier later = StartUnsaid handed earlier later ⊎ CloseUnsaid handed earlier later
+
+-- the opening ended without an exchange, and then the login was refused before its last
+pub record ClosingRefused (handed : Handed) (kind : ErrorKind) (earlier later : Ledgers) : Type 0 where
+  pub unsaid : CloseUnsaid handed earlier later
+  pub refused : RefusedAtOnce (closing handed unsaid.challenge) kind
+
+-- Where a login is refused before it comes to an exchange: in the opening, before anything was derived, or after that.
+abbrev pub ScramRefused : Handed → ErrorKind → Ledgers → Ledgers → Type 0
+ScramRefused handed kind earlier later = (RefusedAtOnce (opening handed) kind × CostsNothing earlier later) ⊎ ClosingRefused handed kind earlier later

@@ -5,7 +5,7 @@ use Rattle.mongo_wire.specs.declared.error.ErrorKind.{ErrorKind}
 use Rattle.mongo_wire.specs.Outside.{State}
 use Rattle.mongo_command.specs.Connection.{kept_fault}
 use Rattle.mongo_sasl.specs.EndsByScript.{Standing, EndsByScript}
-use Rattle.mongo_scram.specs.Costs.{Ledgers, Balance, balance, SameEntries, Accepted, StoppedScram, FaultCosts}
+use Rattle.mongo_scram.specs.Costs.{Ledgers, Balance, balance, SameEntries, Accepted, StoppedScram, FaultCosts, ScramRefused}
 use Rattle.mongo_scram.specs.Plan.{Handed, scram_plan}
 use Rattle.mongo_scram.specs.Script.{IsScramLogin}
 
@@ -20,8 +20,8 @@ pub record EndsByScram {L : Type 0} (state : L → State) (handed : Handed) (res
   pub accepted : OnOk result (Accepted handed new.buffer (balance_at state old earlier) (balance_at state new later))
   -- whether the key was derived before a refusal
   pub refused : kept_fault old.connection ≡ None → IfErr result (λ e. StoppedScram handed e.kind (balance_at state old earlier) (balance_at state new later))
-  -- A fault that the connection keeps is answered in place of the first exchange, unless the login is stopped before that.
-  -- Where that is its first message's, nothing was derived, counted or put in.
-  pub answers : (kind : ErrorKind) → kept_fault old.connection ≡ Some kind → IfErr result (λ e. ((e.kind ≡ kind) × FaultCosts handed earlier later) ⊎ StoppedScram handed e.kind (balance_at state old earlier) (balance_at state old later))
+  -- A fault that the connection keeps is answered in place of the first exchange, unless the login is refused before it comes
+  -- to one. Where that is its first message's, nothing was derived, counted or put in.
+  pub answers : (kind : ErrorKind) → kept_fault old.connection ≡ Some kind → IfErr result (λ e. ((e.kind ≡ kind) × FaultCosts handed earlier later) ⊎ ScramRefused handed e.kind earlier later)
   -- a refusal leaves the entries as they were
   pub entries : OnErr result (SameEntries earlier later)

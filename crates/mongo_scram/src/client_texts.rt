@@ -1,7 +1,7 @@
 // The texts of a client's messages (RFC 5802, sections 3 and 7), each with room for it taken first; the name as a message has it,
 // and a proof's base64, have memory of their own. Each is refused for want of memory alone.
 
-ghost use Rattle.std.specs.Prelude.{◌≡◌, ◌++◌, codes, IfOk, OnOk, string_bytes};
+ghost use Rattle.std.specs.Prelude.{◌≡◌, ◌+◌, ◌-◌, ◌^◌, min, ◌++◌, codes, IfOk, OnOk, string_bytes};
 ghost use Rattle.mongo_scram.specs.Base64.{base64_of};
 ghost use Rattle.mongo_scram.specs.Messages.{open_message, no_proof, transcript};
 
@@ -72,7 +72,9 @@ fn push_no_proof(text: &mut String, nonce: &str) -> Result<(), AllocError>
     text.push_str(nonce)
 }
 
-/// The room to take for a message of two texts of these lengths, with its marks.
-pub fn room(first: usize, second: usize) -> usize {
+/// The room to take for a message of two texts of these lengths, with its marks: 24 bytes more than both, or the greatest `usize`.
+pub fn room(first: usize, second: usize) -> usize
+    ensures { result ≡ min (first + second + 24) (2 ^ 64 - 1) }
+{
     first.saturating_add(second).saturating_add(MARKS)
 }

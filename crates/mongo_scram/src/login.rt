@@ -4,7 +4,7 @@
 ghost use Rattle.std.specs.Prelude.{◌≡◌, ◌⊎◌, IfOk, IfErr, OnOk};
 ghost use Rattle.mongo_wire.specs.declared.error.ErrorKind.TheVariants.{OutOfMemory};
 ghost use Rattle.mongo_command.specs.Exchange.{frame_maximum};
-ghost use Rattle.mongo_sasl.specs.EndsByScript.{standing, StopsBy};
+ghost use Rattle.mongo_sasl.specs.EndsByScript.{standing, DrawsOnce, StopsBy};
 ghost use Rattle.mongo_scram.specs.Client.{auth_message_of, final_conversation};
 ghost use Rattle.mongo_scram.specs.Messages.{verifier};
 ghost use Rattle.mongo_scram.specs.Plan.{Challenge, last_exchange};
@@ -65,7 +65,7 @@ impl<'a> ScramLogin<'a> {
     ghost use Rattle.mongo_wire.specs.Buffer.{frames_taken};
     ghost use Rattle.mongo_command.specs.Connection.{kept_fault};
     ghost use Rattle.mongo_command.specs.Exchange.{frame_maximum};
-    ghost use Rattle.mongo_sasl.specs.EndsByScript.{standing, StopsBy};
+    ghost use Rattle.mongo_sasl.specs.EndsByScript.{standing, DrawsOnce, StopsBy};
     ghost use Rattle.mongo_scram.specs.Client.{speculated_of, user_of};
     ghost use Rattle.mongo_scram.specs.Plan.{opened};
     ghost use Rattle.mongo_scram.specs.Login.{handed_by, Opens, frames_opened, LeavesOneExchange};
@@ -85,6 +85,7 @@ impl<'a> ScramLogin<'a> {
             (L.state link.old) (L.state link.new) ids.old ids.new) }
         ensures stops { StopsBy L.state (opened (speculated_of first_round) (handed_by self.entry first_round (frame_maximum connection.old.stream_description)) (user_of user.now)) result
             (standing connection.old link.old ids.old buffer.old) (standing connection.new link.new ids.new buffer.new) }
+        ensures drawn { DrawsOnce (standing connection.old link.old ids.old buffer.old) (standing connection.new link.new ids.new buffer.new) }
         // Over a connection that keeps a fault, only a round that went with the hello opens.
         ensures alone { (kind : ErrorKind) → kept_fault connection.old ≡ Some kind → OnOk result (IsSome (speculated_of first_round)) }
         ensures frames { OnOk result (frames_taken buffer.new ≡ frames_opened first_round (frames_taken buffer.old)) }
@@ -110,6 +111,7 @@ impl<'a> ScramLogin<'a> {
             (L.state link.old) (L.state link.new) ids.old ids.new) }
         ensures stops { StopsBy L.state (opened None (handed_by self.entry None (frame_maximum connection.old.stream_description)) (user_of user.now)) result
             (standing connection.old link.old ids.old buffer.old) (standing connection.new link.new ids.new buffer.new) }
+        ensures drawn { DrawsOnce (standing connection.old link.old ids.old buffer.old) (standing connection.new link.new ids.new buffer.new) }
         ensures once { OnOk result (LeavesOneExchange connection.old connection.new buffer.old buffer.new) }
     {
         let client_first = ClientFirst::new(
@@ -163,6 +165,7 @@ pub fn close<L: Link>(
         (standing connection.old link.old ids.old buffer.old) (standing connection.new link.new ids.new buffer.new)) }
     ensures stops { (c : Challenge) → StopsBy L.state (last_exchange (final_said client_final.now (frame_maximum connection.old.stream_description)) (final_conversation client_final.now) (verifier (digest_of version) salted.now (auth_message_of client_final.now)) c) result
         (standing connection.old link.old ids.old buffer.old) (standing connection.new link.new ids.new buffer.new) }
+    ensures drawn { DrawsOnce (standing connection.old link.old ids.old buffer.old) (standing connection.new link.new ids.new buffer.new) }
     ensures once { OnOk result (LeavesOneExchange connection.old connection.new buffer.old buffer.new) }
 {
     let command = client_final.to_command(alloc)?;

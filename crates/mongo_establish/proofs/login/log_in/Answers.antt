@@ -1,7 +1,7 @@
 use Rattle.std.proofs.Common.{rules, ap, ◌∙◌, sym, option_copied}
 use Rattle.mongo_scram.proofs.Derived.{costs_nothing}
 use Rattle.mongo_establish.specs.Asked.{asked_over}
-use Rattle.mongo_establish.proofs.LoggingIn.{no_login, empty_server, has_row, log_in_invalid, invalid_keeps, log_in_accepted, log_in_stopped}
+use Rattle.mongo_establish.proofs.LoggingIn.{no_login, empty_server, has_row, log_in_invalid, log_in_accepted, log_in_stopped}
 use Rattle.mongo_establish.proofs.login.log_in.Goals as goal
 
 pub returns-in_default-clause-logged_in : goal.returns-in_default-clause-logged_in
@@ -14,12 +14,7 @@ returns-in_default-mechanism_at-clause-logged_in g c =
 pub returns-in_err-validate-clause-refused : goal.returns-in_err-validate-clause-refused
 returns-in_err-validate-clause-refused g c =
     log_in_invalid c.args.connection.now c.args.options.now (option_copied c.args.credential) c.args.inputs.now.nonces c.args.state.now.ids c.in-Some.credential.now (ap option_copied c.in-Some.is) c.args.round c.in-Some-mechanism_at.mechanism c.in-Some-stream_description.description c.in-Some-stream_description.is
-    (c.in-Some-mechanism_at.ensures.0, λ reply like. c.in-Some-mechanism_at.ensures.1 reply (like ∙ sym c.is_some.ensures)) c.requires.spoken c.requires.made _ _ (costs_nothing _ _) (search rules)
-
-pub returns-in_err-validate-clause-keeps : goal.returns-in_err-validate-clause-keeps
-returns-in_err-validate-clause-keeps g c =
-    invalid_keeps c.args.connection.now c.args.options.now (option_copied c.args.credential) c.args.inputs.now.nonces c.args.state.now.ids c.in-Some.credential.now (ap option_copied c.in-Some.is) c.args.round c.in-Some-mechanism_at.mechanism c.in-Some-stream_description.description c.in-Some-stream_description.is
-    (c.in-Some-mechanism_at.ensures.0, λ reply like. c.in-Some-mechanism_at.ensures.1 reply (like ∙ sym c.is_some.ensures)) c.requires.spoken c.requires.made _ _ (search rules) c.requires.faultless
+    (c.in-Some-mechanism_at.ensures.0, λ reply like. c.in-Some-mechanism_at.ensures.1 reply (like ∙ sym c.is_some.ensures)) c.requires.spoken c.requires.made _ _ _ c.requires.faultless (costs_nothing _ _) (search rules)
 
 pub unreachable-requires-in_default-conversation_of : goal.unreachable-requires-in_default-conversation_of
 unreachable-requires-in_default-conversation_of g c =
@@ -37,9 +32,6 @@ returns-clause-refused g c =
     log_in_stopped c.args.connection.now c.args.options.now (option_copied c.args.credential) c.args.inputs.now.nonces c.args.state.now.ids c.in-Some.credential.now (ap option_copied c.in-Some.is) c.args.round c.in-Some-mechanism_at.mechanism c.in-Some-stream_description.description c.in-Some-stream_description.is
     (c.in-Some-mechanism_at.ensures.0, λ reply like. c.in-Some-mechanism_at.ensures.1 reply (like ∙ sym c.is_some.ensures)) c.requires.spoken c.requires.made
     (search rules) c.in-Some-conversation_of.conversation (sym c.conversation_of.ensures ∙ c.in-Some-conversation_of.is) c.converse.result _ _ _ c.converse.ensures.converses
-
-pub returns-clause-keeps : goal.returns-clause-keeps
-returns-clause-keeps g c = c.converse.ensures.converses.keeps
 
 pub returns-clause-entries : goal.returns-clause-entries
 returns-clause-entries g c = c.converse.ensures.converses.entries

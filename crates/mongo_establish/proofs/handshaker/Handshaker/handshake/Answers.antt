@@ -1,20 +1,15 @@
 use Rattle.std.proofs.Common.{rules, option_copied}
-use Rattle.mongo_command.specs.Conversation.{or_else}
-use Rattle.mongo_sasl.proofs.KeptAfter.{row_keeps}
 use Rattle.mongo_scram.proofs.Derived.{costs_nothing, on_refused}
-use Rattle.mongo_establish.specs.First.{IsUnmade}
 use Rattle.mongo_establish.specs.Options.{options_in}
-use Rattle.mongo_establish.specs.Speculation.{HelloRow, speculation}
 use Rattle.mongo_establish.proofs.Answered.{shaking_stopped, handshake_stopped}
 use Rattle.mongo_establish.proofs.Establishment.{only_memory, only_refused}
 use Rattle.mongo_establish.proofs.EstablishmentPlan.{one_handshake}
-use Rattle.mongo_establish.proofs.Keeping.{first_own}
 use Rattle.mongo_establish.proofs.Shaking.{unmade_stopped, unmade_costs, ungreeted_stopped, ungreeted_costs, login_stopped, login_stopped_costs, shook, shook_costs, handed_on, ok_of, if_err_of}
 use Rattle.mongo_establish.proofs.handshaker.Handshaker.handshake.Goals as goal
 
 pub returns-in_err-first-clause-refused : goal.returns-in_err-first-clause-refused
 returns-in_err-first-clause-refused g c =
-    unmade_stopped c.args.connection.now (options_in c.args.self.now) (option_copied c.args.credential) c.args.inputs.now.nonces c.args.state.now.ids c.requires.undescribed _ _ (search rules)
+    unmade_stopped c.args.connection.now (options_in c.args.self.now) (option_copied c.args.credential) c.args.inputs.now.nonces c.args.state.now.ids c.requires.undescribed _ _ c.requires.faultless (search rules)
 
 pub returns-in_err-first-clause-costs : goal.returns-in_err-first-clause-costs
 returns-in_err-first-clause-costs g c =
@@ -90,18 +85,3 @@ returns-in_err-log_in-clause-complete g c =
 pub returns-in_err-log_in-clause-exact : goal.returns-in_err-log_in-clause-exact
 returns-in_err-log_in-clause-exact g c =
     only_refused c.from_residual-in_err-log_in.result (λ e. e.kind) _ _ _ _ _ (one_handshake _) (shaking_stopped c.from_residual-in_err-log_in.result _ _ _ _ _ _ (returns-in_err-log_in-clause-refused g c))
-
--- ---- what the connection keeps
-
-pub returns-in_err-first-clause-keeps : goal.returns-in_err-first-clause-keeps
-returns-in_err-first-clause-keeps g c =
-    row_keeps c.from_residual.result (or_else (HelloRow (option_copied c.args.credential)) (IsUnmade (speculation (option_copied c.args.credential) c.args.inputs.now.nonces.first))) _
-    (first_own (option_copied c.args.credential) (speculation (option_copied c.args.credential) c.args.inputs.now.nonces.first)) (search rules) c.requires.faultless
-
-pub returns-in_err-reply-clause-keeps : goal.returns-in_err-reply-clause-keeps
-returns-in_err-reply-clause-keeps g c =
-    handed_on _ c.say_hello.result c.in_err-reply.field-0.0 _ c.from_residual-in_err-reply.ensures.1 c.in_err-reply.was c.say_hello.ensures.keeps
-
-pub returns-in_err-log_in-clause-keeps : goal.returns-in_err-log_in-clause-keeps
-returns-in_err-log_in-clause-keeps g c =
-    handed_on _ c.log_in.result c.in_err-log_in.field-0.0 _ c.from_residual-in_err-log_in.ensures.1 c.in_err-log_in.was c.log_in.ensures.keeps

@@ -1,5 +1,6 @@
 use Rattle.mongo_command.specs.Exchange.{frame_maximum}
 use Rattle.mongo_scram.specs.Client.{user_of}
+use Rattle.mongo_sasl.proofs.StopsBy.{draws_none}
 use Rattle.mongo_scram.proofs.FirstRounds.{round_stops, start_stops, round_alone, start_alone, once_faultless, once_frames}
 use Rattle.mongo_scram.proofs.login.ScramLogin.open.Goals as goal
 
@@ -8,6 +9,12 @@ returns-in-Some-clause-stops g c = round_stops c.args.self c.args.first_round (f
 
 pub returns-in-None-clause-stops : goal.returns-in-None-clause-stops
 returns-in-None-clause-stops g c = start_stops c.args.self c.args.first_round (frame_maximum c.args.connection.now.stream_description) (user_of c.args.user.now) _ c.say_first.result _ _ c.in-None.is c.say_first.ensures.stops
+
+pub returns-in-Some-clause-drawn : goal.returns-in-Some-clause-drawn
+returns-in-Some-clause-drawn g c = draws_none _
+
+pub returns-in-None-clause-drawn : goal.returns-in-None-clause-drawn
+returns-in-None-clause-drawn g c = c.say_first.ensures.drawn
 
 pub returns-in-Some-clause-alone : goal.returns-in-Some-clause-alone
 returns-in-Some-clause-alone g c kind kept = round_alone c.args.self c.args.first_round (frame_maximum c.args.connection.now.stream_description) (user_of c.args.user.now) c.go_on.result c.in-Some.round c.in-Some.is

@@ -1,15 +1,11 @@
-use Rattle.std.proofs.Common.{None, refl, ◌∙◌, inr}
+use Rattle.std.proofs.Common.{None, Ok, Err, refl, ◌∙◌, inl, inr}
 use Rattle.mongo_command.specs.Exchange.{frame_maximum}
-use Rattle.mongo_command.proofs.Steps.{stopped_memory}
-use Rattle.mongo_scram.specs.Client.{message_of, first_source, includes_db, user_of}
-use Rattle.mongo_scram.specs.Commands.{first_body}
+use Rattle.mongo_scram.specs.Client.{user_of}
 use Rattle.mongo_scram.specs.Plan.{start_said}
 use Rattle.mongo_scram.specs.Login.{handed_by}
 use Rattle.mongo_scram.proofs.FirstRounds.{IsStart, start_unbuilt, start_unanswered, start_exchanged, start_refused, start_opens}
 use Rattle.mongo_sasl.proofs.Handed.{no_answer_on, no_answer_by}
-use Rattle.mongo_sasl.proofs.KeptAfter.{IsOwn, unbuilt_own}
-use Rattle.mongo_sasl.proofs.StopsBy.{was_faultless, before_exchange, at_exchange, after_exchange, handed_stops}
-use Rattle.mongo_scram.proofs.OwnRows.{first_reply_own}
+use Rattle.mongo_sasl.proofs.StopsBy.{was_faultless, draws_refused, draws_exchanged, draws_none, no_exchange, at_exchange, after_exchange, handed_stops}
 use Rattle.mongo_scram.proofs.login.ScramLogin.say_first.Goals as goal
 
 -- ---- where the message is not made
@@ -23,7 +19,10 @@ returns-in_err-client_first-clause-once g c = no_answer_on c.from_residual.resul
 pub returns-in_err-client_first-clause-stops : goal.returns-in_err-client_first-clause-stops
 returns-in_err-client_first-clause-stops g c =
     let e = c.in_err-client_first.field-0.0 in
-    handed_stops _ _ _ _ c.from_residual.result e c.from_residual.ensures.1 (before_exchange _ _ _ e (inr c.in_err-client_first.ensures.refused) (stopped_memory _ e.kind _ _ c.in_err-client_first.ensures.refused))
+    handed_stops _ _ _ _ c.from_residual.result e c.from_residual.ensures.1 (no_exchange _ _ _ (Err e) (inr (inl c.in_err-client_first.ensures.refused)))
+
+pub returns-in_err-client_first-clause-drawn : goal.returns-in_err-client_first-clause-drawn
+returns-in_err-client_first-clause-drawn g c = draws_none _
 
 -- ---- where the command is not built
 
@@ -42,7 +41,10 @@ returns-in_err-command-clause-stops g c =
     let start : IsStart handed user first = record { db = made.db; source = made.source; message = made.message; api = made.api ∙ c.copied.ensures } in
     let e = c.in_err-command.field-0.0 in
     handed_stops _ _ _ _ c.from_residual-in_err-command.result e c.from_residual-in_err-command.ensures.1
-    (before_exchange _ _ _ e (unbuilt_own (first_body c.args.self.version (includes_db first) (first_source first) (message_of first)) e.kind c.in_err-command.ensures.refused) (start_unbuilt handed user first e.kind _ _ start c.in_err-command.ensures.refused))
+    (no_exchange _ _ _ (Err e) (start_unbuilt handed user first e.kind start c.in_err-command.ensures.refused))
+
+pub returns-in_err-command-clause-drawn : goal.returns-in_err-command-clause-drawn
+returns-in_err-command-clause-drawn g c = draws_none _
 
 -- ---- where the exchange is refused
 
@@ -62,7 +64,12 @@ returns-in_err-exchange_into-clause-stops g c =
     let e = c.in_err-exchange_into.field-0.0 in
     let exchange = c.in_err-exchange_into.ensures in
     handed_stops _ _ _ _ c.from_residual-in_err-exchange_into.result e c.from_residual-in_err-exchange_into.ensures.1
-    (at_exchange _ _ _ _ _ e (start_said handed user, refl) exchange.ends exchange.untouched (start_unanswered handed user first c.in_ok-command.command e.kind _ _ _ _ _ start c.in_ok-command.ensures.command exchange.ends.counts))
+    (at_exchange _ _ _ _ _ e (start_said handed user, refl) exchange.ends exchange.untouched exchange.buffer (start_unanswered handed user first c.in_ok-command.command e.kind _ _ _ _ _ start c.in_ok-command.ensures.command exchange.ends.counts))
+
+pub returns-in_err-exchange_into-clause-drawn : goal.returns-in_err-exchange_into-clause-drawn
+returns-in_err-exchange_into-clause-drawn g c =
+    let exchange = c.in_err-exchange_into.ensures in
+    draws_refused _ _ _ _ c.in_err-exchange_into.field-0.0 exchange.ends exchange.untouched exchange.buffer
 
 -- ---- where the reply is refused
 
@@ -82,10 +89,16 @@ returns-in_err-server_first-clause-stops g c =
     let e = c.in_err-server_first.field-0.0 in
     let exchange = c.in_ok-exchange_into.ensures in
     handed_stops _ _ _ _ c.from_residual-in_err-server_first.result e c.from_residual-in_err-server_first.ensures.1
-    (after_exchange _ _ _ tt IsOwn _ _ _ exchange.ends (λ kind is. is) (first_reply_own c.held_reply.result.bytes.now e.kind c.in_err-server_first.ensures.refused)
+    (after_exchange _ _ _ tt _ _ _ _ _ (Err e) exchange.ends exchange.exchanged
     (start_refused handed user _ _ e.kind _ _ _ _ c.held_reply.ensures (start_exchanged handed user first c.in_ok-command.command _ _ _ _ _ start c.in_ok-command.ensures.command exchange.exchanged) exchange.ends.counts c.in_err-server_first.ensures.refused))
 
+pub returns-in_err-server_first-clause-drawn : goal.returns-in_err-server_first-clause-drawn
+returns-in_err-server_first-clause-drawn g c = draws_exchanged _ _ _ _ _ _ _ c.in_ok-exchange_into.ensures.exchanged
+
 -- ---- after the reply
+
+pub returns-clause-drawn : goal.returns-clause-drawn
+returns-clause-drawn g c = draws_exchanged _ _ _ _ _ _ _ c.in_ok-exchange_into.ensures.exchanged
 
 pub returns-clause-opened : goal.returns-clause-opened
 returns-clause-opened g c =
@@ -103,4 +116,4 @@ returns-clause-once g c = let exchange = c.in_ok-exchange_into.ensures in record
 pub returns-clause-stops : goal.returns-clause-stops
 returns-clause-stops g c =
     let exchange = c.in_ok-exchange_into.ensures in
-    after_exchange _ _ _ tt IsOwn _ _ _ exchange.ends (λ kind is. is) tt tt
+    after_exchange _ _ _ tt _ _ _ _ _ (Ok _) exchange.ends exchange.exchanged tt
