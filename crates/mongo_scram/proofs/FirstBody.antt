@@ -1,5 +1,5 @@
 -- The body of a `saslStart` with the database named behind it, and the command of it.
-use Rattle.std.proofs.Common.{◌≡◌, ◌≢◌, ℕ, ◌+◌, ◌-◌, ◌^◌, ◌<◌, ◌≤◌, true, false, Bool, suc, Option, Ok, Err, List, ◌++◌, length, codes, flat_map, refl, sym, ap, ◌∙◌, subst, arith, Contains, length-append, append-nil}
+use Rattle.std.proofs.Common.{◌≡◌, ◌≢◌, ℕ, ◌+◌, ◌^◌, ◌<◌, ◌≤◌, true, false, Bool, suc, Option, Ok, Err, List, ◌++◌, length, codes, flat_map, refl, sym, ap, ◌∙◌, subst, arith, Contains, length-append, append-nil}
 use Rattle.std.proofs.lemmas.Grind.{flat_map-append}
 use Rattle.mongo_bson.specs.Framed.{element_bytes, enclosed, maximum_length}
 use Rattle.mongo_bson.specs.Document.{Element, spell}
