@@ -9,8 +9,8 @@ ghost use Rattle.mongo_command.specs.Exchange.{HoldsReply};
 ghost use Rattle.mongo_generate.specs.Written.{IsBinaryOf, CarriesPayload, CarriesPayloadLast};
 
 use mongo_bson::{Bytes, RawDocument, RawValue};
+use mongo_command::held_reply;
 use mongo_establish::want_of_memory;
-use mongo_sasl::held_reply;
 use mongo_sasl::keys::PAYLOAD;
 use mongo_wire::{FrameBuffer, FrameFault, MemoryLink};
 use std::alloc::{AllocError, Global};

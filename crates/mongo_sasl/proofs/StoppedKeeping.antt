@@ -5,7 +5,7 @@ use Rattle.mongo_wire.specs.declared.error.ErrorKind.{ErrorKind}
 use Rattle.mongo_wire.specs.Outside.{State}
 use Rattle.mongo_command.specs.Conversation.{Said, Event, exchanged, asked, Turn, says, asks, refuses, ends, Plan, HasNone, unless, reading, saying, later, passed_on, followed_by, plain_message, Follows, given_in, Talked, Reached, Stopped}
 use Rattle.mongo_command.specs.Exchange.{CountsStay, Exchanges, ExchangeRefused}
-use Rattle.mongo_command.proofs.FollowedBy.{turn_second, follows_both}
+use Rattle.mongo_command.proofs.FollowedBy.{turn_first, turn_second, follows_first, follows_both}
 use Rattle.mongo_command.proofs.Talked.{follows_more, given_both, talked_append, talked_once, nothing_said, still_counts}
 use Rattle.mongo_sasl.specs.Stops.{StopKeeping, StoppedKeeping, RefusedAtOnce, BeginsTooLong}
 
@@ -135,20 +135,6 @@ pub refused_later : {A : Type 0} (s : Said) (plan : List ℕ → Plan A) (reply 
 refused_later s plan reply kind old new before after e counts r = keeping_later s plan reply kind old new new before after after e counts (at_once_keeping (plan reply) kind new after r)
 
 -- ---- a plan and then the plan of its answer
-
-turn_first : {A B : Type 0} (plan : Plan A) (next : A → Plan B) (events : List Event) (first : Turn A) (turn : Turn B) → Follows plan events → plan events first → passed_on (λ answer. next answer []) first turn → followed_by plan next events turn
-turn_first plan next [] first turn f is passed = (first, is, passed)
-turn_first plan next (exchanged s r ∷ events) first turn f is passed = (says s, f.0, turn_first (later plan (exchanged s r)) next events first turn f.2 is passed)
-turn_first plan next (asked q a ∷ events) first turn f is passed = (asks q a, f.0, turn_first (later plan (asked q a)) next events first turn f.1 is passed)
-
-follows_first : {A B : Type 0} (plan : Plan A) (next : A → Plan B) (events : List Event) → Follows plan events → Follows (followed_by plan next) events
-follows_first plan next [] f = tt
-follows_first plan next (exchanged s r ∷ events) f =
-    let event : Event = exchanged s r in
-    ((says s, f.0, refl), f.1, follows_more (followed_by (later plan event) next) (later (followed_by plan next) event) events (follows_first (later plan event) next events f.2) (λ past turn h. (says s, f.0, h)))
-follows_first plan next (asked q a ∷ events) f =
-    let event : Event = asked q a in
-    ((asks q a, f.0, refl), follows_more (followed_by (later plan event) next) (later (followed_by plan next) event) events (follows_first (later plan event) next events f.1) (λ past turn h. (asks q a, f.0, h)))
 
 -- the first plan was stopped
 pub keeping_first : {A B : Type 0} {kept : Option ErrorKind} (plan : Plan A) (next : A → Plan B) (kind : ErrorKind) (old new : State) (before after : ℤ) → StoppedKeeping plan kind old new before after kept → StoppedKeeping (followed_by plan next) kind old new before after kept

@@ -12,7 +12,6 @@
 //! Want of memory may stand in place of any answer of a call that is handed an allocator.
 #![tactic(auto)]
 
-mod buffered_reply;
 mod commands;
 mod credential;
 pub mod keys;
@@ -30,7 +29,6 @@ mod sasl_view;
 mod validation;
 pub mod x509;
 
-pub use buffered_reply::held_reply;
 pub use commands::AuthOptions;
 pub use credential::Credential;
 pub use mechanism::AuthMechanism;

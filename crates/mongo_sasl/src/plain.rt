@@ -6,11 +6,10 @@ ghost use Rattle.mongo_command.specs.Exchange.{DocumentRefused, frame_maximum};
 ghost use Rattle.mongo_sasl.specs.EndsByScript.{standing, HoldsItsReply};
 ghost use Rattle.mongo_sasl.specs.Plain.{plain_payload, IsPlainUser, PlainRow, plain_body, plain_command, plain_plan, IsFinished, FinishedRow, plain_user_of, plain_handed, EndsByPlain};
 
-use crate::buffered_reply::held_reply;
 use crate::refusal::refused;
 use crate::{AuthMechanism, Credential, EXTERNAL, SaslStart, SaslView};
 use mongo_bson::{Bytes, RawDocument, Text};
-use mongo_command::{Command, Connection, ServerApi};
+use mongo_command::{Command, Connection, ServerApi, held_reply};
 use mongo_wire::{AuthFault, Error, FrameBuffer, Link, RequestIds};
 use std::alloc::Global;
 

@@ -7,14 +7,13 @@ ghost use Rattle.mongo_command.specs.Exchange.{DocumentRefused, frame_maximum};
 ghost use Rattle.mongo_sasl.specs.EndsByScript.{standing, HoldsItsReply};
 ghost use Rattle.mongo_sasl.specs.X509.{x509_body, x509_command, IsCertificateTaken, X509Row, x509_plan, x509_handed, EndsByX509};
 
-use crate::buffered_reply::held_reply;
 use crate::commands::login_command;
 use crate::keys::{AUTHENTICATE, MECHANISM};
 use crate::refusal::refused;
 use crate::sasl_view::unreadable_fields;
 use crate::{AuthMechanism, Credential, EXTERNAL};
 use mongo_bson::{BsonFault, RawDocument, RawDocumentBuf, RawValue, Text};
-use mongo_command::{Command, Connection, Fields, ServerApi, document_of, is_success};
+use mongo_command::{Command, Connection, Fields, ServerApi, document_of, held_reply, is_success};
 use mongo_wire::{AuthFault, Error, FrameBuffer, Link, RequestIds};
 use std::alloc::Global;
 

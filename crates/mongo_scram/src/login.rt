@@ -21,8 +21,8 @@ use crate::scram_version::ScramVersion;
 use crate::server_final::ServerFinal;
 use crate::server_first::ServerFirst;
 use mongo_bson::RawDocument;
-use mongo_command::{Connection, ServerApi};
-use mongo_sasl::{Credential, held_reply, refused};
+use mongo_command::{Connection, ServerApi, held_reply};
+use mongo_sasl::{Credential, refused};
 use mongo_wire::{AuthFault, Error, FrameBuffer, Link, RequestIds};
 use std::alloc::Global;
 
