@@ -11,7 +11,7 @@ use mongo_command::{document_field, document_of, optional_document_field, text_f
 use mongo_wire::Error;
 use std::alloc::Global;
 
-// The greatest length of a hello's body, the key and the metadata together. It is stricter than the handshake specification, which
+// The maximum of a hello's body, the key and the metadata together, in bytes. It is stricter than the handshake specification, which
 // bounds the document under `client` alone by 512 bytes.
 const MAX_HELLO_SIZE: usize = 512;
 
