@@ -62,14 +62,14 @@ of_error P (Err e) p = p
 -- ---- judgements
 
 -- a text past the greatest length asks for nothing
-value_judged-past_limit : (text : List ℕ) → maximum_settings_length < length text → value_judged text ≡ Err BadSettings
+value_judged-past_maximum : (text : List ℕ) → maximum_settings_length < length text → value_judged text ≡ Err BadSettings
 unfolding value_judged
-value_judged-past_limit text past = rw (lt-leb (length text) maximum_settings_length past) refl
+value_judged-past_maximum text past = rw (lt-leb (length text) maximum_settings_length past) refl
 
-pub judged-past_limit : (task : Task) (text : List ℕ) → maximum_settings_length < length text → judged_as task text ≡ Err BadSettings
+pub judged-past_maximum : (task : Task) (text : List ℕ) → maximum_settings_length < length text → judged_as task text ≡ Err BadSettings
 unfolding judged_as judged logins_judged
-judged-past_limit Rehearse text past = rw (value_judged-past_limit text past) refl
-judged-past_limit Batch text past = rw (value_judged-past_limit text past) refl
+judged-past_maximum Rehearse text past = rw (value_judged-past_maximum text past) refl
+judged-past_maximum Batch text past = rw (value_judged-past_maximum text past) refl
 
 -- so its front past the greatest length is judged alike
 pub judged-front : (task : Task) (old left : Option (List ℕ)) (held input : List ℕ) → old ≡ Some input → Consumes old left held → length held ≡ maximum_settings_length + 1 → judged_as task held ≡ judged_as task input
@@ -77,4 +77,4 @@ judged-front task old left held input told consumed past =
     let (rest, is, joined) = held_front old left held input told consumed in
     let longer : maximum_settings_length < length input = omega (arith, ap length joined, length-append held rest) in
     let held_longer : maximum_settings_length < length held = omega arith in
-    judged-past_limit task held held_longer ∙ sym (judged-past_limit task input longer)
+    judged-past_maximum task held held_longer ∙ sym (judged-past_maximum task input longer)

@@ -9,15 +9,15 @@ abbrev pub task_name : Task → List ℕ
 task_name task.Rehearse = codes "rehearse"
 task_name task.Batch = codes "batch"
 
--- how many logins one run makes at most
-abbrev pub most_logins : ℕ
-most_logins = 1000
+-- the maximum of logins that one run makes
+abbrev pub maximum_logins : ℕ
+maximum_logins = 1000
 
 -- the word is the number in decimal digits, without a sign or a leading zero
 pub record IsCountWord (word : List ℕ) (count : ℕ) : Type 0 where
   pub digits : word ≡ decimal count
   pub some : 1 ≤ count
-  pub within : count ≤ most_logins
+  pub within : count ≤ maximum_logins
 
 -- a task's name alone, or `generate` and a number
 abbrev pub NamesSubcommand : List (List ℕ) → Subcommand → Type 0

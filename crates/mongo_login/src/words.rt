@@ -5,8 +5,8 @@ ghost use Rattle.mongo_login.specs.Words.{IsCountWord, NamesSubcommand, NamesNon
 use itoa::Buffer;
 use mongo_settings::Task;
 
-// The most logins that one run makes.
-const MOST_LOGINS: u32 = 1000;
+// The maximum of logins that one run makes.
+const MAXIMUM_LOGINS: u32 = 1000;
 
 /// What the program is asked to do.
 #[derive(Clone, Copy, Debug, PartialEq, Eq)]
@@ -73,7 +73,7 @@ fn login_count(word: &str) -> Option<u32>
 fn is_count(word: &str, count: u32) -> bool
     ensures { IsTrue result ↔ IsCountWord word.now count }
 {
-    1 <= count && count <= MOST_LOGINS && is_spelled(word, count)
+    1 <= count && count <= MAXIMUM_LOGINS && is_spelled(word, count)
 }
 
 // Whether these are the number's decimal digits.

@@ -66,10 +66,10 @@ two_in d = option_and_then two_of (as_array d)
 
 -- ---- numbers
 
--- a whole number from the least to the greatest
+-- a whole number from a minimum to a maximum
 abbrev pub number_from : ℕ → ℕ → Data → Option ℕ
-number_from least greatest d =
-    option_and_then (λ n. if nat_le least n && nat_le n greatest then Some n else None) (option_and_then as_u64 (as_number d))
+number_from minimum maximum d =
+    option_and_then (λ n. if nat_le minimum n && nat_le n maximum then Some n else None) (option_and_then as_u64 (as_number d))
 
 -- a port of TCP
 abbrev pub port_in : Data → Option ℕ

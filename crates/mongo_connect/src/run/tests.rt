@@ -267,12 +267,12 @@ fn the_line_and_the_sink_decide_too(rt: HostRuntime) -> Result<(), Fail> {
 }
 
 #[test]
-fn blanks_to_the_limit_are_settings(rt: HostRuntime) -> Result<(), Fail> {
+fn blanks_to_the_maximum_are_settings(rt: HostRuntime) -> Result<(), Fail> {
     let unread = recorded(By::Plain).replies.len().saturating_add(1);
-    let most = plain_end(rt.alloc(), 4096, 4_194_304, b"")?;
-    assert!(rt; most == (Status::Done, 0));
-    let more = plain_end(rt.alloc(), 4096, 4_194_305, b"")?;
-    assert!(rt; more == (Status::BadSettings, unread));
+    let at_maximum = plain_end(rt.alloc(), 4096, 4_194_304, b"")?;
+    assert!(rt; at_maximum == (Status::Done, 0));
+    let past_maximum = plain_end(rt.alloc(), 4096, 4_194_305, b"")?;
+    assert!(rt; past_maximum == (Status::BadSettings, unread));
     Ok(())
 }
 

@@ -110,7 +110,7 @@ fn padded_end(alloc: Global, length: usize) -> Result<Status, Fail> {
 }
 
 #[test]
-fn blanks_to_the_limit_are_settings(rt: HostRuntime) -> Result<(), Fail> {
+fn blanks_to_the_maximum_are_settings(rt: HostRuntime) -> Result<(), Fail> {
     assert!(rt; padded_end(rt.alloc(), 4_194_304)? == Status::Done);
     assert!(rt; padded_end(rt.alloc(), 4_194_305)? == Status::BadSettings);
     Ok(())

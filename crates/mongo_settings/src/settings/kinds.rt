@@ -126,13 +126,13 @@ impl SettingValue for Iterations {
     }
 }
 
-// The whole number from the least to the greatest that a value is.
-fn number_from(value: &Value, least: u64, greatest: u64) -> Option<u64>
-    ensures number { result ≡ number_from least greatest (view value.now) }
-    ensures within { IfSome result (λ number. number ≤ greatest) }
+// The whole number from a minimum to a maximum that a value is.
+fn number_from(value: &Value, minimum: u64, maximum: u64) -> Option<u64>
+    ensures number { result ≡ number_from minimum maximum (view value.now) }
+    ensures within { IfSome result (λ number. number ≤ maximum) }
 {
     match value.as_u64() {
-        Some(number) if least <= number && number <= greatest => Some(number),
+        Some(number) if minimum <= number && number <= maximum => Some(number),
         _ => None,
     }
 }
