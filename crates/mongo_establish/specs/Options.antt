@@ -1,8 +1,13 @@
 -- The options of a client's handshakes, and those that a handshaker and an establisher were made of.
+use Rattle.std.specs.Prelude.{ℕ}
 use Rattle.mongo_establish.specs.declared.options.TopologySpec.{TopologySpec}
 use Rattle.mongo_establish.specs.declared.options.HandshakerOptions.{HandshakerOptions}
 use Rattle.mongo_establish.specs.declared.handshaker.Handshaker.{Handshaker}
 use Rattle.mongo_establish.specs.declared.establisher.ConnectionEstablisher.{ConnectionEstablisher}
+
+-- the greatest iteration count that is followed where the options name none
+abbrev pub default_max_iterations : ℕ
+default_max_iterations = 10000000
 
 -- the stable API holds for the hello and for the commands of a login
 abbrev pub options_of : TopologySpec → HandshakerOptions

@@ -54,4 +54,7 @@ pub use mongo_wire::{
     SinkError, Source, StdLink, StdSink, StdSource, WriteConcernError, WriteError, WriteErrors,
     WriteFailure, WriteFailureCause,
 };
-pub use options::{EstablisherOptions, HandshakerOptions, TopologySpec, auth_options_from_options};
+pub use options::{
+    DEFAULT_MAX_ITERATIONS, EstablisherOptions, HandshakerOptions, TopologySpec,
+    auth_options_from_options,
+};

@@ -7,6 +7,9 @@ use mongo_sasl::AuthOptions;
 use mongo_wire::Error;
 use std::alloc::Global;
 
+/// The greatest iteration count that is followed where the options name none.
+pub const DEFAULT_MAX_ITERATIONS: u32 = 10_000_000;
+
 /// What a client is made of: its options, and the metadata that they come to.
 #[derive(Debug)]
 pub struct TopologySpec {
