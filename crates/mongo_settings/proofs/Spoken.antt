@@ -8,12 +8,13 @@ use Rattle.mongo_sasl.specs.declared.mechanism.AuthMechanism.{AuthMechanism}
 use Rattle.mongo_meta.specs.declared.client_options.ClientOptions.{ClientOptions}
 use Rattle.mongo_establish.specs.declared.login_state.Nonces.{Nonces}
 use Rattle.mongo_establish.specs.declared.establisher.PendingConnection.{PendingConnection}
+use Rattle.mongo_establish.specs.Options.{default_max_iterations}
 use Rattle.mongo_establish.specs.Speculation.{mechanism_before, SpeaksFor}
 use Rattle.mongo_establish.specs.Spoken.{is_spoken, IsSpoken}
 use Rattle.mongo_settings.specs.Keys.{credential_keys, replies_key, credential_key, nonces_key, first_id_key, max_iterations_key, username_key, source_key, password_key, credential_mechanism_key, properties_key}
 use Rattle.mongo_settings.specs.Kinds.{◌>>=◌, optional, optional_in, object_of, joined_hex_in, nonces_in, int32_in, iterations_in}
 use Rattle.mongo_settings.specs.Credential.{mechanism_in, credential_in}
-use Rattle.mongo_settings.specs.Meaning.{default_nonces, default_first_id, default_iterations, settings_in}
+use Rattle.mongo_settings.specs.Meaning.{default_nonces, default_first_id, settings_in}
 use Rattle.mongo_settings.specs.Options.{client_options_in}
 use Rattle.mongo_settings.specs.Pending.{pending_in}
 use Rattle.mongo_settings.specs.Properties.{properties_in}
@@ -98,7 +99,7 @@ settings_of_parts nonces first_id iterations replies pending credential options 
     nonces = unwrap_or n default_nonces;
     first_id = unwrap_or f default_first_id;
     options = o;
-    max_iterations = unwrap_or i default_iterations;
+    max_iterations = unwrap_or i default_max_iterations;
   })
 
 their_credential : (nonces : Option (Option Nonces)) (first_id : Option (Option ℤ)) (iterations : Option (Option ℕ)) (replies : Option (Option (List ℕ))) (pending : Option PendingConnection) (credential : Option (Option Credential)) (options : Option ClientOptions) (s : Settings)

@@ -1,7 +1,8 @@
 -- What the keys of settings mean together.
-use Rattle.std.specs.Prelude.{ℕ, ℤ, pos, Option, Some, unwrap_or, [], replicate}
+use Rattle.std.specs.Prelude.{ℤ, pos, Option, Some, unwrap_or, [], replicate}
 use Rattle.serde_json.specs.Data.{Data}
 use Rattle.mongo_establish.specs.declared.login_state.Nonces.{Nonces}
+use Rattle.mongo_establish.specs.Options.{default_max_iterations}
 use Rattle.mongo_settings.specs.Keys.{replies_key, credential_key, nonces_key, first_id_key, max_iterations_key}
 use Rattle.mongo_settings.specs.Kinds.{◌>>=◌, optional, joined_hex_in, nonces_in, int32_in, iterations_in}
 use Rattle.mongo_settings.specs.Credential.{credential_in}
@@ -16,9 +17,6 @@ default_nonces = record { first = replicate 32 0; second = replicate 32 1 }
 
 abbrev pub default_first_id : ℤ
 default_first_id = pos 0
-
-abbrev pub default_iterations : ℕ
-default_iterations = 10000000
 
 -- ----
 
@@ -39,5 +37,5 @@ settings_in d = do
     nonces = unwrap_or nonces default_nonces;
     first_id = unwrap_or first_id default_first_id;
     options = options;
-    max_iterations = unwrap_or iterations default_iterations;
+    max_iterations = unwrap_or iterations default_max_iterations;
   })

@@ -1,18 +1,16 @@
 ghost use Rattle.std.specs.Prelude.{◌≡◌, unwrap_or};
-ghost use Rattle.mongo_settings.specs.Meaning.{default_nonces, default_iterations};
+ghost use Rattle.mongo_establish.specs.Options.{default_max_iterations};
+ghost use Rattle.mongo_settings.specs.Meaning.{default_nonces};
 
 use crate::settings::kinds::Iterations;
 use crate::settings::reading::{SettingValue, optional};
 use crate::settings::{Settings, SettingsError, keys};
 use mongo_bson::Bytes;
-use mongo_establish::{Nonces, PendingConnection};
+use mongo_establish::{DEFAULT_MAX_ITERATIONS, Nonces, PendingConnection};
 use mongo_meta::ClientOptions;
 use mongo_sasl::Credential;
 use serde_json::Value;
 use std::alloc::Global;
-
-// The most iterations where settings name no number.
-const DEFAULT_ITERATIONS: u32 = 10_000_000;
 
 /// The keys of an object of settings together.
 impl SettingValue for Settings {
@@ -53,10 +51,10 @@ fn default_nonces() -> Nonces
 }
 
 fn iterations_or_default(iterations: Option<Iterations>) -> u32
-    ensures { result ≡ unwrap_or iterations default_iterations }
+    ensures { result ≡ unwrap_or iterations default_max_iterations }
 {
     match iterations {
         Some(iterations) => iterations.count(),
-        None => DEFAULT_ITERATIONS,
+        None => DEFAULT_MAX_ITERATIONS,
     }
 }
