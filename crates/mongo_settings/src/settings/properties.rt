@@ -21,14 +21,17 @@ impl SettingValue for RawDocumentBuf {
 
     fn read(alloc: Global, value: &Value) -> Result<RawDocumentBuf, SettingsError> {
         match value.as_object() {
-            Some(members) => document_of(alloc, members),
+            Some(members) => properties_document(alloc, members),
             None => Err(SettingsError::BadSettings),
         }
     }
 }
 
 // The document of an object's members, in the order of its keys.
-fn document_of(alloc: Global, members: &Map<String, Value>) -> Result<RawDocumentBuf, SettingsError>
+fn properties_document(
+    alloc: Global,
+    members: &Map<String, Value>,
+) -> Result<RawDocumentBuf, SettingsError>
     ensures { Means (λ d. d) result (document_in (members_view members.now.entries)) }
 {
     let mut document = RawDocumentBuf::new(alloc)?;

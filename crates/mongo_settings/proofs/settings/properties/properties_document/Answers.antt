@@ -3,7 +3,7 @@ use Rattle.serde_json.specs.View.{view, members_view}
 use Rattle.mongo_settings.specs.Properties.{member_elements, keyed, property_element}
 use Rattle.mongo_settings.proofs.Elements.{member_elements-step}
 use Rattle.mongo_settings.proofs.Grown.{grown, finished, refused}
-use Rattle.mongo_settings.proofs.settings.properties.document_of.Goals as goal
+use Rattle.mongo_settings.proofs.settings.properties.properties_document.Goals as goal
 
 pub loop-key-preserved : goal.loop-key-preserved
 loop-key-preserved c =

@@ -2,7 +2,7 @@ use Rattle.serde_json.specs.View.{members_view}
 use Rattle.mongo_bson.specs.Framed.{IsFramed}
 use Rattle.mongo_settings.specs.Properties.{member_elements}
 use Rattle.mongo_settings.proofs.Grown.{Grows}
-use Rattle.mongo_settings.proofs.settings.properties.document_of.Given as goal
+use Rattle.mongo_settings.proofs.settings.properties.properties_document.Given as goal
 
 abbrev pub invariant-loop-key : goal.invariant-loop-key
 invariant-loop-key l = record {
