@@ -23,8 +23,8 @@ pub record IsFresh (pool : Pool) : Type 0 where
   pub ids : pool.state.ids ≡ pos 0
 
 -- what an establishment is handed: a login of the pool's user, whose first command has the pool's next id
-abbrev pub asked_by : Pool → PendingConnection → Nonces → Asked
-asked_by pool pending nonces = asked_for pending (options_of_establisher pool.establisher) (Some pool.credential) nonces pool.state.ids
+abbrev pub asked_by_pool : Pool → PendingConnection → Nonces → Asked
+asked_by_pool pool pending nonces = asked_for pending (options_of_establisher pool.establisher) (Some pool.credential) nonces pool.state.ids
 
 -- it is the one that was asked for, of its pool's generation, and the server has said what it is
 pub record IsReady (pending : PendingConnection) (pooled : PooledConnection) : Type 0 where

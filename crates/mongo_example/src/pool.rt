@@ -41,7 +41,7 @@ impl Pool {
     ghost use Rattle.mongo_establish.specs.Plan.{establishment_plan};
     ghost use Rattle.mongo_establish.specs.Script.{HasScript};
     ghost use Rattle.mongo_establish.specs.Stopped.{StoppedIn};
-    ghost use Rattle.mongo_example.specs.Pool.{IsFresh, IsReady, KeepsPool, asked_by};
+    ghost use Rattle.mongo_example.specs.Pool.{IsFresh, IsReady, KeepsPool, asked_by_pool};
 
     /// A pool for `user` at `db.example.net`, of generation 7, that has made no connection.
     pub fn new(alloc: Global) -> Result<Pool, Error>
@@ -95,29 +95,29 @@ impl Pool {
     ) -> Result<PooledConnection, EstablishError>
         ensures ready { IfOk result (IsReady pending) }
         // What was written and read is exactly a script of the pool's user: the user has logged in.
-        ensures established { IfOk result (Established (asked_by self.old pending inputs.now.nonces)
+        ensures established { IfOk result (Established (asked_by_pool self.old pending inputs.now.nonces)
             (L.state link.old) (L.state link.new) self.new.state.ids) }
 
         // A refusal says why it comes, how far the establishment had come and what it left.
-        ensures refused { IfErr result (λ e. StoppedIn e.handshake_phase (asked_by self.old pending inputs.now.nonces) e.cause.kind
+        ensures refused { IfErr result (λ e. StoppedIn e.handshake_phase (asked_by_pool self.old pending inputs.now.nonces) e.cause.kind
             (L.state link.old) (L.state link.new) self.new.state.ids) }
 
         // A script's replies at the front of the bytes left are answered by a connection, unless the link fails or memory runs out.
-        ensures complete { (bytes : List ℕ) → (L.state link.old).left ≡ Some bytes → HasScript (asked_by self.old pending inputs.now.nonces) bytes →
+        ensures complete { (bytes : List ℕ) → (L.state link.old).left ≡ Some bytes → HasScript (asked_by_pool self.old pending inputs.now.nonces) bytes →
             (Rose (L.state link.old).read_faults (L.state link.new).read_faults → ⊥) → (Rose (L.state link.old).write_faults (L.state link.new).write_faults → ⊥) →
             IfErr result (λ e. e.cause.kind ≡ OutOfMemory) }
 
         // Bytes left that call for a refusal get just that one.
         ensures exact { (bytes taken unread : List ℕ) (outcome : Turn Greeting) (commands : List Said) → (L.state link.old).left ≡ Some bytes →
-            Leads (establishment_plan (asked_by self.old pending inputs.now.nonces)) bytes outcome commands taken unread →
+            Leads (establishment_plan (asked_by_pool self.old pending inputs.now.nonces)) bytes outcome commands taken unread →
             (Rose (L.state link.old).read_faults (L.state link.new).read_faults → ⊥) → (Rose (L.state link.old).write_faults (L.state link.new).write_faults → ⊥) →
             IfErr result (λ e. (e.cause.kind ≡ OutOfMemory) ⊎ ((outcome ≡ refuses e.cause.kind) × LeftBy commands unread
             (L.state link.old) (L.state link.new) self.old.state.ids self.new.state.ids)) }
 
         // What was derived and which keys the pool holds, by how the login came out, and by the bytes left.
-        ensures costs { EstablishmentCosts result (asked_by self.old pending inputs.now.nonces)
+        ensures costs { EstablishmentCosts result (asked_by_pool self.old pending inputs.now.nonces)
             (balance (L.state link.old) self.old.state.ids (ledgers steps.old self.old.state.salted)) (balance (L.state link.new) self.new.state.ids (ledgers steps.new self.new.state.salted)) }
-        ensures led { CostsAsLed result (asked_by self.old pending inputs.now.nonces)
+        ensures led { CostsAsLed result (asked_by_pool self.old pending inputs.now.nonces)
             (L.state link.old) (L.state link.new) (ledgers steps.old self.old.state.salted) (ledgers steps.new self.new.state.salted) }
         // A refusal leaves the keys as they were, unless a login had been accepted.
         ensures entries { IfErr result (λ e. (e.cause.kind ≡ IncompatibleServer) ⊎ SameEntries (ledgers steps.old self.old.state.salted) (ledgers steps.new self.new.state.salted)) }
