@@ -36,6 +36,7 @@ use Rattle.mongo_establish.specs.Derivation.{scram_derivation, derivation_by, lo
 use Rattle.mongo_establish.specs.Generation.{NamesService}
 use Rattle.mongo_establish.specs.Greeting.{Greeting, Greets}
 use Rattle.mongo_establish.specs.Login.{speculative_reply, scram_handed_by, InvalidRow, TakesCredential}
+use Rattle.mongo_establish.specs.Options.{default_max_iterations}
 use Rattle.mongo_establish.specs.Plan.{hello_said, hello_plan}
 use Rattle.mongo_establish.specs.Script.{Script, IsLoginBy, IsScript, HasScript}
 use Rattle.mongo_establish.specs.Speculation.{MechanismRow, HelloRow, speculative_message, speculative_nonce, answer_to}
@@ -150,7 +151,7 @@ module _ (pending : PendingConnection) (x : Exchange) (nonces : Nonces) (bytes :
   is_user : IsUser credential user
   is_user = record { username = refl; password = refl; properties = refl; source = refl }
 
-  max_iterations : handed.max_iterations ≡ 10000000
+  max_iterations : handed.max_iterations ≡ default_max_iterations
   unfolding handshaker_options
   max_iterations = refl
 

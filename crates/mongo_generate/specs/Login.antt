@@ -13,10 +13,10 @@ use Rattle.mongo_scram.specs.Key.{PasswordRow}
 use Rattle.mongo_scram.specs.Messages.{open_message}
 use Rattle.mongo_scram.specs.Validity.{least_count}
 use Rattle.mongo_establish.specs.declared.login_state.Nonces.{Nonces}
+use Rattle.mongo_establish.specs.Options.{default_max_iterations}
 use Rattle.mongo_server.specs.ClientMessages.{IsNonce}
 use Rattle.mongo_server.specs.Exchange.{Exchange, open_of}
 use Rattle.mongo_generate.specs.declared.user_login.UserLogin.{UserLogin}
-use Rattle.mongo_generate.specs.Options.{most_iterations}
 
 -- the credential of a user of the database `admin` whose mechanism is given
 abbrev pub credential_by : ScramVersion → List ℕ → List ℕ → Credential
@@ -33,7 +33,7 @@ pub record IsUserLogin (version : ScramVersion) (username password : List ℕ) (
 pub record IsPossible (x : Exchange) : Type 0 where
   pub printable : IsNonce x.nonce
   pub enough : least_count ≤ x.count
-  pub within : x.count ≤ most_iterations
+  pub within : x.count ≤ default_max_iterations
   pub usable : (kind : ErrorKind) → PasswordRow x.version x.password kind → ⊥
   pub short : length x.username + length x.salt + length x.nonce + length x.suffix ≤ 2 ^ 20
 

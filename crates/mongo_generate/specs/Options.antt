@@ -1,9 +1,9 @@
 -- The client's options.
-use Rattle.std.specs.Prelude.{ℕ, false, None, Some, [], codes}
+use Rattle.std.specs.Prelude.{false, None, Some, [], codes}
 use Rattle.mongo_meta.specs.declared.client_options.ClientOptions.{ClientOptions}
 use Rattle.mongo_meta.specs.Options.{metadata_of}
 use Rattle.mongo_establish.specs.declared.options.HandshakerOptions.{HandshakerOptions}
-use Rattle.mongo_establish.specs.Options.{options_of}
+use Rattle.mongo_establish.specs.Options.{default_max_iterations, options_of}
 
 -- it says no more of itself than it has to
 abbrev pub client_options : ClientOptions
@@ -18,9 +18,5 @@ client_options = record {
   environment = record { variables = []; dockerenv = false };
 }
 
--- the most iterations by which it derives a key
-abbrev pub most_iterations : ℕ
-most_iterations = 10000000
-
 unfoldable pub handshaker_options : HandshakerOptions
-handshaker_options = options_of (record { options = client_options; metadata = metadata_of client_options; max_iterations = most_iterations })
+handshaker_options = options_of (record { options = client_options; metadata = metadata_of client_options; max_iterations = default_max_iterations })

@@ -5,16 +5,13 @@ ghost use Rattle.mongo_generate.specs.Options.{client_options, handshaker_option
 
 use mongo_bson::{BsonFault, Text};
 use mongo_establish::{
-    ClientMetadata, ClientOptions, ConnectionEstablisher, Error, EstablisherOptions, TopologySpec,
-    want_of_memory,
+    ClientMetadata, ClientOptions, ConnectionEstablisher, DEFAULT_MAX_ITERATIONS, Error,
+    EstablisherOptions, TopologySpec, want_of_memory,
 };
 use mongo_meta::{Environment, OsMetadata, Variables};
 use std::alloc::{AllocError, Global};
 
-// The most iterations by which a login derives its key.
-const MOST_ITERATIONS: u32 = 10_000_000;
-
-/// A client that says no more of itself than it has to, and takes 10000000 iterations at most.
+/// A client that says no more of itself than it has to, and follows the default of iterations at most.
 #[derive(Debug, Drop)]
 pub struct Client {
     pub(crate) establisher: ConnectionEstablisher,
@@ -56,7 +53,7 @@ fn client_spec(alloc: Global) -> Result<TopologySpec, Error>
     Ok(TopologySpec {
         options,
         metadata,
-        max_iterations: MOST_ITERATIONS,
+        max_iterations: DEFAULT_MAX_ITERATIONS,
     })
 }
 
