@@ -4,10 +4,10 @@ ghost use Rattle.mongo_establish.specs.Options.{options_of, options_of_establish
 ghost use Rattle.mongo_example.specs.Example.{example_user, example_options, example_spec, example_handshake};
 
 use mongo_establish::{
-    ClientMetadata, ClientOptions, ConnectionEstablisher, Credential, Environment, Error,
-    EstablishError, EstablisherOptions, Link, LoginInputs, LoginState, OsMetadata,
-    PendingConnection, PoolGeneration, PooledConnection, RequestIds, SaltedCache, ServerAddress,
-    Steps, Text, TopologySpec, Variables,
+    ClientMetadata, ClientOptions, ConnectionEstablisher, Credential, DEFAULT_MAX_ITERATIONS,
+    Environment, Error, EstablishError, EstablisherOptions, Link, LoginInputs, LoginState,
+    OsMetadata, PendingConnection, PoolGeneration, PooledConnection, RequestIds, SaltedCache,
+    ServerAddress, Steps, Text, TopologySpec, Variables,
 };
 use std::alloc::Global;
 use std::sync::ledger::Ledger;
@@ -187,7 +187,7 @@ fn spec(alloc: Global) -> Result<TopologySpec, Error>
     Ok(TopologySpec {
         options,
         metadata,
-        max_iterations: 10_000_000,
+        max_iterations: DEFAULT_MAX_ITERATIONS,
     })
 }
 
