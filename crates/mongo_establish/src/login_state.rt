@@ -1,6 +1,7 @@
 use mongo_sasl::Moment;
 use mongo_scram::SaltedCache;
 use mongo_wire::RequestIds;
+use std::alloc::Global;
 
 /// What logins share, and each of them may change.
 #[derive(Drop)]
@@ -9,6 +10,23 @@ pub struct LoginState {
     pub salted: SaltedCache,
     /// The ids of the commands.
     pub ids: RequestIds,
+}
+
+impl LoginState {
+    ghost use Rattle.std.specs.Prelude.{◌≡◌, [], pos};
+    ghost use Rattle.mongo_scram.specs.Cache.{entries_of, rounds_of};
+
+    /// What logins share of which none was made. The ids begin at 0. It takes no memory.
+    pub fn new(alloc: Global) -> LoginState
+        ensures entries { entries_of result.salted ≡ [] }
+        ensures rounds { rounds_of result.salted ≡ 0 }
+        ensures ids { result.ids ≡ pos 0 }
+    {
+        LoginState {
+            salted: SaltedCache::new(alloc),
+            ids: RequestIds::new(0),
+        }
+    }
 }
 
 /// The nonces of a login: 32 random bytes each.
@@ -27,4 +45,18 @@ pub struct LoginInputs {
     pub nonces: Nonces,
     /// The time at which it begins.
     pub moment: Moment,
+}
+
+impl LoginInputs {
+    ghost use Rattle.std.specs.Prelude.{◌≡◌};
+
+    /// These nonces. The time is that of 1970: no mechanism that is spoken asks for it.
+    pub fn of_nonces(nonces: Nonces) -> LoginInputs
+        ensures { result.nonces ≡ nonces }
+    {
+        let Some(moment) = Moment::new(0) else {
+            unreachable!()
+        };
+        LoginInputs { nonces, moment }
+    }
 }

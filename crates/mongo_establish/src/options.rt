@@ -32,6 +32,28 @@ impl Drop for TopologySpec {
     }
 }
 
+impl TopologySpec {
+    ghost use Rattle.std.specs.Prelude.{◌≡◌, IfOk, IfErr};
+    ghost use Rattle.mongo_establish.specs.Options.{client_spec};
+
+    /// What a client with these options is made of, which follows so many iterations at most.
+    pub fn of_client(
+        alloc: Global,
+        options: ClientOptions,
+        max_iterations: u32,
+    ) -> Result<TopologySpec, Error>
+        ensures spec { IfOk result (λ spec. spec ≡ client_spec options max_iterations) }
+        ensures refused { IfErr result (λ e. e.kind ≡ OutOfMemory) }
+    {
+        let metadata = ClientMetadata::from_options(alloc, &options)?;
+        Ok(TopologySpec {
+            options,
+            metadata,
+            max_iterations,
+        })
+    }
+}
+
 /// What the handshakes of a client are made of.
 #[derive(Debug)]
 pub struct HandshakerOptions {
