@@ -6,9 +6,9 @@ ghost use Rattle.mongo_connect.specs.Connecting.{IsConnectionTold, IsUntold, Rep
 
 use crate::origin::Origin;
 use crate::recording::Recording;
-use mongo_establish::Link;
+use mongo_establish::{Link, LoginState};
 use mongo_mac::Steps;
-use mongo_settings::{Rehearsal, Settings, connect, new_state, prepare, report_outcome};
+use mongo_settings::{Rehearsal, Settings, connect, prepare, report_outcome};
 use std::alloc::{AllocError, Global};
 use std::marker::Brand;
 use std::sync::ledger::Ledger;
@@ -65,7 +65,7 @@ fn tell_over<L: Link, O: Origin, G: Ledger>(
     ensures steps { steps.old ≤ steps.new }
 {
     let (login, _replies) = prepare(alloc, settings)?;
-    let mut state = new_state(alloc);
+    let mut state = LoginState::new(alloc);
     let ended = connect(alloc, login, recording, &mut state, steps);
     report_outcome(alloc, recording.written(), recording.taken(), ended)
 }

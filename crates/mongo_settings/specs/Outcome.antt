@@ -3,17 +3,16 @@ use Rattle.std.specs.Prelude.{◌≡◌, ℕ, List, ◌++◌}
 use Rattle.mongo_command.specs.Conversation.{IsSaid}
 use Rattle.mongo_establish.specs.declared.options.TopologySpec.{TopologySpec}
 use Rattle.mongo_establish.specs.Asked.{Asked, asked_for}
-use Rattle.mongo_establish.specs.Options.{options_of}
+use Rattle.mongo_establish.specs.Options.{client_spec, options_of}
 use Rattle.mongo_establish.specs.Script.{Script, IsScript, IsWritten, AreRepliesTaken, HasScript}
 use Rattle.mongo_establish.specs.Stopped.{Refusal, IsRefusal}
-use Rattle.mongo_meta.specs.Options.{metadata_of}
 use Rattle.mongo_settings.specs.declared.settings.Settings.{Settings}
 use Rattle.mongo_settings.specs.declared.rehearsal.RehearsalStatus.{RehearsalStatus}
 use Rattle.mongo_settings.specs.declared.rehearsal.RehearsalStatus.TheVariants.{Accepted, Refused}
 
 -- what the establisher is made of
 abbrev pub spec_of : Settings → TopologySpec
-spec_of settings = record { options = settings.options; metadata = metadata_of settings.options; max_iterations = settings.max_iterations }
+spec_of settings = client_spec settings.options settings.max_iterations
 
 -- what settings ask for
 unfoldable pub asked_of : Settings → Asked

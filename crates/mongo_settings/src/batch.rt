@@ -6,7 +6,7 @@ ghost use Rattle.mongo_settings.specs.Batch.{IsLoginSpoken, rounds_line};
 ghost use Rattle.mongo_settings.specs.Takes.{JoinsReport};
 ghost use Rattle.mongo_settings.specs.Task.{ReportsMany, steps_of};
 
-use crate::rehearsal::{Rehearsal, RehearsalStatus, new_state, rehearse_with};
+use crate::rehearsal::{Rehearsal, RehearsalStatus, rehearse_with};
 use crate::report::line::{begin_line, end_line, push_number};
 use crate::settings::Settings;
 use mongo_establish::LoginState;
@@ -26,7 +26,7 @@ pub fn rehearse_all<G: Ledger>(
     ensures batch { IfOk result (λ rehearsal. ReportsMany logins.items (steps_of steps.old steps.new) rehearsal.status rehearsal.report.items) }
     ensures steps { steps.old ≤ steps.new }
 {
-    let mut state = new_state(alloc);
+    let mut state = LoginState::new(alloc);
     let mut batch = Rehearsal {
         status: RehearsalStatus::Accepted,
         report: Vec::new(alloc),

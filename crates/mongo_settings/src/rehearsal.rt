@@ -10,7 +10,7 @@ mod login;
 mod telling;
 
 use crate::settings::Settings;
-pub use login::{Login, connect, new_state, prepare};
+pub use login::{Login, connect, prepare};
 use mongo_establish::{LoginState, MemoryLink};
 use mongo_mac::Steps;
 use std::alloc::{AllocError, Global};
@@ -63,7 +63,7 @@ pub fn rehearse<G: Ledger>(
     ensures only { IfOk result (λ rehearsal. (text : List ℕ) → IsReport settings text → text ≡ rehearsal.report.items) }
     ensures steps { steps.old ≤ steps.new }
 {
-    let mut state = new_state(alloc);
+    let mut state = LoginState::new(alloc);
     rehearse_with(alloc, settings, &mut state, steps)
 }
 

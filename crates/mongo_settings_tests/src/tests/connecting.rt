@@ -4,8 +4,7 @@ ghost use Rattle.mongo_establish.specs.Speculation.{SpeaksFor};
 use mongo_establish::{Bytes, LoginState, MemoryLink};
 use mongo_mac::Steps;
 use mongo_settings::{
-    Login, Rehearsal, Settings, connect, new_state, prepare, report_outcome, settings_of,
-    write_report,
+    Login, Rehearsal, Settings, connect, prepare, report_outcome, settings_of, write_report,
 };
 use serde_json::Value;
 use std::alloc::{AllocError, Global};
@@ -61,7 +60,7 @@ fn connected_with<G: Ledger>(
 {
     let (login, replies) = prepare(alloc, settings)?;
     let mut link = MemoryLink::new(alloc, replies);
-    let mut state = new_state(alloc);
+    let mut state = LoginState::new(alloc);
     told_over::<G>(blank, alloc, login, &mut link, &mut state)
 }
 

@@ -9,7 +9,7 @@ use Rattle.mongo_settings.proofs.batch.rehearse_all.Goals as goal
 
 pub loop-settings-init : goal.loop-settings-init
 loop-settings-init g c =
-    let new = c.new_state-state in
+    let new = c.new-state in
     let rises : c.args.steps.now ≤ c.args.steps.now = search rules in
     record { shared = shared_none c.args.steps.now _ (ledgers c.args.steps.now new.result.salted) refl c.new.ensures.items refl new.ensures.entries new.ensures.rounds; rises = rises }
 
