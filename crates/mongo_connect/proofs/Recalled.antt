@@ -9,11 +9,11 @@ use Rattle.mongo_scram.specs.Costs.{ledgers}
 use Rattle.mongo_establish.specs.declared.establisher.PooledConnection.{PooledConnection}
 use Rattle.mongo_establish.specs.declared.establisher.EstablishError.{EstablishError}
 use Rattle.mongo_establish.specs.Asked.{Asked}
+use Rattle.mongo_establish.specs.Ending.{EndsEstablishment}
 use Rattle.mongo_establish.specs.KeyCosts.{CostsOver}
 use Rattle.mongo_establish.proofs.Establishment.{stopped_refusal}
 use Rattle.mongo_settings.specs.declared.settings.Settings.{Settings}
 use Rattle.mongo_settings.specs.declared.rehearsal.Rehearsal.{Rehearsal}
-use Rattle.mongo_settings.specs.Login.{Ended}
 use Rattle.mongo_settings.specs.Outcome.{asked_of}
 use Rattle.mongo_settings.specs.Task.{StepsTaken}
 use Rattle.mongo_settings.specs.Telling.{IsReported, Tells}
@@ -26,7 +26,7 @@ use Rattle.mongo_connect.specs.Settings.{with_replies}
 -- ---- what was recorded
 
 attempted : (settings : Settings) (steps : StepsTaken) (asked : Asked) (origin start new : State) (after : ℤ) (held held_after : SaltedCache) (result : Result PooledConnection EstablishError)
-    → start ≡ origin → asked ≡ asked_of settings → entries_of held ≡ [] → Ended asked start new after (ledgers steps.before held) (ledgers steps.after held_after) result → Attempted settings steps result origin new
+    → start ≡ origin → asked ≡ asked_of settings → entries_of held ≡ [] → EndsEstablishment asked start new after (ledgers steps.before held) (ledgers steps.after held_after) result → Attempted settings steps result origin new
 attempted settings steps asked origin start new after held held_after result begun same none ended =
     let first = ledgers steps.before held in
     let last = ledgers steps.after held_after in
@@ -35,12 +35,12 @@ attempted settings steps asked origin start new after held held_after result beg
       held = held;
       none_held = none;
       held_after = held_after;
-      ended = subst (λ s. Ended (asked_of settings) s new after first last result) begun (subst (λ a. Ended a start new after first last result) same ended);
+      ended = subst (λ s. EndsEstablishment (asked_of settings) s new after first last result) begun (subst (λ a. EndsEstablishment a start new after first last result) same ended);
     }
 
 -- an establishment that began where its recording did is told by what that holds
 pub told_over : {E : Type 0} {asked : Asked} (settings : Settings) (steps : StepsTaken) (origin start new : State) (after : ℤ) (held held_after : SaltedCache) (result : Result PooledConnection EstablishError) (written : List ℕ) (taken : ℕ) (r : Result Rehearsal E)
-    → start ≡ origin → asked ≡ asked_of settings → entries_of held ≡ [] → Ended asked start new after (ledgers steps.before held) (ledgers steps.after held_after) result
+    → start ≡ origin → asked ≡ asked_of settings → entries_of held ≡ [] → EndsEstablishment asked start new after (ledgers steps.before held) (ledgers steps.after held_after) result
     → new.written ≡ append_known origin.written written → IsTakenCount origin.left new.left taken → IfOk r (Tells written taken result) → IfOk r (IsConnectionTold settings steps origin new)
 told_over {asked = asked} settings steps origin start new after held held_after result written taken (Ok x) begun same none ended appended counted tells = record {
   ended = result;
@@ -54,7 +54,7 @@ told_over {asked = asked} settings steps origin start new after held held_after 
 told_over settings steps origin start new after held held_after result written taken (Err e) begun same none ended appended counted tells = tt
 
 pub untold_over : {A E : Type 0} {asked : Asked} (settings : Settings) (steps : StepsTaken) (origin start new : State) (after : ℤ) (held held_after : SaltedCache) (result : Result PooledConnection EstablishError) (r : Result A E)
-    → start ≡ origin → asked ≡ asked_of settings → entries_of held ≡ [] → Ended asked start new after (ledgers steps.before held) (ledgers steps.after held_after) result → OnErr r (IsUntold settings steps origin new)
+    → start ≡ origin → asked ≡ asked_of settings → entries_of held ≡ [] → EndsEstablishment asked start new after (ledgers steps.before held) (ledgers steps.after held_after) result → OnErr r (IsUntold settings steps origin new)
 untold_over settings steps origin start new after held held_after result (Ok x) begun same none ended = tt
 untold_over {asked = asked} settings steps origin start new after held held_after result (Err e) begun same none ended = inr (result, attempted settings steps asked origin start new after held held_after result begun same none ended)
 
@@ -68,10 +68,10 @@ same_asked settings bytes = refl
 left_over : (settings : Settings) (bytes : List ℕ) (steps : StepsTaken) (old new : State) (ended : Result PooledConnection EstablishError) (written : List ℕ) (taken : ℕ) (x : Rehearsal)
     → Attempted settings steps ended old new → TellsBytes old bytes → Faultless old new → Tells written taken ended x → (left : List ℕ) × (new.left ≡ Some left)
 left_over settings bytes steps old new (Ok pooled) written taken x a t f tells =
-    let rest = a.ended.made.scripted.taken bytes t.left in
+    let rest = a.ended.established.scripted.taken bytes t.left in
     (rest.rest, rest.left_is)
 left_over settings bytes steps old new (Err refusal) written taken x a t f tells =
-    elim (stopped_refusal refusal.handshake_phase (asked_of settings) refusal.cause.kind old new a.after bytes a.ended.stopped t.left f.reads f.writes) [
+    elim (stopped_refusal refusal.handshake_phase (asked_of settings) refusal.cause.kind old new a.after bytes a.ended.refused t.left f.reads f.writes) [
       | inl memory ↦ absurd (subst IsReported memory tells.reported)
       | inr r ↦ (r.refusal.unread, r.left_by.left)
     ]
@@ -91,7 +91,7 @@ rehearses settings bytes steps old new x told t f =
       unfailed = f.reads;
       unwritten = f.writes;
     } in
-    let replays = rehearsed {E = ℕ} (with_replies settings bytes) (asked_of settings) old new told.attempted.after told.written left told.taken told.ended (Ok x) (same_asked settings bytes) told.attempted.ended.made told.attempted.ended.stopped replayed count told.tells in
+    let replays = rehearsed {E = ℕ} (with_replies settings bytes) (asked_of settings) old new told.attempted.after told.written left told.taken told.ended (Ok x) (same_asked settings bytes) told.attempted.ended.established told.attempted.ended.refused replayed count told.tells in
     let first = ledgers steps.before told.attempted.held in
     let last = ledgers steps.after told.attempted.held_after in
     let over = subst (λ asked. CostsOver told.ended asked bytes first last) (same_asked settings bytes) (told.attempted.ended.led.over bytes t.left f.reads f.writes) in

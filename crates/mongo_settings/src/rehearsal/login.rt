@@ -2,9 +2,10 @@
 ghost use Rattle.std.specs.Prelude.{◌≡◌, ◌≤◌, IfOk, IfErr};
 ghost use Rattle.mongo_wire.specs.declared.error.ErrorKind.TheVariants.{OutOfMemory};
 ghost use Rattle.mongo_scram.specs.Costs.{ledgers};
+ghost use Rattle.mongo_establish.specs.Ending.{EndsEstablishment};
 ghost use Rattle.mongo_establish.specs.Options.{client_spec, options_of, options_of_establisher};
 ghost use Rattle.mongo_establish.specs.Speculation.{SpeaksFor};
-ghost use Rattle.mongo_settings.specs.Login.{asked_by, AsksForSettings, Ended};
+ghost use Rattle.mongo_settings.specs.Login.{asked_by, AsksForSettings};
 
 use crate::settings::Settings;
 use mongo_bson::Bytes;
@@ -81,8 +82,8 @@ pub fn connect<L: Link, G: Ledger>(
     steps: &mut Steps<G>,
 ) -> Result<PooledConnection, EstablishError>
     requires spoken { SpeaksFor login.credential }
-    // What `establish_connection` promises: of the connection or the refusal, of the ids, of the counter and of the cache.
-    ensures ended { Ended (asked_by login) (L.state link.old) (L.state link.new) state.new.ids (ledgers steps.old state.old.salted) (ledgers steps.new state.new.salted) result }
+    // All that `establish_connection` promises, of what the login asks for.
+    ensures ended { EndsEstablishment (asked_by login) (L.state link.old) (L.state link.new) state.new.ids (ledgers steps.old state.old.salted) (ledgers steps.new state.new.salted) result }
     ensures steps { steps.old ≤ steps.new }
 {
     let Login {
