@@ -3,11 +3,10 @@ use Rattle.std.specs.Prelude.{false, None, Some, [], codes}
 use Rattle.mongo_command.specs.declared.server_address.ServerAddress.{ServerAddress}
 use Rattle.mongo_command.specs.declared.server_address.ServerAddress.TheVariants.{Tcp}
 use Rattle.mongo_meta.specs.declared.client_options.ClientOptions.{ClientOptions}
-use Rattle.mongo_meta.specs.Options.{metadata_of}
 use Rattle.mongo_sasl.specs.declared.credential.Credential.{Credential}
 use Rattle.mongo_establish.specs.declared.options.HandshakerOptions.{HandshakerOptions}
 use Rattle.mongo_establish.specs.declared.options.TopologySpec.{TopologySpec}
-use Rattle.mongo_establish.specs.Options.{default_max_iterations, options_of}
+use Rattle.mongo_establish.specs.Options.{default_max_iterations, client_spec, options_of}
 
 -- the port is the default
 abbrev pub example_server : ServerAddress
@@ -32,7 +31,7 @@ example_options = record {
 
 -- what the client is made of
 abbrev pub example_spec : TopologySpec
-example_spec = record { options = example_options; metadata = metadata_of example_options; max_iterations = default_max_iterations }
+example_spec = client_spec example_options default_max_iterations
 
 -- what its handshakes are made of
 abbrev pub example_handshake : HandshakerOptions

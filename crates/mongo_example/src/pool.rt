@@ -1,13 +1,12 @@
 ghost use Rattle.std.specs.Prelude.{◌≡◌, None, IfOk, IfErr};
 ghost use Rattle.mongo_wire.specs.declared.error.ErrorKind.TheVariants.{OutOfMemory};
-ghost use Rattle.mongo_establish.specs.Options.{options_of, options_of_establisher};
+ghost use Rattle.mongo_establish.specs.Options.{options_of_establisher};
 ghost use Rattle.mongo_example.specs.Example.{example_user, example_options, example_spec, example_handshake};
 
 use mongo_establish::{
-    ClientMetadata, ClientOptions, ConnectionEstablisher, Credential, DEFAULT_MAX_ITERATIONS,
-    Environment, Error, EstablishError, EstablisherOptions, Link, LoginInputs, LoginState,
-    OsMetadata, PendingConnection, PoolGeneration, PooledConnection, RequestIds, SaltedCache,
-    ServerAddress, Steps, Text, TopologySpec, Variables,
+    ClientOptions, ConnectionEstablisher, Credential, DEFAULT_MAX_ITERATIONS, Environment, Error,
+    EstablishError, Link, LoginInputs, LoginState, OsMetadata, PendingConnection, PoolGeneration,
+    PooledConnection, ServerAddress, Steps, Text, TopologySpec, Variables,
 };
 use std::alloc::Global;
 use std::sync::ledger::Ledger;
@@ -26,21 +25,12 @@ pub struct Pool {
 }
 
 impl Pool {
-    ghost use Rattle.std.specs.Prelude.{◌≡◌, ◌⊎◌, ◌+◌, ◌-◌, ◌^◌, ◌≤◌, min, List, ℕ, Some, IfOk, IfErr, OnOk, OnErr};
-    ghost use Rattle.mongo_wire.specs.declared.error.ErrorKind.TheVariants.{IncompatibleServer, OutOfMemory};
-    ghost use Rattle.mongo_wire.specs.Outside.{Rose};
-    ghost use Rattle.mongo_command.specs.Conversation.{Said, Turn, refuses, Leads, LeftBy};
-    ghost use Rattle.mongo_command.specs.Exchange.{CountsStay};
+    ghost use Rattle.std.specs.Prelude.{◌≡◌, ◌+◌, ◌-◌, ◌^◌, ◌≤◌, min, IfOk, IfErr, OnOk, OnErr};
+    ghost use Rattle.mongo_wire.specs.declared.error.ErrorKind.TheVariants.{OutOfMemory};
     ghost use Rattle.mongo_scram.specs.Cache.{rounds_of};
-    ghost use Rattle.mongo_scram.specs.Costs.{ledgers, balance, SameEntries};
+    ghost use Rattle.mongo_scram.specs.Costs.{ledgers};
     ghost use Rattle.mongo_establish.specs.declared.generation.PoolGeneration.TheVariants.{Normal};
-    ghost use Rattle.mongo_establish.specs.Costs.{EstablishmentCosts};
-    ghost use Rattle.mongo_establish.specs.Established.{Established};
-    ghost use Rattle.mongo_establish.specs.Greeting.{Greeting};
-    ghost use Rattle.mongo_establish.specs.KeyCosts.{CostsAsLed};
-    ghost use Rattle.mongo_establish.specs.Plan.{establishment_plan};
-    ghost use Rattle.mongo_establish.specs.Script.{HasScript};
-    ghost use Rattle.mongo_establish.specs.Stopped.{StoppedIn};
+    ghost use Rattle.mongo_establish.specs.Ending.{EndsEstablishment};
     ghost use Rattle.mongo_example.specs.Pool.{IsFresh, IsReady, KeepsPool, asked_by_pool};
 
     /// A pool for `user` at `db.example.net`, of generation 7, that has made no connection.
@@ -55,10 +45,7 @@ impl Pool {
             establisher,
             address: ServerAddress::Tcp { host, port: None },
             credential,
-            state: LoginState {
-                salted: SaltedCache::new(alloc),
-                ids: RequestIds::new(0),
-            },
+            state: LoginState::new(alloc),
             generation: 7,
             next_id: 1,
         })
@@ -94,34 +81,9 @@ impl Pool {
         steps: &mut Steps<G>,
     ) -> Result<PooledConnection, EstablishError>
         ensures ready { IfOk result (IsReady pending) }
-        // What was written and read is exactly a script of the pool's user: the user has logged in.
-        ensures established { IfOk result (Established (asked_by_pool self.old pending inputs.now.nonces)
-            (L.state link.old) (L.state link.new) self.new.state.ids) }
-
-        // A refusal says why it comes, how far the establishment had come and what it left.
-        ensures refused { IfErr result (λ e. StoppedIn e.handshake_phase (asked_by_pool self.old pending inputs.now.nonces) e.cause.kind
-            (L.state link.old) (L.state link.new) self.new.state.ids) }
-
-        // A script's replies at the front of the bytes left are answered by a connection, unless the link fails or memory runs out.
-        ensures complete { (bytes : List ℕ) → (L.state link.old).left ≡ Some bytes → HasScript (asked_by_pool self.old pending inputs.now.nonces) bytes →
-            (Rose (L.state link.old).read_faults (L.state link.new).read_faults → ⊥) → (Rose (L.state link.old).write_faults (L.state link.new).write_faults → ⊥) →
-            IfErr result (λ e. e.cause.kind ≡ OutOfMemory) }
-
-        // Bytes left that call for a refusal get just that one.
-        ensures exact { (bytes taken unread : List ℕ) (outcome : Turn Greeting) (commands : List Said) → (L.state link.old).left ≡ Some bytes →
-            Leads (establishment_plan (asked_by_pool self.old pending inputs.now.nonces)) bytes outcome commands taken unread →
-            (Rose (L.state link.old).read_faults (L.state link.new).read_faults → ⊥) → (Rose (L.state link.old).write_faults (L.state link.new).write_faults → ⊥) →
-            IfErr result (λ e. (e.cause.kind ≡ OutOfMemory) ⊎ ((outcome ≡ refuses e.cause.kind) × LeftBy commands unread
-            (L.state link.old) (L.state link.new) self.old.state.ids self.new.state.ids)) }
-
-        // What was derived and which keys the pool holds, by how the login came out, and by the bytes left.
-        ensures costs { EstablishmentCosts result (asked_by_pool self.old pending inputs.now.nonces)
-            (balance (L.state link.old) self.old.state.ids (ledgers steps.old self.old.state.salted)) (balance (L.state link.new) self.new.state.ids (ledgers steps.new self.new.state.salted)) }
-        ensures led { CostsAsLed result (asked_by_pool self.old pending inputs.now.nonces)
-            (L.state link.old) (L.state link.new) (ledgers steps.old self.old.state.salted) (ledgers steps.new self.new.state.salted) }
-        // A refusal leaves the keys as they were, unless a login had been accepted.
-        ensures entries { IfErr result (λ e. (e.cause.kind ≡ IncompatibleServer) ⊎ SameEntries (ledgers steps.old self.old.state.salted) (ledgers steps.new self.new.state.salted)) }
-        ensures counts { CountsStay (L.state link.old) (L.state link.new) }
+        // All that `establish_connection` promises: of the connection or the refusal, of the link, of the counter and of the keys.
+        ensures ended { EndsEstablishment (asked_by_pool self.old pending inputs.now.nonces) (L.state link.old) (L.state link.new) self.new.state.ids
+            (ledgers steps.old self.old.state.salted) (ledgers steps.new self.new.state.salted) result }
         // The pool's rounds don't fall.
         ensures rounds { rounds_of self.old.state.salted ≤ rounds_of self.new.state.salted }
 
@@ -167,14 +129,7 @@ fn establisher(alloc: Global) -> Result<ConnectionEstablisher, Error>
     ensures refused { IfErr result (λ e. e.kind ≡ OutOfMemory) }
 {
     let spec = spec(alloc)?;
-    establisher_of(alloc, &spec)
-}
-
-fn establisher_of(alloc: Global, spec: &TopologySpec) -> Result<ConnectionEstablisher, Error>
-    ensures options { IfOk result (λ establisher. options_of_establisher establisher ≡ options_of spec.now) }
-    ensures refused { IfErr result (λ e. e.kind ≡ OutOfMemory) }
-{
-    ConnectionEstablisher::new(alloc, EstablisherOptions::from_spec(alloc, spec)?)
+    ConnectionEstablisher::from_spec(alloc, &spec)
 }
 
 // What the client is made of.
@@ -183,12 +138,7 @@ fn spec(alloc: Global) -> Result<TopologySpec, Error>
     ensures refused { IfErr result (λ e. e.kind ≡ OutOfMemory) }
 {
     let options = options(alloc)?;
-    let metadata = ClientMetadata::from_options(alloc, &options)?;
-    Ok(TopologySpec {
-        options,
-        metadata,
-        max_iterations: DEFAULT_MAX_ITERATIONS,
-    })
+    TopologySpec::of_client(alloc, options, DEFAULT_MAX_ITERATIONS)
 }
 
 // What the client says of itself.

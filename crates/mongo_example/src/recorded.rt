@@ -1,4 +1,4 @@
-use mongo_establish::{LoginInputs, Moment, Nonces};
+use mongo_establish::{LoginInputs, Nonces};
 
 /// What a server answered to one connection, and what was drawn for that.
 #[derive(Clone, Copy)]
@@ -19,18 +19,13 @@ pub fn recording_at(place: u8) -> Recorded {
 
 // The replies to a login whose nonces are 32 times this byte, and 32 times the byte after it.
 fn recording_of(replies: &'static [u8], byte: u8) -> Recorded {
-    let Some(moment) = Moment::new(0) else {
-        unreachable!()
+    let nonces = Nonces {
+        first: [byte; 32],
+        second: [byte | 1; 32],
     };
     Recorded {
         replies,
-        inputs: LoginInputs {
-            nonces: Nonces {
-                first: [byte; 32],
-                second: [byte | 1; 32],
-            },
-            moment,
-        },
+        inputs: LoginInputs::of_nonces(nonces),
     }
 }
 
