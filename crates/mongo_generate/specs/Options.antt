@@ -1,9 +1,8 @@
 -- The client's options.
 use Rattle.std.specs.Prelude.{false, None, Some, [], codes}
 use Rattle.mongo_meta.specs.declared.client_options.ClientOptions.{ClientOptions}
-use Rattle.mongo_meta.specs.Options.{metadata_of}
 use Rattle.mongo_establish.specs.declared.options.HandshakerOptions.{HandshakerOptions}
-use Rattle.mongo_establish.specs.Options.{default_max_iterations, options_of}
+use Rattle.mongo_establish.specs.Options.{default_max_iterations, client_spec, options_of}
 
 -- it says no more of itself than it has to
 abbrev pub client_options : ClientOptions
@@ -19,4 +18,4 @@ client_options = record {
 }
 
 unfoldable pub handshaker_options : HandshakerOptions
-handshaker_options = options_of (record { options = client_options; metadata = metadata_of client_options; max_iterations = default_max_iterations })
+handshaker_options = options_of (client_spec client_options default_max_iterations)

@@ -8,7 +8,7 @@ ghost use Rattle.mongo_generate.specs.Generated.{exchange_at, last_messages, IsG
 ghost use Rattle.mongo_generate.specs.Login.{key_of};
 
 use crate::{Acceptance, Client, UserLogin, generated_server};
-use mongo_establish::{LoginState, RequestIds, SaltedCache};
+use mongo_establish::LoginState;
 use mongo_mac::Steps;
 use sha2::{Digest, Sha256};
 use std::alloc::{AllocError, Global};
@@ -41,10 +41,7 @@ pub fn generate<G: Ledger>(
     ensures steps { steps.old ≤ steps.new }
 {
     let client = Client::new(alloc)?;
-    let mut state = LoginState {
-        salted: SaltedCache::new(alloc),
-        ids: RequestIds::new(0),
-    };
+    let mut state = LoginState::new(alloc);
     let mut accepted = 0;
     let mut hasher = Sha256::new();
     for number in 0..count {

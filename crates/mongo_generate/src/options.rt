@@ -5,8 +5,8 @@ ghost use Rattle.mongo_generate.specs.Options.{client_options, handshaker_option
 
 use mongo_bson::{BsonFault, Text};
 use mongo_establish::{
-    ClientMetadata, ClientOptions, ConnectionEstablisher, DEFAULT_MAX_ITERATIONS, Error,
-    EstablisherOptions, TopologySpec, want_of_memory,
+    ClientOptions, ConnectionEstablisher, DEFAULT_MAX_ITERATIONS, Error, TopologySpec,
+    want_of_memory,
 };
 use mongo_meta::{Environment, OsMetadata, Variables};
 use std::alloc::{AllocError, Global};
@@ -32,29 +32,16 @@ fn establisher(alloc: Global) -> Result<ConnectionEstablisher, Error>
     ensures options { IfOk result (λ establisher. options_of_establisher establisher ≡ handshaker_options) }
     ensures refused { IfErr result (λ e. e.kind ≡ OutOfMemory) }
 {
-    let spec = client_spec(alloc)?;
-    establisher_of(alloc, &spec)
+    let spec = spec(alloc)?;
+    ConnectionEstablisher::from_spec(alloc, &spec)
 }
 
-fn establisher_of(alloc: Global, spec: &TopologySpec) -> Result<ConnectionEstablisher, Error>
-    ensures options { IfOk result (λ establisher. options_of_establisher establisher ≡ options_of spec.now) }
-    ensures refused { IfErr result (λ e. e.kind ≡ OutOfMemory) }
-{
-    ConnectionEstablisher::new(alloc, EstablisherOptions::from_spec(alloc, spec)?)
-}
-
-#[tactic(auto, unfolding(crate::specs::Options::handshaker_options))]
-fn client_spec(alloc: Global) -> Result<TopologySpec, Error>
+fn spec(alloc: Global) -> Result<TopologySpec, Error>
     ensures options { IfOk result (λ spec. options_of spec ≡ handshaker_options) }
     ensures refused { IfErr result (λ e. e.kind ≡ OutOfMemory) }
 {
     let options = client_options(alloc)?;
-    let metadata = ClientMetadata::from_options(alloc, &options)?;
-    Ok(TopologySpec {
-        options,
-        metadata,
-        max_iterations: DEFAULT_MAX_ITERATIONS,
-    })
+    TopologySpec::of_client(alloc, options, DEFAULT_MAX_ITERATIONS)
 }
 
 // What the client says of itself.

@@ -2,7 +2,7 @@ ghost use Rattle.std.specs.Prelude.{◌≡◌, IsTrue};
 ghost use Rattle.mongo_scram.specs.Commands.{is_scram};
 
 use mongo_bson::Text;
-use mongo_establish::{Credential, Error, LoginInputs, Moment, Nonces, ScramVersion};
+use mongo_establish::{Credential, Error, LoginInputs, Nonces, ScramVersion};
 use mongo_scram::ClientFirst;
 use std::alloc::Global;
 
@@ -67,18 +67,8 @@ impl UserLogin {
             .mechanism(Some(version.mechanism()));
         UserLogin {
             credential,
-            inputs: inputs_of(nonces),
+            inputs: LoginInputs::of_nonces(nonces),
             client_first,
         }
     }
-}
-
-// What is drawn for the login: its nonces. SCRAM doesn't ask for the time.
-fn inputs_of(nonces: Nonces) -> LoginInputs
-    ensures { result.nonces ≡ nonces }
-{
-    let Some(moment) = Moment::new(0) else {
-        unreachable!()
-    };
-    LoginInputs { nonces, moment }
 }

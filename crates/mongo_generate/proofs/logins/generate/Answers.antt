@@ -7,7 +7,7 @@ use Rattle.mongo_generate.proofs.logins.generate.Goals as goal
 pub loop-number-init : goal.loop-number-init
 loop-number-init g c =
     let steps = c.args.steps.now in
-    record { so_far = so_far_none steps 0 c.new-hasher.result (ledgers steps c.new-2.result) refl c.new-hasher.ensures c.new-2.ensures.entries c.new-2.ensures.rounds refl; rises = omega arith }
+    record { so_far = so_far_none steps 0 c.new-hasher.result (ledgers steps c.new-state.result.salted) refl c.new-hasher.ensures c.new-state.ensures.entries c.new-state.ensures.rounds refl; rises = omega arith }
 
 pub loop-number-preserved : goal.loop-number-preserved
 loop-number-preserved g c =
