@@ -2,7 +2,7 @@ ghost use Rattle.std.specs.Prelude.{◌≡◌};
 ghost use Rattle.mongo_bench.specs.Login.{number_of_hash};
 
 use crate::task::Hash;
-use mongo_establish::{LoginState, RequestIds, SaltedCache};
+use mongo_establish::LoginState;
 use mongo_generate::{Client, UserLogin, generated_server};
 use mongo_mac::Steps;
 use mongo_server::ServerCore;
@@ -55,10 +55,7 @@ impl Peers {
         let client = Client::new(alloc)?;
         let login = UserLogin::generated(alloc, number)?;
         let server = generated_server(alloc, number, steps)?;
-        let state = LoginState {
-            salted: SaltedCache::new(alloc),
-            ids: RequestIds::new(0),
-        };
+        let state = LoginState::new(alloc);
         Ok(Peers {
             hash,
             client,
