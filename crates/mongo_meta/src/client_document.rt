@@ -6,8 +6,9 @@ ghost use Rattle.mongo_meta.specs.Client.{fits, fitting, in_form};
 
 use crate::ClientMetadata;
 use crate::form::Form;
+use crate::text_fields::owned_text_field;
 use mongo_bson::{BsonFault, RawDocumentBuf, Text};
-use mongo_command::{document_field, document_of, optional_document_field, text_field};
+use mongo_command::{document_field, document_of, optional_document_field};
 use mongo_wire::Error;
 use std::alloc::Global;
 
@@ -143,7 +144,7 @@ fn joined<'a>(
             optional_document_field("application", application),
             document_field("driver", driver),
             document_field("os", os),
-            text_field("platform", platform.as_str()),
+            owned_text_field("platform", platform),
             optional_document_field("env", env),
         ],
     )

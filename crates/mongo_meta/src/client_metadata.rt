@@ -3,9 +3,10 @@ ghost use Rattle.mongo_command.specs.Arguments.{TooLongFor};
 ghost use Rattle.mongo_meta.specs.Options.{with_part, bar};
 
 use crate::driver_info::holds;
+use crate::text_fields::owned_text_field;
 use crate::{ClientOptions, DriverInfo, DriverInfos, OsMetadata, RuntimeEnvironment};
 use mongo_bson::{BsonFault, RawDocumentBuf, Text, copy_of};
-use mongo_command::{document_of, text_field};
+use mongo_command::document_of;
 use mongo_wire::Error;
 use std::alloc::Global;
 
@@ -34,7 +35,7 @@ impl AppMetadata {
         ensures document { IfOk result (λ document. document ≡ application_document self.now) }
         ensures refused { IfErr result (λ fault. TooLongFor fault (application_document self.now)) }
     {
-        document_of(alloc, &[text_field("name", self.name.as_str())])
+        document_of(alloc, &[owned_text_field("name", &self.name)])
     }
 }
 
@@ -91,8 +92,8 @@ impl DriverMetadata {
         document_of(
             alloc,
             &[
-                text_field("name", self.name.as_str()),
-                text_field("version", self.version.as_str()),
+                owned_text_field("name", &self.name),
+                owned_text_field("version", &self.version),
             ],
         )
     }

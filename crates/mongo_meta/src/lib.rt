@@ -22,6 +22,7 @@ mod faas;
 mod form;
 mod os_metadata;
 mod runtime_environment;
+mod text_fields;
 
 pub use client_metadata::{AppMetadata, ClientMetadata, DriverMetadata};
 pub use client_options::ClientOptions;

@@ -1,8 +1,9 @@
 ghost use Rattle.std.specs.Prelude.{◌≡◌, IfOk, IfErr};
 ghost use Rattle.mongo_command.specs.Arguments.{TooLongFor};
 
+use crate::text_fields::owned_text_field;
 use mongo_bson::{BsonFault, RawDocumentBuf, Text, copy_of};
-use mongo_command::{document_of, optional_text_field, text_field};
+use mongo_command::{document_of, optional_text_field};
 use std::alloc::Global;
 
 /// The operating system that the client runs on.
@@ -59,7 +60,7 @@ impl OsMetadata {
         document_of(
             alloc,
             &[
-                text_field("type", self.os_type.as_str()),
+                owned_text_field("type", &self.os_type),
                 optional_text_field("name", &self.name),
                 optional_text_field("architecture", &self.architecture),
                 optional_text_field("version", &self.version),
@@ -72,6 +73,6 @@ impl OsMetadata {
         ensures document { IfOk result (λ document. document ≡ os_document (type_alone self.now)) }
         ensures refused { IfErr result (λ fault. TooLongFor fault (os_document (type_alone self.now))) }
     {
-        document_of(alloc, &[text_field("type", self.os_type.as_str())])
+        document_of(alloc, &[owned_text_field("type", &self.os_type)])
     }
 }
