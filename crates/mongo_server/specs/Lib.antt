@@ -1,4 +1,5 @@
 pub mod Acceptance
+pub mod Announced
 pub mod ClientMessages
 pub mod Exchange
 pub mod Parsed
