@@ -22,7 +22,8 @@ use Rattle.mongo_service.specs.declared.fault.ServeFault.{ServeFault}
 use Rattle.mongo_service.specs.declared.fault.ServeFault.TheVariants.{ReadFault, WriteFault, CutFrame, NoFrame, NoHello, ReplyTooLong, TooManyRequests, OutOfMemory}
 use Rattle.mongo_service.specs.Cut.{HasCause, IsNoRequest, IsPart, TookSome}
 use Rattle.mongo_service.specs.Faults.{fault_of_bson, fault_of_frame, IsOfBuilding}
-use Rattle.mongo_session.specs.Replies.{message_maximum, TooLongFor}
+use Rattle.mongo_server.specs.Announced.{maximum_message_length}
+use Rattle.mongo_session.specs.Replies.{TooLongFor}
 use Rattle.mongo_service.specs.Sent.{WriteCause}
 use Rattle.mongo_session.specs.Requests.{IsGreeting}
 use Rattle.mongo_service.specs.Served.{HasCauseAfter, Lasts}
@@ -127,21 +128,21 @@ message_taken xs taken None message whole p = absurd p
 message_taken xs taken (Some ys) message whole p = sym (signed_in 12 taken ys (omega arith)) ∙ ap (signed_at 12) (sym p) ∙ message
 
 -- the bytes of an OP_MSG call for a row; where none are told, any do that begin no request
-row_refused : (kind : ErrorKind) (old mid new : State) (left : Option (List ℕ)) → mid.left ≡ left → (kind ≡ EndOfInput → ⊥) → IfSome mid.left IsOfMessage → TakesRow kind message_maximum mid.left new.left → Refused NoFrame old mid new
+row_refused : (kind : ErrorKind) (old mid new : State) (left : Option (List ℕ)) → mid.left ≡ left → (kind ≡ EndOfInput → ⊥) → IfSome mid.left IsOfMessage → TakesRow kind maximum_message_length mid.left new.left → Refused NoFrame old mid new
 row_refused kind old mid new None is other message row =
     record { taken = untold; part = inl (inl (omega arith)); consumed = subst (λ left. Consumes left new.left untold) (sym is) tt; cause = (refl, omega arith, untold_begins_none) }
 row_refused kind old mid new (Some xs) is other message row =
     let taken = row.0 in
-    let whole = row_whole message_maximum taken kind other row.2 in
+    let whole = row_whole maximum_message_length taken kind other row.2 in
     let code = message_taken xs taken new.left (subst (λ left. IfSome left IsOfMessage) is message) whole (subst (λ left. Consumes left new.left taken) is row.1) in
-    record { taken = taken; part = inl (row_started message_maximum taken kind row.2); consumed = row.1; cause = (refl, whole, no_message taken kind whole code other row.2) }
+    record { taken = taken; part = inl (row_started maximum_message_length taken kind row.2); consumed = row.1; cause = (refl, whole, no_message taken kind whole code other row.2) }
 
-pub refused : (fault : FrameFault) (old mid new : State) → Lasts old mid → mid.left ≡ old.left → IfSome old.left (λ bytes. 0 < length bytes) → IfSome old.left IsOfMessage → ReadRefused (kind_of_frame_fault fault) message_maximum mid new
+pub refused : (fault : FrameFault) (old mid new : State) → Lasts old mid → mid.left ≡ old.left → IfSome old.left (λ bytes. 0 < length bytes) → IfSome old.left IsOfMessage → ReadRefused (kind_of_frame_fault fault) maximum_message_length mid new
     → Refused (fault_of_frame fault) old mid new
 refused frame.ReadFault old mid new lasts same some message h =
-    record { taken = h.1.0; part = inl (started message_maximum h.1.0 h.1.2); consumed = h.1.1; cause = (rose_after old.read_faults mid.read_faults new.read_faults lasts.reads h.0, refl, unfinished message_maximum h.1.0 h.1.2) }
+    record { taken = h.1.0; part = inl (started maximum_message_length h.1.0 h.1.2); consumed = h.1.1; cause = (rose_after old.read_faults mid.read_faults new.read_faults lasts.reads h.0, refl, unfinished maximum_message_length h.1.0 h.1.2) }
 refused frame.EndOfInput old mid new lasts same some message h =
-    record { taken = h.1.0; part = inl (row_started message_maximum h.1.0 EndOfInput h.1.2); consumed = h.1.1; cause = (rose_after old.ends mid.ends new.ends lasts.ends h.0, h.2, refl, emptied_some old.left mid.left new.left h.1.0 same some h.1.1 h.2, ended_within message_maximum h.1.0 h.1.2) }
+    record { taken = h.1.0; part = inl (row_started maximum_message_length h.1.0 EndOfInput h.1.2); consumed = h.1.1; cause = (rose_after old.ends mid.ends new.ends lasts.ends h.0, h.2, refl, emptied_some old.left mid.left new.left h.1.0 same some h.1.1 h.2, ended_within maximum_message_length h.1.0 h.1.2) }
 refused frame.OutOfMemory old mid new lasts same some message h = record { taken = h.0; part = inl h.2; consumed = h.1; cause = tt }
 refused (frame.InvalidArgument f) old mid new lasts same some message h = row_refused (InvalidArgument f) old mid new mid.left refl (λ e. cc) (subst (λ left. IfSome left IsOfMessage) (sym same) message) h
 refused (frame.InvalidResponse f) old mid new lasts same some message h = row_refused (InvalidResponse f) old mid new mid.left refl (λ e. cc) (subst (λ left. IfSome left IsOfMessage) (sym same) message) h
@@ -151,7 +152,7 @@ refused (frame.InvalidResponse f) old mid new lasts same some message h = row_re
 pub header_part : (head : List ℕ) → length head ≤ 16 → IsPart head
 header_part head short = inl (inl short)
 
-pub query_front : (head rest : List ℕ) (wanted : ℕ) → length head ≡ 16 → signed_at 12 head ≡ code_number Query → pos (16 + wanted) ≡ signed_at 0 head → pos (16 + wanted) ≤ℤ message_maximum → length rest ≤ wanted → IsPart (head ++ rest)
+pub query_front : (head rest : List ℕ) (wanted : ℕ) → length head ≡ 16 → signed_at 12 head ≡ code_number Query → pos (16 + wanted) ≡ signed_at 0 head → pos (16 + wanted) ≤ℤ maximum_message_length → length rest ≤ wanted → IsPart (head ++ rest)
 query_front head rest wanted sixteen code counted within short =
     inr (inl (record {
       head = head;
@@ -160,7 +161,7 @@ query_front head rest wanted sixteen code counted within short =
       sixteen = sixteen;
       code = code;
       front = subst (λ z. pos (length (head ++ rest)) ≤ℤ z) counted (omega (arith, ints, length-append head rest, sixteen, short));
-      within = subst (λ z. z ≤ℤ message_maximum) counted within;
+      within = subst (λ z. z ≤ℤ maximum_message_length) counted within;
     }))
 
 -- ---- a write was refused

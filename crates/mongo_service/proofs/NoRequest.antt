@@ -1,5 +1,5 @@
 -- Bytes that begin no request, and a request's op code and length.
-use Rattle.std.proofs.Common.{◌≡◌, ℕ, ℤ, pos, ◌+◌, ◌<◌, ◌≤◌, ◌<ℤ◌, ◌⊎◌, Bool, true, false, None, Some, List, [], ◌∷◌, ◌++◌, length, codes, inl, inr, refl, sym, ap, ◌∙◌, subst, arith, append-nil, append_assoc, length-append}
+use Rattle.std.proofs.Common.{◌≡◌, ℕ, ℤ, pos, ◌+◌, ◌<◌, ◌≤◌, ◌<ℤ◌, ◌⊎◌, Bool, true, false, None, Some, List, [], ◌∷◌, ◌++◌, length, inl, inr, refl, sym, ap, ◌∙◌, subst, arith, append-nil, append_assoc, length-append}
 use Rattle.std.proofs.lemmas.Bool.Decides.{Decides-int_eq}
 use Rattle.std.proofs.lemmas.Int.{ints}
 use Rattle.std.specs.Ordering.{int_eq}
@@ -13,8 +13,8 @@ use Rattle.mongo_wire.specs.declared.op_code.OpCode.{OpCode}
 use Rattle.mongo_wire.specs.declared.op_code.OpCode.TheVariants.{Compressed, Message, Query, Reply}
 use Rattle.mongo_wire.proofs.OneFrame.{frame_code, frame_size, least_frame, row_no_frame, same_front, signed_in}
 use Rattle.mongo_service.specs.Cut.{BeginsNoRequest, IsNoRequest}
-use Rattle.mongo_session.specs.Replies.{message_maximum}
-use Rattle.mongo_service.specs.Taken.{IsQuery, IsQueryBody}
+use Rattle.mongo_server.specs.Announced.{maximum_message_length}
+use Rattle.mongo_service.specs.Taken.{command_collection, IsQuery, IsQueryBody}
 
 -- ---- the header of an OP_QUERY
 
@@ -63,7 +63,7 @@ other_code taken whole no_message no_query frame rest document e within (inl (pa
 other_code taken whole no_message no_query frame rest document e within (inr q) = no_query (sym (begun 12 taken rest frame (omega arith) e) ∙ query_code frame document q)
 
 -- an OP_QUERY's header whose length isn't 16 to the maximum
-pub bad_length : (head : List ℕ) → length head ≡ 16 → signed_at 12 head ≡ code_number Query → (signed_at 0 head <ℤ pos 16) ⊎ (message_maximum <ℤ signed_at 0 head) → BeginsNoRequest head
+pub bad_length : (head : List ℕ) → length head ≡ 16 → signed_at 12 head ≡ code_number Query → (signed_at 0 head <ℤ pos 16) ⊎ (maximum_message_length <ℤ signed_at 0 head) → BeginsNoRequest head
 bad_length head sixteen code outside frame rest document e within (inl (parts, is_frame, body_is)) =
     two_codes (signed_at 12 head) (sym (begun 12 head rest frame (omega (arith, sixteen)) e) ∙ frame_code frame parts is_frame) code
 bad_length head sixteen code (inl short) frame rest document e within (inr q) =
@@ -86,9 +86,9 @@ no_body head body size sixteen code counted whole none frame rest document e wit
     none document (subst (λ b. IsQueryBody b document) same.0 q.is_body)
 
 -- an OP_MSG's bytes that call for a row
-pub no_message : (taken : List ℕ) (kind : ErrorKind) → 16 ≤ length taken → signed_at 12 taken ≡ code_number Message → (kind ≡ EndOfInput → ⊥) → FrameRow message_maximum taken kind → BeginsNoRequest taken
+pub no_message : (taken : List ℕ) (kind : ErrorKind) → 16 ≤ length taken → signed_at 12 taken ≡ code_number Message → (kind ≡ EndOfInput → ⊥) → FrameRow maximum_message_length taken kind → BeginsNoRequest taken
 no_message taken kind whole code other row frame rest document e within (inl (parts, is_frame, body_is)) =
-    row_no_frame message_maximum taken rest frame [] kind parts row (λ ends. absurd (other ends)) is_frame within (sym e ∙ sym (append-nil frame))
+    row_no_frame maximum_message_length taken rest frame [] kind parts row (λ ends. absurd (other ends)) is_frame within (sym e ∙ sym (append-nil frame))
 no_message taken kind whole code other row frame rest document e within (inr q) = two_codes (signed_at 12 taken) code (sym (begun 12 taken rest frame (omega arith) e) ∙ query_code frame document q)
 
 -- 16 zeros, which stand for bytes that nobody tells
@@ -103,7 +103,7 @@ untold_begins_none = other_code untold (omega arith) (λ e. omega (arith, ints, 
 least_query : (frame command : List ℕ) → IsQuery frame command → 20 ≤ length frame
 least_query frame command q =
     let body = q.is_body.is_query in
-    let after = codes "admin.$cmd" ++ (0 ∷ (body.numbers ++ (q.is_body.document ++ body.more))) in
+    let after = command_collection ++ (0 ∷ (body.numbers ++ (q.is_body.document ++ body.more))) in
     omega (arith, ap length q.spelled, length-append q.header q.body, q.sixteen, ap length body.spelled, length-append body.flags after, body.flags_four)
 
 -- no more than a header

@@ -21,7 +21,8 @@ use Rattle.mongo_wire.specs.declared.fault.ArgumentFault.{ArgumentFault}
 use Rattle.mongo_wire.specs.declared.fault.ArgumentFault.TheVariants.{IdentifierHasZero, SequenceTooLong, MaximumNegative, TooLong}
 use Rattle.std.proofs.lemmas.Int.{ints}
 use Rattle.mongo_service.specs.Faults.{fault_of_kind, IsOfWriting}
-use Rattle.mongo_session.specs.Replies.{document_of_served, message_maximum}
+use Rattle.mongo_server.specs.Announced.{maximum_message_length}
+use Rattle.mongo_session.specs.Replies.{document_of_served}
 use Rattle.mongo_service.specs.Sent.{IsLongMessage, message_reply, query_fields, query_header, query_reply, IsReplyFrame, IsReplySent, IsSentInPart, IsSentToQuery, SendsReply, WantsNone, WriteCause}
 use Rattle.mongo_service.proofs.Lasts.{sent_flushed}
 
@@ -77,7 +78,7 @@ is_of_writing kind maximum m old new before after h = absurd h
 
 -- a message that has its document alone is refused only where it is too long
 long_alone : (document : List ℕ) (to : ℤ) (flags : MessageFlags) (fault : ArgumentFault)
-    → ArgumentRow fault message_maximum (record { document_payload = document; document_sequences = []; response_to = to; flags = flags; checksum = None; request_id = None }) → IsLongMessage document
+    → ArgumentRow fault maximum_message_length (record { document_payload = document; document_sequences = []; response_to = to; flags = flags; checksum = None; request_id = None }) → IsLongMessage document
 long_alone document to flags IdentifierHasZero row = absurd (row tt)
 long_alone document to flags SequenceTooLong row = absurd (row.1 tt)
 long_alone document to flags MaximumNegative row = omega (arith, ints, row.2)
@@ -85,9 +86,9 @@ long_alone document to flags TooLong row = omega (arith, ints, row.3, length-app
 long_alone document to flags fault row = absurd row
 
 pub long_message : (document : List ℕ) (sequences : List DocumentSequence) (to : ℤ) (flags : MessageFlags) → sequences ≡ [] → (fault : ArgumentFault)
-    → ArgumentRow fault message_maximum (record { document_payload = document; document_sequences = sequences; response_to = to; flags = flags; checksum = None; request_id = None }) → IsLongMessage document
+    → ArgumentRow fault maximum_message_length (record { document_payload = document; document_sequences = sequences; response_to = to; flags = flags; checksum = None; request_id = None }) → IsLongMessage document
 long_message document sequences to flags none fault row =
-    long_alone document to flags fault (subst (λ s. ArgumentRow fault message_maximum (record { document_payload = document; document_sequences = s; response_to = to; flags = flags; checksum = None; request_id = None })) none row)
+    long_alone document to flags fault (subst (λ s. ArgumentRow fault maximum_message_length (record { document_payload = document; document_sequences = s; response_to = to; flags = flags; checksum = None; request_id = None })) none row)
 
 pub refused_cause : (too_long : Type 0) (kind : ErrorKind) (maximum : ℤ) (m : Message) (old new : State) (before after : ℤ) → ((fault : ArgumentFault) → ArgumentRow fault maximum m → too_long) → WriteRefused kind maximum m old new before after → WriteCause too_long (fault_of_kind kind) old new
 refused_cause too_long (InvalidArgument fault) maximum m old new before after long h = long fault h.0

@@ -13,7 +13,8 @@ use Rattle.mongo_session.specs.declared.session.Session.{Session}
 use Rattle.mongo_session.specs.declared.serve_settings.ServeSettings.{ServeSettings}
 use Rattle.mongo_session.specs.Answers.{IsDocumentAnswered}
 use Rattle.mongo_session.specs.Login.{HasLoggedIn}
-use Rattle.mongo_session.specs.Replies.{document_of_served, message_maximum}
+use Rattle.mongo_server.specs.Announced.{maximum_message_length}
+use Rattle.mongo_session.specs.Replies.{document_of_served}
 use Rattle.mongo_session.specs.Requests.{IsGreeting}
 use Rattle.mongo_service.specs.Sent.{CutsMessage, CutsQuery, IsLongMessage, IsLongReply}
 use Rattle.mongo_service.specs.Taken.{CarriesRequest, IsMessage, IsQuery}
@@ -51,11 +52,11 @@ pub record IsQueryFront (bytes : List ℕ) : Type 0 where
   pub sixteen : length head ≡ 16
   pub code : signed_at 12 head ≡ code_number Query
   pub front : pos (length bytes) ≤ℤ signed_at 0 head
-  pub within : signed_at 0 head ≤ℤ message_maximum
+  pub within : signed_at 0 head ≤ℤ maximum_message_length
 
 -- a front of a header or of a frame that is read, or one frame
 abbrev pub IsPart : List ℕ → Type 0
-IsPart bytes = IsStarted message_maximum bytes ⊎ (IsQueryFront bytes ⊎ ((document : List ℕ) × CarriesRequest bytes document))
+IsPart bytes = IsStarted maximum_message_length bytes ⊎ (IsQueryFront bytes ⊎ ((document : List ℕ) × CarriesRequest bytes document))
 
 -- ---- why
 
@@ -77,7 +78,7 @@ IsNoRequest bytes = (document : List ℕ) → CarriesRequest bytes document → 
 
 -- no frame up to the greatest that begins with these bytes carries a request
 abbrev pub BeginsNoRequest : List ℕ → Type 0
-BeginsNoRequest taken = (frame rest document : List ℕ) → frame ≡ taken ++ rest → pos (length frame) ≤ℤ message_maximum → CarriesRequest frame document → ⊥
+BeginsNoRequest taken = (frame rest document : List ℕ) → frame ≡ taken ++ rest → pos (length frame) ≤ℤ maximum_message_length → CarriesRequest frame document → ⊥
 
 -- What a fault says of the bytes that weren't answered, and of the link before and after.
 abbrev pub HasCause : ServeFault → State → State → List ServerTurn → List ℕ → Type 0

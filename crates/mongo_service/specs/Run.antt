@@ -34,17 +34,17 @@ pub record ServeRun : Type 0 where
   pub report_new : State
 
 -- the text stands whole in what was written, and is flushed, or the sink failed
-abbrev pub IsSaid : State → State → List ℕ → Type 0
-IsSaid old new text = (Appends old.written new.written text × IsFlushed new) ⊎ Rose old.write_faults new.write_faults
+abbrev pub IsSaidWhole : State → State → List ℕ → Type 0
+IsSaidWhole old new text = (Appends old.written new.written text × IsFlushed new) ⊎ Rose old.write_faults new.write_faults
 
 -- A run that says this text of itself ends with the status that it is to end with, or with NoMemory where memory ran out for the text. A
 -- front of the text is written.
-pub record Tells (old new : State) (text : List ℕ) (wanted status : ServeStatus) : Type 0 where
+pub record EndsTelling (old new : State) (text : List ℕ) (wanted status : ServeStatus) : Type 0 where
   pub front : AppendsFront old.written new.written text
-  pub whole : ((status ≡ wanted) × IsSaid old new text) ⊎ (status ≡ NoMemory)
+  pub whole : ((status ≡ wanted) × IsSaidWhole old new text) ⊎ (status ≡ NoMemory)
 
 abbrev pub TellsReport : ServeRun → List ℕ → ServeStatus → ServeStatus → Type 0
-TellsReport run text wanted status = Tells run.report_old run.report_new text wanted status
+TellsReport run text wanted status = EndsTelling run.report_old run.report_new text wanted status
 
 -- The first line was read as these settings, what follows it was served, and status and report say how that ended.
 pub record Ran (run : ServeRun) (status : ServeStatus) : Type 0 where
@@ -81,10 +81,10 @@ ServingEnds run NoMemory = Ran run NoMemory ⊎ (RunsOutWithin run NoMemory ⊎ 
 ServingEnds run Usage = ⊥
 
 -- nothing was read or written
-abbrev pub IsUntouched : ServeRun → Type 0
-IsUntouched run = (run.new ≡ run.old) × (run.report_new ≡ run.report_old)
+abbrev pub NeitherReadsNorWrites : ServeRun → Type 0
+NeitherReadsNorWrites run = (run.new ≡ run.old) × (run.report_new ≡ run.report_old)
 
 -- how a run ends, with so many words after the program's name: it takes none
 abbrev pub RunEnds : ℕ → ServeRun → ServeStatus → Type 0
-RunEnds words run Usage = (0 < words) × IsUntouched run
+RunEnds words run Usage = (0 < words) × NeitherReadsNorWrites run
 RunEnds words run status = (words ≡ 0) × ServingEnds run status

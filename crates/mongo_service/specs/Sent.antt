@@ -11,7 +11,8 @@ use Rattle.mongo_wire.specs.declared.op_code.OpCode.TheVariants.{Reply as OpRepl
 use Rattle.mongo_service.specs.declared.fault.ServeFault.{ServeFault}
 use Rattle.mongo_service.specs.declared.fault.ServeFault.TheVariants.{WriteFault, ReplyTooLong, OutOfMemory}
 use Rattle.mongo_session.specs.declared.reply.Reply.{Reply}
-use Rattle.mongo_session.specs.Replies.{document_of_served, message_maximum}
+use Rattle.mongo_server.specs.Announced.{maximum_message_length}
+use Rattle.mongo_session.specs.Replies.{document_of_served}
 
 -- MORE_TO_COME, bit 1, is set
 abbrev pub WantsNone : ℕ → Type 0
@@ -109,11 +110,11 @@ pub record IsSentToQuery (old new : State) (to : ℤ) (reply : Reply) (id later 
 
 -- an OP_MSG of the document is longer than the greatest frame, which a hello announces
 abbrev pub IsLongMessage : List ℕ → Type 0
-IsLongMessage document = message_maximum <ℤ pos (21 + length document)
+IsLongMessage document = maximum_message_length <ℤ pos (21 + length document)
 
 -- and so an OP_REPLY
 abbrev pub IsLongReply : List ℕ → Type 0
-IsLongReply document = message_maximum <ℤ pos (36 + length document)
+IsLongReply document = maximum_message_length <ℤ pos (36 + length document)
 
 -- The sink failed exactly where its count rose; a reply is refused as too long only where it is.
 abbrev pub WriteCause : Type 0 → ServeFault → State → State → Type 0

@@ -10,9 +10,16 @@ use Rattle.std.specs.Io.KnownBytes.{prepend_known}
 use Rattle.mongo_wire.specs.Outside.{State}
 use Rattle.mongo_service.specs.declared.put_back.PutBack.{PutBack}
 
+-- the collection that a command is asked of, and the key that wraps one
+abbrev pub command_collection : List ℕ
+command_collection = codes "admin.$cmd"
+
+abbrev pub query_key : List ℕ
+query_key = codes "$query"
+
 -- the command of a query's document: what it wraps as `$query`, or the document itself where that isn't its first key
 abbrev pub IsCommandOf : List ℕ → List ℕ → Type 0
-IsCommandOf document command = ((IsCommandNamed document (codes "$query") → ⊥) × (command ≡ document)) ⊎ (IsCommandNamed document (codes "$query") × HasInside document (codes "$query") command)
+IsCommandOf document command = ((IsCommandNamed document query_key → ⊥) × (command ≡ document)) ⊎ (IsCommandNamed document query_key × HasInside document query_key command)
 
 -- what follows the header of an OP_QUERY on `admin.$cmd`: int32 flags, the collection's name, two int32, a document, and what may
 -- follow it
@@ -20,7 +27,7 @@ pub record IsQueryOf (body document : List ℕ) : Type 0 where
   pub flags : List ℕ
   pub numbers : List ℕ
   pub more : List ℕ
-  pub spelled : body ≡ flags ++ (codes "admin.$cmd" ++ (0 ∷ (numbers ++ (document ++ more))))
+  pub spelled : body ≡ flags ++ (command_collection ++ (0 ∷ (numbers ++ (document ++ more))))
   pub flags_four : length flags ≡ 4
   pub numbers_eight : length numbers ≡ 8
 

@@ -8,6 +8,9 @@ ghost use Rattle.mongo_service.specs.Taken.{HasNoQuery, IsCommandOf, IsQueryBody
 use mongo_bson::{RawDocument, take_cstring};
 use mongo_session::{command_name, inner_document};
 
+// The key that wraps a command.
+const QUERY: &str = "$query";
+
 /// The command that what follows the header of an OP_QUERY asks for: `int32` flags, the collection's name as a cstring, two `int32`, a
 /// document, and what may follow it. A document whose first key is `$query` wraps the command.
 ///
@@ -26,7 +29,7 @@ fn query_command<'a>(document: RawDocument<'a>) -> Option<RawDocument<'a>>
     ensures { MatchOption result ((command : List ℕ) → IsCommandOf document.entry.bytes.now command → ⊥) (λ command. IsCommandOf document.entry.bytes.now command.bytes.now) }
 {
     match command_name(document) {
-        "$query" => inner_document(document, "$query"),
+        QUERY => inner_document(document, QUERY),
         _ => Some(document),
     }
 }

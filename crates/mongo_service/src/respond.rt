@@ -11,7 +11,8 @@ ghost use Rattle.mongo_service.specs.declared.fault.ServeFault.TheVariants.{OutO
 use crate::fault::{ServeFault, fault_of_document, fault_of_write};
 use bitflags::Flags;
 use mongo_bson::RawDocumentBuf;
-use mongo_session::{MESSAGE_MAXIMUM, Reply, document_of_reply};
+use mongo_server::MAXIMUM_MESSAGE_LENGTH;
+use mongo_session::{Reply, document_of_reply};
 use mongo_wire::{Header, Message, MessageFlags, OpCode, RequestIds, Sequences, Sink, write_all};
 use std::alloc::Global;
 
@@ -60,7 +61,7 @@ fn send_document<K: Sink>(
         checksum: None,
         request_id: None,
     };
-    match message.write_op_msg_to(alloc, sink, Some(MESSAGE_MAXIMUM), ids) {
+    match message.write_op_msg_to(alloc, sink, Some(MAXIMUM_MESSAGE_LENGTH), ids) {
         Ok(()) => Ok(()),
         Err(error) => Err(fault_of_write(&error)),
     }
@@ -87,7 +88,7 @@ pub fn respond_to_query<K: Sink>(
         Ok(document) => document,
         Err(fault) => return Err(fault_of_document(fault)),
     };
-    if document.as_bytes().len() > MESSAGE_MAXIMUM as usize - 36 {
+    if document.as_bytes().len() > MAXIMUM_MESSAGE_LENGTH as usize - 36 {
         return Err(ServeFault::ReplyTooLong);
     }
     let frame = match frame_of_reply(alloc, ids.draw(), request_id, document.as_bytes()) {

@@ -3,7 +3,7 @@
 ghost use Rattle.std.specs.Prelude.{◌≡◌, ◌<◌, ◌≤◌, length};
 ghost use Rattle.mongo_service.specs.Taken.{put_back_state};
 ghost use Rattle.mongo_service.specs.Report.{report_text};
-ghost use Rattle.mongo_service.specs.Run.{status_of_fault, ServingEnds, RunEnds, Tells};
+ghost use Rattle.mongo_service.specs.Run.{status_of_fault, ServingEnds, RunEnds, EndsTelling};
 
 use crate::fault::ServeFault;
 use crate::put_back::PutBack;
@@ -101,7 +101,7 @@ fn status_of_fault(fault: Option<ServeFault>) -> ServeStatus
 
 // Says how a stream was left, and answers how the run ends.
 fn tell<K: Sink>(alloc: Global, report: &mut K, served: &Served) -> ServeStatus
-    ensures { Tells (K.state report.old) (K.state report.new) (report_text served.now) (status_of_fault served.now.fault) result }
+    ensures { EndsTelling (K.state report.old) (K.state report.new) (report_text served.now) (status_of_fault served.now.fault) result }
 {
     match report_text(alloc, served) {
         Ok(text) => say(report, text.as_bytes(), status_of_fault(served.fault)),
@@ -111,7 +111,7 @@ fn tell<K: Sink>(alloc: Global, report: &mut K, served: &Served) -> ServeStatus
 
 // Says a line or more on the report, and answers how the run ends: as it is to, also where the report fails, but for want of memory.
 fn say<K: Sink>(report: &mut K, text: &[u8], wanted: ServeStatus) -> ServeStatus
-    ensures { Tells (K.state report.old) (K.state report.new) text.now wanted result }
+    ensures { EndsTelling (K.state report.old) (K.state report.new) text.now wanted result }
 {
     match send_bytes(report, text) {
         Ok(()) => wanted,

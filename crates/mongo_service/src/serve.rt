@@ -6,7 +6,7 @@ ghost use Rattle.mongo_wire.specs.Outside.{State};
 ghost use Rattle.mongo_session.specs.Answers.{IsDocumentAnswered};
 ghost use Rattle.mongo_session.specs.Login.{Remembers};
 ghost use Rattle.mongo_service.specs.Taken.{put_back_state};
-ghost use Rattle.mongo_session.specs.Replies.{message_maximum};
+ghost use Rattle.mongo_server.specs.Announced.{maximum_message_length};
 ghost use Rattle.mongo_session.specs.Requests.{IsGreeting};
 ghost use Rattle.mongo_service.specs.Served.{FollowsHead, IsBackAt, TurnEnds, PartEnds, IsServed};
 ghost use Rattle.mongo_service.specs.declared.fault.ServeFault.TheVariants.{NoHello, OutOfMemory};
@@ -19,8 +19,9 @@ use crate::reading::take_bytes;
 use crate::respond::{respond, respond_to_query};
 use mongo_bson::{RawDocument, Text};
 use mongo_mac::Steps;
+use mongo_server::MAXIMUM_MESSAGE_LENGTH;
 use mongo_session::{
-    MESSAGE_MAXIMUM, Reply, Request, ServeSettings, Session, answer_request, greet, request_of,
+    Reply, Request, ServeSettings, Session, answer_request, greet, request_of,
 };
 use mongo_wire::{FrameBuffer, Header, Link, OpCode, RequestIds, fill_or_end};
 use std::alloc::Global;
@@ -142,7 +143,7 @@ fn take_message<L: Link, G: Ledger>(
         PartEnds settings.now requests before (put_back_state L.state link.new) serving.old.session serving.old.ids serving.new.session serving.new.ids result }
     ensures rises { steps.old ≤ steps.new }
 {
-    match serving.buffer.take_frame(link, Some(MESSAGE_MAXIMUM)) {
+    match serving.buffer.take_frame(link, Some(MAXIMUM_MESSAGE_LENGTH)) {
         Ok(()) => {}
         Err(fault) => return Err(fault.into()),
     }
@@ -214,10 +215,10 @@ fn take_query<L: Link, G: Ledger>(
 // How many bytes follow the header of a frame of this length, which is 16 to the maximum.
 fn length_after(length: i32) -> Option<usize>
     ensures counted { IfSome result (λ rest. pos (16 + rest) ≡ length) }
-    ensures within { IfSome result (λ rest. pos (16 + rest) ≤ℤ message_maximum) }
-    ensures outside { IsNone result → (length <ℤ pos 16) ⊎ (message_maximum <ℤ length) }
+    ensures within { IfSome result (λ rest. pos (16 + rest) ≤ℤ maximum_message_length) }
+    ensures outside { IsNone result → (length <ℤ pos 16) ⊎ (maximum_message_length <ℤ length) }
 {
-    if length < 16 || length > MESSAGE_MAXIMUM {
+    if length < 16 || length > MAXIMUM_MESSAGE_LENGTH {
         None
     } else {
         Some(length as usize - 16)

@@ -1,5 +1,5 @@
 -- A document has one value at a key, and one first key.
-use Rattle.std.proofs.Common.{◌≡◌, ◌==◌, ◌↔◌, ℕ, Option, None, Some, Bool, true, false, IsTrue, MatchOption, List, [], ◌∷◌, codes, inl, inr, refl, sym, ap, ◌∙◌, subst, eq-eqb}
+use Rattle.std.proofs.Common.{◌≡◌, ◌==◌, ◌↔◌, ℕ, ℤ, Option, None, Some, Bool, true, false, IsTrue, MatchOption, List, [], ◌∷◌, inl, inr, refl, sym, ap, ◌∙◌, subst, eq-eqb}
 use Rattle.std.proofs.lemmas.Bool.{false≢true}
 use Rattle.std.specs.Int.{from_le_bytes, cast_signed, w32}
 use Rattle.mongo_bson.specs.Document.{Element, text_of}
@@ -14,8 +14,8 @@ use Rattle.mongo_scram.specs.declared.scram_version.ScramVersion.{ScramVersion}
 use Rattle.mongo_session.specs.ServeSettings.{version_named}
 use Rattle.mongo_session.specs.declared.request.StartRequest.{StartRequest}
 use Rattle.mongo_session.specs.Requests.{CarriesLogin, HasPayload, IsCommandName, IsCommandNamed, SaysStart, SaysVersion, SkipsEmptyExchange}
-use Rattle.mongo_session.specs.Values.{binary_bytes, HasInside, HasOne, HasText, HasTrue, HoldsIfAny, inner_of, SaysOne, IsTrueBoolean, StandsAt, string_of}
-use Rattle.mongo_sasl.specs.Keys.{mechanism_key, options_key, payload_key, sasl_start_key}
+use Rattle.mongo_session.specs.Values.{binary_bytes, HasInside, HasInt32, HasText, HasTrue, HoldsIfAny, inner_of, IsInt32, IsTrueBoolean, StandsAt, string_of}
+use Rattle.mongo_sasl.specs.Keys.{mechanism_key, options_key, payload_key, sasl_start_key, skip_empty_exchange_key}
 
 -- ---- one value
 
@@ -94,10 +94,10 @@ boolean_held document key (Boolean false) (e, first, is) =
     zero_or_one bytes zero one = cc
 boolean_held document key other finds = (λ never. absurd never, λ has. absurd (other_kind document key other 0x08 finds refl refl has.element has.first has.boolean))
 
-pub one_held : (document key : List ℕ) (v : RawValue) → FindsValue (element_bytes document) key (Some v) → SaysOne v ↔ HasOne document key
-one_held document key (Int32 n) (e, first, is) =
-    (λ one. record { element = e; first = first; int32 = is.0; one = sym is.1 ∙ one }, λ has. is.1 ∙ ap (λ x. cast_signed w32 (from_le_bytes w32 x.value)) (one_found (element_bytes document) key e has.element first has.first) ∙ has.one)
-one_held document key other finds = (λ never. absurd never, λ has. absurd (other_kind document key other 0x10 finds refl refl has.element has.first has.int32))
+pub int32_held : (document key : List ℕ) (wanted : ℤ) (v : RawValue) → FindsValue (element_bytes document) key (Some v) → IsInt32 wanted v ↔ HasInt32 document key wanted
+int32_held document key wanted (Int32 n) (e, first, is) =
+    (λ same. record { element = e; first = first; int32 = is.0; number_is = sym is.1 ∙ same }, λ has. is.1 ∙ ap (λ x. cast_signed w32 (from_le_bytes w32 x.value)) (one_found (element_bytes document) key e has.element first has.first) ∙ has.number_is)
+int32_held document key wanted other finds = (λ never. absurd never, λ has. absurd (other_kind document key other 0x10 finds refl refl has.element has.first has.int32))
 
 -- ---- the parts of a login's command
 
@@ -109,8 +109,8 @@ version_said document name has (Some version) is = (name, has, sym is)
 pub version_unsaid : (document : List ℕ) → ((name : List ℕ) → HasText document mechanism_key name → ⊥) → SaysVersion document None
 version_unsaid document none = λ name has. absurd (none name has)
 
-pub skips_said : (document options : List ℕ) (b : Bool) → HasInside document options_key options → IsTrue b ↔ HasTrue options (codes "skipEmptyExchange") → IsTrue b ↔ SkipsEmptyExchange document
-skips_said document options b inside test = (λ set. (options, inside, test.0 set), λ (other, other_inside, set). test.1 (subst (λ o. HasTrue o (codes "skipEmptyExchange")) (one_inside document options_key other options other_inside inside) set))
+pub skips_said : (document options : List ℕ) (b : Bool) → HasInside document options_key options → IsTrue b ↔ HasTrue options skip_empty_exchange_key → IsTrue b ↔ SkipsEmptyExchange document
+skips_said document options b inside test = (λ set. (options, inside, test.0 set), λ (other, other_inside, set). test.1 (subst (λ o. HasTrue o skip_empty_exchange_key) (one_inside document options_key other options other_inside inside) set))
 
 pub skips_unsaid : (document : List ℕ) → ((options : List ℕ) → HasInside document options_key options → ⊥) → IsTrue false ↔ SkipsEmptyExchange document
 skips_unsaid document none = (λ never. absurd (false≢true never), λ (options, inside, set). absurd (none options inside))

@@ -1,13 +1,18 @@
-use Rattle.std.proofs.Common.{ℕ, Option, None, Some, IfSome, List, inl, inr}
+use Rattle.std.proofs.Common.{ℕ, Bool, true, false, Option, None, Some, IfSome, List, inl, inr}
 use Rattle.mongo_session.specs.declared.request.StartRequest.{StartRequest}
 use Rattle.std.specs.Borrow.{Bor}
 use Rattle.mongo_command.specs.Keys.{speculative_authenticate_key}
 use Rattle.mongo_session.specs.declared.request.ContinueRequest.{ContinueRequest}
-use Rattle.mongo_session.specs.Requests.{HasPayload, IsCommandNamed, IsGreeting, SaysStart, SaysContinue, CarriesStart, OpensLogin, SaysSaslContinue}
+use Rattle.mongo_session.specs.Requests.{HasPayload, IsCommandNamed, IsGreeting, IsGreetingBy, SaysStart, SaysContinue, CarriesStart, OpensLogin, SaysSaslContinue}
 use Rattle.mongo_session.specs.Values.{HasInside, HoldsIfAny}
 use Rattle.mongo_sasl.specs.Keys.{sasl_continue_key, sasl_start_key}
 
 -- What a request begins, or goes on with.
+
+-- a greeting, by whichever name
+pub greeted : (document : List ℕ) (is_legacy : Bool) → IsGreetingBy document is_legacy → IsGreeting document
+greeted document false named = inl named
+greeted document true named = inr named
 
 greets_with : (document inner : List ℕ) (payload : Option (Bor (List ℕ))) → IsGreeting document → HasInside document speculative_authenticate_key inner → IsCommandNamed inner sasl_start_key
     → HoldsIfAny (HasPayload inner) payload → IfSome payload (λ p. OpensLogin document p.now)

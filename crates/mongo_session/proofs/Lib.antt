@@ -7,3 +7,4 @@ pub mod Described
 pub mod PlainKeys
 pub mod Remembered
 pub mod Said
+pub mod Versions

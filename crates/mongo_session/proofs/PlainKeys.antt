@@ -1,15 +1,12 @@
 -- The keys of a hello's reply hold no zero.
 use Rattle.std.proofs.Common.{◌≡◌, ◌≢◌, ℕ, Bool, true, false, List, refl, sym, subst, Contains, rules}
 use Rattle.std.specs.List.{AllByRecursion}
-use Rattle.mongo_command.specs.Keys.{is_master_key, is_writable_primary_key, ok_key}
+use Rattle.mongo_command.specs.Keys.{is_master_key, is_writable_primary_key}
 use Rattle.mongo_wire.proofs.Arrays.{without_zero}
 use Rattle.mongo_session.specs.Replies.{writable_key}
 
 pub plain : (key : List ℕ) → AllByRecursion (λ b. b ≢ 0) key → Contains key 0 → ⊥
 plain key all = without_zero key key refl all
-
-pub ok_plain : Contains ok_key 0 → ⊥
-ok_plain = plain ok_key (search rules)
 
 legacy_plain : (is_legacy : Bool) → Contains (writable_key is_legacy) 0 → ⊥
 legacy_plain true = plain is_master_key (search rules)

@@ -1,5 +1,6 @@
 pub mod Accounts
 pub mod Answers
+pub mod CommandNames
 pub mod Last
 pub mod Login
 pub mod Opened

@@ -7,6 +7,7 @@ use Rattle.mongo_command.specs.Keys.{code_key, code_name_key, connection_id_key,
 use Rattle.mongo_sasl.specs.Keys.{conversation_id_key, done_key, payload_key}
 use Rattle.mongo_scram.specs.Version.{version_name}
 use Rattle.mongo_scram.specs.declared.scram_version.ScramVersion.TheVariants as version
+use Rattle.mongo_server.specs.Announced.{conversation_id, maximum_document_length, maximum_message_length}
 use Rattle.mongo_session.specs.declared.reply.Reply.{Reply}
 use Rattle.mongo_session.specs.declared.reply.Reply.TheVariants.{Hello, Sasl, BuildInfo, Done, Refused}
 use Rattle.mongo_session.specs.declared.reply.HelloAnswer.{HelloAnswer}
@@ -17,13 +18,6 @@ use Rattle.mongo_session.specs.declared.reply.RefusedCommand.{RefusedCommand}
 use Rattle.mongo_session.specs.declared.reply.RefusedCommand.TheVariants.{AuthenticationFailed, Unauthorized, CommandNotFound}
 -- why a document isn't built
 pub use Rattle.mongo_command.specs.Arguments.{TooLongFor}
-
--- the greatest document and the greatest frame, in bytes
-abbrev pub document_maximum : ℤ
-document_maximum = pos 16777216
-
-abbrev pub message_maximum : ℤ
-message_maximum = pos 48000000
 
 -- ---- elements
 
@@ -50,7 +44,7 @@ refusal_document (CommandNotFound name) = error_document (codes "no such command
 
 -- a message of a login
 abbrev pub sasl_document : SaslReply → List ℕ
-sasl_document message = document_of (int32_element conversation_id_key (pos 1) ∷ boolean_element done_key message.is_done ∷ generic_element payload_key message.payload ∷ ok_element ∷ [])
+sasl_document message = document_of (int32_element conversation_id_key conversation_id ∷ boolean_element done_key message.is_done ∷ generic_element payload_key message.payload ∷ ok_element ∷ [])
 
 -- the array [7, 0, 0, 0]
 abbrev pub version_document : List ℕ
@@ -62,7 +56,7 @@ build_info_document =
     text_element (codes "version") (codes "7.0.0")
     ∷ text_element (codes "gitVersion") []
     ∷ array_element (codes "versionArray") version_document
-    ∷ int32_element max_bson_object_size_key document_maximum
+    ∷ int32_element max_bson_object_size_key maximum_document_length
     ∷ ok_element
     ∷ [])
 
@@ -72,8 +66,8 @@ build_info_document =
 abbrev pub description : List Element
 description =
     boolean_element hello_ok_key true
-    ∷ int32_element max_bson_object_size_key document_maximum
-    ∷ int32_element max_message_size_bytes_key message_maximum
+    ∷ int32_element max_bson_object_size_key maximum_document_length
+    ∷ int32_element max_message_size_bytes_key maximum_message_length
     ∷ int32_element max_write_batch_size_key (pos 100000)
     ∷ date_element (codes "localTime") (pos 0)
     ∷ int32_element logical_session_timeout_minutes_key (pos 30)
@@ -89,10 +83,13 @@ writable_key true = is_master_key
 writable_key false = is_writable_primary_key
 
 -- an array of the mechanisms' names
+abbrev pub name_elements : Mechanisms → List Element
+name_elements Sha1 = text_element (codes "0") (version_name version.Sha1) ∷ []
+name_elements Sha256 = text_element (codes "0") (version_name version.Sha256) ∷ []
+name_elements Both = text_element (codes "0") (version_name version.Sha1) ∷ text_element (codes "1") (version_name version.Sha256) ∷ []
+
 abbrev pub names_document : Mechanisms → List ℕ
-names_document Sha1 = document_of (text_element (codes "0") (version_name version.Sha1) ∷ [])
-names_document Sha256 = document_of (text_element (codes "0") (version_name version.Sha256) ∷ [])
-names_document Both = document_of (text_element (codes "0") (version_name version.Sha1) ∷ text_element (codes "1") (version_name version.Sha256) ∷ [])
+names_document mechanisms = document_of (name_elements mechanisms)
 
 abbrev pub mechanism_elements : Option Mechanisms → List Element
 mechanism_elements None = []

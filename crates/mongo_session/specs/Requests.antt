@@ -1,19 +1,22 @@
 -- What a client asks for: a command, by the first key of its document.
-use Rattle.std.specs.Prelude.{◌≡◌, ℕ, ◌==◌, ◌⊎◌, ◌↔◌, ◌||◌, Bool, true, false, Option, None, Some, List, [], length, drop, codes, bytes_eq, if◌then◌else◌, IsTrue}
+use Rattle.std.specs.Prelude.{◌≡◌, ℕ, ◌==◌, ◌⊎◌, ◌↔◌, ◌||◌, Bool, true, false, Option, None, Some, List, [], length, drop, bytes_eq, if◌then◌else◌, IsTrue}
 use Rattle.std.specs.List.{position_or_len, after_first}
 use Rattle.mongo_bson.specs.Framed.{element_bytes}
 use Rattle.mongo_bson.specs.Document.{Element}
 use Rattle.mongo_bson.specs.Find.{IsFirstOf, BeginsWithKey}
-use Rattle.mongo_command.specs.Keys.{sasl_supported_mechs_key, speculative_authenticate_key}
+use Rattle.mongo_command.specs.HelloCommand.{hello_command_name, legacy_hello_command_name}
+use Rattle.mongo_command.specs.Keys.{is_master_key, sasl_supported_mechs_key, speculative_authenticate_key}
 use Rattle.mongo_scram.specs.declared.scram_version.ScramVersion.{ScramVersion}
+use Rattle.mongo_server.specs.Announced.{conversation_id}
+use Rattle.mongo_session.specs.CommandNames.{ping_command_name, build_info_command_name, lowercase_build_info_command_name, end_sessions_command_name}
 use Rattle.mongo_session.specs.ServeSettings.{version_named}
-use Rattle.mongo_session.specs.Values.{HasInside, HasText, HasTrue, HasOne, HoldsIfAny}
+use Rattle.mongo_session.specs.Values.{HasInside, HasInt32, HasText, HasTrue, HoldsIfAny}
 use Rattle.mongo_session.specs.declared.request.Request.{Request}
 use Rattle.mongo_session.specs.declared.request.Request.TheVariants.{Hello as Greeting, SaslStart as Starting, SaslContinue as Continuing, Ping, BuildInfo, EndSessions, Other}
 use Rattle.mongo_session.specs.declared.request.Hello.{Hello}
 use Rattle.mongo_session.specs.declared.request.StartRequest.{StartRequest}
 use Rattle.mongo_session.specs.declared.request.ContinueRequest.{ContinueRequest}
-use Rattle.mongo_sasl.specs.Keys.{conversation_id_key, mechanism_key, options_key, payload_key, sasl_continue_key, sasl_start_key}
+use Rattle.mongo_sasl.specs.Keys.{conversation_id_key, mechanism_key, options_key, payload_key, sasl_continue_key, sasl_start_key, skip_empty_exchange_key}
 
 -- the document's command
 abbrev pub IsCommandNamed : List ℕ → List ℕ → Type 0
@@ -33,9 +36,13 @@ pub record IsStart (document payload : List ℕ) : Type 0 where
   pub named : IsCommandNamed document sasl_start_key
   pub message : HasPayload document payload
 
--- hello, by its name or a legacy one
+-- hello, by its name or by a legacy one
+abbrev pub IsGreetingBy : List ℕ → Bool → Type 0
+IsGreetingBy document false = IsCommandNamed document hello_command_name
+IsGreetingBy document true = IsCommandNamed document legacy_hello_command_name ⊎ IsCommandNamed document is_master_key
+
 abbrev pub IsGreeting : List ℕ → Type 0
-IsGreeting document = IsCommandNamed document (codes "hello") ⊎ (IsCommandNamed document (codes "isMaster") ⊎ IsCommandNamed document (codes "ismaster"))
+IsGreeting document = IsGreetingBy document false ⊎ IsGreetingBy document true
 
 -- a hello that carries a `saslStart` with this message
 pub record IsGreetingStart (document payload : List ℕ) : Type 0 where
@@ -62,7 +69,7 @@ SaysVersion document (Some version) = (name : List ℕ) × HasText document mech
 
 -- `options` asks for no empty exchange at the end
 abbrev pub SkipsEmptyExchange : List ℕ → Type 0
-SkipsEmptyExchange document = (options : List ℕ) × HasInside document options_key options × HasTrue options (codes "skipEmptyExchange")
+SkipsEmptyExchange document = (options : List ℕ) × HasInside document options_key options × HasTrue options skip_empty_exchange_key
 
 -- a `saslStart`
 pub record SaysStart (document : List ℕ) (start : StartRequest) : Type 0 where
@@ -82,11 +89,6 @@ abbrev pub CarriesLogin : List ℕ → Option StartRequest → Type 0
 CarriesLogin document None = (inner : List ℕ) → HasInside document speculative_authenticate_key inner → IsCommandNamed inner sasl_start_key → ⊥
 CarriesLogin document (Some start) = CarriesStart document start
 
--- hello by its name, or by a legacy one
-abbrev pub IsGreetingBy : List ℕ → Bool → Type 0
-IsGreetingBy document false = IsCommandNamed document (codes "hello")
-IsGreetingBy document true = IsCommandNamed document (codes "isMaster") ⊎ IsCommandNamed document (codes "ismaster")
-
 -- a user's name without its database: what stands behind the first dot, or all of it where there is none
 abbrev pub name_without_database : List ℕ → List ℕ
 name_without_database user = if position_or_len (λ b. b == 46) user == length user then user else after_first (λ b. b == 46) user
@@ -96,7 +98,6 @@ abbrev pub AsksMechanismsOf : List ℕ → List ℕ → Type 0
 AsksMechanismsOf document user = (text : List ℕ) × HasText document sasl_supported_mechs_key text × (user ≡ name_without_database text)
 
 pub record SaysHello (document : List ℕ) (hello : Hello) : Type 0 where
-  pub greeting : IsGreeting document
   pub name : IsGreetingBy document hello.is_legacy
   pub mechanisms : HoldsIfAny (AsksMechanismsOf document) hello.mechanisms_of
   pub speculation : CarriesLogin document hello.speculation
@@ -104,15 +105,15 @@ pub record SaysHello (document : List ℕ) (hello : Hello) : Type 0 where
 -- a `saslContinue`
 pub record SaysContinue (document : List ℕ) (next : ContinueRequest) : Type 0 where
   pub named : IsCommandNamed document sasl_continue_key
-  pub conversation : IsTrue next.is_of_conversation ↔ HasOne document conversation_id_key
+  pub conversation : IsTrue next.is_of_conversation ↔ HasInt32 document conversation_id_key conversation_id
   pub message : HoldsIfAny (HasPayload document) next.payload
 
 -- the names that are known
 abbrev pub is_known_command : List ℕ → Bool
 is_known_command name =
-    bytes_eq name (codes "hello") || bytes_eq name (codes "isMaster") || bytes_eq name (codes "ismaster")
-    || bytes_eq name sasl_start_key || bytes_eq name sasl_continue_key || bytes_eq name (codes "ping")
-    || bytes_eq name (codes "buildInfo") || bytes_eq name (codes "buildinfo") || bytes_eq name (codes "endSessions")
+    bytes_eq name hello_command_name || bytes_eq name legacy_hello_command_name || bytes_eq name is_master_key
+    || bytes_eq name sasl_start_key || bytes_eq name sasl_continue_key || bytes_eq name ping_command_name
+    || bytes_eq name build_info_command_name || bytes_eq name lowercase_build_info_command_name || bytes_eq name end_sessions_command_name
 
 -- the document has no first key
 abbrev pub IsUnnamed : List ℕ → Type 0
@@ -132,7 +133,7 @@ abbrev pub SaysRequest : List ℕ → Request → Type 0
 SaysRequest document (Greeting hello) = SaysHello document hello
 SaysRequest document (Starting start) = SaysStart document start
 SaysRequest document (Continuing next) = SaysContinue document next
-SaysRequest document Ping = IsCommandNamed document (codes "ping")
-SaysRequest document BuildInfo = IsCommandNamed document (codes "buildInfo") ⊎ IsCommandNamed document (codes "buildinfo")
-SaysRequest document EndSessions = IsCommandNamed document (codes "endSessions")
+SaysRequest document Ping = IsCommandNamed document ping_command_name
+SaysRequest document BuildInfo = IsCommandNamed document build_info_command_name ⊎ IsCommandNamed document lowercase_build_info_command_name
+SaysRequest document EndSessions = IsCommandNamed document end_sessions_command_name
 SaysRequest document (Other name) = SaysOther document name.now

@@ -8,6 +8,8 @@ use Rattle.hex.specs.Hex.{decode_of}
 use Rattle.serde_json.specs.Data.{Data, Items, no_items, item}
 use Rattle.serde_json.specs.Find.{get, as_number, as_u64, as_str, as_array}
 use Rattle.serde_json.specs.Read.{read}
+use Rattle.mongo_sasl.specs.declared.mechanism.AuthMechanism.{AuthMechanism}
+use Rattle.mongo_sasl.specs.declared.mechanism.AuthMechanism.TheVariants.{ScramSha1, ScramSha256}
 use Rattle.mongo_scram.specs.Validity.{least_count}
 use Rattle.mongo_scram.specs.Version.{version_name}
 use Rattle.mongo_scram.specs.declared.scram_version.ScramVersion.{ScramVersion}
@@ -30,6 +32,12 @@ text_under key d = option_and_then as_str (get key d)
 
 abbrev pub items_in : List ℕ → Data → Option Items
 items_in key d = option_and_then as_array (get key d)
+
+-- the version of SCRAM by which a mechanism logs in
+abbrev pub scram_version_of : AuthMechanism → Option ScramVersion
+scram_version_of ScramSha1 = Some Sha1
+scram_version_of ScramSha256 = Some Sha256
+scram_version_of other = None
 
 -- the mechanism of this name
 abbrev pub version_named : List ℕ → Option ScramVersion

@@ -1,5 +1,5 @@
 -- What stands at a key of a document: its first element of that key.
-use Rattle.std.specs.Prelude.{◌≡◌, ℕ, pos, true, Option, None, Some, List, [], ◌∷◌}
+use Rattle.std.specs.Prelude.{◌≡◌, ℕ, ℤ, true, Option, None, Some, List, [], ◌∷◌}
 use Rattle.std.specs.Borrow.{Bor}
 use Rattle.std.specs.Int.{from_le_bytes, cast_signed, w32}
 use Rattle.mongo_bson.specs.Document.{Element, text_of}
@@ -30,12 +30,12 @@ pub record HasTrue (document key : List ℕ) : Type 0 where
   pub boolean : element.kind ≡ 0x08
   pub set : element.value ≡ 1 ∷ []
 
--- the int32 1
-pub record HasOne (document key : List ℕ) : Type 0 where
+-- the int32 of this number
+pub record HasInt32 (document key : List ℕ) (number : ℤ) : Type 0 where
   pub element : Element
   pub first : IsFirstOf (element_bytes document) key element
   pub int32 : element.kind ≡ 0x10
-  pub one : cast_signed w32 (from_le_bytes w32 element.value) ≡ pos 1
+  pub number_is : cast_signed w32 (from_le_bytes w32 element.value) ≡ number
 
 -- the option has what is so, and is none only where nothing is
 abbrev pub HoldsIfAny : (List ℕ → Type 0) → Option (Bor (List ℕ)) → Type 0
@@ -67,6 +67,6 @@ abbrev pub IsTrueBoolean : RawValue → Type 0
 IsTrueBoolean (Boolean boolean) = boolean ≡ true
 IsTrueBoolean other = ⊥
 
-abbrev pub SaysOne : RawValue → Type 0
-SaysOne (Int32 number) = number ≡ pos 1
-SaysOne other = ⊥
+abbrev pub IsInt32 : ℤ → RawValue → Type 0
+IsInt32 number (Int32 value) = value ≡ number
+IsInt32 number other = ⊥

@@ -1,19 +1,25 @@
 //! The document that says what a server is.
 
-ghost use Rattle.std.specs.Prelude.{◌≡◌, option_map, IfOk, IfErr};
+ghost use Rattle.std.specs.Prelude.{◌≡◌, ◌∷◌, [], option_map, Contains, IfOk, IfErr};
+ghost use Rattle.mongo_bson.specs.declared.fault.BsonFault.TheVariants.{OutOfMemory};
 ghost use Rattle.mongo_command.specs.Arguments.{field_elements, IsNamed, TooLongFor};
-ghost use Rattle.mongo_command.specs.Literal.{document_of};
-ghost use Rattle.mongo_session.specs.Replies.{hello_reply_elements, mechanism_elements, names_document, sasl_document, writable_key};
+ghost use Rattle.mongo_command.specs.Command.{present};
+ghost use Rattle.mongo_command.specs.Keys.{sasl_supported_mechs_key};
+ghost use Rattle.mongo_command.specs.Literal.{array_element, document_of, text_element};
+ghost use Rattle.mongo_scram.specs.Version.{version_name};
+ghost use Rattle.mongo_session.specs.Replies.{hello_reply_elements, names_document, sasl_document, writable_key};
 
 use crate::reply::{HelloAnswer, Mechanisms};
-use crate::reply_document::{DOCUMENT_MAXIMUM, MESSAGE_MAXIMUM, ONE, sasl_document};
-use mongo_bson::{BsonFault, RawDocument, RawDocumentBuf, RawValue};
+use crate::reply_document::sasl_document;
+use mongo_bson::{BsonFault, RawDocumentBuf, RawValue};
 use mongo_command::keys::{
     CONNECTION_ID, HELLO_OK, IS_MASTER, IS_WRITABLE_PRIMARY, LOGICAL_SESSION_TIMEOUT_MINUTES,
     MAX_BSON_OBJECT_SIZE, MAX_MESSAGE_SIZE_BYTES, MAX_WIRE_VERSION, MAX_WRITE_BATCH_SIZE,
-    MIN_WIRE_VERSION, OK, SASL_SUPPORTED_MECHS, SPECULATIVE_AUTHENTICATE,
+    MIN_WIRE_VERSION, SASL_SUPPORTED_MECHS, SPECULATIVE_AUTHENTICATE,
 };
-use mongo_command::{ArgumentField, document_of, optional_document_field};
+use mongo_command::{ArgumentField, document_of, ok_field, optional_document_field};
+use mongo_scram::ScramVersion;
+use mongo_server::{MAXIMUM_DOCUMENT_LENGTH, MAXIMUM_MESSAGE_LENGTH};
 use std::alloc::Global;
 
 /// The document of a hello's reply.
@@ -23,20 +29,26 @@ pub fn hello_reply_document(alloc: Global, hello: &HelloAnswer) -> Result<RawDoc
     ensures document { IfOk result (λ document. document ≡ document_of (hello_reply_elements hello.now)) }
     ensures refused { IfErr result (λ fault. TooLongFor fault (document_of (hello_reply_elements hello.now))) }
 {
+    let mechanisms = match hello.mechanisms {
+        Some(mechanisms) => Some(names_document(alloc, mechanisms)?),
+        None => None,
+    };
     let speculation = match &hello.speculation {
         Some(message) => Some(sasl_document(alloc, message)?),
         None => None,
     };
-    document_around(alloc, hello, &speculation)
+    document_around(alloc, hello, &mechanisms, &speculation)
 }
 
-// The document of a hello's reply, around that of the answer to the login that came with the hello.
-fn document_around(
+// The document of a hello's reply, around the names of the mechanisms that it lists, and the answer to the login that came with the hello.
+fn document_around<'x>(
     alloc: Global,
     hello: &HelloAnswer,
-    speculation: &Option<RawDocumentBuf>,
+    mechanisms: &'x Option<RawDocumentBuf>,
+    speculation: &'x Option<RawDocumentBuf>,
 ) -> Result<RawDocumentBuf, BsonFault>
-    requires { speculation.now ≡ option_map sasl_document hello.now.speculation }
+    requires mechanisms { mechanisms.now ≡ option_map names_document hello.now.mechanisms }
+    requires speculation { speculation.now ≡ option_map sasl_document hello.now.speculation }
     ensures document { IfOk result (λ document. document ≡ document_of (hello_reply_elements hello.now)) }
     ensures refused { IfErr result (λ fault. TooLongFor fault (document_of (hello_reply_elements hello.now))) }
 {
@@ -44,8 +56,14 @@ fn document_around(
         alloc,
         &[
             Some((HELLO_OK, RawValue::Bool(true))),
-            Some((MAX_BSON_OBJECT_SIZE, RawValue::Int32(DOCUMENT_MAXIMUM))),
-            Some((MAX_MESSAGE_SIZE_BYTES, RawValue::Int32(MESSAGE_MAXIMUM))),
+            Some((
+                MAX_BSON_OBJECT_SIZE,
+                RawValue::Int32(MAXIMUM_DOCUMENT_LENGTH),
+            )),
+            Some((
+                MAX_MESSAGE_SIZE_BYTES,
+                RawValue::Int32(MAXIMUM_MESSAGE_LENGTH),
+            )),
             Some((MAX_WRITE_BATCH_SIZE, RawValue::Int32(100_000))),
             Some(("localTime", RawValue::DateTime(0))),
             Some((LOGICAL_SESSION_TIMEOUT_MINUTES, RawValue::Int32(30))),
@@ -54,9 +72,9 @@ fn document_around(
             Some((MAX_WIRE_VERSION, RawValue::Int32(21))),
             Some(("readOnly", RawValue::Bool(false))),
             Some((writable_key(hello.is_legacy), RawValue::Bool(true))),
-            mechanisms_field(hello.mechanisms),
+            mechanisms_field(mechanisms),
             optional_document_field(SPECULATIVE_AUTHENTICATE, speculation),
-            Some((OK, RawValue::Double(ONE))),
+            ok_field(),
         ],
     )
 }
@@ -73,31 +91,39 @@ fn writable_key(is_legacy: bool) -> &'static str
 }
 
 // The mechanisms of a user, where they are asked for.
-fn mechanisms_field(mechanisms: Option<Mechanisms>) -> ArgumentField<'static>
-    ensures elements { field_elements result ≡ mechanism_elements mechanisms }
+fn mechanisms_field<'a>(names: &'a Option<RawDocumentBuf>) -> ArgumentField<'a>
+    ensures elements { field_elements result ≡ present (array_element sasl_supported_mechs_key) names.now }
     ensures named { IsNamed result }
 {
-    match mechanisms {
-        Some(mechanisms) => Some((SASL_SUPPORTED_MECHS, RawValue::Array(names_of(mechanisms)))),
+    match names {
+        Some(names) => Some((SASL_SUPPORTED_MECHS, RawValue::Array(names.borrow()))),
         None => None,
     }
 }
 
-// The array of the mechanisms' names.
-fn names_of(mechanisms: Mechanisms) -> RawDocument<'static>
-    ensures { result.bytes.now ≡ names_document mechanisms }
+// The array of the mechanisms' names. It is short, so that want of memory is its one refusal.
+fn names_document(alloc: Global, mechanisms: Mechanisms) -> Result<RawDocumentBuf, BsonFault>
+    ensures document { IfOk result (λ document. document ≡ names_document mechanisms) }
+    ensures refused { IfErr result (λ fault. fault ≡ OutOfMemory) }
 {
-    let names = match mechanisms {
-        Mechanisms::Sha1 => RawDocument::from_bytes(b"\x18\0\0\0\x020\0\x0c\0\0\0SCRAM-SHA-1\0\0"),
-        Mechanisms::Sha256 => {
-            RawDocument::from_bytes(b"\x1a\0\0\0\x020\0\x0e\0\0\0SCRAM-SHA-256\0\0")
-        }
-        Mechanisms::Both => RawDocument::from_bytes(
-            b"-\0\0\0\x020\0\x0c\0\0\0SCRAM-SHA-1\0\x021\0\x0e\0\0\0SCRAM-SHA-256\0\0",
+    match mechanisms {
+        Mechanisms::Sha1 => document_of(alloc, &[name_field("0", ScramVersion::Sha1)]),
+        Mechanisms::Sha256 => document_of(alloc, &[name_field("0", ScramVersion::Sha256)]),
+        Mechanisms::Both => document_of(
+            alloc,
+            &[
+                name_field("0", ScramVersion::Sha1),
+                name_field("1", ScramVersion::Sha256),
+            ],
         ),
-    };
-    match names {
-        Ok(names) => names,
-        Err(_) => unreachable!(),
     }
+}
+
+// The name of a mechanism, at its place in the array.
+fn name_field(place: &'static str, version: ScramVersion) -> ArgumentField<'static>
+    requires { ¬ Contains place.now 0 }
+    ensures elements { field_elements result ≡ text_element place.now (version_name version) ∷ [] }
+    ensures named { IsNamed result }
+{
+    Some((place, RawValue::Str(version.mechanism().as_str())))
 }

@@ -27,6 +27,7 @@
 #![tactic(auto)]
 
 mod answer;
+mod command_names;
 mod hello_document;
 mod open;
 mod reply;
@@ -37,7 +38,7 @@ mod session;
 
 pub use answer::{answer_request, greet};
 pub use reply::{HelloAnswer, Mechanisms, RefusedCommand, Reply, SaslReply};
-pub use reply_document::{DOCUMENT_MAXIMUM, MESSAGE_MAXIMUM, document_of_reply};
+pub use reply_document::document_of_reply;
 pub use request::{
     ContinueRequest, Hello, Request, StartRequest, command_name, inner_document, request_of,
 };

@@ -8,27 +8,13 @@ use crate::hello_document::hello_reply_document;
 use crate::reply::{RefusedCommand, Reply, SaslReply};
 use mongo_bson::{BsonFault, RawDocument, RawDocumentBuf, RawValue, Text};
 use mongo_command::keys::{CODE, CODE_NAME, ERRMSG, MAX_BSON_OBJECT_SIZE, OK};
-use mongo_command::{boolean_field, document_of, int32_field};
+use mongo_command::{boolean_field, document_of, generic_binary_field, int32_field, ok_field};
 use mongo_sasl::keys::{CONVERSATION_ID, DONE, PAYLOAD};
+use mongo_server::MAXIMUM_DOCUMENT_LENGTH;
 use std::alloc::Global;
 
 // The bits of the double 0.0.
 const ZERO: u64 = 0;
-
-/// The bits of the double 1.0 (IEEE 754 binary64).
-pub const ONE: u64 = 0x3FF0_0000_0000_0000;
-
-// The number of each conversation: there is one at a time.
-const CONVERSATION: i32 = 1;
-
-// The subtype of a generic binary, BSON 1.1.
-const GENERIC: u8 = 0;
-
-/// The greatest document, in bytes.
-pub const DOCUMENT_MAXIMUM: i32 = 16_777_216;
-
-/// The greatest frame that is read or sent, in bytes, as a hello's reply announces it.
-pub const MESSAGE_MAXIMUM: i32 = 48_000_000;
 
 /// The document that says a reply.
 ///
@@ -50,7 +36,7 @@ fn done_document(alloc: Global) -> Result<RawDocumentBuf, BsonFault>
     ensures document { IfOk result (λ document. document ≡ done_document) }
     ensures refused { IfErr result (λ fault. TooLongFor fault done_document) }
 {
-    document_of(alloc, &[Some((OK, RawValue::Double(ONE)))])
+    document_of(alloc, &[ok_field()])
 }
 
 fn refusal_document(alloc: Global, refusal: &RefusedCommand) -> Result<RawDocumentBuf, BsonFault>
@@ -95,11 +81,10 @@ pub fn sasl_document(alloc: Global, message: &SaslReply) -> Result<RawDocumentBu
     ensures document { IfOk result (λ document. document ≡ sasl_document message.now) }
     ensures refused { IfErr result (λ fault. TooLongFor fault (sasl_document message.now)) }
 {
-    let id = int32_field(CONVERSATION_ID, CONVERSATION);
+    let id = int32_field(CONVERSATION_ID, mongo_server::CONVERSATION_ID);
     let done = boolean_field(DONE, message.is_done);
-    let payload = RawValue::Binary(GENERIC, message.payload.as_bytes());
-    let ok = Some((OK, RawValue::Double(ONE)));
-    document_of(alloc, &[id, done, Some((PAYLOAD, payload)), ok])
+    let payload = generic_binary_field(PAYLOAD, message.payload.as_bytes());
+    document_of(alloc, &[id, done, payload, ok_field()])
 }
 
 fn build_info_document(alloc: Global) -> Result<RawDocumentBuf, BsonFault>
@@ -109,9 +94,8 @@ fn build_info_document(alloc: Global) -> Result<RawDocumentBuf, BsonFault>
     let version = Some(("version", RawValue::Str("7.0.0")));
     let git = Some(("gitVersion", RawValue::Str("")));
     let numbers = Some(("versionArray", RawValue::Array(version_numbers())));
-    let size = int32_field(MAX_BSON_OBJECT_SIZE, DOCUMENT_MAXIMUM);
-    let ok = Some((OK, RawValue::Double(ONE)));
-    document_of(alloc, &[version, git, numbers, size, ok])
+    let size = int32_field(MAX_BSON_OBJECT_SIZE, MAXIMUM_DOCUMENT_LENGTH);
+    document_of(alloc, &[version, git, numbers, size, ok_field()])
 }
 
 // The array [7, 0, 0, 0].

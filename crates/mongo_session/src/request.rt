@@ -2,14 +2,21 @@
 
 ghost use Rattle.std.specs.Prelude.{◌≡◌, ◌↔◌, ℕ, List, MatchOption, IsTrue};
 ghost use Rattle.mongo_sasl.specs.Keys.{conversation_id_key, sasl_start_key};
-ghost use Rattle.mongo_session.specs.ServeSettings.{version_named};
+ghost use Rattle.mongo_server.specs.Announced.{conversation_id};
+ghost use Rattle.mongo_session.specs.ServeSettings.{scram_version_of, version_named};
 ghost use Rattle.mongo_session.specs.Requests.{AsksMechanismsOf, CarriesLogin, HasPayload, IsCommandName, IsCommandNamed, name_without_database, SaysRequest, SaysStart, SaysVersion, SkipsEmptyExchange};
-ghost use Rattle.mongo_session.specs.Values.{binary_bytes, HasInside, HasOne, HasText, HasTrue, HoldsIfAny, inner_of, SaysOne, IsTrueBoolean, StandsAt, string_of};
+ghost use Rattle.mongo_session.specs.Values.{binary_bytes, HasInside, HasInt32, HasText, HasTrue, HoldsIfAny, inner_of, IsInt32, IsTrueBoolean, StandsAt, string_of};
 
+use crate::command_names::{BUILD_INFO, BUILD_INFO_LOWERCASE, END_SESSIONS, PING};
 use mongo_bson::{RawDocument, RawValue, first_key};
 use mongo_command::keys::{SASL_SUPPORTED_MECHS, SPECULATIVE_AUTHENTICATE};
-use mongo_command::{LEGACY_HELLO_COMMAND_NAME, LEGACY_HELLO_COMMAND_NAME_LOWERCASE};
-use mongo_sasl::keys::{CONVERSATION_ID, MECHANISM, OPTIONS, PAYLOAD, SASL_CONTINUE, SASL_START};
+use mongo_command::{
+    HELLO_COMMAND_NAME, LEGACY_HELLO_COMMAND_NAME, LEGACY_HELLO_COMMAND_NAME_LOWERCASE,
+};
+use mongo_sasl::AuthMechanism;
+use mongo_sasl::keys::{
+    CONVERSATION_ID, MECHANISM, OPTIONS, PAYLOAD, SASL_CONTINUE, SASL_START, SKIP_EMPTY_EXCHANGE,
+};
 use mongo_scram::ScramVersion;
 
 /// A command that a client asks for. What is borrowed lies in its document.
@@ -67,15 +74,15 @@ pub fn request_of<'a>(document: RawDocument<'a>) -> Request<'a>
     ensures { SaysRequest document.entry.bytes.now result }
 {
     match command_name(document) {
-        "hello" => Request::Hello(hello_request_of(document, false)),
+        HELLO_COMMAND_NAME => Request::Hello(hello_request_of(document, false)),
         LEGACY_HELLO_COMMAND_NAME => Request::Hello(hello_request_of(document, true)),
         LEGACY_HELLO_COMMAND_NAME_LOWERCASE => Request::Hello(hello_request_of(document, true)),
         SASL_START => Request::SaslStart(start_request_of(document)),
         SASL_CONTINUE => Request::SaslContinue(continue_request_of(document)),
-        "ping" => Request::Ping,
-        "buildInfo" => Request::BuildInfo,
-        "buildinfo" => Request::BuildInfo,
-        "endSessions" => Request::EndSessions,
+        PING => Request::Ping,
+        BUILD_INFO => Request::BuildInfo,
+        BUILD_INFO_LOWERCASE => Request::BuildInfo,
+        END_SESSIONS => Request::EndSessions,
         name => Request::Other(name),
     }
 }
@@ -169,17 +176,17 @@ fn skips_empty_exchange(document: RawDocument<'_>) -> bool
     ensures { IsTrue result ↔ SkipsEmptyExchange document.entry.bytes.now }
 {
     match inner_document(document, OPTIONS) {
-        Some(options) => is_true_in(options, "skipEmptyExchange"),
+        Some(options) => is_true_in(options, SKIP_EMPTY_EXCHANGE),
         None => false,
     }
 }
 
 fn continue_request_of<'a>(document: RawDocument<'a>) -> ContinueRequest<'a>
-    ensures conversation { IsTrue result.is_of_conversation ↔ HasOne document.entry.bytes.now conversation_id_key }
+    ensures conversation { IsTrue result.is_of_conversation ↔ HasInt32 document.entry.bytes.now conversation_id_key conversation_id }
     ensures message { HoldsIfAny (HasPayload document.entry.bytes.now) result.payload }
 {
     ContinueRequest {
-        is_of_conversation: is_one_in(document, CONVERSATION_ID),
+        is_of_conversation: is_int32_in(document, CONVERSATION_ID, mongo_server::CONVERSATION_ID),
         payload: payload_of(document),
     }
 }
@@ -188,9 +195,19 @@ fn continue_request_of<'a>(document: RawDocument<'a>) -> ContinueRequest<'a>
 pub fn version_named(name: &str) -> Option<ScramVersion>
     ensures { result ≡ version_named name.now }
 {
-    match name {
-        "SCRAM-SHA-1" => Some(ScramVersion::Sha1),
-        "SCRAM-SHA-256" => Some(ScramVersion::Sha256),
+    match name.parse::<AuthMechanism>() {
+        Ok(mechanism) => scram_version_of(mechanism),
+        Err(_) => None,
+    }
+}
+
+// The version of SCRAM by which the mechanism logs in.
+fn scram_version_of(mechanism: AuthMechanism) -> Option<ScramVersion>
+    ensures { result ≡ scram_version_of mechanism }
+{
+    match mechanism {
+        AuthMechanism::ScramSha1 => Some(ScramVersion::Sha1),
+        AuthMechanism::ScramSha256 => Some(ScramVersion::Sha256),
         _ => None,
     }
 }
@@ -233,12 +250,12 @@ fn is_true_in(document: RawDocument<'_>, key: &str) -> bool
     }
 }
 
-// Whether the value of a key is the int32 1.
-fn is_one_in(document: RawDocument<'_>, key: &str) -> bool
-    ensures { IsTrue result ↔ HasOne document.entry.bytes.now key.now }
+// Whether the value of a key is the int32 of this number.
+fn is_int32_in(document: RawDocument<'_>, key: &str, number: i32) -> bool
+    ensures { IsTrue result ↔ HasInt32 document.entry.bytes.now key.now number }
 {
     match value_at(document, key) {
-        Some(value) => is_one(value),
+        Some(value) => is_int32(value, number),
         None => false,
     }
 }
@@ -289,11 +306,11 @@ fn is_true_boolean(value: RawValue<'_>) -> bool
     }
 }
 
-fn is_one(value: RawValue<'_>) -> bool
-    ensures { IsTrue result ↔ SaysOne value.entry }
+fn is_int32(value: RawValue<'_>, number: i32) -> bool
+    ensures { IsTrue result ↔ IsInt32 number value.entry }
 {
     match value {
-        RawValue::Int32(number) => number == 1,
+        RawValue::Int32(given) => given == number,
         _ => false,
     }
 }

@@ -6,7 +6,7 @@ use Rattle.mongo_wire.specs.Header.{signed_at}
 use Rattle.mongo_service.specs.Cut.{IsCut}
 use Rattle.mongo_service.specs.Taken.{put_back_state, IsQueryBody}
 use Rattle.mongo_service.specs.declared.fault.ServeFault.TheVariants.{NoFrame}
-use Rattle.mongo_session.specs.Replies.{message_maximum}
+use Rattle.mongo_server.specs.Announced.{maximum_message_length}
 use Rattle.mongo_service.proofs.NoRequest.{bad_length, cut_after, no_body}
 use Rattle.mongo_service.proofs.Causes.{header_part, query_front, some_before, stopped, unasked}
 use Rattle.mongo_service.proofs.Lasts.{lasts_on, lasts_read}
@@ -22,7 +22,7 @@ returns-in_default-clause-turn g c = λ requests before h f.
     let length_fits : FitsSigned w32 c.args.header.length = search rules in
     let length_is : c.args.header.length ≡ signed_at 0 head = ap (λ x. x.length) c.requires.header in
     none_taken c.args.settings.now requests before (put_back_state g.L.Outside.state c.args.link.now) session c.args.serving.now.ids session.user NoFrame head refl (header_part head (omega (arith, sixteen))) f.taken f.unwritten h.user
-    (refl, omega (arith, sixteen), bad_length head sixteen c.requires.code (subst (λ z. (z <ℤ pos 16) ⊎ (message_maximum <ℤ z)) (to_z-of_z w32 c.args.header.length length_fits ∙ length_is) (c.in_default.ensures.outside refl))) f.lasts
+    (refl, omega (arith, sixteen), bad_length head sixteen c.requires.code (subst (λ z. (z <ℤ pos 16) ⊎ (maximum_message_length <ℤ z)) (to_z-of_z w32 c.args.header.length length_fits ∙ length_is) (c.in_default.ensures.outside refl))) f.lasts
 
 pub returns-in-Err-clause-turn : goal.returns-in-Err-clause-turn
 returns-in-Err-clause-turn g c = λ requests before h f.

@@ -1,9 +1,9 @@
-use Rattle.std.proofs.Common.{◌≡◌, List, ℕ, ap, ◌∙◌, subst, IfOk, codes, rules}
-use Rattle.mongo_command.specs.Command.{present}
-use Rattle.mongo_command.specs.Keys.{connection_id_key, hello_ok_key, logical_session_timeout_minutes_key, max_bson_object_size_key, max_message_size_bytes_key, max_wire_version_key, max_write_batch_size_key, min_wire_version_key, speculative_authenticate_key}
-use Rattle.mongo_command.specs.Literal.{document_element, document_of}
-use Rattle.mongo_session.proofs.Described.{around, speculation_said}
-use Rattle.mongo_session.proofs.PlainKeys.{plain, ok_plain, writable_plain}
+use Rattle.std.proofs.Common.{◌≡◌, List, ℕ, ap, subst, IfOk, IfErr, codes, rules}
+use Rattle.mongo_command.specs.Arguments.{TooLongFor}
+use Rattle.mongo_command.specs.Keys.{connection_id_key, hello_ok_key, logical_session_timeout_minutes_key, max_bson_object_size_key, max_message_size_bytes_key, max_wire_version_key, max_write_batch_size_key, min_wire_version_key}
+use Rattle.mongo_command.specs.Literal.{document_of}
+use Rattle.mongo_session.proofs.Described.{around}
+use Rattle.mongo_session.proofs.PlainKeys.{plain, writable_plain}
 use Rattle.mongo_session.proofs.hello_document.document_around.Goals as goal
 
 -- no key has a zero
@@ -29,7 +29,7 @@ document_of-requires c = record {
                     plain max_wire_version_key (search rules),
                     (
                       plain (codes "readOnly") (search rules),
-                      (writable_plain c.args.hello.now.is_legacy c.writable_key.result.now c.writable_key.ensures, (c.mechanisms_field.ensures.named, (c.optional_document_field.ensures.named, (ok_plain, tt)))),
+                      (writable_plain c.args.hello.now.is_legacy c.writable_key.result.now c.writable_key.ensures, (c.mechanisms_field.ensures.named, (c.optional_document_field.ensures.named, (c.ok_field.ensures.named, tt)))),
                     ),
                   ),
                 ),
@@ -44,7 +44,10 @@ document_of-requires c = record {
 
 pub returns-clause-document : goal.returns-clause-document
 returns-clause-document c =
-    let hello = c.args.hello.now in
-    let said = c.optional_document_field.ensures.elements ∙ ap (present (document_element speculative_authenticate_key)) c.requires ∙ speculation_said hello.speculation in
-    let elements = around hello c.writable_key.result.now _ _ c.writable_key.ensures c.mechanisms_field.ensures.elements said in
+    let elements = around c.args.hello.now c.writable_key.result.now _ _ _ _ _ c.writable_key.ensures c.mechanisms_field.ensures.elements c.requires.mechanisms c.optional_document_field.ensures.elements c.requires.speculation c.ok_field.ensures.elements in
     subst (λ (d : List ℕ). IfOk c.document_of.result (λ document. document ≡ d)) (ap document_of elements) c.document_of.ensures.document
+
+pub returns-clause-refused : goal.returns-clause-refused
+returns-clause-refused c =
+    let elements = around c.args.hello.now c.writable_key.result.now _ _ _ _ _ c.writable_key.ensures c.mechanisms_field.ensures.elements c.requires.mechanisms c.optional_document_field.ensures.elements c.requires.speculation c.ok_field.ensures.elements in
+    subst (λ (d : List ℕ). IfErr c.document_of.result (λ fault. TooLongFor fault d)) (ap document_of elements) c.document_of.ensures.refused
