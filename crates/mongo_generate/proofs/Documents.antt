@@ -1,5 +1,5 @@
 -- Documents that are written out, as the commands and replies of a login are.
-use Rattle.std.proofs.Common.{◌≡◌, ◌≢◌, ℕ, zero, suc, ℤ, ◌+◌, ◌-◌, ◌<◌, ◌≤◌, nat_lt, ◌==◌, ◌&&◌, Bool, true, false, not, FitsSigned, List, [], ◌∷◌, length, length-append, refl, sym, ◌∙◌, false-eqb, arith}
+use Rattle.std.proofs.Common.{◌≡◌, ◌≢◌, ℕ, zero, suc, ℤ, ◌+◌, ◌<◌, ◌≤◌, nat_lt, ◌==◌, ◌&&◌, Bool, true, false, not, FitsSigned, List, [], ◌∷◌, length, length-append, refl, sym, ◌∙◌, false-eqb, arith}
 use Rattle.std.specs.Int.{w32}
 use Rattle.std.specs.List.{AllByRecursion, flat_map}
 use Rattle.std.specs.Str.{IsUtf8, IsAscii, bytes_eq}

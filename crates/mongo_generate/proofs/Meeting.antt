@@ -1,6 +1,6 @@
 -- A client of a possible exchange over the replies of its server: there is a script, by which it writes its last message, and a
 -- key, which it derives where that has no entry.
-use Rattle.std.proofs.Common.{◌≡◌, ℕ, pos, ◌^◌, ◌<◌, ◌≤◌, ◌≤ℤ◌, Option, None, Some, option_map, inr, false, FitsSigned, List, [], ◌∷◌, ◌++◌, length, codes, decimal, append-nil, refl, sym, ap, ◌∙◌, subst, arith}
+use Rattle.std.proofs.Common.{◌≡◌, ℕ, ℤ, pos, ◌^◌, ◌<◌, ◌≤ℤ◌, Option, None, Some, option_map, inr, false, FitsSigned, List, [], ◌∷◌, ◌++◌, length, codes, decimal, append-nil, refl, sym, ap, ◌∙◌, subst, arith}
 use Rattle.std.specs.Int.{w32}
 use Rattle.std.proofs.lemmas.Int.{ints}
 use Rattle.mongo_wire.specs.Bytes.{first_maximum, next_id, IsCommandFrame}
@@ -42,6 +42,7 @@ use Rattle.mongo_establish.specs.Script.{Script, IsLoginBy, IsScript, HasScript}
 use Rattle.mongo_establish.specs.Speculation.{MechanismRow, HelloRow, speculative_message, speculative_nonce, answer_to}
 use Rattle.mongo_establish.specs.Spoken.{conversation_of, HasConversation}
 use Rattle.mongo_establish.proofs.HelloPlan.{greeting_ends}
+use Rattle.mongo_server.specs.Announced.{maximum_message_length}
 use Rattle.mongo_server.specs.Acceptance.{IsClientOf, IsAccepted, challenge_of}
 use Rattle.mongo_server.specs.Exchange.{Exchange, joined_of, first_of, close_of, server_final_of}
 use Rattle.mongo_generate.specs.Acceptance.{AreExchangeReplies}
@@ -198,7 +199,7 @@ module _ (pending : PendingConnection) (x : Exchange) (nonces : Nonces) (bytes :
 
   first_within : pos (length first_frame) ≤ℤ first_maximum
   unfolding first_frame
-  first_within = frame_within (pos 0) (hello_document asked) 50331648 (omega (arith, length_hello pending x nonces possible nonce_is))
+  first_within = frame_within (pos 0) (hello_document asked) first_maximum (omega (arith, ints, length_hello pending x nonces possible nonce_is))
 
   last_is_frame : IsCommandFrame last_frame (next_id (pos 0)) (close_document (close_of x))
   unfolding last_frame
@@ -206,9 +207,9 @@ module _ (pending : PendingConnection) (x : Exchange) (nonces : Nonces) (bytes :
       let fits : FitsSigned w32 (next_id (pos 0)) = omega arith in
       frame_of (next_id (pos 0)) (close_document (close_of x)) fits (framed_close (close_of x) (omega (arith, short_close))) (omega (arith, short_close, length_close_document (close_of x) (omega (arith, short_close))))
 
-  last_within : (limit : ℕ) → 2 ^ 23 ≤ limit → pos (length last_frame) ≤ℤ pos limit
+  last_within : (limit : ℤ) → pos (2 ^ 23) ≤ℤ limit → pos (length last_frame) ≤ℤ limit
   unfolding last_frame
-  last_within limit large = frame_within (next_id (pos 0)) (close_document (close_of x)) limit (omega (arith, short_close, length_close_document (close_of x) (omega (arith, short_close))))
+  last_within limit large = frame_within (next_id (pos 0)) (close_document (close_of x)) limit (omega (arith, ints, large, short_close, length_close_document (close_of x) (omega (arith, short_close))))
 
   -- ---- the script
 
@@ -247,7 +248,7 @@ module _ (pending : PendingConnection) (x : Exchange) (nonces : Nonces) (bytes :
         script = script;
         is_script = is_script;
         sent = first_frame ++ last_frame;
-        is_written = (first_frame, last_frame, refl, first_is_frame, first_within, (last_frame, [], sym (append-nil last_frame), last_is_frame, last_within 48000000 (omega arith), refl));
+        is_written = (first_frame, last_frame, refl, first_is_frame, first_within, (last_frame, [], sym (append-nil last_frame), last_is_frame, last_within maximum_message_length (omega (arith, ints)), refl));
         taken = r.hello ++ r.final;
         rest = [];
         joined = r.joined ∙ sym (append-nil (r.hello ++ r.final));
@@ -266,7 +267,7 @@ module _ (pending : PendingConnection) (x : Exchange) (nonces : Nonces) (bytes :
     first_within = first_within;
     second_parts = record { request_id = next_id (pos 0); response_to = pos 0; flags = 0; body = close_document (close_of x); sequences = []; checksum = None };
     second_is = last_is_frame.is_frame;
-    second_within = last_within 50331648 (omega arith);
+    second_within = last_within first_maximum (omega (arith, ints));
     carried = close_carries (close_of x) (omega (arith, short_close));
   }
 

@@ -1,5 +1,5 @@
 -- The messages of a possible exchange fit into replies, so that only memory can be wanting where these are made.
-use Rattle.std.proofs.Common.{◌≡◌, ℕ, ℤ, pos, ◌+◌, ◌-◌, ◌^◌, ◌<◌, ◌≤◌, None, Result, Ok, Err, IfErr, List, [], ◌∷◌, ◌++◌, length, length-append, map, codes, decimal, refl, sym, subst, arith}
+use Rattle.std.proofs.Common.{◌≡◌, ℕ, ℤ, ◌+◌, ◌^◌, ◌<◌, ◌≤◌, None, Result, Ok, Err, IfErr, List, [], ◌∷◌, ◌++◌, length, length-append, map, codes, decimal, refl, sym, subst, arith}
 use Rattle.std.specs.List.{AllByRecursion, flat_map}
 use Rattle.std.proofs.lemmas.Fmt.{length-decimal-le}
 use Rattle.std.proofs.lemmas.Int.{ints}
@@ -17,6 +17,7 @@ use Rattle.mongo_scram.specs.Messages.{verifier}
 use Rattle.mongo_scram.specs.Version.{digest_of}
 use Rattle.mongo_scram.specs.declared.scram_version.ScramVersion.{ScramVersion}
 use Rattle.mongo_mac.specs.Hmac.{hmac_of}
+use Rattle.mongo_server.specs.Announced.{maximum_message_length}
 use Rattle.mongo_server.specs.Exchange.{Exchange, joined_of, salted_between, auth_message_between, first_of, server_final_of}
 use Rattle.mongo_generate.specs.Login.{IsPossible}
 use Rattle.mongo_generate.specs.Replies.{speculative_elements, standalone_elements, final_elements, hello_reply, final_reply}
@@ -72,7 +73,7 @@ module _ (m : Message) (old new : State) (before after : ℤ) (alone : m.documen
   none : (P : DocumentSequence → Type 0) → AllByRecursion P m.document_sequences
   none P = subst (AllByRecursion P) (sym alone) tt
 
-  only_memory : (kind : ErrorKind) → WriteRefused kind (pos 48000000) m old new before after → new.write_faults ≡ 0 → kind ≡ OutOfMemory
+  only_memory : (kind : ErrorKind) → WriteRefused kind maximum_message_length m old new before after → new.write_faults ≡ 0 → kind ≡ OutOfMemory
   only_memory OutOfMemory refused calm = refl
   only_memory WriteFault refused calm = let rose = refused.0 in absurd (omega (arith, rose, calm))
   only_memory (InvalidArgument IdentifierHasZero) refused calm = absurd (refused.0 (none _))
@@ -83,6 +84,6 @@ module _ (m : Message) (old new : State) (before after : ℤ) (alone : m.documen
   only_memory kind refused calm = absurd refused
 
   -- a message that is short enough is written to a link that doesn't fail
-  pub frame_fits : {T : Type 0} (r : Result T Error) → IfErr r (λ e. WriteRefused e.kind (pos 48000000) m old new before after) → new.write_faults ≡ 0 → IfErr r (λ e. e.kind ≡ OutOfMemory)
+  pub frame_fits : {T : Type 0} (r : Result T Error) → IfErr r (λ e. WriteRefused e.kind maximum_message_length m old new before after) → new.write_faults ≡ 0 → IfErr r (λ e. e.kind ≡ OutOfMemory)
   frame_fits (Ok written) refused calm = tt
   frame_fits (Err e) refused calm = only_memory e.kind refused calm

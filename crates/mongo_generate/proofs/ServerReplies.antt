@@ -1,5 +1,5 @@
 -- The server's two replies say what they carry.
-use Rattle.std.proofs.Common.{◌≡◌, ℕ, suc, pos, ◌^◌, ◌<◌, ◌≤◌, Bool, true, false, None, Some, inl, inr, FitsSigned, List, length, refl, sym, ◌∙◌, subst, arith}
+use Rattle.std.proofs.Common.{◌≡◌, ℕ, suc, ◌^◌, ◌<◌, ◌≤◌, Bool, true, false, None, Some, inl, inr, FitsSigned, List, length, refl, sym, ◌∙◌, subst, arith}
 use Rattle.std.specs.Int.{to_le_bytes, cast_unsigned, w32}
 use Rattle.std.specs.List.{AllByRecursion}
 use Rattle.mongo_bson.specs.Framed.{maximum_length}
@@ -14,6 +14,7 @@ use Rattle.mongo_command.specs.Hello.{IsHelloResponse}
 use Rattle.mongo_command.specs.Keys.{max_bson_object_size_key, max_message_size_bytes_key, ok_key, speculative_authenticate_key}
 use Rattle.mongo_sasl.specs.Reply.{IsSaslReply}
 use Rattle.mongo_sasl.specs.Keys.{conversation_id_key, done_key, payload_key}
+use Rattle.mongo_server.specs.Announced.{conversation_id, maximum_document_length, maximum_message_length}
 use Rattle.mongo_generate.specs.Replies.{round_elements, speculative_elements, standalone_elements, final_elements, hello_reply, final_reply}
 use Rattle.mongo_generate.proofs.Documents.{cstring, apart, number_is_element, boolean_is_element, binary_is_element, document_is_element, length-document_of, document_of-is, framed_document_of, IsFlat, flat_readable}
 
@@ -45,15 +46,15 @@ done_is_cstring = cstring done_key refl refl
 pub payload_is_cstring : IsCstring payload_key
 payload_is_cstring = cstring payload_key refl refl
 
-pub one_fits : FitsSigned w32 (pos 1)
+pub one_fits : FitsSigned w32 conversation_id
 one_fits = omega arith
 
 round_are : (done : Bool) (payload : List ℕ) → length payload ≤ maximum_length → AllByRecursion IsElement (round_elements done payload)
 round_are done payload short =
-    (number_is_element conversation_id_key (pos 1) conversation_is_cstring one_fits, (boolean_is_element done_key done done_is_cstring, (binary_is_element payload_key payload payload_is_cstring short, tt)))
+    (number_is_element conversation_id_key conversation_id conversation_is_cstring one_fits, (boolean_is_element done_key done done_is_cstring, (binary_is_element payload_key payload payload_is_cstring short, tt)))
 
 round_flat : (done : Bool) (payload : List ℕ) → AllByRecursion IsFlat (round_elements done payload)
-round_flat done payload = (flat (int32_element conversation_id_key (pos 1)) (fixed 4) refl (not_fixed 4) (λ is. absurd (omega arith)), (flat (boolean_element done_key done) boolean refl not_boolean (λ is. absurd (omega arith)), (flat (generic_element payload_key payload) binary refl not_binary (λ is. absurd (omega arith)), tt)))
+round_flat done payload = (flat (int32_element conversation_id_key conversation_id) (fixed 4) refl (not_fixed 4) (λ is. absurd (omega arith)), (flat (boolean_element done_key done) boolean refl not_boolean (λ is. absurd (omega arith)), (flat (generic_element payload_key payload) binary refl not_binary (λ is. absurd (omega arith)), tt)))
 
 round_distinct : (done : Bool) (payload : List ℕ) → HasDistinctKeys (round_elements done payload)
 round_distinct done payload = ((apart done_key conversation_id_key refl, (apart payload_key conversation_id_key refl, tt)), ((apart payload_key done_key refl, tt), (tt, tt)))
@@ -76,7 +77,7 @@ speculative_readable levels payload short = flat_readable levels (document_of (s
 
 -- the conversation's number
 abbrev pub conversation : OwnedValue
-conversation = record { kind = 0x10; bytes = to_le_bytes w32 (cast_unsigned w32 (pos 1)) }
+conversation = record { kind = 0x10; bytes = to_le_bytes w32 (cast_unsigned w32 conversation_id) }
 
 pub speculative_says : (payload : List ℕ) → length payload < 2 ^ 30 → IsSaslReply (document_of (speculative_elements payload)) (record { conversation_id = conversation; done = false; payload = payload })
 unfolding Required
@@ -119,16 +120,16 @@ message_key = cstring max_message_size_bytes_key refl refl
 speculative_key : IsCstring speculative_authenticate_key
 speculative_key = cstring speculative_authenticate_key refl refl
 
-size_fits : FitsSigned w32 (pos 16777216)
+size_fits : FitsSigned w32 maximum_document_length
 size_fits = omega arith
 
-message_fits : FitsSigned w32 (pos 48000000)
+message_fits : FitsSigned w32 maximum_message_length
 message_fits = omega arith
 
 hello_document : (payload : List ℕ) → length payload < 2 ^ 29 → IsDocument (document_of (standalone_elements payload)) (standalone_elements payload)
 hello_document payload short =
     document_of-is (standalone_elements payload)
-    (ok_is_element, (number_is_element max_bson_object_size_key (pos 16777216) size_key size_fits, (number_is_element max_message_size_bytes_key (pos 48000000) message_key message_fits, (document_is_element speculative_authenticate_key (document_of (speculative_elements payload)) speculative_key (framed_document_of (speculative_elements payload) (omega arith)), tt))))
+    (ok_is_element, (number_is_element max_bson_object_size_key maximum_document_length size_key size_fits, (number_is_element max_message_size_bytes_key maximum_message_length message_key message_fits, (document_is_element speculative_authenticate_key (document_of (speculative_elements payload)) speculative_key (framed_document_of (speculative_elements payload) (omega arith)), tt))))
     (omega (arith, length-document_of (speculative_elements payload)))
 
 inner_readable : (levels : ℕ) (payload d : List ℕ) → length payload < 2 ^ 29 → IsInside (document_element speculative_authenticate_key (document_of (speculative_elements payload))) d → IsReadable (suc levels) d
@@ -142,7 +143,7 @@ unfolding IsReadable
 hello_readable levels payload short = (
   standalone_elements payload,
   hello_document payload short,
-  ((λ d inside. absurd (ok_flat d inside)), ((λ d inside. absurd (flat (int32_element max_bson_object_size_key (pos 16777216)) (fixed 4) refl (not_fixed 4) (λ is. absurd (omega arith)) d inside)), ((λ d inside. absurd (flat (int32_element max_message_size_bytes_key (pos 48000000)) (fixed 4) refl (not_fixed 4) (λ is. absurd (omega arith)) d inside)), ((λ d inside. inner_readable levels payload d short inside), tt)))),
+  ((λ d inside. absurd (ok_flat d inside)), ((λ d inside. absurd (flat (int32_element max_bson_object_size_key maximum_document_length) (fixed 4) refl (not_fixed 4) (λ is. absurd (omega arith)) d inside)), ((λ d inside. absurd (flat (int32_element max_message_size_bytes_key maximum_message_length) (fixed 4) refl (not_fixed 4) (λ is. absurd (omega arith)) d inside)), ((λ d inside. inner_readable levels payload d short inside), tt)))),
 )
 
 -- a standalone server's, with this answer to the login
@@ -172,8 +173,8 @@ standalone inner = record {
   primary = None;
   sasl_supported_mechs = None;
   speculative_authenticate = Some inner;
-  max_bson_object_size = pos 16777216;
-  max_message_size_bytes = pos 48000000;
+  max_bson_object_size = maximum_document_length;
+  max_message_size_bytes = maximum_message_length;
   max_write_batch_size = None;
   service_id = None;
   topology_version = None;

@@ -35,6 +35,7 @@ use Rattle.mongo_establish.specs.declared.login_state.Nonces.{Nonces}
 use Rattle.mongo_establish.specs.Asked.{Asked, asked_for}
 use Rattle.mongo_establish.specs.Client.{with_document, common_hello, speculating, introducing, login_hello, hello_document}
 use Rattle.mongo_establish.specs.Speculation.{scram_speculation, speculation}
+use Rattle.mongo_server.specs.Announced.{conversation_id}
 use Rattle.mongo_server.specs.Exchange.{Exchange}
 use Rattle.mongo_generate.specs.Login.{IsPossible, credential_by}
 use Rattle.mongo_generate.specs.Options.{handshaker_options}
@@ -139,7 +140,7 @@ close_is close short =
     ap (λ b. enclosed (b ++ flat_map spell (last ∷ []))) (element_bytes-enclosed (flat_map spell first) (omega (arith, length-document_of first, length-enclosed (flat_map spell first)))) ∙ ap enclosed (sym (flat_map-append spell first (last ∷ [])))
 
 close_are : (close : List ℕ) → length close < 2 ^ 29 → AllByRecursion (λ e. IsElement e) (close_elements close)
-close_are close short = (number_is_element sasl_continue_key (pos 1) (cstring sasl_continue_key refl refl) one_fits, (number_is_element conversation_id_key (pos 1) conversation_is_cstring one_fits, (binary_is_element payload_key close payload_is_cstring (omega arith), (text_is_element db_key (codes "admin") (cstring db_key refl refl) (ascii_text (codes "admin") refl) (omega arith), tt))))
+close_are close short = (number_is_element sasl_continue_key (pos 1) (cstring sasl_continue_key refl refl) one_fits, (number_is_element conversation_id_key conversation_id conversation_is_cstring one_fits, (binary_is_element payload_key close payload_is_cstring (omega arith), (text_is_element db_key (codes "admin") (cstring db_key refl refl) (ascii_text (codes "admin") refl) (omega arith), tt))))
 
 pub close_carries : (close : List ℕ) → length close < 2 ^ 29 → CarriesPayload close (close_document close)
 unfolding Required
@@ -165,8 +166,8 @@ frame_of id document fits framed short =
     let none : FitsSigned w32 (pos 0) = omega arith in
     written_is_frame id (plain_message document) fits none (omega (arith, length-append document [], length-append (document ++ []) [])) (framed, tt) tt tt
 
-pub frame_within : (id : ℤ) (document : List ℕ) (maximum : ℕ) → 21 + length document ≤ maximum → pos (length (written_frame id (plain_message document))) ≤ℤ pos maximum
-frame_within id document maximum small = omega (arith, ints, length_frame id document)
+pub frame_within : (id : ℤ) (document : List ℕ) (maximum : ℤ) → pos (21 + length document) ≤ℤ maximum → pos (length (written_frame id (plain_message document))) ≤ℤ maximum
+frame_within id document maximum small = omega (arith, ints, small, length_frame id document)
 
 -- a frame's document is no longer than the frame
 in_sections : (sections : List Section) (document : List ℕ) → bodies sections ≡ document ∷ [] → length document ≤ length (flat_map section_bytes sections)

@@ -5,28 +5,29 @@ use Rattle.mongo_bson.specs.Document.{Element}
 use Rattle.mongo_command.specs.Literal.{document_element, boolean_element, int32_element, ok_element, document_of, generic_element}
 use Rattle.mongo_command.specs.Keys.{max_bson_object_size_key, max_message_size_bytes_key, speculative_authenticate_key}
 use Rattle.mongo_sasl.specs.Keys.{conversation_id_key, done_key, payload_key}
+use Rattle.mongo_server.specs.Announced.{conversation_id, maximum_document_length, maximum_message_length}
 use Rattle.mongo_wire.specs.declared.memory_link.MemoryLink.{MemoryLink}
 use Rattle.mongo_wire.specs.Frame.{Frame, IsFrame}
 use Rattle.mongo_wire.specs.Memory.{bytes_written}
 
--- the greatest frame that the server takes
-abbrev pub server_maximum : ℤ
-server_maximum = pos 48000000
-
 -- what a round of a conversation says
 abbrev pub round_elements : Bool → List ℕ → List Element
-round_elements done payload = int32_element conversation_id_key (pos 1) ∷ boolean_element done_key done ∷ generic_element payload_key payload ∷ []
+round_elements done payload = int32_element conversation_id_key conversation_id ∷ boolean_element done_key done ∷ generic_element payload_key payload ∷ []
 
 abbrev pub speculative_elements : List ℕ → List Element
 speculative_elements server_first = round_elements false server_first
 
-abbrev pub standalone_elements : List ℕ → List Element
-standalone_elements server_first =
+-- what a standalone server says, around the document that answers the login
+abbrev pub standalone_around : List ℕ → List Element
+standalone_around answer =
     ok_element
-    ∷ int32_element max_bson_object_size_key (pos 16777216)
-    ∷ int32_element max_message_size_bytes_key server_maximum
-    ∷ document_element speculative_authenticate_key (document_of (speculative_elements server_first))
+    ∷ int32_element max_bson_object_size_key maximum_document_length
+    ∷ int32_element max_message_size_bytes_key maximum_message_length
+    ∷ document_element speculative_authenticate_key answer
     ∷ []
+
+abbrev pub standalone_elements : List ℕ → List Element
+standalone_elements server_first = standalone_around (document_of (speculative_elements server_first))
 
 abbrev pub final_elements : List ℕ → List Element
 final_elements server_final = ok_element ∷ round_elements true server_final
@@ -49,7 +50,7 @@ pub record IsReply (document : List ℕ) (maximum : ℤ) (frame : List ℕ) : Ty
 -- the frame of such a reply was written to the link
 pub record WritesReply (document : List ℕ) (old new : MemoryLink) : Type 0 where
   pub frame : List ℕ
-  pub is_reply : IsReply document server_maximum frame
+  pub is_reply : IsReply document maximum_message_length frame
   pub written : bytes_written new ≡ bytes_written old ++ frame
 
 -- the bytes are the frames of the two replies
@@ -57,5 +58,5 @@ pub record AreReplies (server_first server_final bytes : List ℕ) : Type 0 wher
   pub hello : List ℕ
   pub final : List ℕ
   pub joined : bytes ≡ hello ++ final
-  pub hello_is : IsReply (hello_reply server_first) server_maximum hello
-  pub final_is : IsReply (final_reply server_final) server_maximum final
+  pub hello_is : IsReply (hello_reply server_first) maximum_message_length hello
+  pub final_is : IsReply (final_reply server_final) maximum_message_length final

@@ -1,30 +1,22 @@
 //! A server's two replies, as frames.
-ghost use Rattle.std.specs.Prelude.{◌≡◌, ◌^◌, ◌<◌, length, IfOk, IfErr, OnOk};
+ghost use Rattle.std.specs.Prelude.{◌≡◌, ◌^◌, ◌<◌, length, flat_map, IfOk, IfErr, OnOk};
+ghost use Rattle.std.specs.List.{AllByRecursion};
 ghost use Rattle.mongo_wire.specs.declared.error.ErrorKind.TheVariants.{OutOfMemory};
+ghost use Rattle.mongo_command.specs.Arguments.{field_elements, IsNamed};
 ghost use Rattle.mongo_command.specs.Literal.{document_of};
-ghost use Rattle.mongo_generate.specs.Replies.{speculative_elements, hello_reply, final_reply, WritesReply, AreReplies};
+ghost use Rattle.mongo_generate.specs.Replies.{speculative_elements, standalone_around, hello_reply, final_reply, WritesReply, AreReplies};
 
 use bitflags::Flags;
-use mongo_bson::{BsonFault, Bytes, RawDocumentBuf, RawValue};
-use mongo_command::keys::{
-    MAX_BSON_OBJECT_SIZE, MAX_MESSAGE_SIZE_BYTES, OK, SPECULATIVE_AUTHENTICATE,
+use mongo_bson::{BsonFault, Bytes, RawDocumentBuf};
+use mongo_command::keys::{MAX_BSON_OBJECT_SIZE, MAX_MESSAGE_SIZE_BYTES, SPECULATIVE_AUTHENTICATE};
+use mongo_command::{
+    ArgumentField, boolean_field, document_field, document_of, generic_binary_field, int32_field,
+    ok_field,
 };
-use mongo_command::{boolean_field, document_field, document_of, int32_field};
 use mongo_sasl::keys::{CONVERSATION_ID, DONE, PAYLOAD};
+use mongo_server::{MAXIMUM_DOCUMENT_LENGTH, MAXIMUM_MESSAGE_LENGTH};
 use mongo_wire::{Error, MemoryLink, Message, MessageFlags, RequestIds, Sequences};
 use std::alloc::Global;
-
-// The bits of the double 1.
-const ONE: u64 = 0x3FF0_0000_0000_0000;
-
-// The greatest frame that the server takes.
-const MAXIMUM: i32 = 48_000_000;
-
-// The number of the conversation.
-const CONVERSATION: i32 = 1;
-
-// The generic subtype of a binary, BSON 1.1.
-const GENERIC: u8 = 0;
 
 /// The frames of the reply to a hello with this first message, and of the reply to the command after it with this last
 /// one.
@@ -58,7 +50,8 @@ fn write_reply(
         checksum: None,
         request_id: Some(1),
     };
-    message.write_op_msg_to(alloc, link, Some(MAXIMUM), &mut RequestIds::new(0))
+    let maximum = Some(MAXIMUM_MESSAGE_LENGTH);
+    message.write_op_msg_to(alloc, link, maximum, &mut RequestIds::new(0))
 }
 
 // The reply to a hello: `{ok: 1.0, maxBsonObjectSize: 16777216, maxMessageSizeBytes: 48000000, speculativeAuthenticate:
@@ -69,11 +62,21 @@ fn hello_reply(alloc: Global, server_first: &[u8]) -> Result<RawDocumentBuf, Bso
     ensures short { length server_first.now < 2 ^ 24 → IfErr result (λ fault. fault ≡ BsonFault.OutOfMemory) }
 {
     let answer = answer_to_login(alloc, server_first)?;
-    let ok = Some((OK, RawValue::Double(ONE)));
-    let size = Some((MAX_BSON_OBJECT_SIZE, RawValue::Int32(16_777_216)));
-    let frame = Some((MAX_MESSAGE_SIZE_BYTES, RawValue::Int32(MAXIMUM)));
-    let answer = document_field(SPECULATIVE_AUTHENTICATE, &answer);
-    document_of(alloc, &[ok, size, frame, answer])
+    let fields = hello_fields(&answer);
+    document_of(alloc, &fields)
+}
+
+// The fields of the reply to a hello, around the document that answers the login.
+fn hello_fields<'a>(answer: &'a RawDocumentBuf) -> [ArgumentField<'a>; 4]
+    ensures elements { flat_map field_elements result ≡ standalone_around answer.now }
+    ensures named { AllByRecursion IsNamed result }
+{
+    [
+        ok_field(),
+        int32_field(MAX_BSON_OBJECT_SIZE, MAXIMUM_DOCUMENT_LENGTH),
+        int32_field(MAX_MESSAGE_SIZE_BYTES, MAXIMUM_MESSAGE_LENGTH),
+        document_field(SPECULATIVE_AUTHENTICATE, answer),
+    ]
 }
 
 // What the reply to a hello says to the login that went with it.
@@ -81,9 +84,9 @@ fn answer_to_login(alloc: Global, server_first: &[u8]) -> Result<RawDocumentBuf,
     ensures answer { IfOk result (λ document. document ≡ document_of (speculative_elements server_first.now)) }
     ensures short { length server_first.now < 2 ^ 24 → IfErr result (λ fault. fault ≡ BsonFault.OutOfMemory) }
 {
-    let id = int32_field(CONVERSATION_ID, CONVERSATION);
+    let id = int32_field(CONVERSATION_ID, mongo_server::CONVERSATION_ID);
     let done = boolean_field(DONE, false);
-    let payload = Some((PAYLOAD, RawValue::Binary(GENERIC, server_first)));
+    let payload = generic_binary_field(PAYLOAD, server_first);
     document_of(alloc, &[id, done, payload])
 }
 
@@ -93,9 +96,8 @@ fn final_reply(alloc: Global, server_final: &[u8]) -> Result<RawDocumentBuf, Bso
     ensures reply { IfOk result (λ document. document ≡ final_reply server_final.now) }
     ensures short { length server_final.now < 2 ^ 24 → IfErr result (λ fault. fault ≡ BsonFault.OutOfMemory) }
 {
-    let ok = Some((OK, RawValue::Double(ONE)));
-    let id = int32_field(CONVERSATION_ID, CONVERSATION);
+    let id = int32_field(CONVERSATION_ID, mongo_server::CONVERSATION_ID);
     let done = boolean_field(DONE, true);
-    let payload = Some((PAYLOAD, RawValue::Binary(GENERIC, server_final)));
-    document_of(alloc, &[ok, id, done, payload])
+    let payload = generic_binary_field(PAYLOAD, server_final);
+    document_of(alloc, &[ok_field(), id, done, payload])
 }
