@@ -5,8 +5,8 @@
 //! it ended. The call that serves is [`run_counted`] of `mongo_service`, and its clauses say what each end means.
 #![tactic(auto)]
 
+use mongo_service::ServeStatus;
 use mongo_service::run::run_counted;
-use mongo_service::{PutBack, ServeStatus};
 use mongo_wire::{StdLink, StdSink};
 use std::alloc::AllocGlobal;
 use std::marker::Brand;
@@ -22,7 +22,7 @@ fn main(rt: HostRuntime) -> ExitCode {
         Ok(words) => run_counted::<_, _, Brand>(
             rt.alloc(),
             &words,
-            &mut PutBack::new(rt.alloc(), StdLink::new(rt.stdin(), rt.stdout())),
+            &mut StdLink::new(rt.stdin(), rt.stdout()),
             &mut StdSink::new(rt.stderr()),
             Blank::new(1),
         ),

@@ -1,5 +1,5 @@
 -- Why a stream was left, by what its parts say.
-use Rattle.std.proofs.Common.{◌≡◌, ◌⊎◌, ℕ, ℤ, pos, ◌+◌, ◌-◌, ◌<◌, ◌≤◌, ◌≤ℤ◌, Option, None, Some, IfSome, List, [], ◌++◌, length, is_some, inl, inr, refl, sym, ap, ◌∙◌, subst, arith, length-append, append-nil}
+use Rattle.std.proofs.Common.{◌≡◌, ◌⊎◌, ℕ, ℤ, pos, ◌+◌, ◌<◌, ◌≤◌, ◌≤ℤ◌, Option, None, Some, IfSome, List, [], ◌++◌, length, is_some, inl, inr, refl, sym, ap, ◌∙◌, subst, arith, length-append, append-nil}
 use Rattle.std.proofs.lemmas.Bool.{false≢true}
 use Rattle.std.proofs.lemmas.Int.{ints}
 use Rattle.std.specs.Io.KnownBytes.{Consumes}
@@ -89,10 +89,10 @@ some_before (Some bytes) front some = omega (arith, some, length-append front by
 
 -- ---- an OP_MSG was refused
 
-pub record Refused (fault : ServeFault) (old mid new : State) : Type 0 where
+pub record Refused (fault : ServeFault) (old new : State) : Type 0 where
   pub taken : List ℕ
   pub part : IsPart taken
-  pub consumed : Consumes mid.left new.left taken
+  pub consumed : Consumes old.left new.left taken
   pub cause : HasCause fault old new [] taken
 
 started : (maximum : ℤ) (taken : List ℕ) → IsUnfinished maximum taken → IsStarted maximum taken
@@ -112,12 +112,10 @@ row_whole maximum taken kind whole (inr (inr (inl short))) = short.passes.whole
 row_whole maximum taken kind whole (inr (inr (inr none))) = none.passes.whole
 
 -- what was emptied was taken
-emptied_some : (old mid new : Option (List ℕ)) (taken : List ℕ) → mid ≡ old → IfSome old (λ bytes. 0 < length bytes) → Consumes mid new taken → IsEmptied new → IfSome old (λ _. 0 < length taken)
-emptied_some None mid new taken same some p empty = tt
-emptied_some (Some xs) mid None taken same some p empty = let q : Consumes (Some xs) None taken = subst (λ m. Consumes m None taken) same p in absurd q
-emptied_some (Some xs) mid (Some ys) taken same some p empty =
-    let q : xs ≡ taken ++ ys = subst (λ m. Consumes m (Some ys) taken) same p in
-    omega (arith, some, ap length q, length-append taken ys, ap length empty)
+emptied_some : (old new : Option (List ℕ)) (taken : List ℕ) → IfSome old (λ bytes. 0 < length bytes) → Consumes old new taken → IsEmptied new → IfSome old (λ _. 0 < length taken)
+emptied_some None new taken some p empty = tt
+emptied_some (Some xs) None taken some p empty = absurd p
+emptied_some (Some xs) (Some ys) taken some p empty = omega (arith, some, ap length p, length-append taken ys, ap length empty)
 
 -- the op code of an OP_MSG
 abbrev IsOfMessage : List ℕ → Type 0
@@ -128,24 +126,23 @@ message_taken xs taken None message whole p = absurd p
 message_taken xs taken (Some ys) message whole p = sym (signed_in 12 taken ys (omega arith)) ∙ ap (signed_at 12) (sym p) ∙ message
 
 -- the bytes of an OP_MSG call for a row; where none are told, any do that begin no request
-row_refused : (kind : ErrorKind) (old mid new : State) (left : Option (List ℕ)) → mid.left ≡ left → (kind ≡ EndOfInput → ⊥) → IfSome mid.left IsOfMessage → TakesRow kind maximum_message_length mid.left new.left → Refused NoFrame old mid new
-row_refused kind old mid new None is other message row =
+row_refused : (kind : ErrorKind) (old new : State) (left : Option (List ℕ)) → old.left ≡ left → (kind ≡ EndOfInput → ⊥) → IfSome old.left IsOfMessage → TakesRow kind maximum_message_length old.left new.left → Refused NoFrame old new
+row_refused kind old new None is other message row =
     record { taken = untold; part = inl (inl (omega arith)); consumed = subst (λ left. Consumes left new.left untold) (sym is) tt; cause = (refl, omega arith, untold_begins_none) }
-row_refused kind old mid new (Some xs) is other message row =
+row_refused kind old new (Some xs) is other message row =
     let taken = row.0 in
     let whole = row_whole maximum_message_length taken kind other row.2 in
     let code = message_taken xs taken new.left (subst (λ left. IfSome left IsOfMessage) is message) whole (subst (λ left. Consumes left new.left taken) is row.1) in
     record { taken = taken; part = inl (row_started maximum_message_length taken kind row.2); consumed = row.1; cause = (refl, whole, no_message taken kind whole code other row.2) }
 
-pub refused : (fault : FrameFault) (old mid new : State) → Lasts old mid → mid.left ≡ old.left → IfSome old.left (λ bytes. 0 < length bytes) → IfSome old.left IsOfMessage → ReadRefused (kind_of_frame_fault fault) maximum_message_length mid new
-    → Refused (fault_of_frame fault) old mid new
-refused frame.ReadFault old mid new lasts same some message h =
-    record { taken = h.1.0; part = inl (started maximum_message_length h.1.0 h.1.2); consumed = h.1.1; cause = (rose_after old.read_faults mid.read_faults new.read_faults lasts.reads h.0, refl, unfinished maximum_message_length h.1.0 h.1.2) }
-refused frame.EndOfInput old mid new lasts same some message h =
-    record { taken = h.1.0; part = inl (row_started maximum_message_length h.1.0 EndOfInput h.1.2); consumed = h.1.1; cause = (rose_after old.ends mid.ends new.ends lasts.ends h.0, h.2, refl, emptied_some old.left mid.left new.left h.1.0 same some h.1.1 h.2, ended_within maximum_message_length h.1.0 h.1.2) }
-refused frame.OutOfMemory old mid new lasts same some message h = record { taken = h.0; part = inl h.2; consumed = h.1; cause = tt }
-refused (frame.InvalidArgument f) old mid new lasts same some message h = row_refused (InvalidArgument f) old mid new mid.left refl (λ e. cc) (subst (λ left. IfSome left IsOfMessage) (sym same) message) h
-refused (frame.InvalidResponse f) old mid new lasts same some message h = row_refused (InvalidResponse f) old mid new mid.left refl (λ e. cc) (subst (λ left. IfSome left IsOfMessage) (sym same) message) h
+pub refused : (fault : FrameFault) (old new : State) → IfSome old.left (λ bytes. 0 < length bytes) → IfSome old.left IsOfMessage → ReadRefused (kind_of_frame_fault fault) maximum_message_length old new → Refused (fault_of_frame fault) old new
+refused frame.ReadFault old new some message h =
+    record { taken = h.1.0; part = inl (started maximum_message_length h.1.0 h.1.2); consumed = h.1.1; cause = (h.0, refl, unfinished maximum_message_length h.1.0 h.1.2) }
+refused frame.EndOfInput old new some message h =
+    record { taken = h.1.0; part = inl (row_started maximum_message_length h.1.0 EndOfInput h.1.2); consumed = h.1.1; cause = (h.0, h.2, refl, emptied_some old.left new.left h.1.0 some h.1.1 h.2, ended_within maximum_message_length h.1.0 h.1.2) }
+refused frame.OutOfMemory old new some message h = record { taken = h.0; part = inl h.2; consumed = h.1; cause = tt }
+refused (frame.InvalidArgument f) old new some message h = row_refused (InvalidArgument f) old new old.left refl (λ e. cc) message h
+refused (frame.InvalidResponse f) old new some message h = row_refused (InvalidResponse f) old new old.left refl (λ e. cc) message h
 
 -- ---- fronts
 

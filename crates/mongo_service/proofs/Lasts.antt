@@ -15,6 +15,10 @@ lasts_on old mid new p q =
 pub lasts_read : (old new : State) → ReadsOn old new → Lasts old new
 lasts_read old new on = record { reads = on.faults_stay; ends = on.ends_stay; writes = omega (arith, on.unwritten.writes); flushed = omega (arith, on.unwritten.flushed) }
 
+-- what reads keep, one after another
+pub lasts_after : (before now new : State) → ReadsOn before now → ReadsOn now new → Lasts before new
+lasts_after before now new p q = lasts_on before now new (lasts_read before now p) (lasts_read now new q)
+
 pub lasts_write : (old new : State) → WritesOn old new → Lasts old new
 lasts_write old new on = record { reads = omega (arith, on.unread.reads); ends = omega (arith, on.unread.ends); writes = on.faults_stay; flushed = on.flushed_stays }
 

@@ -4,7 +4,6 @@ pub mod Lasts
 pub mod LineRead
 pub mod NoRequest
 pub mod Parts
-pub mod Prepended
 pub mod Queried
 pub mod Ran
 pub mod Responses

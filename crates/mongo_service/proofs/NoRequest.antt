@@ -1,16 +1,16 @@
 -- Bytes that begin no request, and a request's op code and length.
-use Rattle.std.proofs.Common.{◌≡◌, ℕ, ℤ, pos, ◌+◌, ◌<◌, ◌≤◌, ◌<ℤ◌, ◌⊎◌, Bool, true, false, None, Some, List, [], ◌∷◌, ◌++◌, length, inl, inr, refl, sym, ap, ◌∙◌, subst, arith, append-nil, append_assoc, length-append}
-use Rattle.std.proofs.lemmas.Bool.Decides.{Decides-int_eq}
+use Rattle.std.proofs.Common.{rules, ◌≡◌, ℕ, ℤ, pos, ◌+◌, ◌<◌, ◌≤◌, ◌<ℤ◌, ◌⊎◌, FitsSigned, None, Some, List, [], ◌∷◌, ◌++◌, length, inl, inr, sym, ap, ◌∙◌, subst, arith, append-nil, append_assoc, length-append}
 use Rattle.std.proofs.lemmas.Int.{ints}
-use Rattle.std.specs.Ordering.{int_eq}
-use Rattle.std.specs.Prelude.{if◌then◌else◌}
-use Rattle.mongo_wire.specs.Header.{code_number, op_code_of, signed_at}
+use Rattle.std.specs.Int.{w32}
+use Rattle.mongo_wire.specs.Header.{code_number, header_bytes, op_code_of, signed_at}
 use Rattle.mongo_wire.specs.Rows.{FrameRow, IsUnfinished}
 use Rattle.mongo_wire.specs.declared.error.ErrorKind.{ErrorKind}
 use Rattle.mongo_wire.specs.declared.error.ErrorKind.TheVariants.{EndOfInput, InvalidResponse}
 use Rattle.mongo_wire.specs.declared.fault.ResponseFault.TheVariants.{Sections}
+use Rattle.mongo_wire.specs.declared.header.Header.{Header}
 use Rattle.mongo_wire.specs.declared.op_code.OpCode.{OpCode}
-use Rattle.mongo_wire.specs.declared.op_code.OpCode.TheVariants.{Compressed, Message, Query, Reply}
+use Rattle.mongo_wire.specs.declared.op_code.OpCode.TheVariants.{Message, Query}
+use Rattle.mongo_wire.proofs.HeaderBack.{header_back}
 use Rattle.mongo_wire.proofs.OneFrame.{frame_code, frame_size, least_frame, row_no_frame, same_front, signed_in}
 use Rattle.mongo_service.specs.Cut.{BeginsNoRequest, IsNoRequest}
 use Rattle.mongo_server.specs.Announced.{maximum_message_length}
@@ -45,16 +45,13 @@ unlike z code other is of differs same = differs (same_code other code (sym is �
 pub unknown : (z : ℤ) (code : OpCode) → op_code_of z ≡ None → op_code_of (code_number code) ≡ Some code → z ≡ code_number code → ⊥
 unknown z code is of same = no_code code (sym is ∙ ap op_code_of same ∙ of)
 
--- the number of an OP_MSG
-pub message_coded : (z : ℤ) → op_code_of z ≡ Some Message → z ≡ code_number Message
-message_coded z is = by (int_eq z (code_number Reply)) (int_eq z (code_number Query)) (int_eq z (code_number Compressed)) (int_eq z (code_number Message)) refl is
-  where
-    by : (a b c d : Bool) → int_eq z (code_number Message) ≡ d → (if a then Some Reply else if b then Some Query else if c then Some Compressed else if d then Some Message else None) ≡ Some Message → z ≡ code_number Message
-    by true b c d same e = cc
-    by false true c d same e = cc
-    by false false true d same e = cc
-    by false false false true same e = (Decides-int_eq z (code_number Message)).0 same
-    by false false false false same e = cc
+-- a code that a number has has the number
+coded : (z : ℤ) (code : OpCode) → op_code_of z ≡ Some code → code_number code ≡ z
+coded z code known = search (ints, rules)
+
+-- the number that stands in the bytes of a header
+pub code_spelled : (h : Header) (code : OpCode) → FitsSigned w32 h.length → FitsSigned w32 h.request_id → FitsSigned w32 h.response_to → h.op_code ≡ code → signed_at 12 (header_bytes h) ≡ code_number code
+code_spelled h code length_fits id_fits to_fits is = sym (coded (signed_at 12 (header_bytes h)) code ((header_back h length_fits id_fits to_fits).0 ∙ ap Some is))
 
 -- the header of another op code
 pub other_code : (taken : List ℕ) → 16 ≤ length taken → (signed_at 12 taken ≡ code_number Message → ⊥) → (signed_at 12 taken ≡ code_number Query → ⊥) → BeginsNoRequest taken

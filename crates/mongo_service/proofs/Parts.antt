@@ -17,13 +17,12 @@ use Rattle.mongo_session.specs.Replies.{document_of_served}
 use Rattle.mongo_session.specs.Requests.{IsGreeting}
 use Rattle.mongo_service.specs.Cut.{HasCause, IsCut, IsPart}
 use Rattle.mongo_service.specs.Sent.{IsAnswerTo, IsLongMessage, IsLongReply, IsReplySent, IsSentInPart, IsSentToQuery, message_reply, query_reply, WantsNone, WriteCause}
-use Rattle.mongo_service.specs.Served.{FollowsHead, IsBackAt, Lasts, PartEnds}
+use Rattle.mongo_service.specs.Served.{FollowsHead, Lasts, PartEnds}
 use Rattle.mongo_session.specs.Answers.{IsDocumentAnswered}
 use Rattle.mongo_service.proofs.Lasts.{sent_flushed}
 use Rattle.mongo_service.specs.Taken.{IsQuery, IsQueryBody}
 use Rattle.mongo_wire.proofs.OneFrame.{signed_in}
 use Rattle.mongo_service.proofs.Causes.{long_cause}
-use Rattle.mongo_service.proofs.Prepended.{put_back_left}
 use Rattle.mongo_service.proofs.Turns.{turn_taken, turn_cut, none_taken}
 
 -- an OP_MSG was taken and answered, and the answer sent or cut
@@ -98,30 +97,25 @@ query_of head body command rest sixteen code counted whole is_body = record {
 }
 
 -- a header is some bytes
-has_some : (before now : Option (List ℕ)) (head : List ℕ) → length head ≡ 16 → Consumes before now head → IfSome before (λ bytes. 0 < length bytes)
+pub has_some : (before now : Option (List ℕ)) (head : List ℕ) → length head ≡ 16 → Consumes before now head → IfSome before (λ bytes. 0 < length bytes)
 has_some None now head sixteen p = tt
 has_some (Some xs) None head sixteen p = absurd p
 has_some (Some xs) (Some ys) head sixteen p = omega (arith, sixteen, ap length p, length-append head ys)
 
 -- the op code of the header that stands at the front
-code_before : (before now : Option (List ℕ)) (head : List ℕ) → length head ≡ 16 → signed_at 12 head ≡ code_number Message → Consumes before now head → IfSome before (λ bytes. signed_at 12 bytes ≡ code_number Message)
+pub code_before : (before now : Option (List ℕ)) (head : List ℕ) → length head ≡ 16 → signed_at 12 head ≡ code_number Message → Consumes before now head → IfSome before (λ bytes. signed_at 12 bytes ≡ code_number Message)
 code_before None now head sixteen code p = tt
 code_before (Some xs) None head sixteen code p = absurd p
 code_before (Some xs) (Some ys) head sixteen code p = ap (signed_at 12) p ∙ signed_in 12 head ys (omega (arith, sixteen)) ∙ code
 
--- a header was put back
-pub back_at : (before now back : State) (head : List ℕ) → length head ≡ 16 → signed_at 12 head ≡ code_number Message → FollowsHead before now head → back ≡ record now { left = prepend_known head now.left } → IsBackAt before back
-back_at before now back head sixteen code f e = record {
-  left = ap (λ s. s.left) e ∙ put_back_left before.left now.left head f.tells f.taken;
-  some = has_some before.left now.left head sixteen f.taken;
-  message = code_before before.left now.left head sixteen code f.taken;
-  unwritten = ap (λ s. s.written) e ∙ f.unwritten;
-  lasts = subst (Lasts before) (sym e) (record { reads = f.lasts.reads; ends = f.lasts.ends; writes = f.lasts.writes; flushed = f.lasts.flushed });
-}
+-- bytes that stand before what is left are taken first
+pub front_taken : (head : List ℕ) (left : Option (List ℕ)) → Consumes (prepend_known head left) left head
+front_taken head None = tt
+front_taken head (Some bytes) = refl
 
 -- more was taken after a header, and nothing answered
 pub none_after : (settings : ServeSettings) (requests : List (List ℕ)) (before now new : State) (session : Session) (id : ℤ) (user : Option (List ℕ)) (fault : ServeFault) (head more : List ℕ) → user ≡ session.user → IsPart (head ++ more)
     → FollowsHead before now head → Consumes now.left new.left more → new.written ≡ now.written → IfSome session.user (λ name. HasLoggedIn settings name requests) → HasCause fault before new [] (head ++ more) → Lasts before new
     → IsCut settings requests before new session id user fault
 none_after settings requests before now new session id user fault head more same part f consumed unwritten logged_in cause lasts =
-    none_taken settings requests before new session id user fault (head ++ more) same part (Consumes-trans before.left now.left new.left head more f.taken consumed) (unwritten ∙ f.unwritten) logged_in cause lasts
+    none_taken settings requests before new session id user fault (head ++ more) same part (Consumes-trans before.left now.left new.left head more f.taken consumed) (unwritten ∙ f.on.unwritten.written) logged_in cause lasts

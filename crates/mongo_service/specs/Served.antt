@@ -1,10 +1,8 @@
 -- How a stream was served.
-use Rattle.std.specs.Prelude.{◌≡◌, ℕ, ℤ, pos, ◌-◌, ◌^◌, ◌≤◌, Bool, true, false, None, Result, Ok, Err, List, [], ◌∷◌, ◌++◌, length, is_some, IfSome, ⊤, ◌<◌}
+use Rattle.std.specs.Prelude.{◌≡◌, ℕ, ℤ, pos, ◌-◌, ◌^◌, ◌≤◌, Bool, true, false, None, Result, Ok, Err, List, [], ◌∷◌, ◌++◌, length, IfSome, ⊤}
 use Rattle.std.specs.List.{AllByRecursion}
 use Rattle.std.specs.Io.KnownBytes.{Consumes, Appends}
-use Rattle.mongo_wire.specs.Header.{code_number, signed_at}
-use Rattle.mongo_wire.specs.Outside.{State, HasEnded}
-use Rattle.mongo_wire.specs.declared.op_code.OpCode.TheVariants.{Message}
+use Rattle.mongo_wire.specs.Outside.{State, HasEnded, ReadsOn}
 use Rattle.mongo_service.specs.declared.fault.ServeFault.{ServeFault}
 use Rattle.mongo_service.specs.declared.fault.ServeFault.TheVariants.{TooManyRequests}
 use Rattle.mongo_service.specs.declared.serve.Served.{Served}
@@ -57,17 +55,7 @@ PartEnds settings requests old new before id after later (Err fault) = IsCut set
 -- a header was taken, and nothing was written
 pub record FollowsHead (before now : State) (head : List ℕ) : Type 0 where
   pub taken : Consumes before.left now.left head
-  pub tells : is_some now.left ≡ is_some before.left
-  pub unwritten : now.written ≡ before.written
-  pub lasts : Lasts before now
-
--- it was an OP_MSG's, and was put back
-pub record IsBackAt (before now : State) : Type 0 where
-  pub left : now.left ≡ before.left
-  pub some : IfSome before.left (λ bytes. 0 < length bytes)
-  pub message : IfSome before.left (λ bytes. signed_at 12 bytes ≡ code_number Message)
-  pub unwritten : now.written ≡ before.written
-  pub lasts : Lasts before now
+  pub on : ReadsOn before now
 
 -- ---- the stream
 

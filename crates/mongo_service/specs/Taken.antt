@@ -1,14 +1,11 @@
 -- The frames that requests come in.
-use Rattle.std.specs.Prelude.{◌≡◌, ℕ, pos, ◌⊎◌, List, ◌∷◌, ◌++◌, length, codes, drop}
+use Rattle.std.specs.Prelude.{◌≡◌, ℕ, pos, ◌⊎◌, List, ◌∷◌, ◌++◌, length, codes}
 use Rattle.mongo_bson.specs.Framed.{IsFramed}
 use Rattle.mongo_wire.specs.Frame.{Frame, IsFrame}
 use Rattle.mongo_wire.specs.Header.{code_number, signed_at}
 use Rattle.mongo_wire.specs.declared.op_code.OpCode.TheVariants.{Query}
 use Rattle.mongo_session.specs.Requests.{IsCommandNamed}
 use Rattle.mongo_session.specs.Values.{HasInside}
-use Rattle.std.specs.Io.KnownBytes.{prepend_known}
-use Rattle.mongo_wire.specs.Outside.{State}
-use Rattle.mongo_service.specs.declared.put_back.PutBack.{PutBack}
 
 -- the collection that a command is asked of, and the key that wraps one
 abbrev pub command_collection : List ℕ
@@ -59,9 +56,3 @@ IsMessage frame document = (parts : Frame) × IsFrame frame parts × (parts.body
 -- a frame that carries a request, and the request's document
 abbrev pub CarriesRequest : List ℕ → List ℕ → Type 0
 CarriesRequest frame document = IsMessage frame document ⊎ IsQuery frame document
-
--- ---- the link that they come from
-
--- bytes that were put back are left before what the link has left
-abbrev pub put_back_state : {L : Type 0} → (L → State) → PutBack L → State
-put_back_state state s = record (state s.link) { left = prepend_known (drop s.at s.front.items) (state s.link).left }

@@ -10,8 +10,8 @@
 //!
 //! 1. [`run::run`] reads the settings from the link's first line, serves the client that follows, and says on another sink how that
 //!    ended. [`run::run_counted`] is the same with a counter of its own, which the program calls.
-//! 2. A header is read and put back before an OP_MSG is read whole ([`PutBack`]), since an OP_QUERY is read another way. Nothing is read
-//!    past the last frame.
+//! 2. A header is read first, since an OP_QUERY is read another way than an OP_MSG; then what follows it. Nothing is read past the last
+//!    frame.
 //! 3. What a document asks and what it is answered is `mongo_session`'s; this crate takes frames, and sends and flushes replies numbered
 //!    from 1.
 //! 4. It ends where the client ends its stream between two frames, or at the first fault; [`ServeStatus`] says which.
@@ -23,7 +23,6 @@
 #![tactic(auto)]
 
 mod fault;
-mod put_back;
 mod query;
 mod reading;
 mod report;
@@ -33,5 +32,4 @@ mod serve;
 mod settings_line;
 mod status;
 
-pub use put_back::PutBack;
 pub use status::ServeStatus;

@@ -1,12 +1,10 @@
 //! The top call.
 
 ghost use Rattle.std.specs.Prelude.{◌≡◌, ◌<◌, ◌≤◌, length};
-ghost use Rattle.mongo_service.specs.Taken.{put_back_state};
 ghost use Rattle.mongo_service.specs.Report.{report_text};
 ghost use Rattle.mongo_service.specs.Run.{status_of_fault, ServingEnds, RunEnds, EndsTelling};
 
 use crate::fault::ServeFault;
-use crate::put_back::PutBack;
 use crate::report::report_text;
 use crate::respond::send_bytes;
 use crate::serve::{Served, serve};
@@ -24,11 +22,11 @@ use std::sync::ledger::{Blank, Ledger};
 pub fn run<L: Link, K: Sink, G: Ledger>(
     alloc: Global,
     words: &[String],
-    link: &mut PutBack<L>,
+    link: &mut L,
     report: &mut K,
     steps: &mut Steps<G>,
 ) -> ServeStatus
-    ensures ends { RunEnds (length words.now) (record { old = put_back_state L.state link.old; new = put_back_state L.state link.new; report_old = K.state report.old; report_new = K.state report.new }) result }
+    ensures ends { RunEnds (length words.now) (record { old = L.state link.old; new = L.state link.new; report_old = K.state report.old; report_new = K.state report.new }) result }
     ensures rises { steps.old ≤ steps.new }
 {
     if words.is_empty() {
@@ -42,14 +40,14 @@ pub fn run<L: Link, K: Sink, G: Ledger>(
 pub fn run_counted<L: Link, K: Sink, G: Ledger>(
     alloc: Global,
     words: &[String],
-    link: &mut PutBack<L>,
+    link: &mut L,
     report: &mut K,
     blank: Blank,
 ) -> ServeStatus
     requires name { blank.name ≡ G.name }
     requires parts { blank.parts ≡ G.parts }
     requires has_a_part { 0 < G.parts }
-    ensures { RunEnds (length words.now) (record { old = put_back_state L.state link.old; new = put_back_state L.state link.new; report_old = K.state report.old; report_new = K.state report.new }) result }
+    ensures { RunEnds (length words.now) (record { old = L.state link.old; new = L.state link.new; report_old = K.state report.old; report_new = K.state report.new }) result }
 {
     let mut steps = Steps::<G>::new(blank);
     run(alloc, words, link, report, &mut steps)
@@ -58,11 +56,11 @@ pub fn run_counted<L: Link, K: Sink, G: Ledger>(
 // Serves the client by the settings of the first line.
 fn serve_line<L: Link, K: Sink, G: Ledger>(
     alloc: Global,
-    link: &mut PutBack<L>,
+    link: &mut L,
     report: &mut K,
     steps: &mut Steps<G>,
 ) -> ServeStatus
-    ensures ends { ServingEnds (record { old = put_back_state L.state link.old; new = put_back_state L.state link.new; report_old = K.state report.old; report_new = K.state report.new }) result }
+    ensures ends { ServingEnds (record { old = L.state link.old; new = L.state link.new; report_old = K.state report.old; report_new = K.state report.new }) result }
     ensures rises { steps.old ≤ steps.new }
 {
     let settings = match read_serve_settings(alloc, link) {

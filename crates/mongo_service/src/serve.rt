@@ -1,28 +1,24 @@
 //! The server: requests are read one after another, and each is answered before the next is read.
 
 ghost use Rattle.std.specs.Prelude.{◌≡◌, ℕ, pos, ◌+◌, ◌≤◌, ◌<ℤ◌, ◌≤ℤ◌, ◌⊎◌, List, [], ◌∷◌, ◌++◌, IsNone, IfSome, IfOk, IfErr, OnOk, OnErr};
-ghost use Rattle.mongo_wire.specs.Header.{code_number, header_with, signed_at};
+ghost use Rattle.mongo_wire.specs.Header.{header_bytes};
 ghost use Rattle.mongo_wire.specs.Outside.{State};
 ghost use Rattle.mongo_session.specs.Answers.{IsDocumentAnswered};
 ghost use Rattle.mongo_session.specs.Login.{Remembers};
-ghost use Rattle.mongo_service.specs.Taken.{put_back_state};
 ghost use Rattle.mongo_server.specs.Announced.{maximum_message_length};
 ghost use Rattle.mongo_session.specs.Requests.{IsGreeting};
-ghost use Rattle.mongo_service.specs.Served.{FollowsHead, IsBackAt, TurnEnds, PartEnds, IsServed};
+ghost use Rattle.mongo_service.specs.Served.{FollowsHead, TurnEnds, PartEnds, IsServed};
 ghost use Rattle.mongo_service.specs.declared.fault.ServeFault.TheVariants.{NoHello, OutOfMemory};
-ghost use Rattle.mongo_wire.specs.declared.op_code.OpCode.TheVariants.{Query};
+ghost use Rattle.mongo_wire.specs.declared.op_code.OpCode.TheVariants.{Message, Query};
 
 use crate::fault::ServeFault;
-use crate::put_back::PutBack;
 use crate::query::command_of_query;
 use crate::reading::take_bytes;
 use crate::respond::{respond, respond_to_query};
 use mongo_bson::{RawDocument, Text};
 use mongo_mac::Steps;
 use mongo_server::MAXIMUM_MESSAGE_LENGTH;
-use mongo_session::{
-    Reply, Request, ServeSettings, Session, answer_request, greet, request_of,
-};
+use mongo_session::{Reply, Request, ServeSettings, Session, answer_request, greet, request_of};
 use mongo_wire::{FrameBuffer, Header, Link, OpCode, RequestIds, fill_or_end};
 use std::alloc::Global;
 use std::sync::ledger::Ledger;
@@ -48,10 +44,10 @@ pub struct Serving {
 pub fn serve<L: Link, G: Ledger>(
     alloc: Global,
     settings: &ServeSettings,
-    link: &mut PutBack<L>,
+    link: &mut L,
     steps: &mut Steps<G>,
 ) -> Served
-    ensures served { IsServed settings.now (put_back_state L.state link.old) (put_back_state L.state link.new) result }
+    ensures served { IsServed settings.now (L.state link.old) (L.state link.new) result }
     ensures rises { steps.old ≤ steps.new }
 {
     let mut serving = Serving {
@@ -86,12 +82,12 @@ pub fn serve<L: Link, G: Ledger>(
 fn take_turn<L: Link, G: Ledger>(
     alloc: Global,
     settings: &ServeSettings,
-    link: &mut PutBack<L>,
+    link: &mut L,
     serving: &mut Serving,
     steps: &mut Steps<G>,
 ) -> Result<bool, ServeFault>
     ensures turn { (requests : List (List ℕ)) → Remembers settings.now requests serving.old.session →
-        TurnEnds settings.now requests (put_back_state L.state link.old) (put_back_state L.state link.new) serving.old.session serving.old.ids serving.new.session serving.new.ids result }
+        TurnEnds settings.now requests (L.state link.old) (L.state link.new) serving.old.session serving.old.ids serving.new.session serving.new.ids result }
     ensures rises { steps.old ≤ steps.new }
 {
     let mut head = [0u8; 16];
@@ -109,41 +105,41 @@ fn take_turn<L: Link, G: Ledger>(
 fn take_after<L: Link, G: Ledger>(
     alloc: Global,
     settings: &ServeSettings,
-    link: &mut PutBack<L>,
+    link: &mut L,
     serving: &mut Serving,
     head: &[u8; 16],
     steps: &mut Steps<G>,
 ) -> Result<(), ServeFault>
-    ensures turn { (requests : List (List ℕ)) (before : State) → Remembers settings.now requests serving.old.session → FollowsHead before (put_back_state L.state link.old) head.now →
-        PartEnds settings.now requests before (put_back_state L.state link.new) serving.old.session serving.old.ids serving.new.session serving.new.ids result }
+    ensures turn { (requests : List (List ℕ)) (before : State) → Remembers settings.now requests serving.old.session → FollowsHead before (L.state link.old) head.now →
+        PartEnds settings.now requests before (L.state link.new) serving.old.session serving.old.ids serving.new.session serving.new.ids result }
     ensures rises { steps.old ≤ steps.new }
 {
     match Header::decode(head) {
         Ok(header) => match header.op_code {
-            OpCode::Message => match link.put_back(alloc, head) {
-                Ok(()) => take_message(alloc, settings, link, serving, steps),
-                Err(fault) => Err(fault),
-            },
-            OpCode::Query => take_query(alloc, settings, link, serving, head, header, steps),
+            OpCode::Message => take_message(alloc, settings, link, serving, header, steps),
+            OpCode::Query => take_query(alloc, settings, link, serving, header, steps),
             _ => Err(ServeFault::NoFrame),
         },
         Err(_) => Err(ServeFault::NoFrame),
     }
 }
 
-// Takes an OP_MSG and answers it.
+// Takes the rest of an OP_MSG, and answers it.
 fn take_message<L: Link, G: Ledger>(
     alloc: Global,
     settings: &ServeSettings,
-    link: &mut PutBack<L>,
+    link: &mut L,
     serving: &mut Serving,
+    header: Header,
     steps: &mut Steps<G>,
 ) -> Result<(), ServeFault>
-    ensures turn { (requests : List (List ℕ)) (before : State) → Remembers settings.now requests serving.old.session → IsBackAt before (put_back_state L.state link.old) →
-        PartEnds settings.now requests before (put_back_state L.state link.new) serving.old.session serving.old.ids serving.new.session serving.new.ids result }
+    requires { header.op_code ≡ Message }
+    ensures turn { (requests : List (List ℕ)) (before : State) → Remembers settings.now requests serving.old.session → FollowsHead before (L.state link.old) (header_bytes header) →
+        PartEnds settings.now requests before (L.state link.new) serving.old.session serving.old.ids serving.new.session serving.new.ids result }
     ensures rises { steps.old ≤ steps.new }
 {
-    match serving.buffer.take_frame(link, Some(MAXIMUM_MESSAGE_LENGTH)) {
+    let maximum = Some(MAXIMUM_MESSAGE_LENGTH);
+    match serving.buffer.take_after(link, header, maximum) {
         Ok(()) => {}
         Err(fault) => return Err(fault.into()),
     }
@@ -184,16 +180,14 @@ fn answer_document<G: Ledger>(
 fn take_query<L: Link, G: Ledger>(
     alloc: Global,
     settings: &ServeSettings,
-    link: &mut PutBack<L>,
+    link: &mut L,
     serving: &mut Serving,
-    head: &[u8; 16],
     header: Header,
     steps: &mut Steps<G>,
 ) -> Result<(), ServeFault>
-    requires header { header ≡ header_with head.now Query }
-    requires code { signed_at 12 head.now ≡ code_number Query }
-    ensures turn { (requests : List (List ℕ)) (before : State) → Remembers settings.now requests serving.old.session → FollowsHead before (put_back_state L.state link.old) head.now →
-        PartEnds settings.now requests before (put_back_state L.state link.new) serving.old.session serving.old.ids serving.new.session serving.new.ids result }
+    requires { header.op_code ≡ Query }
+    ensures turn { (requests : List (List ℕ)) (before : State) → Remembers settings.now requests serving.old.session → FollowsHead before (L.state link.old) (header_bytes header) →
+        PartEnds settings.now requests before (L.state link.new) serving.old.session serving.old.ids serving.new.session serving.new.ids result }
     ensures rises { steps.old ≤ steps.new }
 {
     let Some(rest) = length_after(header.length) else {

@@ -5,8 +5,8 @@ mod second;
 
 use login::{EMPTY, FIRST, LAST, PING_AFTER, REPLIES, USERS, Wanted, fault_at, left_at, whole};
 use mongo_bson::{BsonFault, Bytes};
+use mongo_service::ServeStatus;
 use mongo_service::run::run_counted;
-use mongo_service::{PutBack, ServeStatus};
 use mongo_wire::{FailingLink, MemoryLink};
 use second::{ANSWERED, ASKED, TWO, report_of_two};
 use std::alloc::Global;
@@ -67,19 +67,11 @@ fn joined(alloc: Global, names: &str) -> Result<Bytes, BsonFault> {
 }
 
 // The two calls of the program, so that its contract is cited here alone.
-fn run_in_memory(
-    alloc: Global,
-    link: &mut PutBack<MemoryLink>,
-    report: &mut MemoryLink,
-) -> ServeStatus {
+fn run_in_memory(alloc: Global, link: &mut MemoryLink, report: &mut MemoryLink) -> ServeStatus {
     run_counted::<_, _, Brand>(alloc, &[], link, report, Blank::new(1))
 }
 
-fn run_failing(
-    alloc: Global,
-    link: &mut PutBack<FailingLink>,
-    report: &mut MemoryLink,
-) -> ServeStatus {
+fn run_failing(alloc: Global, link: &mut FailingLink, report: &mut MemoryLink) -> ServeStatus {
     run_counted::<_, _, Brand>(alloc, &[], link, report, Blank::new(1))
 }
 
@@ -98,7 +90,7 @@ fn says(report: &MemoryLink, line: &str) -> bool {
 
 // How the program ends on these bytes, and whether it says the line.
 fn ends(alloc: Global, input: Bytes, line: &str) -> (ServeStatus, bool) {
-    let mut link = PutBack::new(alloc, MemoryLink::new(alloc, input));
+    let mut link = MemoryLink::new(alloc, input);
     let mut report = silent(alloc);
     let status = run_in_memory(alloc, &mut link, &mut report);
     (status, says(&report, line))
@@ -176,8 +168,7 @@ fn failing_at(alloc: Global, settings: usize, call: usize) -> Result<Bytes, Bson
 const NEVER: usize = 1000;
 
 // How the program ends on a ping over this link, and whether it says the line.
-fn ends_over(alloc: Global, link: FailingLink, line: &str) -> (ServeStatus, bool) {
-    let mut link = PutBack::new(alloc, link);
+fn ends_over(alloc: Global, mut link: FailingLink, line: &str) -> (ServeStatus, bool) {
     let mut report = silent(alloc);
     let status = run_failing(alloc, &mut link, &mut report);
     (status, says(&report, line))
@@ -255,14 +246,13 @@ fn is_answered(link: &FailingLink, count: usize) -> bool {
 }
 
 // Serves a client over this link, and compares what comes of it.
-fn served(alloc: Global, link: FailingLink, wanted: Wanted) -> Ended {
-    let mut link = PutBack::new(alloc, link);
+fn served(alloc: Global, mut link: FailingLink, wanted: Wanted) -> Ended {
     let mut report = silent(alloc);
     let status = run_failing(alloc, &mut link, &mut report);
     Ended {
         status,
         is_told: is_told(&report, wanted.report),
-        is_answered: is_answered(link.link(), wanted.written),
+        is_answered: is_answered(&link, wanted.written),
     }
 }
 
@@ -356,13 +346,13 @@ fn are_answers(link: &MemoryLink, pieces: usize) -> bool {
 
 // Serves the client that sends so many pieces, and compares what comes of it.
 fn answers_two(alloc: Global, input: Bytes, pieces: usize) -> Ended {
-    let mut link = PutBack::new(alloc, MemoryLink::new(alloc, input));
+    let mut link = MemoryLink::new(alloc, input);
     let mut report = silent(alloc);
     let status = run_in_memory(alloc, &mut link, &mut report);
     Ended {
         status,
         is_told: is_told(&report, report_of_two(pieces)),
-        is_answered: are_answers(link.link(), pieces),
+        is_answered: are_answers(&link, pieces),
     }
 }
 

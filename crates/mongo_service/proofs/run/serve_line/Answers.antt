@@ -1,5 +1,4 @@
 use Rattle.std.proofs.Common.{◌≡◌, Err, ap, ◌∙◌}
-use Rattle.mongo_service.specs.Taken.{put_back_state}
 use Rattle.mongo_service.specs.Run.{ServeRun}
 use Rattle.mongo_service.specs.declared.settings_line.LineError.TheVariants.{BadSettings, Fault}
 use Rattle.mongo_service.proofs.Ran.{bad_line_ends, failed_within_ends, ran_ends}
@@ -8,8 +7,8 @@ use Rattle.mongo_service.proofs.run.serve_line.Goals as goal
 pub returns-in-Err-BadSettings-clause-ends : goal.returns-in-Err-BadSettings-clause-ends
 returns-in-Err-BadSettings-clause-ends g c =
     let run : ServeRun = record {
-      old = put_back_state g.L.Outside.state c.args.link.now;
-      new = put_back_state g.L.Outside.state c.read_serve_settings.new.source;
+      old = g.L.Outside.state c.args.link.now;
+      new = g.L.Outside.state c.read_serve_settings.new.source;
       report_old = g.K.Outside.state c.args.report.now;
       report_new = g.K.Outside.state c.say.new.report;
     } in
@@ -19,8 +18,8 @@ returns-in-Err-BadSettings-clause-ends g c =
 pub returns-in-Err-Fault-clause-ends : goal.returns-in-Err-Fault-clause-ends
 returns-in-Err-Fault-clause-ends g c =
     let run : ServeRun = record {
-      old = put_back_state g.L.Outside.state c.args.link.now;
-      new = put_back_state g.L.Outside.state c.read_serve_settings.new.source;
+      old = g.L.Outside.state c.args.link.now;
+      new = g.L.Outside.state c.read_serve_settings.new.source;
       report_old = g.K.Outside.state c.args.report.now;
       report_new = g.K.Outside.state c.say-in-Err-Fault.new.report;
     } in
@@ -30,14 +29,14 @@ returns-in-Err-Fault-clause-ends g c =
 pub returns-clause-ends : goal.returns-clause-ends
 returns-clause-ends g c =
     let run : ServeRun = record {
-      old = put_back_state g.L.Outside.state c.args.link.now;
-      new = put_back_state g.L.Outside.state c.serve-served.new.link;
+      old = g.L.Outside.state c.args.link.now;
+      new = g.L.Outside.state c.serve-served.new.link;
       report_old = g.K.Outside.state c.args.report.now;
       report_new = g.K.Outside.state c.tell.new.report;
     } in
     ran_ends run c.tell.result (record {
       settings = c.in-Ok.settings;
-      between = put_back_state g.L.Outside.state c.read_serve_settings.new.source;
+      between = g.L.Outside.state c.read_serve_settings.new.source;
       after_line = c.in-Ok.ensures.line;
       served = c.serve-served.result;
       is_served = c.serve-served.ensures.served;

@@ -1,5 +1,4 @@
 use Rattle.std.proofs.Common.{◌≡◌, true, false, Ok, ap, ◌∙◌, subst, ◌-◌, ◌^◌, arith}
-use Rattle.mongo_service.specs.Taken.{put_back_state}
 use Rattle.mongo_service.specs.Served.{TurnEnds}
 use Rattle.mongo_service.specs.Turns.{documents}
 use Rattle.mongo_service.proofs.Stream.{begun, one_more, has_ended, was_cut, went_on}
@@ -7,9 +6,9 @@ use Rattle.mongo_service.proofs.serve.serve.Goals as goal
 
 pub returns-in-Ok-false-clause-served : goal.returns-in-Ok-false-clause-served
 returns-in-Ok-false-clause-served g c =
-    let old = put_back_state g.L.Outside.state c.args.link.now in
-    let mid = put_back_state g.L.Outside.state c.serving.link in
-    let new = put_back_state g.L.Outside.state c.take_turn.new.link in
+    let old = g.L.Outside.state c.args.link.now in
+    let mid = g.L.Outside.state c.serving.link in
+    let new = g.L.Outside.state c.take_turn.new.link in
     let before = c.serving.serving.session in
     let after = c.take_turn.new.serving.session in
     let id = c.serving.serving.ids in
@@ -21,9 +20,9 @@ returns-in-Ok-false-clause-served g c =
 
 pub returns-in-Err-clause-served : goal.returns-in-Err-clause-served
 returns-in-Err-clause-served g c =
-    let old = put_back_state g.L.Outside.state c.args.link.now in
-    let mid = put_back_state g.L.Outside.state c.serving.link in
-    let new = put_back_state g.L.Outside.state c.take_turn.new.link in
+    let old = g.L.Outside.state c.args.link.now in
+    let mid = g.L.Outside.state c.serving.link in
+    let new = g.L.Outside.state c.take_turn.new.link in
     let before = c.serving.serving.session in
     let after = c.take_turn.new.serving.session in
     let id = c.serving.serving.ids in
@@ -34,9 +33,9 @@ returns-in-Err-clause-served g c =
 
 pub serving-preserved : goal.serving-preserved
 serving-preserved g c =
-    let old = put_back_state g.L.Outside.state c.args.link.now in
-    let mid = put_back_state g.L.Outside.state c.serving.link in
-    let new = put_back_state g.L.Outside.state c.take_turn.new.link in
+    let old = g.L.Outside.state c.args.link.now in
+    let mid = g.L.Outside.state c.serving.link in
+    let new = g.L.Outside.state c.take_turn.new.link in
     let before = c.serving.serving.session in
     let after = c.take_turn.new.serving.session in
     let id = c.serving.serving.ids in
@@ -49,7 +48,7 @@ serving-preserved g c =
 pub returns-clause-served : goal.returns-clause-served
 returns-clause-served g c =
     let all : c.serving._turn ≡ 2 ^ 64 - 1 = omega arith in
-    went_on c.args.settings.now (put_back_state g.L.Outside.state c.args.link.now) (put_back_state g.L.Outside.state c.serving.link) c.serving.serving.session c.serving.serving.ids c.serving._turn all c.serving.invariant.served
+    went_on c.args.settings.now (g.L.Outside.state c.args.link.now) (g.L.Outside.state c.serving.link) c.serving.serving.session c.serving.serving.ids c.serving._turn all c.serving.invariant.served
 
 pub serving-init : goal.serving-init
-serving-init g c = record { served = begun c.args.settings.now (put_back_state g.L.Outside.state c.args.link.now) c.new.result c.new-3.result c.new.ensures.nobody c.new.ensures.none c.new-3.ensures; rises = omega arith }
+serving-init g c = record { served = begun c.args.settings.now (g.L.Outside.state c.args.link.now) c.new.result c.new-3.result c.new.ensures.nobody c.new.ensures.none c.new-3.ensures; rises = omega arith }

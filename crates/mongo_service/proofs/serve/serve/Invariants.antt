@@ -1,5 +1,4 @@
 use Rattle.std.proofs.Common.{◌≤◌}
-use Rattle.mongo_service.specs.Taken.{put_back_state}
 use Rattle.mongo_service.specs.Served.{HasServed}
 use Rattle.mongo_service.proofs.serve.serve.Given as goal
 
@@ -7,6 +6,6 @@ use Rattle.mongo_service.proofs.serve.serve.Given as goal
 abbrev pub invariant-serving : goal.invariant-serving
 invariant-serving g l =
     record {
-      served : HasServed l.settings (put_back_state g.L.Outside.state l.fn.link) (put_back_state g.L.Outside.state l.link) l.serving.session l.serving.ids l._turn;
+      served : HasServed l.settings (g.L.Outside.state l.fn.link) (g.L.Outside.state l.link) l.serving.session l.serving.ids l._turn;
       rises : l.fn.steps ≤ l.steps;
     }

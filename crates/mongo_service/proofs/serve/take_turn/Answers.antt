@@ -1,7 +1,6 @@
 use Rattle.std.proofs.Common.{[], refl, sym, subst}
 use Rattle.std.proofs.KnownBytes.{Consumes-nil}
 use Rattle.mongo_service.specs.Cut.{IsCut}
-use Rattle.mongo_service.specs.Taken.{put_back_state}
 use Rattle.mongo_service.proofs.Causes.{header_part, stopped}
 use Rattle.mongo_service.proofs.NoRequest.{within_header}
 use Rattle.mongo_service.proofs.Lasts.{lasts_all, lasts_read}
@@ -10,8 +9,8 @@ use Rattle.mongo_service.proofs.serve.take_turn.Goals as goal
 
 pub returns-in-Err-clause-turn : goal.returns-in-Err-clause-turn
 returns-in-Err-clause-turn g c = λ requests h.
-    let s = put_back_state g.L.Outside.state c.args.link.now in
-    let t = put_back_state g.L.Outside.state c.fill_or_end.new.source in
+    let s = g.L.Outside.state c.args.link.now in
+    let t = g.L.Outside.state c.fill_or_end.new.source in
     let session = c.args.serving.now.session in
     let id = c.args.serving.now.ids in
     let on = c.in-Err.ensures.on in
