@@ -1,7 +1,7 @@
 -- A document that is made of elements, one after another.
-use Rattle.std.proofs.Common.{◌≡◌, ℕ, ◌+◌, ◌-◌, ◌^◌, ◌<◌, ◌≤◌, true, false, nat_lt, Option, None, Some, option_map, option_and_then, List, [], ◌∷◌, ◌++◌, length, refl, sym, ap, ◌∙◌, append_assoc, append-nil, length-append, arith}
+use Rattle.std.proofs.Common.{◌≡◌, ℕ, ◌+◌, ◌^◌, ◌<◌, ◌≤◌, Option, None, Some, option_map, option_and_then, List, [], ◌∷◌, ◌++◌, length, refl, sym, ap, ◌∙◌, append_assoc, append-nil, length-append, arith}
 use Rattle.std.specs.List.{flat_map}
-use Rattle.std.proofs.lemmas.Bool.{lt-ltb, le-ltb}
+use Rattle.std.proofs.lemmas.Bool.{le-leb, lt-leb}
 use Rattle.std.proofs.lemmas.Grind.{flat_map-append}
 use Rattle.mongo_bson.specs.Framed.{element_bytes, enclosed, maximum_length}
 use Rattle.mongo_bson.specs.Document.{Element, spell}
@@ -52,7 +52,7 @@ grown document new whole rest (Some e) grows short put = record {
 }
 
 within : (elements : List Element) → length (document_of elements) ≤ maximum_length → document_within elements ≡ Some (document_of elements)
-within elements short = let is : nat_lt (length (document_of elements)) (2 ^ 31) ≡ true = lt-ltb _ _ short in rw is refl
+within elements short = rw (le-leb (length (document_of elements)) maximum_length short) refl
 
 pub finished : (document : List ℕ) (whole : Option (List Element)) → Grows document whole (Some []) → length document ≤ maximum_length → option_and_then document_within whole ≡ Some document
 finished document whole grows short =
@@ -60,7 +60,7 @@ finished document whole grows short =
     ap (option_and_then document_within) all ∙ within grows.done (omega (arith, ap length grows.document_is, short)) ∙ ap Some (sym grows.document_is)
 
 beyond : (elements : List Element) → maximum_length < length (document_of elements) → document_within elements ≡ None
-beyond elements long = let is : nat_lt (length (document_of elements)) (2 ^ 31) ≡ false = le-ltb _ _ (omega (arith, long)) in rw is refl
+beyond elements long = rw (lt-leb (length (document_of elements)) maximum_length long) refl
 
 -- a document that grows further is no shorter
 too_long : (done : List Element) (e : Element) (rest : Option (List Element)) → maximum_length < length (document_of done) + length (spell e) → option_and_then document_within (option_map (λ more. done ++ more) (before (Some e) rest)) ≡ None

@@ -1,5 +1,5 @@
 -- Mechanism properties as settings have them: an object, written as a BSON document.
-use Rattle.std.specs.Prelude.{◌≡◌, ℕ, ◌+◌, ◌-◌, ◌^◌, ◌<◌, ◌++◌, ◌==◌, nat_lt, if◌then◌else◌, Option, None, Some, option_map, option_and_then, List, [], ◌∷◌, length, ⊤}
+use Rattle.std.specs.Prelude.{◌≡◌, ℕ, ◌+◌, ◌<◌, ◌++◌, ◌==◌, nat_le, if◌then◌else◌, Option, None, Some, option_map, option_and_then, List, [], ◌∷◌, length, ⊤}
 use Rattle.std.specs.Fmt.{decimal}
 use Rattle.std.specs.List.{list_any}
 use Rattle.serde_json.specs.Data.{Data, null, boolean, number, string, array, object, Items, no_items, item, Members, no_members, member}
@@ -13,7 +13,7 @@ use Rattle.mongo_settings.specs.declared.settings.SettingsError.TheVariants.{Bad
 
 -- the document of these elements, where BSON has one as long
 abbrev pub document_within : List Element → Option (List ℕ)
-document_within elements = if nat_lt (length (document_of elements)) (2 ^ 31) then Some (document_of elements) else None
+document_within elements = if nat_le (length (document_of elements)) maximum_length then Some (document_of elements) else None
 
 -- a text, or a number that an int64 holds
 abbrev pub plain_element : List ℕ → Data → Option Element
