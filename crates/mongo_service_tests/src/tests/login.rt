@@ -51,9 +51,9 @@ pub(super) struct Wanted {
 // What a fault at the call of this number comes to, counted from the first after the settings.
 //
 // A turn reads the frame's header and its rest, writes the reply in three pieces (its header of 16 bytes, its flags and section kind
-// of 5, its document) and flushes it. The header is put back and read again, which calls nothing. The second frame is longer than
-// the first, so its rest comes in two reads: one into the memory that the first took, and one behind it. The user is logged in
-// once the empty message was read, call 14. After four turns a read finds the stream's end, and there is no further call.
+// of 5, its document) and flushes it. The second frame is longer than the first, so its rest comes in two reads: one into the
+// memory that the first took, and one behind it. The user is logged in once the empty message was read, call 14. After four
+// turns a read finds the stream's end, and there is no further call.
 pub(super) fn fault_at(call: usize) -> Wanted {
     match call {
         0 | 1 => broken(NOBODY, GIVES, 0),
