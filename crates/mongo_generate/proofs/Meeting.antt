@@ -53,7 +53,7 @@ use Rattle.mongo_command.specs.Literal.{document_of}
 use Rattle.mongo_generate.specs.Written.{CarriesPayloadLast}
 use Rattle.mongo_generate.proofs.Documents.{length-document_of}
 use Rattle.mongo_generate.proofs.ServerReplies.{conversation, standalone, speculative_says, hello_says, final_says}
-use Rattle.mongo_generate.proofs.Sizes.{asked_by, speculation_is, length_hello, framed_hello, close_document, length_close_document, close_carries, framed_close, frame_of, frame_within, body_within}
+use Rattle.mongo_generate.proofs.Sizes.{asked_by_exchange, speculation_is, length_hello, framed_hello, close_document, length_close_document, close_carries, framed_close, frame_of, frame_within, body_within}
 use Rattle.mongo_generate.proofs.Texts.{length_close}
 
 -- ---- by the version
@@ -90,7 +90,7 @@ never_invalid reply given mechanism credential is = subst (λ r. HasNone (Invali
 
 module _ (pending : PendingConnection) (x : Exchange) (nonces : Nonces) (bytes : List ℕ) (possible : IsPossible x) (nonce_is : base64_of nonces.first ≡ x.nonce) (pool : pending.generation ≡ Normal 0) (heard : AreExchangeReplies x bytes) where
   abbrev asked : Asked
-  asked = asked_by pending x nonces
+  asked = asked_by_exchange pending x nonces
 
   abbrev credential : Credential
   credential = credential_by x.version x.username x.password

@@ -29,7 +29,7 @@ use Rattle.mongo_generate.specs.Acceptance.{IsAcceptedAs, AreExchangeReplies}
 use Rattle.mongo_generate.specs.Login.{IsExchangeClient, KeepsEntries, key_of}
 use Rattle.mongo_generate.specs.Options.{handshaker_options}
 use Rattle.mongo_generate.specs.Written.{CarriesPayloadLast}
-use Rattle.mongo_generate.proofs.Sizes.{asked_by}
+use Rattle.mongo_generate.proofs.Sizes.{asked_by_exchange}
 use Rattle.mongo_generate.proofs.Meeting.{has_script, carries, sent_is, leads_to_key}
 
 -- the link doesn't fail
@@ -53,10 +53,10 @@ module _ (pending : PendingConnection) (options : HandshakerOptions) (first_id :
   abbrev asked : Asked
   asked = asked_for pending options (Some login.credential) login.inputs.nonces first_id
 
-  same : asked ≡ asked_by pending x login.inputs.nonces
+  same : asked ≡ asked_by_exchange pending x login.inputs.nonces
   same = λ i. asked_for pending (usual i) (Some (logs.credential_is i)) login.inputs.nonces (first i)
 
-  abbrev script_for : HasScript (asked_by pending x login.inputs.nonces) bytes
+  abbrev script_for : HasScript (asked_by_exchange pending x login.inputs.nonces) bytes
   script_for = has_script pending x login.inputs.nonces bytes logs.possible logs.nonce_is pool heard
 
   -- there is a script, so only memory can be wanting
@@ -67,7 +67,7 @@ module _ (pending : PendingConnection) (options : HandshakerOptions) (first_id :
   pub writes_close : (old new : State) (after : ℤ) (pooled : PooledConnection) (written : List ℕ) → Established asked old new after pooled → old.left ≡ Some bytes → old.written ≡ Some [] → new.written ≡ Some written → CarriesPayloadLast (close_of x) written
   writes_close old new after pooled written e is nothing all =
       let there = subst (λ a. Established a old new after pooled) same e in
-      let sent = sent_by (asked_by pending x login.inputs.nonces) bytes old new after pooled script_for there is in
+      let sent = sent_by (asked_by_exchange pending x login.inputs.nonces) bytes old new after pooled script_for there is in
       let grown : Appends (Some []) (Some written) script_for.sent = subst (λ w. Appends w (Some written) script_for.sent) nothing (subst (λ w. Appends old.written w script_for.sent) all sent) in
       carries pending x login.inputs.nonces bytes logs.possible logs.nonce_is pool heard written (grown ∙ sent_is pending x login.inputs.nonces bytes logs.possible logs.nonce_is pool heard)
 

@@ -45,8 +45,8 @@ use Rattle.mongo_generate.proofs.ServerReplies.{conversation, one_fits, conversa
 use Rattle.mongo_generate.proofs.Texts.{length_open}
 
 -- what the client of an exchange asks for
-abbrev pub asked_by : PendingConnection → Exchange → Nonces → Asked
-asked_by pending x nonces = asked_for pending handshaker_options (Some (credential_by x.version x.username x.password)) nonces (pos 0)
+abbrev pub asked_by_exchange : PendingConnection → Exchange → Nonces → Asked
+asked_by_exchange pending x nonces = asked_for pending handshaker_options (Some (credential_by x.version x.username x.password)) nonces (pos 0)
 
 -- ---- a command's document
 
@@ -103,7 +103,7 @@ length_speculating login document d is = subst (λ l. length (speculating l d) �
 length_introducing : (d : List ℕ) → length (introducing handshaker_options.metadata d) ≤ length d + 530
 length_introducing d = omega (arith, length_with (codes "client") (client_of handshaker_options.metadata (length d)) d, short_client (length d))
 
-pub length_hello : (pending : PendingConnection) (x : Exchange) (nonces : Nonces) → IsPossible x → base64_of nonces.first ≡ x.nonce → length (hello_document (asked_by pending x nonces)) ≤ 2 ^ 23
+pub length_hello : (pending : PendingConnection) (x : Exchange) (nonces : Nonces) → IsPossible x → base64_of nonces.first ≡ x.nonce → length (hello_document (asked_by_exchange pending x nonces)) ≤ 2 ^ 23
 length_hello pending x nonces possible nonce =
     let credential = credential_by x.version x.username x.password in
     let login = speculation (Some credential) nonces.first in
@@ -112,7 +112,7 @@ length_hello pending x nonces possible nonce =
     let short = possible.short in
     omega (
       arith,
-      length_command (login_hello (asked_by pending x nonces)),
+      length_command (login_hello (asked_by_exchange pending x nonces)),
       length_introducing (speculating login common),
       length_speculating login document common (speculation_is x.version x.username x.password nonces.first),
       length_arguments,
@@ -122,8 +122,8 @@ length_hello pending x nonces possible nonce =
       ap length nonce,
     )
 
-pub framed_hello : (pending : PendingConnection) (x : Exchange) (nonces : Nonces) → IsPossible x → base64_of nonces.first ≡ x.nonce → IsFramed (hello_document (asked_by pending x nonces))
-framed_hello pending x nonces possible nonce = framed_command (login_hello (asked_by pending x nonces)) (let size = length_hello pending x nonces possible nonce in omega arith)
+pub framed_hello : (pending : PendingConnection) (x : Exchange) (nonces : Nonces) → IsPossible x → base64_of nonces.first ≡ x.nonce → IsFramed (hello_document (asked_by_exchange pending x nonces))
+framed_hello pending x nonces possible nonce = framed_command (login_hello (asked_by_exchange pending x nonces)) (let size = length_hello pending x nonces possible nonce in omega arith)
 
 -- ---- the last command
 
