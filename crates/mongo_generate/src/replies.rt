@@ -14,7 +14,7 @@ use mongo_command::{
     ok_field,
 };
 use mongo_sasl::keys::{CONVERSATION_ID, DONE, PAYLOAD};
-use mongo_server::{MAXIMUM_DOCUMENT_LENGTH, MAXIMUM_MESSAGE_LENGTH};
+use mongo_server::{CONVERSATION_NUMBER, MAXIMUM_DOCUMENT_LENGTH, MAXIMUM_MESSAGE_LENGTH};
 use mongo_wire::{Error, MemoryLink, Message, MessageFlags, RequestIds, Sequences};
 use std::alloc::Global;
 
@@ -84,7 +84,7 @@ fn answer_to_login(alloc: Global, server_first: &[u8]) -> Result<RawDocumentBuf,
     ensures answer { IfOk result (λ document. document ≡ document_of (speculative_elements server_first.now)) }
     ensures short { length server_first.now < 2 ^ 24 → IfErr result (λ fault. fault ≡ BsonFault.OutOfMemory) }
 {
-    let id = int32_field(CONVERSATION_ID, mongo_server::CONVERSATION_ID);
+    let id = int32_field(CONVERSATION_ID, CONVERSATION_NUMBER);
     let done = boolean_field(DONE, false);
     let payload = generic_binary_field(PAYLOAD, server_first);
     document_of(alloc, &[id, done, payload])
@@ -96,7 +96,7 @@ fn final_reply(alloc: Global, server_final: &[u8]) -> Result<RawDocumentBuf, Bso
     ensures reply { IfOk result (λ document. document ≡ final_reply server_final.now) }
     ensures short { length server_final.now < 2 ^ 24 → IfErr result (λ fault. fault ≡ BsonFault.OutOfMemory) }
 {
-    let id = int32_field(CONVERSATION_ID, mongo_server::CONVERSATION_ID);
+    let id = int32_field(CONVERSATION_ID, CONVERSATION_NUMBER);
     let done = boolean_field(DONE, true);
     let payload = generic_binary_field(PAYLOAD, server_final);
     document_of(alloc, &[ok_field(), id, done, payload])

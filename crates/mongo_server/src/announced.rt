@@ -1,7 +1,7 @@
 //! What a server of this workspace tells every client.
 
 /// The number of a conversation (`conversationId`): 1, since a connection has one login at a time.
-pub const CONVERSATION_ID: i32 = 1;
+pub const CONVERSATION_NUMBER: i32 = 1;
 
 /// The greatest frame that is read or sent, in bytes (`maxMessageSizeBytes`): 48 MB, as servers of MongoDB announce it.
 pub const MAXIMUM_MESSAGE_LENGTH: i32 = 48_000_000;

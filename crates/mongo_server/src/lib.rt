@@ -16,7 +16,7 @@
 //! 3. [`ServerCore::last`] reads the client's last message. Its proof is compared as a whole with the one that the client
 //!    owes, and the server's last message answers it.
 //! 4. [`ServerCore::expected_final`] is that last message, for a peer that wants to know it before.
-//! 5. [`CONVERSATION_ID`], [`MAXIMUM_MESSAGE_LENGTH`] and [`MAXIMUM_DOCUMENT_LENGTH`] are what a server says around these messages.
+//! 5. [`CONVERSATION_NUMBER`], [`MAXIMUM_MESSAGE_LENGTH`] and [`MAXIMUM_DOCUMENT_LENGTH`] are what a server says around these messages.
 //!
 //! It is the mirror of `mongo_scram`: the messages are those of its `specs/Messages.antt`, read from the other side.
 //!
@@ -33,7 +33,7 @@ mod server_core;
 mod user;
 mod user_name;
 
-pub use announced::{CONVERSATION_ID, MAXIMUM_DOCUMENT_LENGTH, MAXIMUM_MESSAGE_LENGTH};
+pub use announced::{CONVERSATION_NUMBER, MAXIMUM_DOCUMENT_LENGTH, MAXIMUM_MESSAGE_LENGTH};
 pub use fault::ServerFault;
 pub use parse::is_nonce;
 pub use server_core::ServerCore;

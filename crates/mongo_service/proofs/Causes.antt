@@ -78,7 +78,7 @@ stopped frame.ReadFault old mid new front wanted lasts before some short tells s
 stopped frame.EndOfInput old mid new front wanted lasts before some short tells s =
     let all = all_taken old mid new front wanted mid.left refl before (some refl) s.1 in
     record { taken = all.taken; within = all.within; consumed = all.consumed; cause = (rose_after old.ends mid.ends new.ends lasts.ends s.0, ran_empty mid.left new.left wanted tells s.1, refl, all.some, short all.taken all.few) }
-stopped frame.OutOfMemory old mid new front wanted lasts before some short tells s = record { taken = s.0; within = s.1; consumed = s.2; cause = tt }
+stopped frame.OutOfMemory old mid new front wanted lasts before some short tells s = record { taken = s.0; within = s.1; consumed = s.2; cause = inl refl }
 stopped (frame.InvalidArgument _) old mid new front wanted lasts before some short tells s = absurd s
 stopped (frame.InvalidResponse _) old mid new front wanted lasts before some short tells s = absurd s
 
@@ -140,7 +140,7 @@ refused frame.ReadFault old new some message h =
     record { taken = h.1.0; part = inl (started maximum_message_length h.1.0 h.1.2); consumed = h.1.1; cause = (h.0, refl, unfinished maximum_message_length h.1.0 h.1.2) }
 refused frame.EndOfInput old new some message h =
     record { taken = h.1.0; part = inl (row_started maximum_message_length h.1.0 EndOfInput h.1.2); consumed = h.1.1; cause = (h.0, h.2, refl, emptied_some old.left new.left h.1.0 some h.1.1 h.2, ended_within maximum_message_length h.1.0 h.1.2) }
-refused frame.OutOfMemory old new some message h = record { taken = h.0; part = inl h.2; consumed = h.1; cause = tt }
+refused frame.OutOfMemory old new some message h = record { taken = h.0; part = inl h.2; consumed = h.1; cause = inl refl }
 refused (frame.InvalidArgument f) old new some message h = row_refused (InvalidArgument f) old new old.left refl (λ e. cc) message h
 refused (frame.InvalidResponse f) old new some message h = row_refused (InvalidResponse f) old new old.left refl (λ e. cc) message h
 
@@ -180,7 +180,7 @@ long_cause too_long fault old new cause is = let same : fault ≡ ReplyTooLong =
 pub write_cause : (too_long : Type 0) (fault : ServeFault) (old mid new : State) (cut : List ServerTurn) → length cut ≡ 1 → Lasts old mid → WriteCause too_long fault mid new → HasCause fault old new cut []
 write_cause too_long WriteFault old mid new cut one lasts w = (rose_after old.write_faults mid.write_faults new.write_faults lasts.writes w, (one, refl))
 write_cause too_long ReplyTooLong old mid new cut one lasts w = (one, refl)
-write_cause too_long OutOfMemory old mid new cut one lasts w = tt
+write_cause too_long OutOfMemory old mid new cut one lasts w = inr refl
 write_cause too_long fault old mid new cut one lasts w = absurd w
 
 -- ---- after the turns before
@@ -190,11 +190,10 @@ cause_after ReadFault count old mid new taken cut more lasts before c = (rose_af
 cause_after WriteFault count old mid new taken cut more lasts before c = (rose_after old.write_faults mid.write_faults new.write_faults lasts.writes c.0, c.1)
 cause_after CutFrame count old mid new taken cut more lasts before c = (rose_after old.ends mid.ends new.ends lasts.ends c.0, c.1, c.2, told_some old.left mid.left taken more before c.3, c.4)
 cause_after TooManyRequests count old mid new taken cut more lasts before c = absurd c
-cause_after OutOfMemory count old mid new taken cut more lasts before c = tt
 cause_after fault count old mid new taken cut more lasts before c = c
 
 -- ---- an OP_QUERY that isn't answered
 
 pub unasked : (fault : ServeFault) (old new : State) (bytes command : List ℕ) → IsQuery bytes command → (fault ≡ OutOfMemory) ⊎ ((fault ≡ NoHello) × (IsGreeting command → ⊥)) → HasCause fault old new [] bytes
-unasked fault old new bytes command is_query (inl memory) = subst (λ f. HasCause f old new [] bytes) (sym memory) tt
+unasked fault old new bytes command is_query (inl memory) = subst (λ f. HasCause f old new [] bytes) (sym memory) (inl refl)
 unasked fault old new bytes command is_query (inr (other, none)) = subst (λ f. HasCause f old new [] bytes) (sym other) (refl, (command, is_query, none))

@@ -1,5 +1,5 @@
 -- A turn that was cut, and why.
-use Rattle.std.specs.Prelude.{◌≡◌, ℕ, ℤ, pos, ◌<◌, ◌≤◌, ◌≤ℤ◌, ◌⊎◌, Option, Some, List, [], ◌++◌, length, IfSome, ⊤}
+use Rattle.std.specs.Prelude.{◌≡◌, ℕ, ℤ, pos, ◌<◌, ◌≤◌, ◌≤ℤ◌, ◌⊎◌, Option, Some, List, [], ◌++◌, length, IfSome}
 use Rattle.std.specs.List.{AllByRecursion}
 use Rattle.std.specs.Io.KnownBytes.{Consumes, Appends}
 use Rattle.mongo_wire.specs.Header.{code_number, signed_at}
@@ -80,7 +80,8 @@ IsNoRequest bytes = (document : List ℕ) → CarriesRequest bytes document → 
 abbrev pub BeginsNoRequest : List ℕ → Type 0
 BeginsNoRequest taken = (frame rest document : List ℕ) → frame ≡ taken ++ rest → pos (length frame) ≤ℤ maximum_message_length → CarriesRequest frame document → ⊥
 
--- What a fault says of the bytes that weren't answered, and of the link before and after.
+-- What a fault says of the bytes that weren't answered, and of the link before and after. Whatever it is, nothing is taken behind a frame
+-- whose answer is cut.
 abbrev pub HasCause : ServeFault → State → State → List ServerTurn → List ℕ → Type 0
 HasCause ReadFault old new cut more = Rose old.read_faults new.read_faults × (cut ≡ []) × IsNoRequest more
 HasCause WriteFault old new cut more = Rose old.write_faults new.write_faults × CutsOne cut more
@@ -89,7 +90,7 @@ HasCause NoFrame old new cut more = (cut ≡ []) × (16 ≤ length more) × Begi
 HasCause NoHello old new cut more = (cut ≡ []) × AsksOtherwise more
 HasCause ReplyTooLong old new cut more = CutsOne cut more
 HasCause TooManyRequests old new cut more = ⊥
-HasCause OutOfMemory old new cut more = ⊤
+HasCause OutOfMemory old new cut more = (cut ≡ []) ⊎ (more ≡ [])
 
 -- A turn was cut: a frame was taken and its answer cut, or some bytes were taken and nothing answered. Who is logged in has sent what a
 -- login takes.

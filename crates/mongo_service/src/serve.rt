@@ -90,7 +90,7 @@ fn take_turn<L: Link, G: Ledger>(
         TurnEnds settings.now requests (L.state link.old) (L.state link.new) serving.old.session serving.old.ids serving.new.session serving.new.ids result }
     ensures rises { steps.old ≤ steps.new }
 {
-    let mut head = [0u8; 16];
+    let mut head = [0u8; Header::LENGTH];
     match fill_or_end(link, &mut head) {
         Ok(true) => match take_after(alloc, settings, link, serving, &head, steps) {
             Ok(()) => Ok(true),
@@ -212,10 +212,10 @@ fn length_after(length: i32) -> Option<usize>
     ensures within { IfSome result (λ rest. pos (16 + rest) ≤ℤ maximum_message_length) }
     ensures outside { IsNone result → (length <ℤ pos 16) ⊎ (maximum_message_length <ℤ length) }
 {
-    if length < 16 || length > MAXIMUM_MESSAGE_LENGTH {
+    if length < Header::LENGTH as i32 || length > MAXIMUM_MESSAGE_LENGTH {
         None
     } else {
-        Some(length as usize - 16)
+        Some(length as usize - Header::LENGTH)
     }
 }
 

@@ -10,7 +10,7 @@ use mongo_bson::{BsonFault, RawDocument, RawDocumentBuf, RawValue, Text};
 use mongo_command::keys::{CODE, CODE_NAME, ERRMSG, MAX_BSON_OBJECT_SIZE, OK};
 use mongo_command::{boolean_field, document_of, generic_binary_field, int32_field, ok_field};
 use mongo_sasl::keys::{CONVERSATION_ID, DONE, PAYLOAD};
-use mongo_server::MAXIMUM_DOCUMENT_LENGTH;
+use mongo_server::{CONVERSATION_NUMBER, MAXIMUM_DOCUMENT_LENGTH};
 use std::alloc::Global;
 
 // The bits of the double 0.0.
@@ -81,7 +81,7 @@ pub fn sasl_document(alloc: Global, message: &SaslReply) -> Result<RawDocumentBu
     ensures document { IfOk result (λ document. document ≡ sasl_document message.now) }
     ensures refused { IfErr result (λ fault. TooLongFor fault (sasl_document message.now)) }
 {
-    let id = int32_field(CONVERSATION_ID, mongo_server::CONVERSATION_ID);
+    let id = int32_field(CONVERSATION_ID, CONVERSATION_NUMBER);
     let done = boolean_field(DONE, message.is_done);
     let payload = generic_binary_field(PAYLOAD, message.payload.as_bytes());
     document_of(alloc, &[id, done, payload, ok_field()])

@@ -18,6 +18,7 @@ use mongo_sasl::keys::{
     CONVERSATION_ID, MECHANISM, OPTIONS, PAYLOAD, SASL_CONTINUE, SASL_START, SKIP_EMPTY_EXCHANGE,
 };
 use mongo_scram::ScramVersion;
+use mongo_server::CONVERSATION_NUMBER;
 
 /// A command that a client asks for. What is borrowed lies in its document.
 #[derive(Clone, Copy)]
@@ -186,7 +187,7 @@ fn continue_request_of<'a>(document: RawDocument<'a>) -> ContinueRequest<'a>
     ensures message { HoldsIfAny (HasPayload document.entry.bytes.now) result.payload }
 {
     ContinueRequest {
-        is_of_conversation: is_int32_in(document, CONVERSATION_ID, mongo_server::CONVERSATION_ID),
+        is_of_conversation: is_int32_in(document, CONVERSATION_ID, CONVERSATION_NUMBER),
         payload: payload_of(document),
     }
 }

@@ -60,4 +60,4 @@ returns-in-Err-answer_document-clause-turn g c = λ requests before h f.
     let on = c.in-Ok.ensures.on in
     none_taken c.args.settings.now requests before t c.args.serving.now.session c.args.serving.now.ids c.answer_document.new.session.user c.in-Err-answer_document.fault taken.frame c.in-Err-answer_document.ensures.kept
     (inr (inr (message.document_payload.bytes.now, inl (taken.parts, shown.is_frame, sym shown.body_is)))) taken.taken (on.unwritten.written ∙ f.on.unwritten.written) h.user
-    (subst (λ fault. HasCause fault before t [] taken.frame) (sym c.in-Err-answer_document.ensures.refused) tt) (lasts_after before s t f.on on)
+    (subst (λ fault. HasCause fault before t [] taken.frame) (sym c.in-Err-answer_document.ensures.refused) (inl refl)) (lasts_after before s t f.on on)
