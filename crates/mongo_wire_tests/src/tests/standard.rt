@@ -1,4 +1,4 @@
-// Readers and writers of std that fail, end, take little or take nothing. No clause says what they give or take.
+// Readers and writers of std that fail, end, take little or take nothing. As they tell no bytes, no clause says what becomes of theirs.
 use super::{EMPTY_MESSAGE, Told, empty_message, read_end, write_end};
 use mongo_wire::{Link, RequestIds, Sink, Source, StdLink, StdSink, StdSource};
 use std::alloc::Global;
