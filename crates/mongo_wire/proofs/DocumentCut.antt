@@ -7,11 +7,11 @@ use Rattle.std.specs.Int.{cast_signed, w32}
 use Rattle.std.specs.Io.KnownBytes.{Consumes}
 use Rattle.mongo_bson.proofs.Sizes.{number_at_front}
 use Rattle.mongo_wire.specs.Header.{signed_at}
-use Rattle.mongo_wire.specs.Outside.{State, ReadsOn, ReadStops, ConsumesAtMost, ConsumesFewer, RanOut}
+use Rattle.mongo_wire.specs.Outside.{State, Unstopped, ReadStops, ConsumesAtMost, ConsumesFewer, RanOut}
 use Rattle.mongo_wire.specs.Rows.{IsEmptied}
 use Rattle.mongo_wire.specs.Small.{DocumentUnread, IsStartedDocument, IsShortDocument, TakesSuch, TakesDocument}
 use Rattle.mongo_wire.specs.declared.error.ErrorKind.{ErrorKind}
-use Rattle.mongo_wire.proofs.ReadStopped.{stop_cases, rose_after}
+use Rattle.mongo_wire.proofs.ReadStopped.{stop_cases, unstopped_on, fails_after, ends_after}
 
 signed_front : (field more : List ℕ) → length field ≡ 4 → signed_at 0 (field ++ more) ≡ signed_at 0 field
 signed_front field more four = ap (cast_signed w32) (number_at_front field more (omega arith))
@@ -28,7 +28,7 @@ ended_early (Some bytes) new tells ran =
 pub length_cut : (kind : ErrorKind) (old new : State) → is_some new.left ≡ is_some old.left → ReadStops kind old new 4 → DocumentUnread kind old new
 length_cut kind old new tells s =
     stop_cases (λ k. DocumentUnread k old new) kind old new 4 s
-    (λ _ f. (f.0, (f.1.0, f.1.2, inl f.1.1))) (λ _ e. let (taken, empty) = ended_early old.left new.left tells e.1 in (e.0, taken, empty)) (λ _ m. (m.0, m.2, inl m.1))
+    (λ _ f. (f.0, (f.1.0, f.1.2, inl f.1.1))) (λ _ e. let (taken, empty) = ended_early old.left new.left tells e.1 in (e.0, taken, empty)) (λ _ m. (m.0, (m.1.0, m.1.2, inl m.1.1)))
 
 -- ---- the length came, and what it counts didn't
 
@@ -54,23 +54,24 @@ short old (Some bytes) new field n part tells p four is least ran =
     subst (λ s. TakesSuch IsShortDocument old s × IsEmptied s) (sym ran.1) both
 
 pub document_cut : (kind : ErrorKind) (old mid new : State) (field : List ℕ) (n part : ℕ)
-    → is_some new.left ≡ is_some mid.left → Consumes old.left mid.left field → length field ≡ 4 → signed_at 0 field ≡ pos n → 4 + part ≡ n → ReadsOn old mid → ReadStops kind mid new part
+    → is_some new.left ≡ is_some mid.left → Consumes old.left mid.left field → length field ≡ 4 → signed_at 0 field ≡ pos n → 4 + part ≡ n → Unstopped old mid → ReadStops kind mid new part
     → DocumentUnread kind old new
-document_cut kind old mid new field n part tells p four is least on s =
+document_cut kind old mid new field n part tells p four is least still s =
     stop_cases (λ k. DocumentUnread k old new) kind mid new part s
-    (λ _ f. (rose_after old.read_faults mid.read_faults new.read_faults on.faults_stay f.0, unfinished old.left mid.left new.left field n part p four is least f.1))
-    (λ _ e. let (taken, empty) = short old.left mid.left new.left field n part tells p four is least e.1 in (rose_after old.ends mid.ends new.ends on.ends_stay e.0, taken, empty))
-    (λ _ m. started old.left mid.left new.left field n part p four is least m)
+    (λ _ f. (fails_after old mid new still f.0, unfinished old.left mid.left new.left field n part p four is least f.1))
+    (λ _ e. let (taken, empty) = short old.left mid.left new.left field n part tells p four is least e.1 in (ends_after old mid new still e.0, taken, empty))
+    (λ _ m. (unstopped_on old mid new still m.0, started old.left mid.left new.left field n part p four is least m.1))
 
 -- ---- the whole document came
 
 pub document_taken : (old mid new : State) (field whole : List ℕ) (n : ℕ) → Consumes old.left mid.left field → length field ≡ 4 → signed_at 0 field ≡ pos n → 4 ≤ n
-    → take 4 whole ≡ take 4 field → length whole ≡ n → Consumes mid.left new.left (take (n - 4) (drop 4 whole)) → TakesDocument old new whole
-document_taken old mid new field whole n p four is least front size q =
+    → take 4 whole ≡ take 4 field → length whole ≡ n → Consumes mid.left new.left (take (n - 4) (drop 4 whole)) → Unstopped old new → TakesDocument old new whole
+document_taken old mid new field whole n p four is least front size q still =
     let rest : take (n - 4) (drop 4 whole) ≡ drop 4 whole = take_all (n - 4) (drop 4 whole) (omega (arith, length-drop 4 whole, size)) in
     let joined : field ++ drop 4 whole ≡ whole = ap (λ f. f ++ drop 4 whole) (sym (front ∙ take_all 4 field (omega (arith, four)))) ∙ take-append-drop 4 whole in
     record {
       taken = subst (Consumes old.left new.left) joined (Consumes-trans old.left mid.left new.left field (drop 4 whole) p (subst (Consumes mid.left new.left) rest q));
+      unstopped = still;
       least = omega (arith, least, size);
       counted = ap (signed_at 0) (sym joined) ∙ signed_front field (drop 4 whole) four ∙ is ∙ ap pos (sym size);
     }

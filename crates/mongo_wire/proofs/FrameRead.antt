@@ -5,7 +5,7 @@ use Rattle.std.proofs.lemmas.Int.{ints}
 use Rattle.std.proofs.lemmas.Bool.{false≢true}
 use Rattle.std.proofs.KnownBytes.{Consumes-trans}
 use Rattle.std.specs.Io.KnownBytes.{Consumes}
-use Rattle.mongo_wire.specs.Outside.{State, ReadsOn, ReadStops, ConsumesAtMost, ConsumesFewer, RanOut}
+use Rattle.mongo_wire.specs.Outside.{State, Unstopped, ReadStops, ConsumesAtMost, ConsumesFewer, RanOut}
 use Rattle.mongo_wire.specs.Frame.{Frame, IsFrame}
 use Rattle.mongo_wire.specs.Header.{signed_at, op_code_of}
 use Rattle.mongo_wire.specs.Rows.{Passes, FrameRow, TakesRow, TakesStarted, TakesUnfinished, IsEmptied, header_row, length_row, code_row}
@@ -24,7 +24,7 @@ use Rattle.mongo_wire.specs.declared.frame_buffer.FrameBuffer.{FrameBuffer}
 use Rattle.mongo_wire.specs.declared.error.ErrorKind.{ErrorKind}
 use Rattle.mongo_wire.specs.declared.error.ErrorKind.TheVariants.{InvalidArgument, InvalidResponse, Command, Authentication, IncompatibleServer, Write, InsertMany, ReadFault, WriteFault, EndOfInput, Callback, PasswordNotAscii, OutOfMemory}
 use Rattle.mongo_wire.proofs.OneFrame.{one_frame, least_frame, row_no_frame, row_in, signed_in}
-use Rattle.mongo_wire.proofs.ReadStopped.{stop_cases, rose_after}
+use Rattle.mongo_wire.proofs.ReadStopped.{stop_cases, unstopped_on, fails_after, ends_after}
 
 -- where nothing is told, nothing is told after it
 emptied_untold : (new : Option (List ℕ)) → is_some new ≡ false → IsEmptied new
@@ -42,7 +42,7 @@ short_header maximum (Some bytes) new tells r =
 pub header_stopped : (kind : ErrorKind) (maximum : ℤ) (old new : State) → is_some new.left ≡ is_some old.left → ReadStops kind old new 16 → ReadRefused kind maximum old new
 header_stopped kind maximum old new tells s =
     stop_cases (λ k. ReadRefused k maximum old new) kind old new 16 s
-    (λ _ f. (f.0, unfinished f.1)) (λ _ e. let (row, empty) = short_header maximum old.left new.left tells e.1 in (e.0, row, empty)) (λ _ m. started m)
+    (λ _ f. (f.0, unfinished f.1)) (λ _ e. let (row, empty) = short_header maximum old.left new.left tells e.1 in (e.0, row, empty)) (λ _ m. (m.0, started m.1))
   where
     started : ConsumesAtMost old.left new.left 16 → TakesStarted maximum old.left new.left
     started c = (c.0, c.2, inl c.1)
@@ -75,9 +75,9 @@ row_cases P maximum length (Some code) number kind e response argument = by (int
     by true p = subst P (same_kind _ kind p) (response OverMaximum)
     by false p = code_cases P length code kind p response argument
 
-pub header_refused : (kind : ErrorKind) (maximum : ℤ) (old new : State) (head : List ℕ) → Consumes old.left new.left head → length head ≡ 16 → header_row maximum head ≡ Some kind → ReadRefused kind maximum old new
-header_refused kind maximum old new head taken sixteen row =
-    row_cases (λ k. TakesRow k maximum old.left new.left → ReadRefused k maximum old new) maximum (signed_at 0 head) _ (signed_at 12 head) kind row (λ fault t. t) (λ fault t. t)
+pub header_refused : (kind : ErrorKind) (maximum : ℤ) (old new : State) (head : List ℕ) → Consumes old.left new.left head → Unstopped old new → length head ≡ 16 → header_row maximum head ≡ Some kind → ReadRefused kind maximum old new
+header_refused kind maximum old new head taken still sixteen row =
+    row_cases (λ k. TakesRow k maximum old.left new.left → ReadRefused k maximum old new) maximum (signed_at 0 head) _ (signed_at 12 head) kind row (λ fault t. (still, t)) (λ fault t. (still, t))
     (head, taken, inr (inl (record { header = sixteen; row = row })))
 
 -- the row of an op code that is unknown
@@ -111,14 +111,14 @@ cut_frame maximum (Some xs) (Some bytes) new head wanted p sixteen row size some
     ((head ++ bytes, none.0, short_frame maximum head bytes wanted sixteen row size r.0), none.1)
 
 pub rest_stopped : (kind : ErrorKind) (maximum : ℤ) (old mid new : State) (head : List ℕ) (wanted : ℕ)
-    → Consumes old.left mid.left head → ReadsOn old mid → is_some new.left ≡ is_some mid.left → length head ≡ 16 → header_row maximum head ≡ None → pos (16 + wanted) ≡ signed_at 0 head → 0 < wanted
+    → Consumes old.left mid.left head → Unstopped old mid → is_some mid.left ≡ is_some old.left → is_some new.left ≡ is_some mid.left → length head ≡ 16 → header_row maximum head ≡ None → pos (16 + wanted) ≡ signed_at 0 head → 0 < wanted
     → ReadStops kind mid new wanted → ReadRefused kind maximum old new
-rest_stopped kind maximum old mid new head wanted p on tells sixteen row size some s =
+rest_stopped kind maximum old mid new head wanted p still told tells sixteen row size some s =
     stop_cases (λ k. ReadRefused k maximum old new) kind mid new wanted s
-    (λ _ f. (rose_after old.read_faults mid.read_faults new.read_faults on.faults_stay f.0, unfinished f.1))
-    (λ _ e. let (row_of, empty) = cut_frame maximum old.left mid.left new.left head wanted p sixteen row size some (tells ∙ on.tells) e.1 in
-    (rose_after old.ends mid.ends new.ends on.ends_stay e.0, row_of, empty))
-    (λ _ m. started m)
+    (λ _ f. (fails_after old mid new still f.0, unfinished f.1))
+    (λ _ e. let (row_of, empty) = cut_frame maximum old.left mid.left new.left head wanted p sixteen row size some (tells ∙ told) e.1 in
+    (ends_after old mid new still e.0, row_of, empty))
+    (λ _ m. (unstopped_on old mid new still m.0, started m.1))
   where
     started : ConsumesAtMost mid.left new.left wanted → TakesStarted maximum old.left new.left
     started c =
@@ -129,17 +129,20 @@ rest_stopped kind maximum old mid new head wanted p on tells sixteen row size so
         (head ++ c.0, Consumes-trans old.left mid.left new.left head c.0 p c.2, inr (passes maximum head c.0 sixteen row, omega (arith, ints, length-append head c.0, size_with head c.0 sixteen, size, c.1)))
 
 -- the whole frame came, and is none
-pub sections_refused : (maximum : ℤ) (old mid new : State) (head bytes : List ℕ) → Consumes old.left mid.left head → Consumes mid.left new.left bytes → length head ≡ 16
+pub sections_refused : (maximum : ℤ) (old mid new : State) (head bytes : List ℕ) → Consumes old.left mid.left head → Consumes mid.left new.left bytes → Unstopped old new → length head ≡ 16
     → header_row maximum head ≡ None → pos (16 + length bytes) ≡ signed_at 0 head → NoFrame (head ++ bytes) → ReadRefused (InvalidResponse Sections) maximum old new
-sections_refused maximum old mid new head bytes p q sixteen row size none = (
-  head ++ bytes,
-  Consumes-trans old.left mid.left new.left head bytes p q,
-  inr (inr (inr (record {
-    passes = passes maximum head bytes sixteen row;
-    whole = omega (arith, ints, length-append head bytes, size_with head bytes sixteen, size);
-    none = none;
-    kind_is = refl;
-  }))),
+sections_refused maximum old mid new head bytes p q still sixteen row size none = (
+  still,
+  (
+    head ++ bytes,
+    Consumes-trans old.left mid.left new.left head bytes p q,
+    inr (inr (inr (record {
+      passes = passes maximum head bytes sixteen row;
+      whole = omega (arith, ints, length-append head bytes, size_with head bytes sixteen, size);
+      none = none;
+      kind_is = refl;
+    }))),
+  ),
 )
 
 -- ---- a frame stood there
@@ -160,8 +163,8 @@ no_refusal kind maximum old new frame rest parts is frame_is within r = by kind 
     by ReadFault r = tt
     by OutOfMemory r = tt
     by EndOfInput r = stop EndOfInput r.1 (λ _. r.2)
-    by (InvalidResponse fault) r = stop (InvalidResponse fault) r (λ e. cc)
-    by (InvalidArgument fault) r = stop (InvalidArgument fault) r (λ e. cc)
+    by (InvalidResponse fault) r = stop (InvalidResponse fault) r.1 (λ e. cc)
+    by (InvalidArgument fault) r = stop (InvalidArgument fault) r.1 (λ e. cc)
     by (Command _) r = absurd r
     by (Authentication _) r = absurd r
     by IncompatibleServer r = absurd r
@@ -184,14 +187,15 @@ same_taken maximum old new buffer frame rest parts is frame_is taken = at new.le
 
 -- ---- the whole frame came
 
-pub frame_taken : (maximum : ℤ) (before mid new : State) (head bytes : List ℕ) (rest : ℕ) (held : HeldFrame) (buffer : FrameBuffer) → Consumes before.left mid.left head → Consumes mid.left new.left bytes → length head ≡ 16
+pub frame_taken : (maximum : ℤ) (before mid new : State) (head bytes : List ℕ) (rest : ℕ) (held : HeldFrame) (buffer : FrameBuffer) → Consumes before.left mid.left head → Consumes mid.left new.left bytes → Unstopped before new → length head ≡ 16
     → length bytes ≡ rest → pos (16 + rest) ≤ℤ maximum → IsHeld (head ++ bytes) held → buffer.last ≡ Some held → held_bytes buffer ≡ bytes → IsFrameTaken maximum before new buffer
-frame_taken maximum before mid new head bytes rest held buffer p q sixteen size within (parts, is_held) last bytes_are = record {
+frame_taken maximum before mid new head bytes rest held buffer p q still sixteen size within (parts, is_held) last bytes_are = record {
   frame = head ++ bytes;
   parts = parts;
   holds = record { held = held; last_is = last; is_held = is_held; bytes_are = bytes_are ∙ sym (drop_at head bytes 16 sixteen) };
   within = omega (arith, ints, length-append head bytes, sixteen, size, within);
   taken = Consumes-trans before.left mid.left new.left head bytes p q;
+  unstopped = still;
 }
 
 -- memory for what was wanted stays within the maximum where the frame does

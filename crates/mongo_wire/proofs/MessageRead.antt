@@ -7,7 +7,7 @@ use Rattle.std.specs.Io.KnownBytes.{Consumes}
 use Rattle.mongo_wire.specs.Frame.{Frame, IsFrame, known_flags}
 use Rattle.mongo_wire.specs.Message.{parts_of, IsRead, ReadRefused, ReadsAgain}
 use Rattle.mongo_wire.specs.Outside.{State}
-use Rattle.mongo_wire.specs.Rows.{TakesStarted}
+use Rattle.mongo_wire.specs.declared.error.ErrorKind.TheVariants.{OutOfMemory}
 use Rattle.mongo_wire.specs.Buffer.{IsFrameTaken}
 use Rattle.mongo_wire.specs.Ref.{IsOwned}
 use Rattle.mongo_wire.specs.declared.message.Message.{Message}
@@ -36,15 +36,16 @@ read_whole maximum old new buffer m read owned = record {
   is_frame = subst (IsFrame read.frame) (copied_parts read.frame read.parts m read.holds.is_held.is_frame owned) read.holds.is_held.is_frame;
   within = read.within;
   taken = read.taken;
+  unstopped = read.unstopped;
   flags_known = owned.flags_are ∙ copied_flags read.frame read.parts m read.holds.is_held.is_frame owned;
   unnumbered = owned.unnumbered;
 }
 
 -- memory ran out after the whole frame came
-pub read_then_stopped : (maximum : ℤ) (old new : State) (buffer : FrameBuffer) → IsFrameTaken maximum old new buffer → TakesStarted maximum old.left new.left
+pub read_then_stopped : (maximum : ℤ) (old new : State) (buffer : FrameBuffer) → IsFrameTaken maximum old new buffer → ReadRefused OutOfMemory maximum old new
 read_then_stopped maximum old new buffer read =
     let is = read.holds.is_held.is_frame in
-    (read.frame, read.taken, inr (record { whole = omega (arith, least_frame read.frame read.parts is); good = frame_row maximum read.frame read.parts is read.within }, omega (arith, ints, frame_size read.frame read.parts is)))
+    (read.unstopped, (read.frame, read.taken, inr (record { whole = omega (arith, least_frame read.frame read.parts is); good = frame_row maximum read.frame read.parts is read.within }, omega (arith, ints, frame_size read.frame read.parts is))))
 
 same_id : (p q : Frame) → p ≡ q → p.request_id ≡ q.request_id
 same_id p q e = ap (λ z. z.request_id) e

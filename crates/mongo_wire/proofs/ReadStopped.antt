@@ -4,7 +4,7 @@ use Rattle.std.proofs.Math.Seq.{take-add}
 use Rattle.std.proofs.lemmas.List.{take-take, drop-drop, drop-take, length-take-le, length-drop}
 use Rattle.std.proofs.KnownBytes.{Consumes-trans}
 use Rattle.std.specs.Io.KnownBytes.{Consumes}
-use Rattle.mongo_wire.specs.Outside.{State, ReadsOn, Rose, ReadStops, ConsumesAtMost, ConsumesFewer, RanOut}
+use Rattle.mongo_wire.specs.Outside.{State, ReadsOn, Unstopped, FailsToRead, MeetsEnd, ReadStops, ConsumesAtMost, ConsumesFewer, RanOut, risen}
 use Rattle.mongo_wire.specs.declared.error.ErrorKind.{ErrorKind}
 use Rattle.mongo_wire.specs.declared.error.ErrorKind.TheVariants.{InvalidArgument, InvalidResponse, Command, Authentication, IncompatibleServer, Write, InsertMany, ReadFault, WriteFault, EndOfInput, Callback, PasswordNotAscii, OutOfMemory}
 
@@ -33,8 +33,21 @@ stop_cases P WriteFault _ _ _ s fault end memory = absurd s
 stop_cases P (Callback _) _ _ _ s fault end memory = absurd s
 stop_cases P PasswordNotAscii _ _ _ s fault end memory = absurd s
 
-pub rose_after : (first old new : ℕ) → first ≤ old → Rose old new → Rose first new
-rose_after first old new q r = omega arith
+-- ---- counts, where an earlier part was read without a stop
+
+pub unstopped_still : (state : State) → Unstopped state state
+unstopped_still state = record { reads = refl; ends = refl }
+
+pub unstopped_on : (old mid new : State) → Unstopped old mid → Unstopped mid new → Unstopped old new
+unstopped_on old mid new p q = record { reads = q.reads ∙ p.reads; ends = q.ends ∙ p.ends }
+
+pub fails_after : (old mid new : State) → Unstopped old mid → FailsToRead mid new → FailsToRead old new
+fails_after old mid new p q = record { reads = q.reads ∙ ap risen p.reads; ends = q.ends ∙ p.ends }
+
+pub ends_after : (old mid new : State) → Unstopped old mid → MeetsEnd mid new → MeetsEnd old new
+ends_after old mid new p q = record { reads = q.reads ∙ p.reads; ends = q.ends ∙ ap risen p.ends }
+
+-- ---- what reading keeps
 
 -- no read at all
 pub reads_still : (state : State) → ReadsOn state state
@@ -51,11 +64,11 @@ reads_on old mid new p q = record {
 
 -- a later part was refused, of no more than was wanted in all
 pub stops_after : (kind : ErrorKind) (old mid new : State) (taken : List ℕ) (part wanted : ℕ)
-    → Consumes old.left mid.left taken → ReadsOn old mid → length taken + part ≤ wanted → ReadStops kind mid new part → ReadStops kind old new wanted
-stops_after kind old mid new taken part wanted p on within s =
+    → Consumes old.left mid.left taken → Unstopped old mid → length taken + part ≤ wanted → ReadStops kind mid new part → ReadStops kind old new wanted
+stops_after kind old mid new taken part wanted p still within s =
     stop_cases (λ k. ReadStops k old new wanted) kind mid new part s
-    (λ _ f. (rose_after old.read_faults mid.read_faults new.read_faults on.faults_stay f.0, fewer f.1))
-    (λ _ e. (rose_after old.ends mid.ends new.ends on.ends_stay e.0, ran_out old.left mid.left new.left taken part wanted p within e.1)) (λ _ m. consumes m)
+    (λ _ f. (fails_after old mid new still f.0, fewer f.1)) (λ _ e. (ends_after old mid new still e.0, ran_out old.left mid.left new.left taken part wanted p within e.1))
+    (λ _ m. (unstopped_on old mid new still m.0, consumes m.1))
   where
     consumes : ConsumesAtMost mid.left new.left part → ConsumesAtMost old.left new.left wanted
     consumes c = (taken ++ c.0, omega (arith, c.1, length-append taken c.0, within), Consumes-trans old.left mid.left new.left taken c.0 p c.2)
@@ -98,7 +111,7 @@ pub came_then : (kind : ErrorKind) (old mid new : State) (taken : List ℕ) (par
     → Consumes old.left mid.left taken → old.left ≡ Some had → new.left ≡ Some left → ReadStops kind mid new part → length taken ≤ length had - length left
 came_then kind old mid new taken part had left p had_is left_is s =
     stop_cases (λ _. length taken ≤ length had - length left) kind mid new part s
-    (λ _ f. consumed f.1.0 f.1.2) (λ _ e. ended mid.left p e.1) (λ _ m. consumed m.0 m.2)
+    (λ _ f. consumed f.1.0 f.1.2) (λ _ e. ended mid.left p e.1) (λ _ m. consumed m.1.0 m.1.2)
   where
     consumed : (more : List ℕ) → Consumes mid.left new.left more → length taken ≤ length had - length left
     consumed more q = omega (arith, came_before old.left new.left (taken ++ more) had left (Consumes-trans old.left mid.left new.left taken more p q) had_is left_is, length-append taken more)

@@ -24,7 +24,7 @@ sections_spelled id to flags size head word sections id_fits to_fits p q counted
 
 pub sections_refused : (kind : ErrorKind) (maximum : ℤ) (sections frame : List ℕ) (old new : State) → SectionsFit maximum sections → WriteStops kind old new frame → SectionsRefused kind maximum sections frame old new
 sections_refused kind maximum sections frame old new fits s =
-    write_cases (λ k. SectionsRefused k maximum sections frame old new) kind old new frame s (λ f. (f.0, fits, f.1)) (λ f. (fits, f))
+    write_cases (λ k. SectionsRefused k maximum sections frame old new) kind old new frame s (λ f. (f.0, fits, f.1)) (λ m. (m.0, fits, m.1))
 
 -- the flags that are written are known ones
 known_again : (flags : ℕ) → bit_and (bit_and flags unsummed_flags) known_flags ≡ bit_and flags unsummed_flags

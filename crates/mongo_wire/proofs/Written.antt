@@ -7,14 +7,13 @@ use Rattle.std.specs.Int.{w32}
 use Rattle.std.proofs.KnownBytes.{Appends-trans}
 use Rattle.std.specs.Io.KnownBytes.{Appends}
 use Rattle.mongo_wire.proofs.Passed.{joined_more, joined_at}
-use Rattle.mongo_wire.specs.Outside.{State, WritesOn, Rose, WriteStops, AppendsFront}
+use Rattle.mongo_wire.specs.Outside.{State, SinkCounts, WriteStops, AppendsFront, risen}
 use Rattle.mongo_wire.specs.Frame.{int32, uint32, message_code, known_flags, sequence, section_bytes, sequence_bytes}
 use Rattle.mongo_wire.specs.Measure.{documents_bytes, sequence_section, sequences_bytes}
 use Rattle.mongo_wire.specs.declared.document_sequence.DocumentSequence.{DocumentSequence}
 use Rattle.std.proofs.lemmas.List.Folds.{flat_map-map}
 use Rattle.mongo_wire.specs.Message.{Fits, WriteCut, WriteRefused, written_frame, before_checksum, frame_length, sections_of, checksum_bytes, id_of, id_after}
 use Rattle.mongo_wire.specs.declared.message.Message.{Message}
-use Rattle.std.specs.Result.{IsErrOf}
 use Rattle.mongo_wire.specs.Error.{kind_of_sink_error}
 use Rattle.mongo_wire.specs.declared.outside.SinkError.{SinkError}
 use Rattle.mongo_wire.specs.declared.outside.SinkError.TheVariants.{Failed as SinkFailed, OutOfMemory as SinkMemory}
@@ -57,22 +56,18 @@ write_cases P PasswordNotAscii _ _ _ s fault memory = absurd s
 pub cut_before : (kind : ErrorKind) (old new : State) (first more : List ℕ) → WriteStops kind old new first → WriteStops kind old new (first ++ more)
 cut_before kind old new first more s =
     write_cases (λ k. WriteStops k old new (first ++ more)) kind old new first s
-    (λ f. (f.0, front_of_first old.written new.written first more f.1)) (λ m. front_of_first old.written new.written first more m)
+    (λ f. (f.0, front_of_first old.written new.written first more f.1)) (λ m. (m.0, front_of_first old.written new.written first more m.1))
 
 -- a later part was refused
 pub cut_after : (kind : ErrorKind) (old mid new : State) (first more : List ℕ)
-    → Appends old.written mid.written first → WritesOn old mid → WriteStops kind mid new more → WriteStops kind old new (first ++ more)
-cut_after kind old mid new first more p on s =
+    → Appends old.written mid.written first → mid.write_faults ≡ old.write_faults → WriteStops kind mid new more → WriteStops kind old new (first ++ more)
+cut_after kind old mid new first more p still s =
     write_cases (λ k. WriteStops k old new (first ++ more)) kind mid new more s
-    (λ f. (rose old.write_faults mid.write_faults new.write_faults on.faults_stay f.0, front_after old.written mid.written new.written first more p f.1))
-    (λ m. front_after old.written mid.written new.written first more p m)
-  where
-    rose : (first old new : ℕ) → first ≤ old → Rose old new → Rose first new
-    rose first old new q r = omega arith
+    (λ f. (f.0 ∙ ap risen still, front_after old.written mid.written new.written first more p f.1)) (λ m. (m.0 ∙ still, front_after old.written mid.written new.written first more p m.1))
 
 -- all was written, and the flush was refused
-pub cut_at_end : (kind : ErrorKind) (old mid new : State) (all : List ℕ) → Appends old.written mid.written all → WritesOn old mid → WriteStops kind mid new [] → WriteStops kind old new all
-cut_at_end kind old mid new all p on s = subst (WriteStops kind old new) (append-nil all) (cut_after kind old mid new all [] p on s)
+pub cut_at_end : (kind : ErrorKind) (old mid new : State) (all : List ℕ) → Appends old.written mid.written all → mid.write_faults ≡ old.write_faults → WriteStops kind mid new [] → WriteStops kind old new all
+cut_at_end kind old mid new all p still s = subst (WriteStops kind old new) (append-nil all) (cut_after kind old mid new all [] p still s)
 
 pub joined : (old one two three : Option (List ℕ)) (head start document : List ℕ) → Appends old one head → Appends one two start → Appends two three document
     → Appends old three (head ++ (start ++ document))
@@ -134,28 +129,28 @@ frame_cut kind id m old new s = cut_before kind old new (before_checksum id m) (
 
 -- the checksum was refused after them
 pub checksum_cut : (kind : ErrorKind) (id : ℤ) (m : Message) (sum : Option ℕ) (old mid new : State)
-    → Appends old.written mid.written (before_checksum id m) → WritesOn old mid → WriteStops kind mid new (checksum_bytes sum) → sum ≡ m.checksum → WriteStops kind old new (written_frame id m)
-checksum_cut kind id m sum old mid new p on s is =
+    → Appends old.written mid.written (before_checksum id m) → mid.write_faults ≡ old.write_faults → WriteStops kind mid new (checksum_bytes sum) → sum ≡ m.checksum → WriteStops kind old new (written_frame id m)
+checksum_cut kind id m sum old mid new p still s is =
     let last = subst (λ c. WriteStops kind mid new (checksum_bytes c)) is s in
-    cut_after kind old mid new (before_checksum id m) (checksum_bytes m.checksum) p on last
+    cut_after kind old mid new (before_checksum id m) (checksum_bytes m.checksum) p still last
 
 pub write_refused : (kind : ErrorKind) (maximum : ℤ) (m : Message) (old new : State) (before after : ℤ)
     → Fits maximum m → after ≡ id_after m.request_id before → WriteStops kind old new (written_frame (id_of m before) m) → WriteRefused kind maximum m old new before after
 write_refused kind maximum m old new before after fits drawn s =
     write_cases (λ k. WriteRefused k maximum m old new before after) kind old new (written_frame (id_of m before) m) s
-    (λ f. (f.0, cut f.1)) (λ f. cut f)
+    (λ f. (f.0, cut f.1)) (λ m. (m.0, cut m.1))
   where
     cut : AppendsFront old.written new.written (written_frame (id_of m before) m) → WriteCut maximum m old new before after
     cut front = record { fits = fits; front = front; drawn = drawn }
 
 -- items were written one after another, and then one of them was refused
 pub cut_among : {X : Type 0} (f : X → List ℕ) (xs : List X) (i : ℕ) (x : X) → i < length xs → x ≡ get_or xs i x
-    → (kind : ErrorKind) (old mid new : State) → Appends old.written mid.written (flat_map f (take i xs)) → WritesOn old mid
+    → (kind : ErrorKind) (old mid new : State) → Appends old.written mid.written (flat_map f (take i xs)) → mid.write_faults ≡ old.write_faults
     → WriteStops kind mid new (f x) → WriteStops kind old new (flat_map f xs)
-cut_among f xs i x within at kind old mid new front on s =
+cut_among f xs i x within at kind old mid new front still s =
     let before = flat_map f (take i xs) in
     let after = flat_map f (drop (i + 1) xs) in
-    subst (WriteStops kind old new) (joined_at f xs i x within at) (cut_after kind old mid new before (f x ++ after) front on (cut_before kind mid new (f x) after s))
+    subst (WriteStops kind old new) (joined_at f xs i x within at) (cut_after kind old mid new before (f x ++ after) front still (cut_before kind mid new (f x) after s))
 
 -- one more item was written
 pub written_more : {X : Type 0} (f : X → List ℕ) (xs : List X) (i : ℕ) (x : X) → i < length xs → x ≡ get_or xs i x
@@ -168,7 +163,7 @@ pub passed_on : {T E : Type 0} (r : Result T E) (x : E) → IsErrAnd r (λ y. y 
 passed_on r x p = let (e, is, same) = err_from_is_err_and r p in is ∙ ap Err same
 
 -- a sink's fault as a cause
-pub write_stopped : {T : Type 0} (fault : SinkError) (old new : State) (bytes : List ℕ)
-    → (IsErrOf {T = T} (Err fault) SinkFailed → Rose old.write_faults new.write_faults) → AppendsFront old.written new.written bytes → WriteStops (kind_of_sink_error fault) old new bytes
-write_stopped SinkFailed old new bytes rose front = (rose refl, front)
-write_stopped SinkMemory old new bytes rose front = front
+pub write_stopped : (fault : SinkError) (old new : State) (bytes : List ℕ)
+    → SinkCounts fault old new → AppendsFront old.written new.written bytes → WriteStops (kind_of_sink_error fault) old new bytes
+write_stopped SinkFailed old new bytes counts front = (counts, front)
+write_stopped SinkMemory old new bytes counts front = (counts, front)

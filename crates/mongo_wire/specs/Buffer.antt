@@ -6,7 +6,7 @@ use Rattle.mongo_wire.specs.Header.{header_length}
 use Rattle.mongo_wire.specs.Held.{IsHeldFrame}
 use Rattle.mongo_wire.specs.Error.{kind_of_frame_fault}
 use Rattle.mongo_wire.specs.Message.{IsUnreadable}
-use Rattle.mongo_wire.specs.Outside.{State, risen}
+use Rattle.mongo_wire.specs.Outside.{State, Unstopped, risen}
 use Rattle.mongo_wire.specs.Ref.{IsRefOf}
 use Rattle.mongo_wire.specs.declared.fault.FrameFault.{FrameFault}
 use Rattle.mongo_wire.specs.declared.message_ref.MessageRef.{MessageRef}
@@ -53,6 +53,7 @@ pub record IsFrameTaken (maximum : ℤ) (old new : State) (buffer : FrameBuffer)
   pub holds : HoldsFrame frame parts buffer
   pub within : pos (length frame) ≤ℤ maximum
   pub taken : Consumes old.left new.left frame
+  pub unstopped : Unstopped old new
 
 -- A frame of these parts stood before this rest: just it was taken, unless the source failed or memory ran out.
 abbrev pub TakesAgain : {T : Type 0} → List ℕ → Frame → List ℕ → Option (List ℕ) → FrameBuffer → Result T FrameFault → Type 0

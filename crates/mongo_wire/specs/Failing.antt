@@ -1,7 +1,7 @@
 -- What a link that fails at chosen calls makes of a call, and what it means.
-use Rattle.std.specs.Prelude.{ℕ, ◌==◌, not, Bool, Some, List, slice_index, if◌then◌else◌}
+use Rattle.std.specs.Prelude.{ℕ, ◌==◌, not, Bool, List, slice_index, if◌then◌else◌}
 use Rattle.mongo_wire.specs.Outside.{State, risen}
-use Rattle.mongo_wire.specs.Memory.{bytes_left, bytes_written}
+use Rattle.mongo_wire.specs.Memory.{memory_state}
 use Rattle.mongo_wire.specs.declared.failing_link.FailingLink.{FailingLink}
 
 -- whether the call of this number fails: its byte stands there and isn't 0
@@ -14,4 +14,4 @@ counted_fault fails count = if fails then risen count else count
 
 -- what it means: its lists and its counts
 abbrev pub state_of : FailingLink → State
-state_of failing = record { left = Some (bytes_left failing.link); read_faults = failing.read_faults; ends = failing.link.ends; written = Some (bytes_written failing.link); flushed = failing.link.flushed; write_faults = failing.write_faults }
+state_of failing = record (memory_state failing.link) { read_faults = failing.read_faults; write_faults = failing.write_faults }

@@ -1,8 +1,8 @@
 -- What reading and writing a message answers.
 use Rattle.std.specs.Prelude.{◌≡◌, ℕ, ℤ, pos, ◌+◌, ◌%◌, ◌≤ℤ◌, ◌<ℤ◌, Option, None, Some, Result, Ok, Err, List, [], ◌∷◌, ◌++◌, length, map, flat_map, unwrap_or, bit_and, IfSome, ⊤}
 use Rattle.std.specs.List.{AllByRecursion}
-use Rattle.std.specs.Io.KnownBytes.{Appends, Consumes, Keeps}
-use Rattle.mongo_wire.specs.Outside.{State, Rose, AppendsFront, IsFlushed}
+use Rattle.std.specs.Io.KnownBytes.{Appends, Consumes}
+use Rattle.mongo_wire.specs.Outside.{State, Rose, Unstopped, FailsToRead, MeetsEnd, AppendsFront, IsFlushed}
 use Rattle.mongo_wire.specs.Frame.{Frame, IsFrame, IsFrameWith, Section, body, sequence, section_bytes, int32, uint32, message_code, known_flags}
 use Rattle.mongo_wire.specs.Bytes.{next_id}
 use Rattle.mongo_wire.specs.Measure.{IsWithoutZero, HasCountedSize}
@@ -28,17 +28,18 @@ pub record IsRead (maximum : ℤ) (old new : State) (m : Message) : Type 0 where
   pub is_frame : IsFrame frame (parts_of id m)
   pub within : pos (length frame) ≤ℤ maximum
   pub taken : Consumes old.left new.left frame
+  pub unstopped : Unstopped old new
   pub flags_known : m.flags.0 ≡ bit_and m.flags.0 known_flags
   pub unnumbered : m.request_id ≡ None
 
 -- Why no frame was read, and what that took: the row of the bytes that were taken, or how far the reading had come where
 -- the source failed or memory ran out.
 abbrev pub ReadRefused : ErrorKind → ℤ → State → State → Type 0
-ReadRefused ReadFault maximum old new = Rose old.read_faults new.read_faults × TakesUnfinished maximum old.left new.left
-ReadRefused OutOfMemory maximum old new = TakesStarted maximum old.left new.left
-ReadRefused EndOfInput maximum old new = Rose old.ends new.ends × TakesRow EndOfInput maximum old.left new.left × IsEmptied new.left
-ReadRefused (InvalidResponse fault) maximum old new = TakesRow (InvalidResponse fault) maximum old.left new.left
-ReadRefused (InvalidArgument fault) maximum old new = TakesRow (InvalidArgument fault) maximum old.left new.left
+ReadRefused ReadFault maximum old new = FailsToRead old new × TakesUnfinished maximum old.left new.left
+ReadRefused OutOfMemory maximum old new = Unstopped old new × TakesStarted maximum old.left new.left
+ReadRefused EndOfInput maximum old new = MeetsEnd old new × TakesRow EndOfInput maximum old.left new.left × IsEmptied new.left
+ReadRefused (InvalidResponse fault) maximum old new = Unstopped old new × TakesRow (InvalidResponse fault) maximum old.left new.left
+ReadRefused (InvalidArgument fault) maximum old new = Unstopped old new × TakesRow (InvalidArgument fault) maximum old.left new.left
 ReadRefused kind maximum old new = ⊥
 
 -- this holds of each frame within the maximum that stands before a rest
@@ -130,9 +131,9 @@ pub record WriteCut (maximum : ℤ) (m : Message) (old new : State) (before afte
 -- Why a write was refused, and what it left. Before the message is judged nothing is written and no id is drawn; want of
 -- memory is the sink's.
 abbrev pub WriteRefused : ErrorKind → ℤ → Message → State → State → ℤ → ℤ → Type 0
-WriteRefused (InvalidArgument fault) maximum m old new before after = ArgumentRow fault maximum m × Keeps old.written new.written × (after ≡ before)
+WriteRefused (InvalidArgument fault) maximum m old new before after = ArgumentRow fault maximum m × (new ≡ old) × (after ≡ before)
 WriteRefused WriteFault maximum m old new before after = Rose old.write_faults new.write_faults × WriteCut maximum m old new before after
-WriteRefused OutOfMemory maximum m old new before after = WriteCut maximum m old new before after
+WriteRefused OutOfMemory maximum m old new before after = (new.write_faults ≡ old.write_faults) × WriteCut maximum m old new before after
 WriteRefused kind maximum m old new before after = ⊥
 
 -- A message was written: it fits, its frame stands at the end and is flushed, and its id is drawn.
@@ -140,4 +141,5 @@ pub record Writes (maximum : ℤ) (m : Message) (old new : State) (before after 
   pub fits : Fits maximum m
   pub appended : Appends old.written new.written (written_frame (id_of m before) m)
   pub flushed_is : IsFlushed new
+  pub writes : new.write_faults ≡ old.write_faults
   pub drawn : after ≡ id_after m.request_id before

@@ -2,6 +2,8 @@
 -- counts of faults and ends mean numbers that never fall.
 use Rattle.std.specs.Prelude.{◌≡◌, ℕ, ◌+◌, ◌-◌, ◌^◌, ◌<◌, ◌≤◌, min, Option, None, Some, Result, Ok, Err, List, [], length, take, is_some, IfSome, ⊤}
 use Rattle.std.specs.Io.KnownBytes.{Appends, Consumes, Keeps}
+use Rattle.mongo_wire.specs.declared.outside.SinkError.{SinkError}
+use Rattle.mongo_wire.specs.declared.outside.SinkError.TheVariants.{Failed}
 use Rattle.mongo_wire.specs.declared.error.ErrorKind.{ErrorKind}
 use Rattle.mongo_wire.specs.declared.error.ErrorKind.TheVariants.{ReadFault, WriteFault, EndOfInput, OutOfMemory}
 
@@ -9,9 +11,9 @@ use Rattle.mongo_wire.specs.declared.error.ErrorKind.TheVariants.{ReadFault, Wri
 abbrev pub risen : ℕ → ℕ
 risen count = min (count + 1) (2 ^ 64 - 1)
 
--- a count rose, or stands at its last value
+-- a count rose by one, or stands at its last value
 abbrev pub Rose : ℕ → ℕ → Type 0
-Rose before now = risen before ≤ now
+Rose before now = now ≡ risen before
 
 -- What an object outside means at a moment: the bytes that it has left and those written to it, where it tells them, how
 -- many of these are flushed, and its counts. A source has written nothing, and a sink has nothing left.
@@ -39,6 +41,11 @@ pub record Unwritten (old new : State) : Type 0 where
   pub flushed : new.flushed ≡ old.flushed
   pub writes : new.write_faults ≡ old.write_faults
 
+-- no read failed, and no end was met
+pub record Unstopped (old new : State) : Type 0 where
+  pub reads : new.read_faults ≡ old.read_faults
+  pub ends : new.ends ≡ old.ends
+
 -- What reading keeps: whether the bytes are told, the counts from falling, what was written.
 pub record ReadsOn (old new : State) : Type 0 where
   pub tells : is_some new.left ≡ is_some old.left
@@ -57,6 +64,15 @@ pub record WritesOn (old new : State) : Type 0 where
 abbrev pub ReadCounts : {E : Type 0} → Result ℕ E → ℕ → State → State → Type 0
 ReadCounts (Ok count) room old new = (new.read_faults ≡ old.read_faults) × (0 < count → new.ends ≡ old.ends) × (room ≡ 0 → new.ends ≡ old.ends)
 ReadCounts (Err failed) room old new = new.ends ≡ old.ends
+
+-- A refused write or flush counts a fault just where the sink failed, and any other counts none.
+abbrev pub SinkCounts : SinkError → State → State → Type 0
+SinkCounts Failed old new = Rose old.write_faults new.write_faults
+SinkCounts fault old new = new.write_faults ≡ old.write_faults
+
+abbrev pub WriteCounts : {T : Type 0} → Result T SinkError → State → State → Type 0
+WriteCounts (Ok value) old new = new.write_faults ≡ old.write_faults
+WriteCounts (Err fault) old new = SinkCounts fault old new
 
 -- all that was written, where it is told, is flushed
 abbrev pub IsFlushed : State → Type 0
@@ -79,22 +95,32 @@ abbrev pub RanOut : Option (List ℕ) → Option (List ℕ) → ℕ → Type 0
 RanOut None new wanted = ⊤
 RanOut (Some bytes) new wanted = (length bytes < wanted) × (new ≡ Some [])
 
+-- one read failed, and no end was met
+pub record FailsToRead (old new : State) : Type 0 where
+  pub reads : Rose old.read_faults new.read_faults
+  pub ends : new.ends ≡ old.ends
+
+-- one end was met, and no read failed
+pub record MeetsEnd (old new : State) : Type 0 where
+  pub reads : new.read_faults ≡ old.read_faults
+  pub ends : Rose old.ends new.ends
+
 -- Why reading so many bytes was refused, and what it has consumed.
 abbrev pub ReadStops : ErrorKind → State → State → ℕ → Type 0
-ReadStops ReadFault old new wanted = Rose old.read_faults new.read_faults × ConsumesFewer old.left new.left wanted
-ReadStops EndOfInput old new wanted = Rose old.ends new.ends × RanOut old.left new.left wanted
-ReadStops OutOfMemory old new wanted = ConsumesAtMost old.left new.left wanted
+ReadStops ReadFault old new wanted = FailsToRead old new × ConsumesFewer old.left new.left wanted
+ReadStops EndOfInput old new wanted = MeetsEnd old new × RanOut old.left new.left wanted
+ReadStops OutOfMemory old new wanted = Unstopped old new × ConsumesAtMost old.left new.left wanted
 ReadStops kind old new wanted = ⊥
 
 -- Why writing these bytes was refused, and what of them is written.
 abbrev pub WriteStops : ErrorKind → State → State → List ℕ → Type 0
 WriteStops WriteFault old new bytes = Rose old.write_faults new.write_faults × AppendsFront old.written new.written bytes
-WriteStops OutOfMemory old new bytes = AppendsFront old.written new.written bytes
+WriteStops OutOfMemory old new bytes = (new.write_faults ≡ old.write_faults) × AppendsFront old.written new.written bytes
 WriteStops kind old new bytes = ⊥
 
 -- the source ended before the first byte, and has given none
 pub record HasEnded (old new : State) : Type 0 where
-  pub rose : Rose old.ends new.ends
+  pub met : MeetsEnd old new
   pub none : IfSome old.left (λ bytes. bytes ≡ [])
   pub still : IfSome new.left (λ bytes. bytes ≡ [])
   pub keeps : Keeps old.left new.left

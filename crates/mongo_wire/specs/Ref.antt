@@ -3,7 +3,7 @@ use Rattle.std.specs.Prelude.{◌≡◌, ℕ, ℤ, pos, ◌≤ℤ◌, Option, No
 use Rattle.std.specs.Io.KnownBytes.{Consumes}
 use Rattle.mongo_wire.specs.Frame.{Frame, IsFrame, section_bytes}
 use Rattle.mongo_wire.specs.Held.{header_of}
-use Rattle.mongo_wire.specs.Outside.{State}
+use Rattle.mongo_wire.specs.Outside.{State, Unstopped}
 use Rattle.mongo_wire.specs.declared.message_ref.MessageRef.{MessageRef}
 use Rattle.mongo_wire.specs.declared.message.Message.{Message}
 
@@ -23,6 +23,7 @@ pub record IsFrameRead (maximum : ℤ) (old new : State) (r : MessageRef) : Type
   pub ref_of : IsRefOf frame parts r
   pub within : pos (length frame) ≤ℤ maximum
   pub taken : Consumes old.left new.left frame
+  pub unstopped : Unstopped old new
 
 -- the message shows the frame of these parts that stood before this rest, and just that frame was taken
 abbrev pub ShowsAgain : List ℕ → Frame → List ℕ → Option (List ℕ) → MessageRef → Type 0

@@ -1,6 +1,5 @@
 -- A frame whose sections are handed in as bytes.
 use Rattle.std.specs.Prelude.{◌≡◌, ℕ, ℤ, pos, ◌+◌, ◌≤ℤ◌, ◌<ℤ◌, None, List, [], ◌∷◌, ◌++◌, length, flat_map, bit_and}
-use Rattle.std.specs.Io.KnownBytes.{Keeps}
 use Rattle.std.specs.List.{AllByRecursion}
 use Rattle.mongo_wire.specs.Outside.{State, Rose, AppendsFront}
 use Rattle.mongo_wire.specs.Frame.{Section, IsSection, IsFrameWith, section_bytes, bodies, sequences_of, int32, uint32, message_code}
@@ -30,9 +29,9 @@ SectionsRow fault maximum sections = ⊥
 
 -- Why the write was refused, and what it left: nothing before the sections are judged, then a front of the frame.
 abbrev pub SectionsRefused : ErrorKind → ℤ → List ℕ → List ℕ → State → State → Type 0
-SectionsRefused (InvalidArgument fault) maximum sections frame old new = SectionsRow fault maximum sections × Keeps old.written new.written
+SectionsRefused (InvalidArgument fault) maximum sections frame old new = SectionsRow fault maximum sections × (new ≡ old)
 SectionsRefused WriteFault maximum sections frame old new = Rose old.write_faults new.write_faults × SectionsFit maximum sections × AppendsFront old.written new.written frame
-SectionsRefused OutOfMemory maximum sections frame old new = SectionsFit maximum sections × AppendsFront old.written new.written frame
+SectionsRefused OutOfMemory maximum sections frame old new = (new.write_faults ≡ old.write_faults) × SectionsFit maximum sections × AppendsFront old.written new.written frame
 SectionsRefused kind maximum sections frame old new = ⊥
 
 -- where the bytes are sections with one body, the frame is one of the grammar

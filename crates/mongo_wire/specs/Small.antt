@@ -1,7 +1,7 @@
 -- What the small reads of a source answer.
 use Rattle.std.specs.Prelude.{◌≡◌, ℕ, ℤ, pos, ◌<◌, ◌≤◌, ◌<ℤ◌, ◌≤ℤ◌, ◌⊎◌, Option, None, Some, List, length, ⊤}
 use Rattle.std.specs.Io.KnownBytes.{Consumes}
-use Rattle.mongo_wire.specs.Outside.{State, Rose, ReadStops}
+use Rattle.mongo_wire.specs.Outside.{State, Unstopped, FailsToRead, MeetsEnd, ReadStops}
 use Rattle.mongo_wire.specs.Header.{header_length, number_at, signed_at, op_code_of, header_with}
 use Rattle.mongo_wire.specs.Rows.{IsEmptied}
 use Rattle.mongo_wire.specs.declared.header.Header.{Header}
@@ -26,6 +26,7 @@ FillStops kind old new wanted = IsOfSource kind × ReadStops kind old new wanted
 pub record TakesHeader (old new : State) (header : Header) : Type 0 where
   pub bytes : List ℕ
   pub taken : Consumes old.left new.left bytes
+  pub unstopped : Unstopped old new
   pub whole : length bytes ≡ header_length
   pub known : op_code_of (signed_at 12 bytes) ≡ Some header.op_code
   pub header_is : header ≡ header_with bytes header.op_code
@@ -34,6 +35,7 @@ pub record TakesHeader (old new : State) (header : Header) : Type 0 where
 pub record TakesUnknown (number : ℤ) (old new : State) : Type 0 where
   pub bytes : List ℕ
   pub taken : Consumes old.left new.left bytes
+  pub unstopped : Unstopped old new
   pub whole : length bytes ≡ header_length
   pub number_is : number ≡ signed_at 12 bytes
   pub unknown : op_code_of number ≡ None
@@ -46,16 +48,17 @@ HeaderRefused kind old new = FillStops kind old new header_length
 
 -- the next four bytes are the number, low byte first
 abbrev pub TakesUnsigned : State → State → ℕ → Type 0
-TakesUnsigned old new number = (bytes : List ℕ) × Consumes old.left new.left bytes × (length bytes ≡ 4) × (number ≡ number_at 0 bytes)
+TakesUnsigned old new number = Unstopped old new × (bytes : List ℕ) × Consumes old.left new.left bytes × (length bytes ≡ 4) × (number ≡ number_at 0 bytes)
 
 abbrev pub TakesSigned : State → State → ℤ → Type 0
-TakesSigned old new number = (bytes : List ℕ) × Consumes old.left new.left bytes × (length bytes ≡ 4) × (number ≡ signed_at 0 bytes)
+TakesSigned old new number = Unstopped old new × (bytes : List ℕ) × Consumes old.left new.left bytes × (length bytes ≡ 4) × (number ≡ signed_at 0 bytes)
 
 -- ---- documents
 
 -- the next bytes, as many as the first four of them say
 pub record TakesDocument (old new : State) (document : List ℕ) : Type 0 where
   pub taken : Consumes old.left new.left document
+  pub unstopped : Unstopped old new
   pub least : 4 ≤ length document
   pub counted : signed_at 0 document ≡ pos (length document)
 
@@ -75,8 +78,8 @@ abbrev pub TakesSuch : (List ℕ → Type 0) → Option (List ℕ) → Option (L
 TakesSuch P old new = (taken : List ℕ) × Consumes old new taken × P taken
 
 abbrev pub DocumentUnread : ErrorKind → State → State → Type 0
-DocumentUnread ReadFault old new = Rose old.read_faults new.read_faults × TakesSuch IsShortDocument old.left new.left
-DocumentUnread OutOfMemory old new = TakesSuch IsStartedDocument old.left new.left
-DocumentUnread EndOfInput old new = Rose old.ends new.ends × TakesSuch IsShortDocument old.left new.left × IsEmptied new.left
-DocumentUnread (InvalidArgument CheckedFailure) old new = TakesSuch HasLowLength old.left new.left
+DocumentUnread ReadFault old new = FailsToRead old new × TakesSuch IsShortDocument old.left new.left
+DocumentUnread OutOfMemory old new = Unstopped old new × TakesSuch IsStartedDocument old.left new.left
+DocumentUnread EndOfInput old new = MeetsEnd old new × TakesSuch IsShortDocument old.left new.left × IsEmptied new.left
+DocumentUnread (InvalidArgument CheckedFailure) old new = Unstopped old new × TakesSuch HasLowLength old.left new.left
 DocumentUnread kind old new = ⊥

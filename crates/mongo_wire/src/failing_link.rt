@@ -1,6 +1,6 @@
 ghost use Rattle.std.specs.Prelude.{◌≡◌, ◌<◌, ◌≤◌, ◌↔◌, [], length, true, IfOk, IfErr, OnOk, OnErr, IsErr, IsErrOf};
 ghost use Rattle.std.specs.Io.KnownBytes.{Keeps, ReadConsumes, WriteAppends};
-ghost use Rattle.mongo_wire.specs.Outside.{Rose, IsFlushed, ReadCounts, ReadsOn, WritesOn, risen};
+ghost use Rattle.mongo_wire.specs.Outside.{Rose, IsFlushed, ReadCounts, ReadsOn, WriteCounts, WritesOn, risen};
 ghost use Rattle.mongo_wire.specs.Memory.{bytes_left, bytes_written};
 
 use crate::{Failed, MemoryLink, Outside, Sink, SinkError, Source};
@@ -141,7 +141,7 @@ impl Sink for FailingLink {
         ensures most { IfOk result (λ count. count ≤ length piece.now) }
         ensures some { IfOk result (λ count. 0 < length piece.now → 0 < count) }
         ensures bytes { WriteAppends (state_of self.old).written (state_of self.new).written result piece.now }
-        ensures failed { IsErrOf result SinkError.Failed → Rose self.old.write_faults self.new.write_faults }
+        ensures exact { WriteCounts result (state_of self.old) (state_of self.new) }
         ensures on { WritesOn (state_of self.old) (state_of self.new) }
         // It fails just where its byte isn't 0, moves at most so many bytes, and each call counts.
         ensures fails { IsErrOf result SinkError.Failed ↔ (fails_at self.old.failing self.old.calls ≡ true) }
@@ -161,10 +161,11 @@ impl Sink for FailingLink {
     fn flush(&mut self) -> Result<(), SinkError>
         ensures bytes { Keeps (state_of self.old).written (state_of self.new).written }
         ensures all { OnOk result (IsFlushed (state_of self.new)) }
-        ensures failed { IsErrOf result SinkError.Failed → Rose self.old.write_faults self.new.write_faults }
+        ensures exact { WriteCounts result (state_of self.old) (state_of self.new) }
         ensures on { WritesOn (state_of self.old) (state_of self.new) }
-        // It fails just where its byte isn't 0, and each call counts.
-        ensures fails { IsErrOf result SinkError.Failed ↔ (fails_at self.old.failing self.old.calls ≡ true) }
+        // It fails just where its byte isn't 0, each call counts, and it takes no memory.
+        ensures fails { IsErr result ↔ (fails_at self.old.failing self.old.calls ≡ true) }
+        ensures fault { IfErr result (λ fault. fault ≡ SinkError.Failed) }
         ensures calls { self.new.calls ≡ risen self.old.calls }
         ensures faults { self.new.write_faults ≡ counted_fault (fails_at self.old.failing self.old.calls) self.old.write_faults }
         ensures schedule { (self.new.failing ≡ self.old.failing) × (self.new.most ≡ self.old.most) }

@@ -1,4 +1,4 @@
-ghost use Rattle.std.specs.Prelude.{◌≡◌, ◌-◌, ◌≤◌, length, take, slice_range};
+ghost use Rattle.std.specs.Prelude.{◌≡◌, ◌-◌, ◌≤◌, length, take, slice_range, vec_capacity, IfOk, IfErr};
 ghost use Rattle.std.specs.Option.{ForSome};
 ghost use Rattle.mongo_wire.specs.Held.{LiesIn};
 
@@ -25,7 +25,7 @@ pub struct FrameBuffer {
 }
 
 impl FrameBuffer {
-    ghost use Rattle.std.specs.Prelude.{◌≡◌, ◌≤◌, ℕ, List, None, Some, vec_len, take, IsSome, IsNone, IfSome, IfOk, IfErr};
+    ghost use Rattle.std.specs.Prelude.{◌≡◌, ◌≤◌, ℕ, List, None, Some, length, vec_len, take, IsSome, IsNone, IfSome, IfOk, IfErr};
     ghost use Rattle.mongo_wire.specs.Outside.{risen};
     ghost use Rattle.mongo_wire.specs.Frame.{Frame};
     ghost use Rattle.mongo_wire.specs.Ref.{IsRefOf};
@@ -100,10 +100,11 @@ impl FrameBuffer {
         ensures held { IfOk result (λ copy. held_bytes copy ≡ held_bytes self.now) }
         ensures last { IfOk result (λ copy. copy.last ≡ self.now.last) }
         ensures frames { IfOk result (λ copy. frames_taken copy ≡ frames_taken self.now) }
+        ensures memory { IfOk result (λ copy. memory_of copy ≡ length (held_bytes self.now)) }
         ensures refused { IfErr result (λ fault. fault ≡ BsonFault.OutOfMemory) }
     {
         Ok(FrameBuffer {
-            store: Vec::from_slice(alloc, self.as_bytes())?,
+            store: copy_of_held(alloc, self.as_bytes())?,
             size: self.size,
             last: self.last,
             frames: self.frames,
@@ -133,6 +134,19 @@ impl FrameBuffer {
         self.last = Some(frame);
         self.frames = self.frames.saturating_add(1);
     }
+}
+
+// A copy of the bytes, in memory for just these.
+fn copy_of_held(alloc: Global, bytes: &[u8]) -> Result<Vec<u8>, BsonFault>
+    ensures bytes { IfOk result (λ copy. copy.items ≡ bytes.now) }
+    ensures memory { IfOk result (λ copy. vec_capacity copy ≡ length bytes.now) }
+    ensures refused { IfErr result (λ fault. fault ≡ BsonFault.OutOfMemory) }
+{
+    let mut copy = Vec::with_capacity(alloc, bytes.len())?;
+    'copying: for byte in bytes {
+        copy.push_reserved(*byte);
+    }
+    Ok(copy)
 }
 
 // A part of the bytes, moved to the front of their memory.

@@ -5,7 +5,7 @@ ghost use Rattle.std.specs.Prelude.{◌≡◌, Some, true, false, length, IfOk, 
 ghost use Rattle.std.specs.Io.KnownBytes.{Consumes};
 ghost use Rattle.mongo_wire.specs.contracts.frame_buffer.FrameBuffer.{the_row};
 ghost use Rattle.mongo_wire.specs.Error.{kind_of_frame_fault};
-ghost use Rattle.mongo_wire.specs.Outside.{State, ReadsOn, HasEnded, HasMore, risen};
+ghost use Rattle.mongo_wire.specs.Outside.{State, ReadsOn, Unstopped, HasEnded, HasMore, risen};
 ghost use Rattle.mongo_wire.specs.Header.{maximum_of, header_bytes};
 ghost use Rattle.mongo_wire.specs.Message.{ReadRefused, IsUnreadable, WhereFrameStands};
 ghost use Rattle.mongo_wire.specs.Ref.{IsFrameRead, ShowsAgain, FoundAgain};
@@ -146,8 +146,9 @@ impl FrameBuffer {
         header: Header,
         maximum: Option<i32>,
     ) -> Result<(), FrameFault>
-        ensures taken { (before : State) → Consumes before.left (S.state source.old).left (header_bytes header) → OnOk result (IsFrameTaken (maximum_of maximum) before (S.state source.new) self.new) }
-        ensures refused { (before : State) → Consumes before.left (S.state source.old).left (header_bytes header) → ReadsOn before (S.state source.old) →
+        ensures taken { (before : State) → Consumes before.left (S.state source.old).left (header_bytes header) → Unstopped before (S.state source.old) →
+            OnOk result (IsFrameTaken (maximum_of maximum) before (S.state source.new) self.new) }
+        ensures refused { (before : State) → Consumes before.left (S.state source.old).left (header_bytes header) → Unstopped before (S.state source.old) → ReadsOn before (S.state source.old) →
             IfErr result (λ fault. ReadRefused (kind_of_frame_fault fault) (maximum_of maximum) before (S.state source.new)) }
         ensures counted { OnOk result (frames_taken self.new ≡ risen (frames_taken self.old)) }
         ensures emptied { OnErr result (IsCleared self.old self.new) }

@@ -83,6 +83,7 @@ impl Header {
     /// `WriteFault` where the sink failed, `OutOfMemory` where it wanted memory; a front of the bytes is written then.
     pub fn write_to<K: Sink>(&self, sink: &mut K) -> Result<(), Error>
         ensures written { OnOk result (Appends (K.state sink.old).written (K.state sink.new).written (header_bytes self.now)) }
+        ensures writes { OnOk result ((K.state sink.new).write_faults ≡ (K.state sink.old).write_faults) }
         ensures refused { IfErr result (λ e. WriteStops e.kind (K.state sink.old) (K.state sink.new) (header_bytes self.now)) }
         ensures on { WritesOn (K.state sink.old) (K.state sink.new) }
     {

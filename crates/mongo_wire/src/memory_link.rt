@@ -1,4 +1,6 @@
-ghost use Rattle.std.specs.Prelude.{◌≡◌, ◌≤◌, [], length, Some, IfOk, IfErr};
+ghost use Rattle.std.specs.Prelude.{◌≡◌, ◌≤◌, [], length, IsOk, IfOk, IfErr, OnOk};
+ghost use Rattle.std.specs.Io.KnownBytes.{Keeps};
+ghost use Rattle.mongo_wire.specs.Outside.{IsFlushed, WriteCounts, WritesOn};
 
 use crate::{Failed, Outside, Sink, SinkError, Source};
 use mongo_bson::{BsonFault, Bytes};
@@ -22,7 +24,7 @@ pub struct MemoryLink {
 }
 
 impl MemoryLink {
-    ghost use Rattle.mongo_wire.specs.Memory.{bytes_left, bytes_written};
+    ghost use Rattle.mongo_wire.specs.Memory.{bytes_left, bytes_written, memory_state};
 
     /// A link that gives these bytes, and to which nothing was written. It takes no memory.
     pub fn new(alloc: Global, input: Bytes) -> MemoryLink
@@ -64,10 +66,7 @@ impl MemoryLink {
 
     /// A copy of the link, in memory of its own.
     pub fn try_clone(&self, alloc: Global) -> Result<MemoryLink, BsonFault>
-        ensures left { IfOk result (λ copy. bytes_left copy ≡ bytes_left self.now) }
-        ensures written { IfOk result (λ copy. bytes_written copy ≡ bytes_written self.now) }
-        ensures flushed { IfOk result (λ copy. copy.flushed ≡ self.now.flushed) }
-        ensures ends { IfOk result (λ copy. copy.ends ≡ self.now.ends) }
+        ensures state { IfOk result (λ copy. memory_state copy ≡ memory_state self.now) }
         ensures refused { IfErr result (λ fault. fault ≡ BsonFault.OutOfMemory) }
     {
         Ok(MemoryLink {
@@ -81,9 +80,9 @@ impl MemoryLink {
 }
 
 impl Outside for MemoryLink {
-    ghost use Rattle.mongo_wire.specs.Memory.{bytes_left, bytes_written};
+    ghost use Rattle.mongo_wire.specs.Memory.{memory_state};
 
-    ghost state = { λ s. record { left = Some (bytes_left s); read_faults = 0; ends = s.ends; written = Some (bytes_written s); flushed = s.flushed; write_faults = 0 } };
+    ghost state = { memory_state };
 }
 
 impl Source for MemoryLink {
@@ -114,6 +113,8 @@ impl Source for MemoryLink {
 }
 
 impl Sink for MemoryLink {
+    ghost use Rattle.mongo_wire.specs.Memory.{memory_state};
+
     fn write(&mut self, piece: &[u8]) -> Result<usize, SinkError> {
         if self.output.capacity() == 0 && self.output.reserve(FIRST_ROOM).is_err() {
             return Err(SinkError::OutOfMemory);
@@ -124,7 +125,14 @@ impl Sink for MemoryLink {
         }
     }
 
-    fn flush(&mut self) -> Result<(), SinkError> {
+    fn flush(&mut self) -> Result<(), SinkError>
+        ensures bytes { Keeps (memory_state self.old).written (memory_state self.new).written }
+        ensures all { OnOk result (IsFlushed (memory_state self.new)) }
+        ensures exact { WriteCounts result (memory_state self.old) (memory_state self.new) }
+        ensures on { WritesOn (memory_state self.old) (memory_state self.new) }
+        // It neither fails nor takes memory.
+        ensures done { IsOk result }
+    {
         self.flushed = self.output.len();
         Ok(())
     }

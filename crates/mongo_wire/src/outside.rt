@@ -1,15 +1,15 @@
-ghost use Rattle.std.specs.Prelude.{◌≡◌, ◌<◌, ◌≤◌, length, IfOk, OnOk, OnErr, IsErrOf};
+ghost use Rattle.std.specs.Prelude.{◌≡◌, ◌<◌, ◌≤◌, length, IfOk, OnOk, OnErr};
 ghost use Rattle.std.specs.Io.KnownBytes.{Keeps, ReadConsumes, WriteAppends};
-ghost use Rattle.mongo_wire.specs.Outside.{Rose, State, IsFlushed, ReadCounts, ReadsOn, WritesOn};
+ghost use Rattle.mongo_wire.specs.Outside.{Rose, State, IsFlushed, ReadCounts, ReadsOn, WriteCounts, WritesOn};
 
-/// A source failed to give bytes. Its count of read faults rose, and it has given none.
+/// A source failed to give bytes. Its count of read faults rose by one, and it has given none.
 #[derive(Clone, Copy, Debug, PartialEq, Eq)]
 pub struct Failed;
 
 /// Why a sink took no byte.
 #[derive(Clone, Copy, Debug, PartialEq, Eq)]
 pub enum SinkError {
-    /// The sink failed. Its count of write faults rose.
+    /// The sink failed. Its count of write faults rose by one.
     Failed,
     /// The sink wanted memory.
     OutOfMemory,
@@ -27,8 +27,8 @@ pub trait Outside {
 pub trait Source: Outside {
     /// Gives some of the next bytes, at most as many as the buffer has room for, and says how many.
     ///
-    /// 0 for a buffer with room says that the source has ended; `ends` rose then, and else it stays. `Failed` comes only
-    /// where `read_faults` rose, which else stays, and has taken nothing.
+    /// 0 for a buffer with room says that the source has ended; `ends` rose by one then, and else it stays. With `Failed`,
+    /// which has taken nothing, `read_faults` rose by one, and else it stays.
     fn read(&mut self, buf: &mut [u8]) -> Result<usize, Failed>
         ensures most { IfOk result (λ count. count ≤ length buf.new) }
         ensures bytes { ReadConsumes (Self.state self.old).left (Self.state self.new).left result buf.new }
@@ -50,19 +50,19 @@ pub trait Source: Outside {
 pub trait Sink: Outside {
     /// Takes a front of the piece, at least one byte of one that isn't empty, and says how many bytes it took.
     ///
-    /// `Failed` comes only where `write_faults` rose. A refused write has taken nothing.
+    /// With `Failed` `write_faults` rose by one, and else it stays. A refused write has taken nothing.
     fn write(&mut self, piece: &[u8]) -> Result<usize, SinkError>
         ensures most { IfOk result (λ count. count ≤ length piece.now) }
         ensures some { IfOk result (λ count. 0 < length piece.now → 0 < count) }
         ensures bytes { WriteAppends (Self.state self.old).written (Self.state self.new).written result piece.now }
-        ensures failed { IsErrOf result SinkError.Failed → Rose (Self.state self.old).write_faults (Self.state self.new).write_faults }
+        ensures exact { WriteCounts result (Self.state self.old) (Self.state self.new) }
         ensures on { WritesOn (Self.state self.old) (Self.state self.new) };
 
-    /// Passes on all that was written. `Failed` comes only where `write_faults` rose.
+    /// Passes on all that was written. With `Failed` `write_faults` rose by one, and else it stays.
     fn flush(&mut self) -> Result<(), SinkError>
         ensures bytes { Keeps (Self.state self.old).written (Self.state self.new).written }
         ensures all { OnOk result (IsFlushed (Self.state self.new)) }
-        ensures failed { IsErrOf result SinkError.Failed → Rose (Self.state self.old).write_faults (Self.state self.new).write_faults }
+        ensures exact { WriteCounts result (Self.state self.old) (Self.state self.new) }
         ensures on { WritesOn (Self.state self.old) (Self.state self.new) };
 
     /// How often a write or a flush failed so far. It never falls, and stays at its last value.

@@ -31,6 +31,7 @@ pub fn write_sections<K: Sink>(
     ensures fits { OnOk result (SectionsFit (maximum_of maximum) sections.now) }
     ensures written { OnOk result (Appends (K.state sink.old).written (K.state sink.new).written (sections_frame request_id response_to flags.0 sections.now)) }
     ensures flushed { OnOk result (IsFlushed (K.state sink.new)) }
+    ensures writes { OnOk result ((K.state sink.new).write_faults ≡ (K.state sink.old).write_faults) }
     // It is a frame of the grammar, where the bytes are sections with one body.
     ensures frame { OnOk result (IsFrameOfSections request_id response_to flags.0 sections.now) }
     ensures refused { IfErr result (λ e. SectionsRefused e.kind (maximum_of maximum) sections.now (sections_frame request_id response_to flags.0 sections.now) (K.state sink.old) (K.state sink.new)) }

@@ -1,7 +1,7 @@
 ghost use Rattle.std.specs.Prelude.{◌≡◌, ◌<◌, ◌≤◌, ◌+◌, ◌-◌, ◌*◌, ℕ, List, Some, true, false, max, take, drop, length, vec_capacity, IfOk, IfErr, OnOk, OnErr};
 ghost use Rattle.std.specs.Io.KnownBytes.{Consumes};
 ghost use Rattle.mongo_wire.specs.Error.{kind_of_frame_fault};
-ghost use Rattle.mongo_wire.specs.Outside.{ReadsOn, ReadStops, HasEnded, HasMore};
+ghost use Rattle.mongo_wire.specs.Outside.{ReadsOn, ReadStops, Unstopped, HasEnded, HasMore};
 ghost use Rattle.mongo_wire.specs.Small.{IsOfSource};
 
 use crate::{FrameFault, Source};
@@ -14,6 +14,7 @@ const PIECE: usize = 4096;
 /// `ReadFault` where the source failed, `EndOfInput` where it ended before the buffer was full.
 pub(crate) fn fill<S: Source>(source: &mut S, buf: &mut [u8]) -> Result<(), FrameFault>
     ensures filled { OnOk result (Consumes (S.state source.old).left (S.state source.new).left buf.new) }
+    ensures unstopped { OnOk result (Unstopped (S.state source.old) (S.state source.new)) }
     ensures refused { IfErr result (λ fault. ReadStops (kind_of_frame_fault fault) (S.state source.old) (S.state source.new) (length buf.old)) }
     ensures of_source { IfErr result (λ fault. IsOfSource (kind_of_frame_fault fault)) }
     ensures on { ReadsOn (S.state source.old) (S.state source.new) }
@@ -36,6 +37,7 @@ pub(crate) fn fill<S: Source>(source: &mut S, buf: &mut [u8]) -> Result<(), Fram
 pub fn fill_or_end<S: Source>(source: &mut S, buf: &mut [u8]) -> Result<bool, FrameFault>
     requires { 0 < length buf.old }
     ensures filled { IfOk result (λ found. found ≡ true → Consumes (S.state source.old).left (S.state source.new).left buf.new) }
+    ensures unstopped { IfOk result (λ found. found ≡ true → Unstopped (S.state source.old) (S.state source.new)) }
     ensures ended { IfOk result (λ found. found ≡ false → HasEnded (S.state source.old) (S.state source.new)) }
     ensures refused { IfErr result (λ fault. ReadStops (kind_of_frame_fault fault) (S.state source.old) (S.state source.new) (length buf.old)) }
     ensures more { IfErr result (λ fault. HasMore (kind_of_frame_fault fault) (S.state source.old).left) }
@@ -64,6 +66,7 @@ pub fn take_into<S: Source>(
     requires { (before ≤ length store.old.items) × (before ≤ wanted) }
     ensures front { take before store.new.items ≡ take before store.old.items }
     ensures taken { OnOk result (Consumes (S.state source.old).left (S.state source.new).left (take (wanted - before) (drop before store.new.items))) }
+    ensures unstopped { OnOk result (Unstopped (S.state source.old) (S.state source.new)) }
     ensures all { OnOk result (wanted ≤ length store.new.items) }
     ensures refused { IfErr result (λ fault. ReadStops (kind_of_frame_fault fault) (S.state source.old) (S.state source.new) (wanted - before)) }
     ensures some { OnErr result (before < wanted) }
@@ -100,6 +103,7 @@ fn fill_store<S: Source>(
     ensures size { length store.new.items ≡ length store.old.items }
     ensures memory { vec_capacity store.new ≡ vec_capacity store.old }
     ensures filled { OnOk result (Consumes (S.state source.old).left (S.state source.new).left (take (to - from) (drop from store.new.items))) }
+    ensures unstopped { OnOk result (Unstopped (S.state source.old) (S.state source.new)) }
     ensures refused { IfErr result (λ fault. ReadStops (kind_of_frame_fault fault) (S.state source.old) (S.state source.new) (to - from)) }
     ensures on { ReadsOn (S.state source.old) (S.state source.new) }
 {
@@ -116,6 +120,7 @@ fn fill_part<S: Source>(
     requires { (from ≤ to) × (to ≤ length bytes.old) }
     ensures front { take from bytes.new ≡ take from bytes.old }
     ensures filled { OnOk result (Consumes (S.state source.old).left (S.state source.new).left (take (to - from) (drop from bytes.new))) }
+    ensures unstopped { OnOk result (Unstopped (S.state source.old) (S.state source.new)) }
     ensures refused { IfErr result (λ fault. ReadStops (kind_of_frame_fault fault) (S.state source.old) (S.state source.new) (to - from)) }
     ensures on { ReadsOn (S.state source.old) (S.state source.new) }
 {

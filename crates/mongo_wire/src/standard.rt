@@ -1,6 +1,6 @@
-ghost use Rattle.std.specs.Prelude.{◌≡◌, ◌<◌, ◌≤◌, length, IfOk, OnOk, OnErr, IsErrOf};
+ghost use Rattle.std.specs.Prelude.{◌≡◌, ◌<◌, ◌≤◌, length, IfOk, IfErr, OnOk, OnErr};
 ghost use Rattle.std.specs.Io.KnownBytes.{Keeps, ReadConsumes, WriteAppends};
-ghost use Rattle.mongo_wire.specs.Outside.{Rose, IsFlushed, ReadCounts, ReadsOn, WritesOn, untold};
+ghost use Rattle.mongo_wire.specs.Outside.{Rose, IsFlushed, ReadCounts, ReadsOn, WriteCounts, WritesOn, untold};
 
 use crate::{Failed, Outside, Sink, SinkError, Source};
 use std::io::{Read, Write};
@@ -106,10 +106,11 @@ impl<W: Write> Sink for StdSink<W> {
         ensures most { IfOk result (λ count. count ≤ length piece.now) }
         ensures some { IfOk result (λ count. 0 < length piece.now → 0 < count) }
         ensures bytes { WriteAppends (untold 0 0 self.old.write_faults).written (untold 0 0 self.new.write_faults).written result piece.now }
-        ensures failed { IsErrOf result SinkError.Failed → Rose self.old.write_faults self.new.write_faults }
+        ensures exact { WriteCounts result (untold 0 0 self.old.write_faults) (untold 0 0 self.new.write_faults) }
         ensures on { WritesOn (untold 0 0 self.old.write_faults) (untold 0 0 self.new.write_faults) }
-        // What it took went to the writer.
+        // What it took went to the writer. It takes no memory.
         ensures passed { WriteAppends (W.contents self.old.writer) (W.contents self.new.writer) result piece.now }
+        ensures fault { IfErr result (λ fault. fault ≡ SinkError.Failed) }
     {
         match self.writer.write(piece) {
             Ok(count) if count > 0 || piece.is_empty() => Ok(count),
@@ -120,10 +121,11 @@ impl<W: Write> Sink for StdSink<W> {
     fn flush(&mut self) -> Result<(), SinkError>
         ensures bytes { Keeps (untold 0 0 self.old.write_faults).written (untold 0 0 self.new.write_faults).written }
         ensures all { OnOk result (IsFlushed (untold 0 0 self.new.write_faults)) }
-        ensures failed { IsErrOf result SinkError.Failed → Rose self.old.write_faults self.new.write_faults }
+        ensures exact { WriteCounts result (untold 0 0 self.old.write_faults) (untold 0 0 self.new.write_faults) }
         ensures on { WritesOn (untold 0 0 self.old.write_faults) (untold 0 0 self.new.write_faults) }
-        // The writer keeps what it has.
+        // The writer keeps what it has. It takes no memory.
         ensures kept { Keeps (W.contents self.old.writer) (W.contents self.new.writer) }
+        ensures fault { IfErr result (λ fault. fault ≡ SinkError.Failed) }
     {
         match self.writer.flush() {
             Ok(()) => Ok(()),
@@ -174,8 +176,9 @@ impl<R: Read, W: Write> Source for StdLink<R, W> {
             (untold self.new.source.read_faults self.new.source.ends self.new.sink.write_faults) }
         ensures bytes { ReadConsumes (untold self.old.source.read_faults self.old.source.ends self.old.sink.write_faults).left
             (untold self.new.source.read_faults self.new.source.ends self.new.sink.write_faults).left result buf.new }
-        // What it gave came from the reader.
+        // What it gave came from the reader, and the writer is left alone.
         ensures given { ReadConsumes (R.remaining self.old.source.reader) (R.remaining self.new.source.reader) result buf.new }
+        ensures sink { self.new.sink ≡ self.old.sink }
     {
         self.source.read(buf)
     }
@@ -195,11 +198,14 @@ impl<R: Read, W: Write> Sink for StdLink<R, W> {
         ensures some { IfOk result (λ count. 0 < length piece.now → 0 < count) }
         ensures bytes { WriteAppends (untold self.old.source.read_faults self.old.source.ends self.old.sink.write_faults).written
             (untold self.new.source.read_faults self.new.source.ends self.new.sink.write_faults).written result piece.now }
-        ensures failed { IsErrOf result SinkError.Failed → Rose self.old.sink.write_faults self.new.sink.write_faults }
+        ensures exact { WriteCounts result (untold self.old.source.read_faults self.old.source.ends self.old.sink.write_faults)
+            (untold self.new.source.read_faults self.new.source.ends self.new.sink.write_faults) }
         ensures on { WritesOn (untold self.old.source.read_faults self.old.source.ends self.old.sink.write_faults)
             (untold self.new.source.read_faults self.new.source.ends self.new.sink.write_faults) }
-        // What it took went to the writer.
+        // What it took went to the writer, and the reader is left alone. It takes no memory.
         ensures passed { WriteAppends (W.contents self.old.sink.writer) (W.contents self.new.sink.writer) result piece.now }
+        ensures source { self.new.source ≡ self.old.source }
+        ensures fault { IfErr result (λ fault. fault ≡ SinkError.Failed) }
     {
         self.sink.write(piece)
     }
@@ -208,11 +214,14 @@ impl<R: Read, W: Write> Sink for StdLink<R, W> {
         ensures bytes { Keeps (untold self.old.source.read_faults self.old.source.ends self.old.sink.write_faults).written
             (untold self.new.source.read_faults self.new.source.ends self.new.sink.write_faults).written }
         ensures all { OnOk result (IsFlushed (untold self.new.source.read_faults self.new.source.ends self.new.sink.write_faults)) }
-        ensures failed { IsErrOf result SinkError.Failed → Rose self.old.sink.write_faults self.new.sink.write_faults }
+        ensures exact { WriteCounts result (untold self.old.source.read_faults self.old.source.ends self.old.sink.write_faults)
+            (untold self.new.source.read_faults self.new.source.ends self.new.sink.write_faults) }
         ensures on { WritesOn (untold self.old.source.read_faults self.old.source.ends self.old.sink.write_faults)
             (untold self.new.source.read_faults self.new.source.ends self.new.sink.write_faults) }
-        // The writer keeps what it has.
+        // The writer keeps what it has, and the reader is left alone. It takes no memory.
         ensures kept { Keeps (W.contents self.old.sink.writer) (W.contents self.new.sink.writer) }
+        ensures source { self.new.source ≡ self.old.source }
+        ensures fault { IfErr result (λ fault. fault ≡ SinkError.Failed) }
     {
         self.sink.flush()
     }

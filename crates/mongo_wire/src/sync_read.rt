@@ -1,6 +1,6 @@
-ghost use Rattle.std.specs.Prelude.{[], ◌∷◌, IfOk, IfErr};
+ghost use Rattle.std.specs.Prelude.{[], ◌∷◌, IfOk, IfErr, OnOk};
 ghost use Rattle.std.specs.Io.KnownBytes.{Consumes};
-ghost use Rattle.mongo_wire.specs.Outside.{ReadsOn};
+ghost use Rattle.mongo_wire.specs.Outside.{ReadsOn, Unstopped};
 ghost use Rattle.mongo_wire.specs.Small.{FillStops, TakesSigned, TakesUnsigned};
 
 use crate::reading::fill;
@@ -26,6 +26,7 @@ pub trait SyncLittleEndianRead: Source {
     /// The next byte.
     fn read_u8_sync(&mut self) -> Result<u8, Error>
         ensures read { IfOk result (λ byte. Consumes (Self.state self.old).left (Self.state self.new).left (byte ∷ [])) }
+        ensures unstopped { OnOk result (Unstopped (Self.state self.old) (Self.state self.new)) }
         ensures refused { IfErr result (λ e. FillStops e.kind (Self.state self.old) (Self.state self.new) 1) }
         ensures on { ReadsOn (Self.state self.old) (Self.state self.new) };
 }

@@ -27,6 +27,7 @@ pub(crate) fn write_before_checksum<K: Sink>(
     requires short { length ≤ maximum_length }
     requires sizes { AllByRecursion HasCountedSize message.now.document_sequences }
     ensures written { OnOk result (Appends (K.state sink.old).written (K.state sink.new).written (before_checksum request_id message.now)) }
+    ensures writes { OnOk result ((K.state sink.new).write_faults ≡ (K.state sink.old).write_faults) }
     ensures refused { IfErr result (λ e. WriteStops e.kind (K.state sink.old) (K.state sink.new) (before_checksum request_id message.now)) }
     ensures numbers { FitsSigned w32 message.now.response_to }
     ensures on { WritesOn (K.state sink.old) (K.state sink.new) }
@@ -62,6 +63,7 @@ fn section_start(flags: MessageFlags) -> [u8; 5]
 fn write_sequences<K: Sink>(sink: &mut K, sequences: &[DocumentSequence]) -> Result<(), Error>
     requires { AllByRecursion HasCountedSize sequences.now }
     ensures written { OnOk result (Appends (K.state sink.old).written (K.state sink.new).written (sequences_bytes sequences.now)) }
+    ensures writes { OnOk result ((K.state sink.new).write_faults ≡ (K.state sink.old).write_faults) }
     ensures refused { IfErr result (λ e. WriteStops e.kind (K.state sink.old) (K.state sink.new) (sequences_bytes sequences.now)) }
     ensures on { WritesOn (K.state sink.old) (K.state sink.new) }
 {
@@ -75,6 +77,7 @@ fn write_sequences<K: Sink>(sink: &mut K, sequences: &[DocumentSequence]) -> Res
 fn write_sequence<K: Sink>(sink: &mut K, sequence: &DocumentSequence) -> Result<(), Error>
     requires { HasCountedSize sequence.now }
     ensures written { OnOk result (Appends (K.state sink.old).written (K.state sink.new).written (sequence_section sequence.now)) }
+    ensures writes { OnOk result ((K.state sink.new).write_faults ≡ (K.state sink.old).write_faults) }
     ensures refused { IfErr result (λ e. WriteStops e.kind (K.state sink.old) (K.state sink.new) (sequence_section sequence.now)) }
     ensures on { WritesOn (K.state sink.old) (K.state sink.new) }
 {
@@ -100,6 +103,7 @@ fn sequence_start(sequence: &DocumentSequence) -> [u8; 5]
 // Writes the documents, one after another.
 fn write_documents<K: Sink>(sink: &mut K, documents: &[RawDocumentBuf]) -> Result<(), Error>
     ensures written { OnOk result (Appends (K.state sink.old).written (K.state sink.new).written (documents_bytes documents.now)) }
+    ensures writes { OnOk result ((K.state sink.new).write_faults ≡ (K.state sink.old).write_faults) }
     ensures refused { IfErr result (λ e. WriteStops e.kind (K.state sink.old) (K.state sink.new) (documents_bytes documents.now)) }
     ensures on { WritesOn (K.state sink.old) (K.state sink.new) }
 {
@@ -112,6 +116,7 @@ fn write_documents<K: Sink>(sink: &mut K, documents: &[RawDocumentBuf]) -> Resul
 // Writes the checksum, where there is one.
 pub(crate) fn write_checksum<K: Sink>(sink: &mut K, checksum: Option<u32>) -> Result<(), Error>
     ensures written { OnOk result (Appends (K.state sink.old).written (K.state sink.new).written (checksum_bytes checksum)) }
+    ensures writes { OnOk result ((K.state sink.new).write_faults ≡ (K.state sink.old).write_faults) }
     ensures refused { IfErr result (λ e. WriteStops e.kind (K.state sink.old) (K.state sink.new) (checksum_bytes checksum)) }
     ensures fits { IfSome checksum (λ sum. sum < 2 ^ 32) }
     ensures on { WritesOn (K.state sink.old) (K.state sink.new) }

@@ -1,6 +1,6 @@
-ghost use Rattle.std.specs.Prelude.{◌<◌, ◌+◌, ◌++◌, [], IfErr, IsErrOf, OnErr, OnOk};
+ghost use Rattle.std.specs.Prelude.{◌≡◌, ◌<◌, ◌+◌, ◌++◌, [], IfErr, OnErr, OnOk};
 ghost use Rattle.std.specs.Io.KnownBytes.{Appends, Keeps};
-ghost use Rattle.mongo_wire.specs.Outside.{AppendsFront, Rose, WritesOn, WriteStops, IsFlushed};
+ghost use Rattle.mongo_wire.specs.Outside.{AppendsFront, WriteCounts, WritesOn, WriteStops, IsFlushed};
 
 use crate::{Error, Sink, SinkError};
 
@@ -9,7 +9,7 @@ use crate::{Error, Sink, SinkError};
 /// `Failed` where the sink failed, `OutOfMemory` where it wanted memory; a front of the bytes is written then.
 pub fn write_all<K: Sink>(sink: &mut K, bytes: &[u8]) -> Result<(), SinkError>
     ensures written { OnOk result (Appends (K.state sink.old).written (K.state sink.new).written bytes.now) }
-    ensures failed { IsErrOf result SinkError.Failed → Rose (K.state sink.old).write_faults (K.state sink.new).write_faults }
+    ensures exact { WriteCounts result (K.state sink.old) (K.state sink.new) }
     ensures front { OnErr result (AppendsFront (K.state sink.old).written (K.state sink.new).written bytes.now) }
     ensures on { WritesOn (K.state sink.old) (K.state sink.new) }
 {
@@ -28,6 +28,7 @@ pub fn write_all<K: Sink>(sink: &mut K, bytes: &[u8]) -> Result<(), SinkError>
 /// `WriteFault` where the sink failed, `OutOfMemory` where it wanted memory; a front of the bytes is written then.
 pub(crate) fn write_out<K: Sink>(sink: &mut K, bytes: &[u8]) -> Result<(), Error>
     ensures written { OnOk result (Appends (K.state sink.old).written (K.state sink.new).written bytes.now) }
+    ensures writes { OnOk result ((K.state sink.new).write_faults ≡ (K.state sink.old).write_faults) }
     ensures refused { IfErr result (λ e. WriteStops e.kind (K.state sink.old) (K.state sink.new) bytes.now) }
     ensures on { WritesOn (K.state sink.old) (K.state sink.new) }
 {
@@ -42,6 +43,7 @@ pub(crate) fn write_out<K: Sink>(sink: &mut K, bytes: &[u8]) -> Result<(), Error
 /// `WriteFault` where the sink failed, `OutOfMemory` where it wanted memory.
 pub(crate) fn flush_out<K: Sink>(sink: &mut K) -> Result<(), Error>
     ensures flushed { OnOk result (IsFlushed (K.state sink.new)) }
+    ensures writes { OnOk result ((K.state sink.new).write_faults ≡ (K.state sink.old).write_faults) }
     ensures kept { Keeps (K.state sink.old).written (K.state sink.new).written }
     ensures refused { IfErr result (λ e. WriteStops e.kind (K.state sink.old) (K.state sink.new) []) }
     ensures on { WritesOn (K.state sink.old) (K.state sink.new) }
@@ -62,6 +64,7 @@ pub(crate) fn write_pieces<K: Sink>(
     third: &[u8],
 ) -> Result<(), Error>
     ensures written { OnOk result (Appends (K.state sink.old).written (K.state sink.new).written (first.now ++ (second.now ++ third.now))) }
+    ensures writes { OnOk result ((K.state sink.new).write_faults ≡ (K.state sink.old).write_faults) }
     ensures refused { IfErr result (λ e. WriteStops e.kind (K.state sink.old) (K.state sink.new) (first.now ++ (second.now ++ third.now))) }
     ensures on { WritesOn (K.state sink.old) (K.state sink.new) }
 {

@@ -37,5 +37,5 @@ returns-clause-refused g c =
     let done = c.in_ok-write_pieces.ensures in
     IfErr-weaker c.flush_out.result _ _
     (λ e s. sections_refused e.kind (maximum_of a.maximum) a.sections.now frame _ _ c.in-Ok.ensures.fits
-    (cut_at_end e.kind _ _ _ frame (subst (Appends _ _) spelled done.written) done.on s))
+    (cut_at_end e.kind _ _ _ frame (subst (Appends _ _) spelled done.written) done.writes s))
     c.flush_out.ensures.refused

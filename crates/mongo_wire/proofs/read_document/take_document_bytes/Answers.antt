@@ -5,7 +5,7 @@ use Rattle.std.specs.Io.KnownBytes.{Consumes}
 use Rattle.mongo_wire.specs.Error.{kind_of_frame_fault}
 use Rattle.mongo_wire.specs.Header.{signed_at}
 use Rattle.mongo_wire.proofs.DocumentCut.{length_cut, document_cut, document_taken, memory_after}
-use Rattle.mongo_wire.proofs.ReadStopped.{came_before, came_then, reads_on}
+use Rattle.mongo_wire.proofs.ReadStopped.{came_before, came_then, reads_on, unstopped_on}
 use Rattle.mongo_wire.proofs.read_document.take_document_bytes.Goals as goal
 
 pub returns-in-Err-clause-refused : goal.returns-in-Err-clause-refused
@@ -21,7 +21,7 @@ returns-in-Err-take_into-clause-refused g c =
     let is = ap (signed_at 0) (sym c.as_slice.ensures.value) ∙ c.in-Some.ensures.0 in
     let all : 4 + (n - 4) ≡ n = omega (arith, c.in-Some.ensures.1) in
     let refused = c.in-Err-take_into.ensures in
-    document_cut (kind_of_frame_fault c.in-Err-take_into.fault) _ _ _ field n _ refused.on.tells taken four is all first.on refused.refused
+    document_cut (kind_of_frame_fault c.in-Err-take_into.fault) _ _ _ field n _ refused.on.tells taken four is all first.unstopped refused.refused
 
 pub returns-in-Err-take_into-clause-came : goal.returns-in-Err-take_into-clause-came
 returns-in-Err-take_into-clause-came g c = λ had left had_is left_is.
@@ -47,7 +47,7 @@ returns-in_default-clause-refused g c =
     let first = c.in-Ok.ensures in
     let field = c.take_into.new.store.items in
     let four : length field ≡ 4 = omega (arith, first.all, first.size, ap length c.requires) in
-    (field, subst (Consumes _ _) (take_all 4 field (omega (arith, four))) first.taken, (four, subst (λ bytes. signed_at 0 bytes <ℤ pos 4) c.as_slice.ensures.value c.in_default.ensures))
+    (first.unstopped, (field, subst (Consumes _ _) (take_all 4 field (omega (arith, four))) first.taken, (four, subst (λ bytes. signed_at 0 bytes <ℤ pos 4) c.as_slice.ensures.value c.in_default.ensures)))
 
 pub returns-in_default-clause-came : goal.returns-in_default-clause-came
 returns-in_default-clause-came g c = λ had left had_is left_is. omega (arith, c.in-Ok.ensures.came had left had_is left_is)
@@ -70,7 +70,7 @@ returns-in-Ok-take_into-clause-read g c =
     let is = ap (signed_at 0) (sym c.as_slice.ensures.value) ∙ c.in-Some.ensures.0 in
     let rest = c.in-Ok-take_into.ensures in
     let size : length whole ≡ n = omega (arith, rest.all, rest.size, four, c.in-Some.ensures.1) in
-    document_taken (state c.args.source.now) (state c.take_into.new.source) (state c.take_into-2.new.source) field whole n taken four is c.in-Some.ensures.1 rest.front size rest.taken
+    document_taken (state c.args.source.now) (state c.take_into.new.source) (state c.take_into-2.new.source) field whole n taken four is c.in-Some.ensures.1 rest.front size rest.taken (unstopped_on _ _ _ first.unstopped rest.unstopped)
 
 pub returns-in-Ok-take_into-clause-came : goal.returns-in-Ok-take_into-clause-came
 returns-in-Ok-take_into-clause-came g c = λ had left had_is left_is.

@@ -1,6 +1,6 @@
 use Rattle.std.proofs.Common.{length, take, ◌-◌, ◌≤◌}
 use Rattle.std.specs.Io.KnownBytes.{Consumes}
-use Rattle.mongo_wire.specs.Outside.{ReadsOn}
+use Rattle.mongo_wire.specs.Outside.{ReadsOn, Unstopped}
 use Rattle.mongo_wire.proofs.reading.fill.Given as goal
 
 -- the front of the buffer is what the source gave so far
@@ -10,6 +10,7 @@ invariant-filling g l =
     record {
       within : l.at ≤ length l.buf;
       front : Consumes (state l.fn.source).left (state l.source).left (take l.at l.buf);
+      still : Unstopped (state l.fn.source) (state l.source);
       on : ReadsOn (state l.fn.source) (state l.source);
     }
 

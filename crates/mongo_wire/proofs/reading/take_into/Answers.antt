@@ -2,7 +2,7 @@ use Rattle.std.proofs.Common.{arith, ◌≡◌, ◌≤◌, ◌+◌, ◌-◌, len
 use Rattle.std.proofs.KnownBytes.{Consumes-trans}
 use Rattle.std.specs.Io.KnownBytes.{Consumes}
 use Rattle.mongo_wire.specs.Error.{kind_of_frame_fault}
-use Rattle.mongo_wire.proofs.ReadStopped.{length_between, stops_after, same_front, next_part, came_before, came_then, reads_on}
+use Rattle.mongo_wire.proofs.ReadStopped.{length_between, stops_after, same_front, next_part, came_before, came_then, reads_on, unstopped_on}
 use Rattle.mongo_wire.proofs.reading.take_into.Goals as goal
 
 pub returns-in-Err-fill_store-clause-refused : goal.returns-in-Err-fill_store-clause-refused
@@ -15,7 +15,7 @@ returns-in-Err-fill_store-clause-refused g c =
     let size : length taken ≡ at - before = length_between before at store invariant.behind invariant.within in
     let after : at ≤ c.min-end.result = omega (arith, c.min-end.ensures, c.len.ensures, c.in-Ok.ensures.longer, c.taking-test.true) in
     let within : length taken + (c.min-end.result - at) ≤ c.args.wanted - before = omega (arith, size, after, c.min-end.ensures, invariant.behind) in
-    stops_after (kind_of_frame_fault c.in-Err-fill_store.fault) _ _ _ taken _ _ invariant.taken invariant.on within c.in-Err-fill_store.ensures.refused
+    stops_after (kind_of_frame_fault c.in-Err-fill_store.fault) _ _ _ taken _ _ invariant.taken invariant.still within c.in-Err-fill_store.ensures.refused
 
 pub returns-in-Err-fill_store-clause-front : goal.returns-in-Err-fill_store-clause-front
 returns-in-Err-fill_store-clause-front g c =
@@ -43,7 +43,7 @@ returns-in-Err-clause-refused g c =
     let invariant = c.taking.invariant in
     let taken = take (at - before) (drop before store) in
     let size : length taken ≡ at - before = length_between before at store invariant.behind invariant.within in
-    rw c.in-Err.ensures.refused (taken, omega (arith, size, invariant.short, invariant.behind), invariant.taken)
+    rw c.in-Err.ensures.refused (invariant.still, (taken, omega (arith, size, invariant.short, invariant.behind), invariant.taken))
 
 pub returns-in-Err-clause-came : goal.returns-in-Err-clause-came
 returns-in-Err-clause-came g c = λ had left had_is left_is.
@@ -99,5 +99,6 @@ taking-preserved g c =
       size = omega (arith, filled.size, room.size, invariant.size);
       wanted = omega (arith, filled.memory, room.wanted, invariant.wanted);
       came = omega (arith, filled.memory, room.came, invariant.came, after);
+      still = unstopped_on _ _ _ invariant.still filled.unstopped;
       on = reads_on _ _ _ invariant.on filled.on;
     }

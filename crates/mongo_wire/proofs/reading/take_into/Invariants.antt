@@ -1,6 +1,6 @@
 use Rattle.std.proofs.Common.{◌≡◌, length, take, drop, max, vec_capacity, ◌+◌, ◌*◌, ◌-◌, ◌≤◌}
 use Rattle.std.specs.Io.KnownBytes.{Consumes}
-use Rattle.mongo_wire.specs.Outside.{ReadsOn}
+use Rattle.mongo_wire.specs.Outside.{ReadsOn, Unstopped}
 use Rattle.mongo_wire.proofs.reading.take_into.Given as goal
 
 -- behind what came before stands what the source gave so far
@@ -16,6 +16,7 @@ invariant-taking g l =
       size : length l.store.items ≤ max (length l.fn.store.items) l.wanted;
       wanted : vec_capacity l.store ≤ max (vec_capacity l.fn.store) l.wanted;
       came : vec_capacity l.store ≤ max (vec_capacity l.fn.store) (4096 + 2 * l.at);
+      still : Unstopped (state l.fn.source) (state l.source);
       on : ReadsOn (state l.fn.source) (state l.source);
     }
 

@@ -32,5 +32,5 @@ returns-clause-refused g c =
     let spelled = frame_spelled c.args.request_id c.args.length c.args.message.now c.message_header-header.result c.section_start-start.result c.as_bytes.result.now sequences c.ranges.request_id (search rules) c.message_header-header.ensures c.section_start-start.ensures c.as_bytes.ensures.bytes (ap sequences_bytes c.as_slice.ensures) c.requires.counted in
     let done = c.in_ok-write_pieces.ensures in
     IfErr-weaker c.write_sequences.result _ _
-    (λ e w. subst (WriteStops e.kind _ _) spelled (cut_after e.kind _ _ _ front sequences done.written done.on w))
+    (λ e w. subst (WriteStops e.kind _ _) spelled (cut_after e.kind _ _ _ front sequences done.written done.writes w))
     c.write_sequences.ensures.refused

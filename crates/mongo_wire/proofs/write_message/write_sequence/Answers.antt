@@ -21,5 +21,5 @@ returns-clause-refused g c =
     let documents = documents_bytes c.as_slice.result.now in
     let spelled = section_spelled s c.sequence_start-start.result c.as_bytes.result.now documents c.sequence_start-start.ensures c.as_bytes.ensures (ap documents_bytes c.as_slice.ensures) in
     IfErr-weaker c.write_documents.result _ _
-    (λ e w. subst (WriteStops e.kind _ _) spelled (cut_after e.kind _ _ _ front documents c.in_ok-write_pieces.ensures.written c.in_ok-write_pieces.ensures.on w))
+    (λ e w. subst (WriteStops e.kind _ _) spelled (cut_after e.kind _ _ _ front documents c.in_ok-write_pieces.ensures.written c.in_ok-write_pieces.ensures.writes w))
     c.write_documents.ensures.refused

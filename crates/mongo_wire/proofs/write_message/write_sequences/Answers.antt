@@ -11,10 +11,11 @@ pub returns-in_err-write_sequence-clause-refused : goal.returns-in_err-write_seq
 returns-in_err-write_sequence-clause-refused g c =
     let error = c.in_err-write_sequence.field-0.0 in
     rw (passed_on c.from_residual.result error c.from_residual.ensures.1)
-    (cut_among sequence_section c.args.sequences.now c.sending.sequence-index c.sequence-item.result c.sending-test.true c.sequence-item.is error.kind _ _ _ c.sending.invariant.front c.sending.invariant.on c.in_err-write_sequence.ensures.refused)
+    (cut_among sequence_section c.args.sequences.now c.sending.sequence-index c.sequence-item.result c.sending-test.true c.sequence-item.is error.kind _ _ _ c.sending.invariant.front c.sending.invariant.still c.in_err-write_sequence.ensures.refused)
 
 pub sending-preserved : goal.sending-preserved
 sending-preserved g c = record {
   front = written_more sequence_section c.args.sequences.now c.sending.sequence-index c.sequence-item.result c.sending-test.true c.sequence-item.is _ _ _ c.sending.invariant.front c.in_ok-write_sequence.ensures.written;
+  still = search rules;
   on = search rules;
 }

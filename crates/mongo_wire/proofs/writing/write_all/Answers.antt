@@ -13,5 +13,6 @@ pub writing-preserved : goal.writing-preserved
 writing-preserved g c = record {
   within = search rules;
   front = subst (Appends _ _) (grown c.writing.at c.in-Ok.count c.args.bytes.now) (Appends-trans _ _ _ _ _ c.writing.invariant.front c.in-Ok.ensures.bytes);
+  still = search rules;
   on = search rules;
 }

@@ -1,4 +1,4 @@
-use Rattle.std.proofs.Common.{length, take, ◌-◌, ◌≤◌}
+use Rattle.std.proofs.Common.{◌≡◌, length, take, ◌-◌, ◌≤◌}
 use Rattle.std.specs.Io.KnownBytes.{Appends}
 use Rattle.mongo_wire.specs.Outside.{WritesOn}
 use Rattle.mongo_wire.proofs.writing.write_all.Given as goal
@@ -10,6 +10,7 @@ invariant-writing g l =
     record {
       within : l.at ≤ length l.bytes;
       front : Appends (state l.fn.sink).written (state l.sink).written (take l.at l.bytes);
+      still : (state l.sink).write_faults ≡ (state l.fn.sink).write_faults;
       on : WritesOn (state l.fn.sink) (state l.sink);
     }
 

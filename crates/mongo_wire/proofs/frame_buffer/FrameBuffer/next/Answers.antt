@@ -14,7 +14,7 @@ returns-in-Some g c =
       (refl, (λ _. tt), record { is_taken = taken; shown = shown; counted = c.in-Ok-true.ensures.counted c.in-Ok-true.field-0-test; came = c.in-Ok-true.ensures.came; within = c.in-Ok-true.ensures.within }),
       record {
         after = tt;
-        read = record { frame = taken.frame; parts = taken.parts; ref_of = shown; within = taken.within; taken = taken.taken };
+        read = record { frame = taken.frame; parts = taken.parts; ref_of = shown; within = taken.within; taken = taken.taken; unstopped = taken.unstopped };
         ended = λ none. absurd (false≢true (sym none));
         refused = tt;
         more = tt;

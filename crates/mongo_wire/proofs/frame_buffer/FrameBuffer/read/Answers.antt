@@ -14,7 +14,7 @@ returns-in-Some g c =
       (refl, (λ _. tt), record { is_taken = taken; shown = shown; counted = c.in-Ok.ensures.counted; came = c.in-Ok.ensures.came; within = c.in-Ok.ensures.within }),
       record {
         after = tt;
-        read = record { frame = taken.frame; parts = taken.parts; ref_of = shown; within = taken.within; taken = taken.taken };
+        read = record { frame = taken.frame; parts = taken.parts; ref_of = shown; within = taken.within; taken = taken.taken; unstopped = taken.unstopped };
         refused = tt;
         again = λ frame rest parts is frame_is within. let (holds, left) = c.in-Ok.ensures.again frame rest parts is frame_is within in (c.in-Some.ensures.shown frame parts holds, left);
         on = c.in-Ok.ensures.on;

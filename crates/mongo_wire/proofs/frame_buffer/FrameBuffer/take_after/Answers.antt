@@ -7,7 +7,7 @@ use Rattle.mongo_wire.specs.Header.{maximum_of, header_bytes}
 use Rattle.mongo_wire.specs.Buffer.{memory_of}
 use Rattle.mongo_wire.specs.Held.{NoFrame, IsHeld}
 use Rattle.mongo_wire.proofs.Found.{parts_lie}
-use Rattle.mongo_wire.proofs.ReadStopped.{reads_still}
+use Rattle.mongo_wire.proofs.ReadStopped.{reads_still, unstopped_on}
 use Rattle.mongo_wire.proofs.HeaderBack.{sixteen_bytes, length_back, row_back}
 use Rattle.mongo_wire.proofs.FrameRead.{header_refused, within_rest, rest_stopped, sections_refused, frame_taken}
 use Rattle.mongo_wire.proofs.frame_buffer.FrameBuffer.take_after.Goals as goal
@@ -17,26 +17,26 @@ whole : (n : ℕ) → n - 0 ≡ n
 whole n = omega arith
 
 pub returns-in-Err-clause-refused : goal.returns-in-Err-clause-refused
-returns-in-Err-clause-refused g c = λ before p on.
-    header_refused (kind_of_frame_fault c.in-Err.fault) (maximum_of c.args.maximum) before _ (header_bytes c.args.header) p (sixteen_bytes c.args.header) (row_back (maximum_of c.args.maximum) c.args.header (search rules) ∙ c.in-Err.ensures.row)
+returns-in-Err-clause-refused g c = λ before p still on.
+    header_refused (kind_of_frame_fault c.in-Err.fault) (maximum_of c.args.maximum) before _ (header_bytes c.args.header) p still (sixteen_bytes c.args.header) (row_back (maximum_of c.args.maximum) c.args.header (search rules) ∙ c.in-Err.ensures.row)
 
 pub returns-in-Err-take_into-clause-refused : goal.returns-in-Err-take_into-clause-refused
-returns-in-Err-take_into-clause-refused g c = λ before p on.
+returns-in-Err-take_into-clause-refused g c = λ before p still on.
     let start = c.in-Ok.ensures in
     let refused = c.in-Err-take_into.ensures in
     let state = g.S.Outside.state in
     let stops = subst (λ n. ReadStops (kind_of_frame_fault c.in-Err-take_into.fault) (state c.args.source.now) (state c.take_into.new.source) n) (whole c.in-Ok.rest) refused.refused in
-    rest_stopped (kind_of_frame_fault c.in-Err-take_into.fault) (maximum_of c.args.maximum) before _ _ (header_bytes c.args.header) c.in-Ok.rest p on refused.on.tells (sixteen_bytes c.args.header) (row_back (maximum_of c.args.maximum) c.args.header (search rules) ∙ start.passes) (start.length ∙ sym (length_back c.args.header (search rules))) refused.some stops
+    rest_stopped (kind_of_frame_fault c.in-Err-take_into.fault) (maximum_of c.args.maximum) before _ _ (header_bytes c.args.header) c.in-Ok.rest p still on.tells refused.on.tells (sixteen_bytes c.args.header) (row_back (maximum_of c.args.maximum) c.args.header (search rules) ∙ start.passes) (start.length ∙ sym (length_back c.args.header (search rules))) refused.some stops
 
 pub returns-in-None-clause-refused : goal.returns-in-None-clause-refused
-returns-in-None-clause-refused g c = λ before p on.
+returns-in-None-clause-refused g c = λ before p still on.
     let start = c.in-Ok.ensures in
     let rest = c.in-Ok.rest in
     let bytes = take rest c.take_into.new.store.items in
     let size : length bytes ≡ rest = length-take-le rest c.take_into.new.store.items c.in-Ok-take_into.ensures.all in
     let state = g.S.Outside.state in
     let taken = subst (λ n. Consumes (state c.args.source.now).left (state c.take_into.new.source).left (take n c.take_into.new.store.items)) (whole rest) c.in-Ok-take_into.ensures.taken in
-    sections_refused (maximum_of c.args.maximum) before (state c.args.source.now) (state c.take_into.new.source) (header_bytes c.args.header) bytes p taken (sixteen_bytes c.args.header) (row_back (maximum_of c.args.maximum) c.args.header (search rules) ∙ start.passes) (rw size (start.length ∙ sym (length_back c.args.header (search rules))))
+    sections_refused (maximum_of c.args.maximum) before (state c.args.source.now) (state c.take_into.new.source) (header_bytes c.args.header) bytes p taken (unstopped_on _ _ _ still c.in-Ok-take_into.ensures.unstopped) (sixteen_bytes c.args.header) (row_back (maximum_of c.args.maximum) c.args.header (search rules) ∙ start.passes) (rw size (start.length ∙ sym (length_back c.args.header (search rules))))
     (subst (λ s. NoFrame (header_bytes c.args.header ++ take rest s)) c.as_slice.ensures.value c.in-None.ensures)
 
 pub keep-requires-clause-lies : goal.keep-requires-clause-lies
@@ -44,13 +44,13 @@ keep-requires-clause-lies g c =
     parts_lie c.args.header _ c.in-Some.frame (subst (λ s. IsHeld (header_bytes c.args.header ++ take c.in-Ok.rest s) c.in-Some.frame) c.as_slice.ensures.value c.in-Some.ensures)
 
 pub returns-in-Some-clause-taken : goal.returns-in-Some-clause-taken
-returns-in-Some-clause-taken g c = λ before p.
+returns-in-Some-clause-taken g c = λ before p still.
     let rest = c.in-Ok.rest in
     let bytes = take rest c.take_into.new.store.items in
     let size : length bytes ≡ rest = length-take-le rest c.take_into.new.store.items c.in-Ok-take_into.ensures.all in
     let state = g.S.Outside.state in
     let taken = subst (λ n. Consumes (state c.args.source.now).left (state c.take_into.new.source).left (take n c.take_into.new.store.items)) (whole rest) c.in-Ok-take_into.ensures.taken in
-    frame_taken (maximum_of c.args.maximum) before (state c.args.source.now) (state c.take_into.new.source) (header_bytes c.args.header) bytes rest c.in-Some.frame c.keep.new.self p taken (sixteen_bytes c.args.header) size c.in-Ok.ensures.within
+    frame_taken (maximum_of c.args.maximum) before (state c.args.source.now) (state c.take_into.new.source) (header_bytes c.args.header) bytes rest c.in-Some.frame c.keep.new.self p taken (unstopped_on _ _ _ still c.in-Ok-take_into.ensures.unstopped) (sixteen_bytes c.args.header) size c.in-Ok.ensures.within
     (subst (λ s. IsHeld (header_bytes c.args.header ++ take rest s) c.in-Some.frame) c.as_slice.ensures.value c.in-Some.ensures) c.keep.ensures.last c.keep.ensures.held
 
 pub returns-in-Err-take_into-clause-came : goal.returns-in-Err-take_into-clause-came

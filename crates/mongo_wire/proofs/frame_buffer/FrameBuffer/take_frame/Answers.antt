@@ -13,6 +13,7 @@ returns-in-Ok-true-clause-taken g c =
       holds = record { held = holds.held; last_is = holds.last_is; is_held = holds.is_held; bytes_are = holds.bytes_are };
       within = taken.within;
       taken = taken.taken;
+      unstopped = taken.unstopped;
     }
 
 pub returns-in-Ok-true-clause-again : goal.returns-in-Ok-true-clause-again

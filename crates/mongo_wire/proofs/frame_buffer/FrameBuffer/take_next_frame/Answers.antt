@@ -11,14 +11,14 @@ use Rattle.mongo_wire.proofs.frame_buffer.FrameBuffer.take_next_frame.Goals as g
 pub returns-in-Ok-take_after-clause-again : goal.returns-in-Ok-take_after-clause-again
 returns-in-Ok-take_after-clause-again g c = λ frame rest parts is frame_is within.
     let state = g.S.Outside.state in
-    let same = same_taken (maximum_of c.args.maximum) (state c.args.source.now) (state c.take_after.new.source) c.take_after.new.self frame rest parts is frame_is (c.in-Ok-take_after.ensures.taken (state c.args.source.now) (subst (Consumes _ _) (sym c.in-Ok.ensures.spelled) (c.in-Ok-true.ensures.filled c.in-Ok-true.field-0-test))) in
+    let same = same_taken (maximum_of c.args.maximum) (state c.args.source.now) (state c.take_after.new.source) c.take_after.new.self frame rest parts is frame_is (c.in-Ok-take_after.ensures.taken (state c.args.source.now) (subst (Consumes _ _) (sym c.in-Ok.ensures.spelled) (c.in-Ok-true.ensures.filled c.in-Ok-true.field-0-test)) (c.in-Ok-true.ensures.unstopped c.in-Ok-true.field-0-test)) in
     (refl, same.0, same.1)
 
 pub returns-in-Err-take_after-clause-again : goal.returns-in-Err-take_after-clause-again
 returns-in-Err-take_after-clause-again g c = λ frame rest parts is frame_is within.
     let head = c.in-Ok-true.ensures in
     let state = g.S.Outside.state in
-    no_refusal (kind_of_frame_fault c.in-Err-take_after.fault) (maximum_of c.args.maximum) _ _ frame rest parts is frame_is within (c.in-Err-take_after.ensures.refused (state c.args.source.now) (subst (Consumes _ _) (sym c.in-Ok.ensures.spelled) (head.filled c.in-Ok-true.field-0-test)) head.on)
+    no_refusal (kind_of_frame_fault c.in-Err-take_after.fault) (maximum_of c.args.maximum) _ _ frame rest parts is frame_is within (c.in-Err-take_after.ensures.refused (state c.args.source.now) (subst (Consumes _ _) (sym c.in-Ok.ensures.spelled) (head.filled c.in-Ok-true.field-0-test)) (head.unstopped c.in-Ok-true.field-0-test) head.on)
 
 pub returns-in-Err-clause-refused : goal.returns-in-Err-clause-refused
 returns-in-Err-clause-refused g c =
@@ -36,7 +36,7 @@ returns-in-Err-take_after-clause-came g c =
     grows_later (state c.args.source.now) (state c.fill_or_end.new.source) (state c.take_after.new.source) _ c.args.self.now c.clear.new.self c.take_after.new.self (ap (λ s. vec_capacity s) c.clear.ensures.store) (c.in-Ok-true.ensures.filled c.in-Ok-true.field-0-test) c.in-Err-take_after.ensures.came
 
 pub returns-in-Ok-take_after-clause-taken : goal.returns-in-Ok-take_after-clause-taken
-returns-in-Ok-take_after-clause-taken g c = λ _. c.in-Ok-take_after.ensures.taken (g.S.Outside.state c.args.source.now) (subst (Consumes _ _) (sym c.in-Ok.ensures.spelled) (c.in-Ok-true.ensures.filled c.in-Ok-true.field-0-test))
+returns-in-Ok-take_after-clause-taken g c = λ _. c.in-Ok-take_after.ensures.taken (g.S.Outside.state c.args.source.now) (subst (Consumes _ _) (sym c.in-Ok.ensures.spelled) (c.in-Ok-true.ensures.filled c.in-Ok-true.field-0-test)) (c.in-Ok-true.ensures.unstopped c.in-Ok-true.field-0-test)
 
 pub returns-in-Ok-take_after-clause-counted : goal.returns-in-Ok-take_after-clause-counted
 returns-in-Ok-take_after-clause-counted g c = λ _. c.in-Ok-take_after.ensures.counted ∙ ap risen c.clear.ensures.frames
@@ -45,7 +45,7 @@ pub returns-in-Ok-take_after-clause-on : goal.returns-in-Ok-take_after-clause-on
 returns-in-Ok-take_after-clause-on g c = reads_on _ _ _ c.in-Ok-true.ensures.on c.in-Ok-take_after.ensures.on
 
 pub returns-in-Err-take_after-clause-refused : goal.returns-in-Err-take_after-clause-refused
-returns-in-Err-take_after-clause-refused g c = c.in-Err-take_after.ensures.refused (g.S.Outside.state c.args.source.now) (subst (Consumes _ _) (sym c.in-Ok.ensures.spelled) (c.in-Ok-true.ensures.filled c.in-Ok-true.field-0-test)) c.in-Ok-true.ensures.on
+returns-in-Err-take_after-clause-refused g c = c.in-Err-take_after.ensures.refused (g.S.Outside.state c.args.source.now) (subst (Consumes _ _) (sym c.in-Ok.ensures.spelled) (c.in-Ok-true.ensures.filled c.in-Ok-true.field-0-test)) (c.in-Ok-true.ensures.unstopped c.in-Ok-true.field-0-test) c.in-Ok-true.ensures.on
 
 pub returns-in-Err-take_after-clause-emptied : goal.returns-in-Err-take_after-clause-emptied
 returns-in-Err-take_after-clause-emptied g c =
@@ -112,14 +112,14 @@ pub returns-in-Err-decode-clause-refused : goal.returns-in-Err-decode-clause-ref
 returns-in-Err-decode-clause-refused g c =
     let state = g.S.Outside.state in
     let unknown = unknown_row (maximum_of c.args.maximum) c.fill_or_end.new.buf c.in-Err-decode.fault c.in-Err-decode.ensures.unknown in
-    header_refused (InvalidResponse c.in-Err-decode.fault) (maximum_of c.args.maximum) (state c.args.source.now) (state c.fill_or_end.new.source) c.fill_or_end.new.buf (c.in-Ok-true.ensures.filled c.in-Ok-true.field-0-test) (search rules) unknown
+    header_refused (InvalidResponse c.in-Err-decode.fault) (maximum_of c.args.maximum) (state c.args.source.now) (state c.fill_or_end.new.source) c.fill_or_end.new.buf (c.in-Ok-true.ensures.filled c.in-Ok-true.field-0-test) (c.in-Ok-true.ensures.unstopped c.in-Ok-true.field-0-test) (search rules) unknown
 
 pub returns-in-Err-decode-clause-again : goal.returns-in-Err-decode-clause-again
 returns-in-Err-decode-clause-again g c = λ frame rest parts is frame_is within.
     let state = g.S.Outside.state in
     let unknown = unknown_row (maximum_of c.args.maximum) c.fill_or_end.new.buf c.in-Err-decode.fault c.in-Err-decode.ensures.unknown in
     let kind = InvalidResponse c.in-Err-decode.fault in
-    let refused = header_refused kind (maximum_of c.args.maximum) (state c.args.source.now) (state c.fill_or_end.new.source) c.fill_or_end.new.buf (c.in-Ok-true.ensures.filled c.in-Ok-true.field-0-test) (search rules) unknown in
+    let refused = header_refused kind (maximum_of c.args.maximum) (state c.args.source.now) (state c.fill_or_end.new.source) c.fill_or_end.new.buf (c.in-Ok-true.ensures.filled c.in-Ok-true.field-0-test) (c.in-Ok-true.ensures.unstopped c.in-Ok-true.field-0-test) (search rules) unknown in
     no_refusal kind (maximum_of c.args.maximum) (state c.args.source.now) (state c.fill_or_end.new.source) frame rest parts is frame_is within refused
 
 pub returns-in-Err-decode-clause-more : goal.returns-in-Err-decode-clause-more

@@ -7,5 +7,5 @@ pub invariant_of-result-clause-lies : goal.invariant_of-result-clause-lies
 invariant_of-result-clause-lies c = λ frame is.
     let size = c.args.self.now.size in
     let items = c.args.self.now.store.items in
-    let same : take size c.in_ok-from_slice.field-0.items ≡ take size items = ap (take size) (c.in_ok-from_slice.ensures.items ∙ c.as_bytes.ensures) ∙ take-take size size items (omega arith) in
+    let same : take size c.in_ok-copy_of_held.field-0.items ≡ take size items = ap (take size) (c.in_ok-copy_of_held.ensures.bytes ∙ c.as_bytes.ensures) ∙ take-take size size items (omega arith) in
     subst (λ bytes. LiesIn bytes frame) (sym same) (c.args.self.now.lies frame is)

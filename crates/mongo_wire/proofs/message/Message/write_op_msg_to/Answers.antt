@@ -38,7 +38,7 @@ returns-in_err-write_checksum-clause-refused g c =
     let front = c.in_ok-write_before_checksum.ensures in
     rw (passed_on c.from_residual-in_err-write_checksum.result error c.from_residual-in_err-write_checksum.ensures.1)
     (write_refused error.kind (maximum_of c.args.maximum) m _ _ c.args.ids.now _ c.in-Ok.ensures.fits c.drawn_id-id.ensures.drawn
-    (checksum_cut error.kind (id_of m c.args.ids.now) m _ _ _ _ (subst (Appends _ _) same front.written) front.on c.in_err-write_checksum.ensures.refused (search rules)))
+    (checksum_cut error.kind (id_of m c.args.ids.now) m _ _ _ _ (subst (Appends _ _) same front.written) front.writes c.in_err-write_checksum.ensures.refused (search rules)))
 
 pub returns-clause-written : goal.returns-clause-written
 returns-clause-written g c =
@@ -49,8 +49,14 @@ returns-clause-written g c =
     let next = id_of m c.args.ids.now in
     let all = frame_written next m _ _ _ _ (subst (Appends _ _) same c.in_ok-write_before_checksum.ensures.written) c.in_ok-write_checksum.ensures.written (search rules) in
     both c.flush_out.result _ _ _
-    (λ flushed _. record { fits = c.in-Ok.ensures.fits; appended = Appends-kept _ _ _ (written_frame next m) all c.flush_out.ensures.kept; flushed_is = flushed; drawn = c.drawn_id-id.ensures.drawn })
-    c.flush_out.ensures.flushed c.flush_out.ensures.flushed
+    (λ flushed writes. record {
+      fits = c.in-Ok.ensures.fits;
+      appended = Appends-kept _ _ _ (written_frame next m) all c.flush_out.ensures.kept;
+      flushed_is = flushed;
+      writes = writes ∙ c.in_ok-write_checksum.ensures.writes ∙ c.in_ok-write_before_checksum.ensures.writes;
+      drawn = c.drawn_id-id.ensures.drawn;
+    })
+    c.flush_out.ensures.flushed c.flush_out.ensures.writes
 
 pub returns-clause-frame : goal.returns-clause-frame
 returns-clause-frame g c =
@@ -72,5 +78,5 @@ returns-clause-refused g c =
     let sum = c.in_ok-write_checksum.ensures in
     IfErr-weaker c.flush_out.result _ _
     (λ e s. write_refused e.kind (maximum_of c.args.maximum) m _ _ c.args.ids.now _ c.in-Ok.ensures.fits c.drawn_id-id.ensures.drawn
-    (cut_at_end e.kind _ _ _ (written_frame next m) (frame_written next m _ _ _ _ (subst (Appends _ _) same front.written) sum.written (search rules)) (search rules) s))
+    (cut_at_end e.kind _ _ _ (written_frame next m) (frame_written next m _ _ _ _ (subst (Appends _ _) same front.written) sum.written (search rules)) (sum.writes ∙ front.writes) s))
     c.flush_out.ensures.refused
