@@ -46,8 +46,8 @@ read_kept : (kind : ErrorKind) (maximum : ℤ) (old new : State) → ReadRefused
 read_kept ReadFault maximum old new refused = refl
 read_kept OutOfMemory maximum old new refused = refl
 read_kept EndOfInput maximum old new refused = refl
-read_kept (InvalidResponse fault) maximum old new refused = row_kept maximum refused.0 (InvalidResponse fault) refused.2
-read_kept (InvalidArgument fault) maximum old new refused = row_kept maximum refused.0 (InvalidArgument fault) refused.2
+read_kept (InvalidResponse fault) maximum old new refused = row_kept maximum refused.1.0 (InvalidResponse fault) refused.1.2
+read_kept (InvalidArgument fault) maximum old new refused = row_kept maximum refused.1.0 (InvalidArgument fault) refused.1.2
 read_kept kind maximum old new refused = absurd refused
 
 pub received_kept : (kind : ErrorKind) (maximum : ℤ) (old new : State) → ReceiveRefused kind maximum old new → is_kept kind ≡ true

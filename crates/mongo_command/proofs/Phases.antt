@@ -11,7 +11,7 @@ use Rattle.mongo_wire.specs.declared.fault.ArgumentFault.TheVariants.{Bson}
 use Rattle.mongo_bson.specs.declared.fault.BsonFault.TheVariants.{TooLong}
 use Rattle.mongo_wire.specs.declared.message.Message.{Message}
 use Rattle.std.specs.Io.KnownBytes.{Appends}
-use Rattle.mongo_wire.specs.Outside.{State, Unwritten, AppendsFront}
+use Rattle.mongo_wire.specs.Outside.{State, Unread, Unwritten, AppendsFront}
 use Rattle.mongo_wire.specs.Message.{TellsChecksum, IsRead, ReadRefused, WriteCut, WriteRefused, Writes, IsFrameOf, written_frame, id_of, id_after, parts_of}
 use Rattle.mongo_wire.specs.Buffer.{IsFrameTaken, HoldsFrame, held_bytes, held_document, document_at}
 use Rattle.mongo_wire.specs.Frame.{Frame}
@@ -19,12 +19,6 @@ use Rattle.mongo_wire.specs.declared.fault.FrameFault.{FrameFault}
 use Rattle.mongo_wire.specs.Error.{kind_of_frame_fault}
 use Rattle.mongo_wire.specs.declared.frame_buffer.FrameBuffer.{FrameBuffer}
 use Rattle.mongo_command.specs.Exchange.{Cut, Sends, SendRefused, sent_fault, Receives, ReceiveRefused}
-
--- nothing was read: the bytes left and both counts of reading stand
-pub record Unread (old new : State) : Type 0 where
-  pub left : new.left ≡ old.left
-  pub reads : new.read_faults ≡ old.read_faults
-  pub ends : new.ends ≡ old.ends
 
 cut_of : (kind : ErrorKind) (maximum : ℤ) (m : Message) (old new : State) (before after : ℤ) → m.request_id ≡ None → Unread old new → WriteCut maximum m old new before after → Cut kind maximum m old new before after (Some kind)
 cut_of kind maximum m old new before after none unread w = record {
@@ -41,7 +35,7 @@ refused_kind : (kind : ErrorKind) (maximum : ℤ) (m : Message) (old new : State
 refused_kind (InvalidArgument (Bson TooLong)) maximum m old new before after none short unread same w = absurd w.0
 refused_kind (InvalidArgument fault) maximum m old new before after none short unread same w = (short, w.0, record { link = same fault refl; ids = w.2; kept_is = refl })
 refused_kind WriteFault maximum m old new before after none short unread same w = (w.0, cut_of WriteFault maximum m old new before after none unread w.1)
-refused_kind OutOfMemory maximum m old new before after none short unread same w = inr (cut_of OutOfMemory maximum m old new before after none unread w)
+refused_kind OutOfMemory maximum m old new before after none short unread same w = inr (w.0, cut_of OutOfMemory maximum m old new before after none unread w.1)
 refused_kind kind maximum m old new before after none short unread same w = absurd w
 
 pub send_refused : {L : Type 0} (state : L → State) (l l' : L) (r : Result ⊤ Error) (maximum : ℤ) (m : Message) (before after : ℤ) → m.request_id ≡ None → length m.document_payload ≤ maximum_length → Unread (state l) (state l') → ((fault : ArgumentFault) → IfErr r (λ e. e.kind ≡ InvalidArgument fault → l' ≡ l)) → IfErr r (λ e. WriteRefused e.kind maximum m (state l) (state l') before after) → IfErr r (λ e. SendRefused e.kind maximum m (state l) (state l') before after (sent_fault e.kind))
@@ -62,12 +56,13 @@ sent (Ok x) maximum m old new before after none unsummed unread w frame =
       unread = unread.left;
       reads = unread.reads;
       ends = unread.ends;
+      writes = w.writes;
       drawn = w.drawn ∙ ap (λ o. id_after o before) none;
     }
 sent (Err e) maximum m old new before after none unsummed unread w frame = tt
 
 pub received : (r : Result Message Error) (maximum : ℤ) (old new : State) → Unwritten old new → IfOk r (IsRead maximum old new) → IfOk r (λ m. Receives maximum old new m.document_payload)
-received (Ok m) maximum old new unwritten read = record { unwritten = unwritten; frame = read.frame; parts = parts_of read.id m; is_frame = read.is_frame; within = read.within; taken = read.taken; document_is = refl }
+received (Ok m) maximum old new unwritten read = record { unwritten = unwritten; frame = read.frame; parts = parts_of read.id m; is_frame = read.is_frame; within = read.within; taken = read.taken; unstopped = read.unstopped; document_is = refl }
 received (Err e) maximum old new unwritten read = tt
 
 -- the document of a buffer is the body of the frame that it holds
@@ -85,6 +80,7 @@ received_into maximum old new buffer unwritten t = record {
   is_frame = t.holds.is_held.is_frame;
   within = t.within;
   taken = t.taken;
+  unstopped = t.unstopped;
   document_is = document_held t.frame t.parts buffer t.holds;
 }
 

@@ -6,7 +6,7 @@ use Rattle.mongo_wire.specs.declared.error.ErrorKind.{ErrorKind}
 use Rattle.mongo_wire.specs.declared.error.ErrorKind.TheVariants.{InvalidArgument, WriteFault, OutOfMemory}
 use Rattle.mongo_wire.specs.declared.fault.ArgumentFault.TheVariants.{Bson}
 use Rattle.mongo_wire.specs.declared.message.Message.{Message}
-use Rattle.mongo_wire.specs.Outside.{State, Unwritten, Rose, AppendsFront, IsFlushed}
+use Rattle.mongo_wire.specs.Outside.{State, Unwritten, Unstopped, Rose, AppendsFront, IsFlushed}
 use Rattle.mongo_wire.specs.Bytes.{next_id}
 use Rattle.mongo_wire.specs.Header.{maximum_of}
 use Rattle.mongo_wire.specs.declared.frame_buffer.FrameBuffer.{FrameBuffer}
@@ -37,7 +37,7 @@ DocumentRefused OutOfMemory document = ⊤
 DocumentRefused kind document = ⊥
 
 -- the frame of the message stands at the end of what was written, all of it is flushed, its id is drawn, and nothing
--- was read
+-- was read. No fault was counted.
 pub record Sends (maximum : ℤ) (message : Message) (old new : State) (before after : ℤ) : Type 0 where
   pub fits : Fits maximum message
   pub written : Appends old.written new.written (written_frame before message)
@@ -46,9 +46,10 @@ pub record Sends (maximum : ℤ) (message : Message) (old new : State) (before a
   pub unread : new.left ≡ old.left
   pub reads : new.read_faults ≡ old.read_faults
   pub ends : new.ends ≡ old.ends
+  pub writes : new.write_faults ≡ old.write_faults
   pub drawn : after ≡ next_id before
 
--- one frame within the maximum was taken, of this document, and nothing after it
+-- One frame within the maximum was taken, of this document, and nothing after it. No fault and no end was counted.
 pub record Receives (maximum : ℤ) (old new : State) (document : List ℕ) : Type 0 where
   pub unwritten : Unwritten old new
   pub frame : List ℕ
@@ -56,6 +57,7 @@ pub record Receives (maximum : ℤ) (old new : State) (document : List ℕ) : Ty
   pub is_frame : IsFrame frame parts
   pub within : pos (length frame) ≤ℤ maximum
   pub taken : Consumes old.left new.left frame
+  pub unstopped : Unstopped old new
   pub document_is : document ≡ parts.body
 
 -- an exchange: the message is sent, and then one of this document is received
@@ -95,7 +97,7 @@ abbrev pub SendRefused : ErrorKind → ℤ → Message → State → State → �
 SendRefused (InvalidArgument (Bson TooLong)) maximum message old new before after kept = (maximum_length < length message.document_payload) × Unsent old new before after kept
 SendRefused (InvalidArgument fault) maximum message old new before after kept = (length message.document_payload ≤ maximum_length) × ArgumentRow fault maximum message × Unsent old new before after kept
 SendRefused WriteFault maximum message old new before after kept = Rose old.write_faults new.write_faults × Cut WriteFault maximum message old new before after kept
-SendRefused OutOfMemory maximum message old new before after kept = Unsent old new before after kept ⊎ Cut OutOfMemory maximum message old new before after kept
+SendRefused OutOfMemory maximum message old new before after kept = Unsent old new before after kept ⊎ ((new.write_faults ≡ old.write_faults) × Cut OutOfMemory maximum message old new before after kept)
 SendRefused kind maximum message old new before after kept = ⊥
 
 -- no frame was received: why, and what of the bytes left was taken
@@ -120,6 +122,12 @@ abbrev pub BufferRefused : ErrorKind → ℤ → Message → State → State →
 BufferRefused kind maximum message old new before after kept buffer_old buffer_new =
     (SendRefused kind maximum message old new before after kept × (buffer_new ≡ buffer_old))
     ⊎ (Unanswered kind maximum message old new before after kept × IsCleared buffer_old buffer_new)
+
+-- no fault and no end was counted
+pub record Uncounted (old new : State) : Type 0 where
+  pub reads : new.read_faults ≡ old.read_faults
+  pub ends : new.ends ≡ old.ends
+  pub writes : new.write_faults ≡ old.write_faults
 
 -- what every exchange keeps: whether the bytes are told, the counts from falling, and what was flushed
 pub record CountsStay (old new : State) : Type 0 where

@@ -30,6 +30,7 @@ returns-in-Ok-clause-taken g c =
       holds = read.holds;
       within = read.within;
       taken = subst (λ left. Consumes left (state c.receive_into.new.link).left read.frame) c.in_ok-send.ensures.sent.unread read.taken;
+      unstopped = record { reads = read.unstopped.reads ∙ c.in_ok-send.ensures.sent.reads; ends = read.unstopped.ends ∙ c.in_ok-send.ensures.sent.ends };
     }
 
 pub returns-in-Ok-clause-ends : goal.returns-in-Ok-clause-ends
