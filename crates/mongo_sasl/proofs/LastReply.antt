@@ -1,9 +1,9 @@
 -- A plan that one exchange follows to its end, and the reply of that exchange.
 use Rattle.std.proofs.Common.{ℕ, ℤ, refl, List, [], ◌∷◌}
 use Rattle.mongo_wire.specs.Outside.{State}
-use Rattle.mongo_command.specs.Conversation.{Said, exchanged, says, ends, Plan, plain_message, Reached}
+use Rattle.mongo_command.specs.Conversation.{Said, exchanged, says, ends, Plan, saying, plain_message, Reached}
 use Rattle.mongo_command.specs.Exchange.{CountsStay, Exchanges}
-use Rattle.mongo_command.proofs.Talked.{talked_once}
+use Rattle.mongo_command.proofs.Talked.{talked_by, talked_once}
 use Rattle.mongo_sasl.specs.Login.{EndsByReply}
 
 -- the exchange of the plan's first command, by whose reply the plan ends
@@ -13,18 +13,7 @@ ends_by_reply {A} plan answer said reply old new before after turn end e counts 
     let once = talked_once said (λ (heard : List ℕ). plan) reply old new before after e counts in
     record {
       said = said;
-      talked = record {
-        follows = (turn, once.follows.1, tt);
-        sent = once.sent;
-        sent_is = once.sent_is;
-        written = once.written;
-        flushed = once.flushed;
-        drawn = once.drawn;
-        heard = once.heard;
-        heard_is = once.heard_is;
-        consumed = once.consumed;
-        counts = once.counts;
-      };
+      talked = talked_by (saying said (λ (heard : List ℕ). plan)) plan (exchanged said reply ∷ []) old new before after (turn, once.follows.1, tt) once;
       answer_is = end;
     }
 

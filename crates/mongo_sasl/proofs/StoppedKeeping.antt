@@ -6,7 +6,7 @@ use Rattle.mongo_wire.specs.Outside.{State}
 use Rattle.mongo_command.specs.Conversation.{Said, Event, exchanged, asked, Turn, says, asks, refuses, ends, Plan, HasNone, unless, reading, saying, later, passed_on, followed_by, plain_message, Follows, given_in, Talked, Reached, Stopped}
 use Rattle.mongo_command.specs.Exchange.{CountsStay, Exchanges, ExchangeRefused}
 use Rattle.mongo_command.proofs.FollowedBy.{turn_first, turn_second, follows_first, follows_both}
-use Rattle.mongo_command.proofs.Talked.{follows_more, given_both, talked_append, talked_once, nothing_said, still_counts}
+use Rattle.mongo_command.proofs.Talked.{follows_more, given_both, talked_append, talked_by, talked_once, nothing_said, still_counts}
 use Rattle.mongo_sasl.specs.Stops.{StopKeeping, StoppedKeeping, RefusedAtOnce, BeginsTooLong}
 
 -- it is a stop
@@ -26,20 +26,6 @@ keeping_none (Ok x) plan old new before after kept none stopped = tt
 keeping_none (Err e) plan old new before after kept none stopped = subst (StoppedKeeping plan e.kind old new before after) (sym none) stopped
 
 -- ---- a plan that tells more
-
-talked_by : {A B : Type 0} (plan : Plan A) (other : Plan B) (events : List Event) (old new : State) (before after : ℤ) → Follows other events → Talked plan events old new before after → Talked other events old new before after
-talked_by plan other events old new before after follows t = record {
-  follows = follows;
-  sent = t.sent;
-  sent_is = t.sent_is;
-  written = t.written;
-  flushed = t.flushed;
-  drawn = t.drawn;
-  heard = t.heard;
-  heard_is = t.heard_is;
-  consumed = t.consumed;
-  counts = t.counts;
-}
 
 turned : {A B : Type 0} (turns : Turn A → Type 0) (others : Turn B → Type 0) (kind : ErrorKind) (old new : State) (before after : ℤ) (kept : Option ErrorKind) → (turns (refuses kind) → others (refuses kind)) → ((said : Said) → turns (says said) → others (says said))
     → StopKeeping turns kind old new before after kept → StopKeeping others kind old new before after kept

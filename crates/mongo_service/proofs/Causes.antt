@@ -7,11 +7,10 @@ use Rattle.mongo_bson.specs.Framed.{maximum_length}
 use Rattle.mongo_bson.specs.declared.fault.BsonFault.{BsonFault}
 use Rattle.mongo_bson.specs.declared.fault.BsonFault.TheVariants.{TooLong, OutOfMemory as NoMemory}
 use Rattle.mongo_wire.proofs.OneFrame.{signed_in}
-use Rattle.mongo_wire.proofs.ReadStopped.{rose_after}
 use Rattle.mongo_wire.specs.Error.{kind_of_frame_fault}
 use Rattle.mongo_wire.specs.Header.{code_number, signed_at}
 use Rattle.mongo_wire.specs.Message.{ReadRefused}
-use Rattle.mongo_wire.specs.Outside.{State, ReadStops, RanOut}
+use Rattle.mongo_wire.specs.Outside.{State, ReadStops, RanOut, risen}
 use Rattle.mongo_wire.specs.Rows.{FrameRow, IsStarted, IsUnfinished, IsEmptied, TakesRow}
 use Rattle.mongo_wire.specs.declared.error.ErrorKind.{ErrorKind}
 use Rattle.mongo_wire.specs.declared.error.ErrorKind.TheVariants.{InvalidArgument, InvalidResponse, EndOfInput}
@@ -74,11 +73,11 @@ all_taken old mid new front wanted (Some xs) is before some r =
 pub stopped : (fault : FrameFault) (old mid new : State) (front : List ℕ) (wanted : ℕ) → Lasts old mid → Consumes old.left mid.left front → (kind_of_frame_fault fault ≡ EndOfInput → IfSome mid.left (λ bytes. 0 < length (front ++ bytes)))
     → ((taken : List ℕ) → IsShort wanted taken → IsNoRequest (front ++ taken)) → is_some new.left ≡ is_some mid.left → ReadStops (kind_of_frame_fault fault) mid new wanted → Stopped (fault_of_frame fault) old mid new front wanted
 stopped frame.ReadFault old mid new front wanted lasts before some short tells s =
-    record { taken = s.1.0; within = omega (arith, s.1.1); consumed = s.1.2; cause = (rose_after old.read_faults mid.read_faults new.read_faults lasts.reads s.0, refl, short s.1.0 (inl s.1.1)) }
+    record { taken = s.1.0; within = omega (arith, s.1.1); consumed = s.1.2; cause = (s.0.reads ∙ ap risen lasts.reads, refl, short s.1.0 (inl s.1.1)) }
 stopped frame.EndOfInput old mid new front wanted lasts before some short tells s =
     let all = all_taken old mid new front wanted mid.left refl before (some refl) s.1 in
-    record { taken = all.taken; within = all.within; consumed = all.consumed; cause = (rose_after old.ends mid.ends new.ends lasts.ends s.0, ran_empty mid.left new.left wanted tells s.1, refl, all.some, short all.taken all.few) }
-stopped frame.OutOfMemory old mid new front wanted lasts before some short tells s = record { taken = s.0; within = s.1; consumed = s.2; cause = inl refl }
+    record { taken = all.taken; within = all.within; consumed = all.consumed; cause = (s.0.ends ∙ ap risen lasts.ends, ran_empty mid.left new.left wanted tells s.1, refl, all.some, short all.taken all.few) }
+stopped frame.OutOfMemory old mid new front wanted lasts before some short tells s = record { taken = s.1.0; within = s.1.1; consumed = s.1.2; cause = inl refl }
 stopped (frame.InvalidArgument _) old mid new front wanted lasts before some short tells s = absurd s
 stopped (frame.InvalidResponse _) old mid new front wanted lasts before some short tells s = absurd s
 
@@ -137,12 +136,12 @@ row_refused kind old new (Some xs) is other message row =
 
 pub refused : (fault : FrameFault) (old new : State) → IfSome old.left (λ bytes. 0 < length bytes) → IfSome old.left IsOfMessage → ReadRefused (kind_of_frame_fault fault) maximum_message_length old new → Refused (fault_of_frame fault) old new
 refused frame.ReadFault old new some message h =
-    record { taken = h.1.0; part = inl (started maximum_message_length h.1.0 h.1.2); consumed = h.1.1; cause = (h.0, refl, unfinished maximum_message_length h.1.0 h.1.2) }
+    record { taken = h.1.0; part = inl (started maximum_message_length h.1.0 h.1.2); consumed = h.1.1; cause = (h.0.reads, refl, unfinished maximum_message_length h.1.0 h.1.2) }
 refused frame.EndOfInput old new some message h =
-    record { taken = h.1.0; part = inl (row_started maximum_message_length h.1.0 EndOfInput h.1.2); consumed = h.1.1; cause = (h.0, h.2, refl, emptied_some old.left new.left h.1.0 some h.1.1 h.2, ended_within maximum_message_length h.1.0 h.1.2) }
-refused frame.OutOfMemory old new some message h = record { taken = h.0; part = inl h.2; consumed = h.1; cause = inl refl }
-refused (frame.InvalidArgument f) old new some message h = row_refused (InvalidArgument f) old new old.left refl (λ e. cc) message h
-refused (frame.InvalidResponse f) old new some message h = row_refused (InvalidResponse f) old new old.left refl (λ e. cc) message h
+    record { taken = h.1.0; part = inl (row_started maximum_message_length h.1.0 EndOfInput h.1.2); consumed = h.1.1; cause = (h.0.ends, h.2, refl, emptied_some old.left new.left h.1.0 some h.1.1 h.2, ended_within maximum_message_length h.1.0 h.1.2) }
+refused frame.OutOfMemory old new some message h = record { taken = h.1.0; part = inl h.1.2; consumed = h.1.1; cause = inl refl }
+refused (frame.InvalidArgument f) old new some message h = row_refused (InvalidArgument f) old new old.left refl (λ e. cc) message h.1
+refused (frame.InvalidResponse f) old new some message h = row_refused (InvalidResponse f) old new old.left refl (λ e. cc) message h.1
 
 -- ---- fronts
 
@@ -178,7 +177,7 @@ pub long_cause : (too_long : Type 0) (fault : ServeFault) (old new : State) → 
 long_cause too_long fault old new cause is = let same : fault ≡ ReplyTooLong = cc in subst (λ f. WriteCause too_long f old new) same cause
 
 pub write_cause : (too_long : Type 0) (fault : ServeFault) (old mid new : State) (cut : List ServerTurn) → length cut ≡ 1 → Lasts old mid → WriteCause too_long fault mid new → HasCause fault old new cut []
-write_cause too_long WriteFault old mid new cut one lasts w = (rose_after old.write_faults mid.write_faults new.write_faults lasts.writes w, (one, refl))
+write_cause too_long WriteFault old mid new cut one lasts w = (w ∙ ap risen lasts.writes, (one, refl))
 write_cause too_long ReplyTooLong old mid new cut one lasts w = (one, refl)
 write_cause too_long OutOfMemory old mid new cut one lasts w = inr refl
 write_cause too_long fault old mid new cut one lasts w = absurd w
@@ -186,9 +185,9 @@ write_cause too_long fault old mid new cut one lasts w = absurd w
 -- ---- after the turns before
 
 pub cause_after : (fault : ServeFault) (count : ℕ) (old mid new : State) (taken : List ℕ) (cut : List ServerTurn) (more : List ℕ) → Lasts old mid → Consumes old.left mid.left taken → HasCause fault mid new cut more → HasCauseAfter fault count old new cut more
-cause_after ReadFault count old mid new taken cut more lasts before c = (rose_after old.read_faults mid.read_faults new.read_faults lasts.reads c.0, c.1, c.2)
-cause_after WriteFault count old mid new taken cut more lasts before c = (rose_after old.write_faults mid.write_faults new.write_faults lasts.writes c.0, c.1)
-cause_after CutFrame count old mid new taken cut more lasts before c = (rose_after old.ends mid.ends new.ends lasts.ends c.0, c.1, c.2, told_some old.left mid.left taken more before c.3, c.4)
+cause_after ReadFault count old mid new taken cut more lasts before c = (c.0 ∙ ap risen lasts.reads, c.1, c.2)
+cause_after WriteFault count old mid new taken cut more lasts before c = (c.0 ∙ ap risen lasts.writes, c.1)
+cause_after CutFrame count old mid new taken cut more lasts before c = (c.0 ∙ ap risen lasts.ends, c.1, c.2, told_some old.left mid.left taken more before c.3, c.4)
 cause_after TooManyRequests count old mid new taken cut more lasts before c = absurd c
 cause_after fault count old mid new taken cut more lasts before c = c
 

@@ -1,26 +1,32 @@
 -- What lasts from one state of a link to a later one.
-use Rattle.std.proofs.Common.{◌≡◌, ℕ, ◌+◌, ◌≤◌, Option, None, Some, IfSome, List, [], ◌++◌, length, inl, inr, ap, ◌∙◌, subst, arith, length-append}
+use Rattle.std.proofs.Common.{◌≡◌, ℕ, ◌+◌, ◌≤◌, Option, None, Some, IfSome, List, [], ◌++◌, length, inl, inr, refl, ap, ◌∙◌, subst, arith, length-append}
 use Rattle.std.specs.Io.KnownBytes.{Appends}
-use Rattle.mongo_wire.specs.Outside.{State, ReadsOn, WritesOn, IsFlushed}
+use Rattle.mongo_wire.specs.Outside.{State, ReadsOn, WritesOn, Unstopped, IsFlushed}
 use Rattle.mongo_service.specs.Sent.{HasFlushed}
 use Rattle.mongo_service.specs.Served.{Lasts}
 
 pub lasts_all : (old : State) → Lasts old old
-lasts_all old = record { reads = omega arith; ends = omega arith; writes = omega arith; flushed = omega arith }
+lasts_all old = record { reads = refl; ends = refl; writes = refl; flushed = omega arith }
+
+-- a read leaves what was flushed, however it ends
+pub flushed_read : (old new : State) → ReadsOn old new → old.flushed ≤ new.flushed
+flushed_read old new on = omega (arith, on.unwritten.flushed)
+
+pub flushed_after : (before now new : State) → ReadsOn before now → ReadsOn now new → before.flushed ≤ new.flushed
+flushed_after before now new p q = omega (arith, p.unwritten.flushed, q.unwritten.flushed)
 
 pub lasts_on : (old mid new : State) → Lasts old mid → Lasts mid new → Lasts old new
-lasts_on old mid new p q =
-    record { reads = omega (arith, p.reads, q.reads); ends = omega (arith, p.ends, q.ends); writes = omega (arith, p.writes, q.writes); flushed = omega (arith, p.flushed, q.flushed) }
+lasts_on old mid new p q = record { reads = q.reads ∙ p.reads; ends = q.ends ∙ p.ends; writes = q.writes ∙ p.writes; flushed = omega (arith, p.flushed, q.flushed) }
 
-pub lasts_read : (old new : State) → ReadsOn old new → Lasts old new
-lasts_read old new on = record { reads = on.faults_stay; ends = on.ends_stay; writes = omega (arith, on.unwritten.writes); flushed = omega (arith, on.unwritten.flushed) }
+pub lasts_read : (old new : State) → Unstopped old new → ReadsOn old new → Lasts old new
+lasts_read old new still on = record { reads = still.reads; ends = still.ends; writes = on.unwritten.writes; flushed = flushed_read old new on }
 
--- what reads keep, one after another
-pub lasts_after : (before now new : State) → ReadsOn before now → ReadsOn now new → Lasts before new
-lasts_after before now new p q = lasts_on before now new (lasts_read before now p) (lasts_read now new q)
+-- two reads, one after another
+pub lasts_after : (before now new : State) → Unstopped before new → ReadsOn before now → ReadsOn now new → Lasts before new
+lasts_after before now new still p q = record { reads = still.reads; ends = still.ends; writes = q.unwritten.writes ∙ p.unwritten.writes; flushed = flushed_after before now new p q }
 
-pub lasts_write : (old new : State) → WritesOn old new → Lasts old new
-lasts_write old new on = record { reads = omega (arith, on.unread.reads); ends = omega (arith, on.unread.ends); writes = on.faults_stay; flushed = on.flushed_stays }
+pub lasts_write : (old new : State) → new.write_faults ≡ old.write_faults → WritesOn old new → Lasts old new
+lasts_write old new still on = record { reads = on.unread.reads; ends = on.unread.ends; writes = still; flushed = on.flushed_stays }
 
 -- ---- what was flushed
 

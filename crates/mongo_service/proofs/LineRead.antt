@@ -4,9 +4,9 @@ use Rattle.std.proofs.KnownBytes.{Consumes-trans}
 use Rattle.std.proofs.lemmas.List.Elements.{All-push}
 use Rattle.std.specs.Result.{IsErrAnd}
 use Rattle.std.specs.Io.KnownBytes.{Consumes}
-use Rattle.mongo_wire.proofs.ReadStopped.{stops_after, reads_on}
+use Rattle.mongo_wire.proofs.ReadStopped.{stops_after, reads_on, unstopped_on}
 use Rattle.mongo_wire.proofs.Written.{passed_on}
-use Rattle.mongo_wire.specs.Outside.{State, ReadsOn, Rose, RanOut, ConsumesAtMost}
+use Rattle.mongo_wire.specs.Outside.{State, ReadsOn, Unstopped, MeetsEnd, RanOut, ConsumesAtMost}
 use Rattle.mongo_wire.specs.declared.error.ErrorKind.TheVariants.{EndOfInput}
 use Rattle.mongo_service.specs.Line.{maximum_line_length, HasNoLineFeed, TakesLine, HasNoLine, StopsWithin}
 
@@ -22,32 +22,35 @@ pub record LineSoFar (old new : State) (line : List ℕ) : Type 0 where
   pub within : length line ≤ maximum_line_length + 1
   pub unended : HasNoLineFeed line
   pub front : Consumes old.left new.left line
+  pub still : Unstopped old new
   pub on : ReadsOn old new
 
 module _ (old mid new : State) (line : List ℕ) (so_far : LineSoFar old mid line) (short : length line ≤ maximum_line_length) where
   -- the next byte is a line feed
-  pub takes_line : (byte : ℕ) → byte ≡ 10 → Consumes mid.left new.left (byte ∷ []) → TakesLine old new line
-  takes_line byte is taken = record {
+  pub takes_line : (byte : ℕ) → byte ≡ 10 → Consumes mid.left new.left (byte ∷ []) → Unstopped mid new → TakesLine old new line
+  takes_line byte is taken still = record {
     taken = Consumes-trans old.left mid.left new.left line (10 ∷ []) so_far.front (subst (λ b. Consumes mid.left new.left (b ∷ [])) is taken);
+    unstopped = unstopped_on old mid new so_far.still still;
     first = so_far.unended;
     short = short;
   }
 
   -- the next byte is another
-  pub one_more : (byte : ℕ) (longer : List ℕ) → byte ≢ 10 → longer ≡ line ++ byte ∷ [] → Consumes mid.left new.left (byte ∷ []) → ReadsOn mid new → LineSoFar old new longer
-  one_more byte longer other is taken on = subst (LineSoFar old new) (sym is) (record {
+  pub one_more : (byte : ℕ) (longer : List ℕ) → byte ≢ 10 → longer ≡ line ++ byte ∷ [] → Consumes mid.left new.left (byte ∷ []) → Unstopped mid new → ReadsOn mid new → LineSoFar old new longer
+  one_more byte longer other is taken still on = subst (LineSoFar old new) (sym is) (record {
     within = omega (arith, short, length-append line (byte ∷ []));
     unended = All-push (λ b. b ≢ 10) line byte so_far.unended other;
     front = Consumes-trans old.left mid.left new.left line (byte ∷ []) so_far.front taken;
+    still = unstopped_on old mid new so_far.still still;
     on = reads_on old mid new so_far.on on;
   })
 
   -- there is none
-  pub has_no_line : Rose mid.ends new.ends × RanOut mid.left new.left 1 → HasNoLine old new
+  pub has_no_line : MeetsEnd mid new × RanOut mid.left new.left 1 → HasNoLine old new
   has_no_line ended =
       let most : length line + 1 ≤ maximum_line_length + 1 = omega (arith, short) in
-      let all = stops_after EndOfInput old mid new line 1 (maximum_line_length + 1) so_far.front so_far.on most ended in
-      inr (record { rose = all.0; ran_out = all.1; unended = unended_whole old.left mid.left new.left line so_far.front so_far.unended ended.1 })
+      let all = stops_after EndOfInput old mid new line 1 (maximum_line_length + 1) so_far.front so_far.still most ended in
+      inr (record { met = all.0; ran_out = all.1; unended = unended_whole old.left mid.left new.left line so_far.front so_far.unended ended.1 })
 
   -- reading stopped at it
   pub stops_within : ConsumesAtMost mid.left new.left 1 → StopsWithin old new

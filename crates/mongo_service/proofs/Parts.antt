@@ -28,14 +28,14 @@ use Rattle.mongo_service.proofs.Turns.{turn_taken, turn_cut, none_taken}
 -- an OP_MSG was taken and answered, and the answer sent or cut
 pub message_part : (settings : ServeSettings) (requests : List (List ℕ)) (old mid new : State) (before : Session) (id : ℤ) (after : Session) (later : ℤ) (frame : List ℕ) (parts : Frame) (document : List ℕ) → IsFrame frame parts → parts.body ≡ document
     → Consumes old.left mid.left frame → mid.written ≡ old.written → Lasts old mid → WritesOn mid new → (reply : Reply) → IsDocumentAnswered settings before document after reply → Remembers settings (requests ++ document ∷ []) after
-    → (to : ℤ) → to ≡ parts.request_id → (flags : ℕ) → flags ≡ parts.flags → (r : Result ⊤ ServeFault) → OnOk r (IsReplySent mid new to flags reply id later) → OnErr r (IsSentInPart mid new to flags reply id) → IfErr r (λ fault. WriteCause (IsLongMessage (document_of_served reply)) fault mid new)
+    → (to : ℤ) → to ≡ parts.request_id → (flags : ℕ) → flags ≡ parts.flags → (r : Result ⊤ ServeFault) → OnOk r (new.write_faults ≡ mid.write_faults) → OnOk r (IsReplySent mid new to flags reply id later) → OnErr r (IsSentInPart mid new to flags reply id) → IfErr r (λ fault. WriteCause (IsLongMessage (document_of_served reply)) fault mid new)
     → PartEnds settings requests old new before id after later r
-message_part settings requests old mid new before id after later frame parts document is_frame body_is consumed unwritten lasts on reply answered remembers to to_is flags flags_are (Ok done) h cut cause =
+message_part settings requests old mid new before id after later frame parts document is_frame body_is consumed unwritten lasts on reply answered remembers to to_is flags flags_are (Ok done) still h cut cause =
     let answer : IsAnswerTo parts.request_id parts.flags reply id later h.sent = subst (λ f. IsAnswerTo parts.request_id f reply id later h.sent) flags_are (subst (λ t. IsAnswerTo t flags reply id later h.sent) to_is h.is_answer) in
-    turn_taken settings requests old mid new before id after later (record { frame = frame; document = document; sent = h.sent }) (inl (parts, is_frame, body_is)) consumed unwritten lasts on h.appended h.flushed
+    turn_taken settings requests old mid new before id after later (record { frame = frame; document = document; sent = h.sent }) (inl (parts, is_frame, body_is)) consumed unwritten lasts still on h.appended h.flushed
     (record { reply = reply; answered = answered; sent = inl (record { parts = parts; is_frame = is_frame; body_is = body_is; answer = answer }) })
     remembers
-message_part settings requests old mid new before id after later frame parts document is_frame body_is consumed unwritten lasts on reply answered remembers to to_is flags flags_are (Err fault) h cut cause =
+message_part settings requests old mid new before id after later frame parts document is_frame body_is consumed unwritten lasts on reply answered remembers to to_is flags flags_are (Err fault) still h cut cause =
     let n = cut.front.0 in
     let reply_bytes = document_of_served reply in
     let sent = take n (message_reply id to reply_bytes) in
@@ -61,15 +61,15 @@ message_part settings requests old mid new before id after later frame parts doc
 -- an OP_QUERY was taken and answered, and the answer sent or cut
 pub query_part : (settings : ServeSettings) (requests : List (List ℕ)) (old mid new : State) (before : Session) (id : ℤ) (after : Session) (later : ℤ) (head body command : List ℕ) → IsQuery (head ++ body) command → length head ≡ 16
     → Consumes old.left mid.left (head ++ body) → mid.written ≡ old.written → Lasts old mid → WritesOn mid new → (reply : Reply) → IsDocumentAnswered settings before command after reply → IsGreeting command
-    → Remembers settings (requests ++ command ∷ []) after → (to : ℤ) → to ≡ signed_at 4 head → (r : Result ⊤ ServeFault) → OnOk r (IsSentToQuery mid new to reply id later)
+    → Remembers settings (requests ++ command ∷ []) after → (to : ℤ) → to ≡ signed_at 4 head → (r : Result ⊤ ServeFault) → OnOk r (new.write_faults ≡ mid.write_faults) → OnOk r (IsSentToQuery mid new to reply id later)
     → OnErr r (AppendsFront mid.written new.written (query_reply id to (document_of_served reply))) → IfErr r (λ fault. WriteCause (IsLongReply (document_of_served reply)) fault mid new) → PartEnds settings requests old new before id after later r
-query_part settings requests old mid new before id after later head body command is_query sixteen consumed unwritten lasts on reply answered greeting remembers to to_is (Ok done) h front cause =
+query_part settings requests old mid new before id after later head body command is_query sixteen consumed unwritten lasts on reply answered greeting remembers to to_is (Ok done) still h front cause =
     let sent = query_reply id to (document_of_served reply) in
     let to_front : to ≡ signed_at 4 (take 16 (head ++ body)) = to_is ∙ ap (signed_at 4) (sym (take_at head body 16 sixteen)) in
-    turn_taken settings requests old mid new before id after later (record { frame = head ++ body; document = command; sent = sent }) (inr is_query) consumed unwritten lasts on h.appended (sent_flushed mid new sent h.appended h.flushed)
+    turn_taken settings requests old mid new before id after later (record { frame = head ++ body; document = command; sent = sent }) (inr is_query) consumed unwritten lasts still on h.appended (sent_flushed mid new sent h.appended h.flushed)
     (record { reply = reply; answered = answered; sent = inr (is_query, greeting, (ap (λ t. query_reply id t (document_of_served reply)) to_front, h.drawn)) })
     remembers
-query_part settings requests old mid new before id after later head body command is_query sixteen consumed unwritten lasts on reply answered greeting remembers to to_is (Err fault) h front cause =
+query_part settings requests old mid new before id after later head body command is_query sixteen consumed unwritten lasts on reply answered greeting remembers to to_is (Err fault) still h front cause =
     let n = front.0 in
     let to_front : to ≡ signed_at 4 (take 16 (head ++ body)) = to_is ∙ ap (signed_at 4) (sym (take_at head body 16 sixteen)) in
     turn_cut (IsLongReply (document_of_served reply)) settings requests old mid new before id after.user fault (record { frame = head ++ body; document = command; sent = take n (query_reply id to (document_of_served reply)) })
@@ -115,7 +115,7 @@ front_taken head (Some bytes) = refl
 
 -- more was taken after a header, and nothing answered
 pub none_after : (settings : ServeSettings) (requests : List (List ℕ)) (before now new : State) (session : Session) (id : ℤ) (user : Option (List ℕ)) (fault : ServeFault) (head more : List ℕ) → user ≡ session.user → IsPart (head ++ more)
-    → FollowsHead before now head → Consumes now.left new.left more → new.written ≡ now.written → IfSome session.user (λ name. HasLoggedIn settings name requests) → HasCause fault before new [] (head ++ more) → Lasts before new
+    → FollowsHead before now head → Consumes now.left new.left more → new.written ≡ now.written → IfSome session.user (λ name. HasLoggedIn settings name requests) → HasCause fault before new [] (head ++ more) → before.flushed ≤ new.flushed
     → IsCut settings requests before new session id user fault
-none_after settings requests before now new session id user fault head more same part f consumed unwritten logged_in cause lasts =
-    none_taken settings requests before new session id user fault (head ++ more) same part (Consumes-trans before.left now.left new.left head more f.taken consumed) (unwritten ∙ f.on.unwritten.written) logged_in cause lasts
+none_after settings requests before now new session id user fault head more same part f consumed unwritten logged_in cause stays =
+    none_taken settings requests before new session id user fault (head ++ more) same part (Consumes-trans before.left now.left new.left head more f.taken consumed) (unwritten ∙ f.on.unwritten.written) logged_in cause stays

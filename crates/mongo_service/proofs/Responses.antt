@@ -53,9 +53,6 @@ message_spelled document sequences id to flags none clear =
 
 -- ---- a write that was refused
 
-nothing_kept : (old new : Option (List ℕ)) (bytes : List ℕ) → Keeps old new → AppendsFront old new bytes
-nothing_kept old new bytes kept = (0, Appends-kept old old new [] (Appends-nil old) kept)
-
 -- all of the bytes are a front of them
 pub all_written : (old mid new : Option (List ℕ)) (bytes : List ℕ) → Appends old mid bytes → Keeps mid new → AppendsFront old new bytes
 all_written old mid new bytes appended kept = (length bytes, subst (Appends old new) (sym (take-length bytes)) (Appends-kept old mid new bytes appended kept))
@@ -65,9 +62,9 @@ nothing_written old bytes = (0, Appends-nil old)
 
 -- a front of the frame was written
 pub refused_front : (kind : ErrorKind) (maximum : ℤ) (m : Message) (old new : State) (before after : ℤ) → WriteRefused kind maximum m old new before after → AppendsFront old.written new.written (written_frame (id_of m before) m)
-refused_front (InvalidArgument fault) maximum m old new before after h = nothing_kept old.written new.written (written_frame (id_of m before) m) h.1
+refused_front (InvalidArgument fault) maximum m old new before after h = subst (λ state. AppendsFront old.written state.written (written_frame (id_of m before) m)) (sym h.1) (nothing_written old.written (written_frame (id_of m before) m))
 refused_front WriteFault maximum m old new before after h = h.1.front
-refused_front OutOfMemory maximum m old new before after h = h.front
+refused_front OutOfMemory maximum m old new before after h = h.1.front
 refused_front kind maximum m old new before after h = absurd h
 
 pub is_of_writing : (kind : ErrorKind) (maximum : ℤ) (m : Message) (old new : State) (before after : ℤ) → WriteRefused kind maximum m old new before after → IsOfWriting kind

@@ -38,16 +38,16 @@ one_joined f turn = append-nil (f turn)
 
 -- a request was taken, answered, and the answer sent
 pub turn_taken : (settings : ServeSettings) (requests : List (List ℕ)) (old mid new : State) (before : Session) (id : ℤ) (after : Session) (later : ℤ) (turn : ServerTurn) → IsTurnTaken turn → Consumes old.left mid.left turn.frame → mid.written ≡ old.written
-    → Lasts old mid → WritesOn mid new → Appends mid.written new.written turn.sent → HasFlushed mid new turn.sent → IsTurn settings before id turn after later → Remembers settings (requests ++ turn.document ∷ []) after
+    → Lasts old mid → new.write_faults ≡ mid.write_faults → WritesOn mid new → Appends mid.written new.written turn.sent → HasFlushed mid new turn.sent → IsTurn settings before id turn after later → Remembers settings (requests ++ turn.document ∷ []) after
     → TakesTurn settings requests old new before id after later
-turn_taken settings requests old mid new before id after later turn is_taken consumed unwritten lasts on appended flushed is_turn remembers = record {
+turn_taken settings requests old mid new before id after later turn is_taken consumed unwritten lasts still on appended flushed is_turn remembers = record {
   turn = turn;
   is_taken = is_taken;
   is_turn = is_turn;
   consumed = subst (λ left. Consumes old.left left turn.frame) (sym on.unread.left) consumed;
   appended = subst (λ written. Appends written new.written turn.sent) unwritten appended;
   flushed = flushed_from old mid new turn.sent unwritten flushed;
-  lasts = lasts_on old mid new lasts (lasts_write mid new on);
+  lasts = lasts_on old mid new lasts (lasts_write mid new still on);
   remembers = remembers;
 }
 
@@ -66,7 +66,7 @@ turn_cut too_long settings requests old mid new before id user fault turn is_cut
       subst (Consumes old.left new.left) (sym (append-nil (joined_frames (turn ∷ [])) ∙ one_joined (λ t. t.frame) turn)) (subst (λ left. Consumes old.left left turn.frame) (sym on.unread.left) consumed);
   appended = subst (Appends old.written new.written) (sym (one_joined (λ t. t.sent) turn)) (subst (λ written. Appends written new.written turn.sent) unwritten appended);
   logged_in = logged_in;
-  stays = (lasts_on old mid new lasts (lasts_write mid new on)).flushed;
+  stays = omega (arith, lasts.flushed, on.flushed_stays);
   cause = write_cause too_long fault old mid new (turn ∷ []) (omega arith) lasts cause;
 }
   where
@@ -75,8 +75,8 @@ turn_cut too_long settings requests old mid new before id user fault turn is_cut
 
 -- no request was answered, but some bytes taken
 pub none_taken : (settings : ServeSettings) (requests : List (List ℕ)) (old new : State) (before : Session) (id : ℤ) (user : Option (List ℕ)) (fault : ServeFault) (more : List ℕ) → user ≡ before.user → IsPart more → Consumes old.left new.left more
-    → new.written ≡ old.written → IfSome before.user (λ name. HasLoggedIn settings name requests) → HasCause fault old new [] more → Lasts old new → IsCut settings requests old new before id user fault
-none_taken settings requests old new before id user fault more same part consumed unwritten logged_in cause lasts = record {
+    → new.written ≡ old.written → IfSome before.user (λ name. HasLoggedIn settings name requests) → HasCause fault old new [] more → old.flushed ≤ new.flushed → IsCut settings requests old new before id user fault
+none_taken settings requests old new before id user fault more same part consumed unwritten logged_in cause stays = record {
   turns = [];
   one = omega arith;
   each = tt;
@@ -86,7 +86,7 @@ none_taken settings requests old new before id user fault more same part consume
   consumed = consumed;
   appended = subst (λ written. Appends old.written written []) (sym unwritten) (Appends-nil old.written);
   logged_in = subst (λ rs. IfSome user (λ name. HasLoggedIn settings name rs)) (sym (append-nil requests)) (subst (λ u. IfSome u (λ name. HasLoggedIn settings name requests)) (sym same) logged_in);
-  stays = lasts.flushed;
+  stays = stays;
   cause = cause;
 }
 

@@ -1,7 +1,7 @@
 -- The first line of a stream, whose text is the settings; and why there are none.
 use Rattle.std.specs.Prelude.{◌≡◌, ◌≢◌, ℕ, ◌+◌, ◌≤◌, ◌⊎◌, None, Some, List, [], ◌∷◌, ◌++◌, length, All, IfSome, ⊤}
 use Rattle.std.specs.Io.KnownBytes.{Consumes}
-use Rattle.mongo_wire.specs.Outside.{State, ReadsOn, Rose, RanOut}
+use Rattle.mongo_wire.specs.Outside.{State, ReadsOn, Unstopped, MeetsEnd, RanOut}
 use Rattle.mongo_wire.specs.declared.error.ErrorKind.{ErrorKind}
 use Rattle.mongo_wire.specs.declared.error.ErrorKind.TheVariants as kind
 use Rattle.mongo_session.specs.ServeSettings.{settings_said, settings_as_said}
@@ -21,6 +21,7 @@ HasNoLineFeed bytes = All (λ byte. byte ≢ 10) bytes
 -- the first line, of at most `maximum_line_length` bytes, and its line feed were taken
 pub record TakesLine (old new : State) (line : List ℕ) : Type 0 where
   pub taken : Consumes old.left new.left (line ++ 10 ∷ [])
+  pub unstopped : Unstopped old new
   pub first : HasNoLineFeed line
   pub short : length line ≤ maximum_line_length
 
@@ -28,13 +29,14 @@ pub record TakesLine (old new : State) (line : List ℕ) : Type 0 where
 pub record HasLongLine (old new : State) : Type 0 where
   pub front : List ℕ
   pub taken : Consumes old.left new.left front
+  pub unstopped : Unstopped old new
   pub unended : HasNoLineFeed front
   pub long : length front ≡ maximum_line_length + 1
 
 -- The stream ended within the line: where its bytes are told, those that were left are no more than `maximum_line_length`, without a
 -- line feed, and were all taken.
 pub record EndsWithin (old new : State) : Type 0 where
-  pub rose : Rose old.ends new.ends
+  pub met : MeetsEnd old new
   pub ran_out : RanOut old.left new.left (maximum_line_length + 1)
   pub unended : IfSome old.left HasNoLineFeed
 

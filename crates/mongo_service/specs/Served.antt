@@ -2,7 +2,7 @@
 use Rattle.std.specs.Prelude.{◌≡◌, ℕ, ℤ, pos, ◌-◌, ◌^◌, ◌≤◌, Bool, true, false, None, Result, Ok, Err, List, [], ◌∷◌, ◌++◌, length, IfSome, ⊤}
 use Rattle.std.specs.List.{AllByRecursion}
 use Rattle.std.specs.Io.KnownBytes.{Consumes, Appends}
-use Rattle.mongo_wire.specs.Outside.{State, HasEnded, ReadsOn}
+use Rattle.mongo_wire.specs.Outside.{State, HasEnded, ReadsOn, Unstopped}
 use Rattle.mongo_service.specs.declared.fault.ServeFault.{ServeFault}
 use Rattle.mongo_service.specs.declared.fault.ServeFault.TheVariants.{TooManyRequests}
 use Rattle.mongo_service.specs.declared.serve.Served.{Served}
@@ -13,11 +13,11 @@ use Rattle.mongo_session.specs.Login.{fresh, HasLoggedIn, Remembers}
 use Rattle.mongo_service.specs.Sent.{HasFlushed}
 use Rattle.mongo_service.specs.Turns.{ServerTurn, IsTurnTaken, IsTurn, AreTurns, joined_frames, documents, sent_for}
 
--- the counts of faults and ends, and what is flushed, don't fall
+-- no fault and no end was counted, and what was flushed stays so
 pub record Lasts (old new : State) : Type 0 where
-  pub reads : old.read_faults ≤ new.read_faults
-  pub ends : old.ends ≤ new.ends
-  pub writes : old.write_faults ≤ new.write_faults
+  pub reads : new.read_faults ≡ old.read_faults
+  pub ends : new.ends ≡ old.ends
+  pub writes : new.write_faults ≡ old.write_faults
   pub flushed : old.flushed ≤ new.flushed
 
 -- ---- one turn
@@ -55,6 +55,7 @@ PartEnds settings requests old new before id after later (Err fault) = IsCut set
 -- a header was taken, and nothing was written
 pub record FollowsHead (before now : State) (head : List ℕ) : Type 0 where
   pub taken : Consumes before.left now.left head
+  pub unstopped : Unstopped before now
   pub on : ReadsOn before now
 
 -- ---- the stream

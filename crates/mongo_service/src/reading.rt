@@ -1,9 +1,9 @@
 //! Reads of so many bytes.
 
-ghost use Rattle.std.specs.Prelude.{◌≡◌, length, IfOk, IfErr};
+ghost use Rattle.std.specs.Prelude.{◌≡◌, length, IfOk, IfErr, OnOk};
 ghost use Rattle.std.specs.Io.KnownBytes.{Consumes};
 ghost use Rattle.mongo_wire.specs.Error.{kind_of_frame_fault};
-ghost use Rattle.mongo_wire.specs.Outside.{ReadsOn, ReadStops};
+ghost use Rattle.mongo_wire.specs.Outside.{ReadsOn, ReadStops, Unstopped};
 
 use mongo_wire::{FrameFault, Source, take_into};
 use std::alloc::Global;
@@ -17,6 +17,7 @@ pub fn take_bytes<S: Source>(
     wanted: usize,
 ) -> Result<Vec<u8>, FrameFault>
     ensures taken { IfOk result (λ held. Consumes (S.state source.old).left (S.state source.new).left held.items) }
+    ensures unstopped { OnOk result (Unstopped (S.state source.old) (S.state source.new)) }
     ensures whole { IfOk result (λ held. length held.items ≡ wanted) }
     ensures refused { IfErr result (λ fault. ReadStops (kind_of_frame_fault fault) (S.state source.old) (S.state source.new) wanted) }
     ensures on { ReadsOn (S.state source.old) (S.state source.new) }

@@ -28,6 +28,7 @@ pub fn respond<K: Sink>(
 ) -> Result<(), ServeFault>
     ensures sent { OnOk result (IsReplySent (K.state sink.old) (K.state sink.new) request_id flags.0 reply.now ids.old ids.new) }
     ensures cut { OnErr result (IsSentInPart (K.state sink.old) (K.state sink.new) request_id flags.0 reply.now ids.old) }
+    ensures writes { OnOk result ((K.state sink.new).write_faults ≡ (K.state sink.old).write_faults) }
     ensures on { WritesOn (K.state sink.old) (K.state sink.new) }
     ensures refused { IfErr result (λ fault. WriteCause (IsLongMessage (document_of_served reply.now)) fault (K.state sink.old) (K.state sink.new)) }
 {
@@ -50,6 +51,7 @@ fn send_document<K: Sink>(
 ) -> Result<(), ServeFault>
     ensures sent { OnOk result (SendsReply (K.state sink.old) (K.state sink.new) ids.old ids.new request_id document) }
     ensures front { OnErr result (AppendsFront (K.state sink.old).written (K.state sink.new).written (message_reply ids.old request_id document)) }
+    ensures writes { OnOk result ((K.state sink.new).write_faults ≡ (K.state sink.old).write_faults) }
     ensures on { WritesOn (K.state sink.old) (K.state sink.new) }
     ensures refused { IfErr result (λ fault. WriteCause (IsLongMessage document) fault (K.state sink.old) (K.state sink.new)) }
 {
@@ -81,6 +83,7 @@ pub fn respond_to_query<K: Sink>(
 ) -> Result<(), ServeFault>
     ensures sent { OnOk result (IsSentToQuery (K.state sink.old) (K.state sink.new) request_id reply.now ids.old ids.new) }
     ensures front { OnErr result (AppendsFront (K.state sink.old).written (K.state sink.new).written (query_reply ids.old request_id (document_of_served reply.now))) }
+    ensures writes { OnOk result ((K.state sink.new).write_faults ≡ (K.state sink.old).write_faults) }
     ensures on { WritesOn (K.state sink.old) (K.state sink.new) }
     ensures refused { IfErr result (λ fault. WriteCause (IsLongReply (document_of_served reply.now)) fault (K.state sink.old) (K.state sink.new)) }
 {
@@ -129,6 +132,7 @@ pub fn send_bytes<K: Sink>(sink: &mut K, bytes: &[u8]) -> Result<(), ServeFault>
     ensures written { OnOk result (Appends (K.state sink.old).written (K.state sink.new).written bytes.now) }
     ensures flushed { OnOk result (IsFlushed (K.state sink.new)) }
     ensures front { OnErr result (AppendsFront (K.state sink.old).written (K.state sink.new).written bytes.now) }
+    ensures writes { OnOk result ((K.state sink.new).write_faults ≡ (K.state sink.old).write_faults) }
     ensures on { WritesOn (K.state sink.old) (K.state sink.new) }
     ensures refused { IfErr result (λ fault. WriteCause ⊥ fault (K.state sink.old) (K.state sink.new)) }
 {

@@ -1,8 +1,8 @@
 //! The first line of a stream: the settings.
 
-ghost use Rattle.std.specs.Prelude.{◌≡◌, [], ◌∷◌, IfOk, IsErrOf};
+ghost use Rattle.std.specs.Prelude.{◌≡◌, [], ◌∷◌, IfOk, OnOk, IsErrOf};
 ghost use Rattle.std.specs.Io.KnownBytes.{Consumes};
-ghost use Rattle.mongo_wire.specs.Outside.{ConsumesAtMost, ReadsOn, Rose, RanOut};
+ghost use Rattle.mongo_wire.specs.Outside.{ConsumesAtMost, ReadsOn, Rose, Unstopped, MeetsEnd, RanOut};
 ghost use Rattle.mongo_service.specs.Line.{IsAfterLine, HasNoLine, HasNoSettings, StopsReading, StopsWithin, TakesLine, line_error_of};
 
 use mongo_session::{ServeSettings, ServeSettingsError, serve_settings_of};
@@ -80,8 +80,9 @@ fn read_settings_line<S: Source>(alloc: Global, source: &mut S) -> Result<Vec<u8
 // The next byte, or why there is none.
 fn next_byte<S: Source>(source: &mut S) -> Result<u8, LineError>
     ensures byte { IfOk result (λ byte. Consumes (S.state source.old).left (S.state source.new).left (byte ∷ [])) }
+    ensures unstopped { OnOk result (Unstopped (S.state source.old) (S.state source.new)) }
     ensures ended { IsErrOf result LineError.BadSettings →
-        Rose (S.state source.old).ends (S.state source.new).ends × RanOut (S.state source.old).left (S.state source.new).left 1 }
+        MeetsEnd (S.state source.old) (S.state source.new) × RanOut (S.state source.old).left (S.state source.new).left 1 }
     ensures failed { IsErrOf result LineError.Fault → Rose (S.state source.old).read_faults (S.state source.new).read_faults }
     ensures within { IsErrOf result LineError.Fault → ConsumesAtMost (S.state source.old).left (S.state source.new).left 1 }
     ensures no_memory { IsErrOf result LineError.OutOfMemory → ⊥ }

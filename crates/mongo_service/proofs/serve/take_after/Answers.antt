@@ -3,7 +3,7 @@ use Rattle.mongo_wire.specs.Header.{signed_at}
 use Rattle.mongo_wire.specs.declared.op_code.OpCode.TheVariants.{Message, Query}
 use Rattle.mongo_service.specs.Served.{FollowsHead}
 use Rattle.mongo_service.proofs.Causes.{header_part}
-use Rattle.mongo_service.proofs.Lasts.{lasts_read}
+use Rattle.mongo_service.proofs.Lasts.{flushed_read}
 use Rattle.mongo_service.proofs.NoRequest.{other_code, unknown, unlike}
 use Rattle.mongo_service.proofs.Turns.{none_taken}
 use Rattle.mongo_service.specs.declared.fault.ServeFault.TheVariants.{NoFrame}
@@ -25,7 +25,7 @@ returns-in_default-clause-turn g c = λ requests before h f.
     let known = c.in-Ok.ensures.header.0 in
     let other = other_code head (omega (arith, sixteen)) (unlike (signed_at 12 head) Message c.in-Ok.header.op_code known refl c.in_default.not-Message) (unlike (signed_at 12 head) Query c.in-Ok.header.op_code known refl c.in_default.not-Query) in
     none_taken c.args.settings.now requests before (g.L.Outside.state c.args.link.now) session c.args.serving.now.ids session.user NoFrame head refl (header_part head (omega (arith, sixteen))) f.taken f.on.unwritten.written h.user
-    (refl, omega (arith, sixteen), other) (lasts_read before _ f.on)
+    (refl, omega (arith, sixteen), other) (flushed_read before _ f.on)
 
 pub returns-in-Err-clause-turn : goal.returns-in-Err-clause-turn
 returns-in-Err-clause-turn g c = λ requests before h f.
@@ -35,4 +35,4 @@ returns-in-Err-clause-turn g c = λ requests before h f.
     let none = c.in-Err.ensures.unknown.1 in
     let other = other_code head (omega (arith, sixteen)) (unknown (signed_at 12 head) Message none refl) (unknown (signed_at 12 head) Query none refl) in
     none_taken c.args.settings.now requests before (g.L.Outside.state c.args.link.now) session c.args.serving.now.ids session.user NoFrame head refl (header_part head (omega (arith, sixteen))) f.taken f.on.unwritten.written h.user
-    (refl, omega (arith, sixteen), other) (lasts_read before _ f.on)
+    (refl, omega (arith, sixteen), other) (flushed_read before _ f.on)

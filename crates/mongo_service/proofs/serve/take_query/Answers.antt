@@ -11,7 +11,8 @@ use Rattle.mongo_service.specs.declared.fault.ServeFault.TheVariants.{NoFrame}
 use Rattle.mongo_server.specs.Announced.{maximum_message_length}
 use Rattle.mongo_service.proofs.NoRequest.{bad_length, code_spelled, cut_after, no_body}
 use Rattle.mongo_service.proofs.Causes.{header_part, query_front, some_before, stopped, unasked}
-use Rattle.mongo_service.proofs.Lasts.{lasts_after, lasts_read}
+use Rattle.mongo_wire.proofs.ReadStopped.{unstopped_on}
+use Rattle.mongo_service.proofs.Lasts.{flushed_after, flushed_read, lasts_after, lasts_read}
 use Rattle.mongo_service.proofs.Turns.{none_taken}
 use Rattle.mongo_service.proofs.Parts.{query_part, query_of, none_after}
 use Rattle.mongo_service.proofs.serve.take_query.Goals as goal
@@ -25,7 +26,7 @@ returns-in_default-clause-turn g c = λ requests before h f.
     let code = code_spelled c.args.header Query length_fits (search rules) (search rules) c.requires in
     let length_is : c.args.header.length ≡ signed_at 0 head = sym (length_back c.args.header length_fits) in
     none_taken c.args.settings.now requests before (g.L.Outside.state c.args.link.now) session c.args.serving.now.ids session.user NoFrame head refl (header_part head (omega (arith, sixteen))) f.taken f.on.unwritten.written h.user
-    (refl, omega (arith, sixteen), bad_length head sixteen code (subst (λ z. (z <ℤ pos 16) ⊎ (maximum_message_length <ℤ z)) (to_z-of_z w32 c.args.header.length length_fits ∙ length_is) (c.in_default.ensures.outside refl))) (lasts_read before _ f.on)
+    (refl, omega (arith, sixteen), bad_length head sixteen code (subst (λ z. (z <ℤ pos 16) ⊎ (maximum_message_length <ℤ z)) (to_z-of_z w32 c.args.header.length length_fits ∙ length_is) (c.in_default.ensures.outside refl))) (flushed_read before _ f.on)
 
 pub returns-in-Err-clause-turn : goal.returns-in-Err-clause-turn
 returns-in-Err-clause-turn g c = λ requests before h f.
@@ -39,10 +40,10 @@ returns-in-Err-clause-turn g c = λ requests before h f.
     let length_fits : FitsSigned w32 c.args.header.length = search rules in
     let code = code_spelled c.args.header Query length_fits (search rules) (search rules) c.requires in
     let counted : pos (16 + c.in-Some.rest) ≡ signed_at 0 head = c.in-Some.ensures.counted ∙ to_z-of_z w32 c.args.header.length length_fits ∙ sym (length_back c.args.header length_fits) in
-    let some = stopped c.in-Err.fault before s t head c.in-Some.rest (lasts_read before s f.on) f.taken (λ _. some_before s.left head (omega (arith, sixteen))) (λ taken few. cut_after head taken c.in-Some.rest sixteen counted few) on.tells c.in-Err.ensures.refused in
+    let some = stopped c.in-Err.fault before s t head c.in-Some.rest (lasts_read before s f.unstopped f.on) f.taken (λ _. some_before s.left head (omega (arith, sixteen))) (λ taken few. cut_after head taken c.in-Some.rest sixteen counted few) on.tells c.in-Err.ensures.refused in
     subst (IsCut c.args.settings.now requests before t session id session.user) (sym c.into.ensures)
     (none_after c.args.settings.now requests before s t session id session.user _ head some.taken refl (query_front head some.taken c.in-Some.rest sixteen code counted c.in-Some.ensures.within some.within) f some.consumed
-    on.unwritten.written h.user some.cause (lasts_after before s t f.on on))
+    on.unwritten.written h.user some.cause (flushed_after before s t f.on on))
 
 pub returns-in_default-command_of_query-clause-turn : goal.returns-in_default-command_of_query-clause-turn
 returns-in_default-command_of_query-clause-turn g c = λ requests before h f.
@@ -58,7 +59,7 @@ returns-in_default-command_of_query-clause-turn g c = λ requests before h f.
     let counted : pos (16 + c.in-Some.rest) ≡ signed_at 0 head = c.in-Some.ensures.counted ∙ to_z-of_z w32 c.args.header.length length_fits ∙ sym (length_back c.args.header length_fits) in
     let none = subst (λ b. (command : List ℕ) → IsQueryBody b command → ⊥) c.as_slice.ensures.value c.in_default-command_of_query.ensures in
     none_after c.args.settings.now requests before s t session c.args.serving.now.ids session.user NoFrame head body refl (query_front head body c.in-Some.rest sixteen code counted c.in-Some.ensures.within (omega (arith, c.in-Ok.ensures.whole))) f
-    c.in-Ok.ensures.taken on.unwritten.written h.user (refl, omega (arith, sixteen, length-append head body), no_body head body c.in-Some.rest sixteen code counted c.in-Ok.ensures.whole none) (lasts_after before s t f.on on)
+    c.in-Ok.ensures.taken on.unwritten.written h.user (refl, omega (arith, sixteen, length-append head body), no_body head body c.in-Some.rest sixteen code counted c.in-Ok.ensures.whole none) (flushed_after before s t f.on on)
 
 pub returns-in-Ok-greet_query-clause-turn : goal.returns-in-Ok-greet_query-clause-turn
 returns-in-Ok-greet_query-clause-turn g c = λ requests before h f.
@@ -77,9 +78,9 @@ returns-in-Ok-greet_query-clause-turn g c = λ requests before h f.
     let is_body : IsQueryBody body command = subst (λ b. IsQueryBody b command) c.as_slice.ensures.value c.in-Some-command_of_query.ensures in
     query_part c.args.settings.now requests before t new c.args.serving.now.session c.args.serving.now.ids c.greet_query.new.session c.respond_to_query.new.ids head body command
     (query_of head body command c.in-Some.rest sixteen code counted c.in-Ok.ensures.whole is_body) sixteen
-    (Consumes-trans before.left s.left t.left head body f.taken c.in-Ok.ensures.taken) (on.unwritten.written ∙ f.on.unwritten.written) (lasts_after before s t f.on on) c.respond_to_query.ensures.on c.in-Ok-greet_query.reply
+    (Consumes-trans before.left s.left t.left head body f.taken c.in-Ok.ensures.taken) (on.unwritten.written ∙ f.on.unwritten.written) (lasts_after before s t (unstopped_on before s t f.unstopped c.in-Ok.ensures.unstopped) f.on on) c.respond_to_query.ensures.on c.in-Ok-greet_query.reply
     c.in-Ok-greet_query.ensures.answered c.in-Ok-greet_query.ensures.greeting (c.in-Ok-greet_query.ensures.remembers requests h) _ (to_z-of_z w32 c.args.header.request_id id_fits ∙ sym (ap (λ x. x.request_id) (header_back c.args.header length_fits id_fits (search rules)).1))
-    c.respond_to_query.result c.respond_to_query.ensures.sent c.respond_to_query.ensures.front c.respond_to_query.ensures.refused
+    c.respond_to_query.result c.respond_to_query.ensures.writes c.respond_to_query.ensures.sent c.respond_to_query.ensures.front c.respond_to_query.ensures.refused
 
 pub returns-clause-turn : goal.returns-clause-turn
 returns-clause-turn g c = λ requests before h f.
@@ -96,4 +97,4 @@ returns-clause-turn g c = λ requests before h f.
     let is_body : IsQueryBody body command = subst (λ b. IsQueryBody b command) c.as_slice.ensures.value c.in-Some-command_of_query.ensures in
     let is_query = query_of head body command c.in-Some.rest sixteen code counted c.in-Ok.ensures.whole is_body in
     none_after c.args.settings.now requests before s t c.args.serving.now.session c.args.serving.now.ids c.greet_query.new.session.user c.in-Err-greet_query.fault head body c.in-Err-greet_query.ensures.kept (inr (inr (command, inr is_query))) f
-    c.in-Ok.ensures.taken on.unwritten.written h.user (unasked c.in-Err-greet_query.fault before t (head ++ body) command is_query c.in-Err-greet_query.ensures.refused) (lasts_after before s t f.on on)
+    c.in-Ok.ensures.taken on.unwritten.written h.user (unasked c.in-Err-greet_query.fault before t (head ++ body) command is_query c.in-Err-greet_query.ensures.refused) (flushed_after before s t f.on on)

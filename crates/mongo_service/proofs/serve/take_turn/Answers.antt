@@ -3,7 +3,7 @@ use Rattle.std.proofs.KnownBytes.{Consumes-nil}
 use Rattle.mongo_service.specs.Cut.{IsCut}
 use Rattle.mongo_service.proofs.Causes.{header_part, stopped}
 use Rattle.mongo_service.proofs.NoRequest.{within_header}
-use Rattle.mongo_service.proofs.Lasts.{lasts_all, lasts_read}
+use Rattle.mongo_service.proofs.Lasts.{flushed_read, lasts_all}
 use Rattle.mongo_service.proofs.Turns.{none_taken}
 use Rattle.mongo_service.proofs.serve.take_turn.Goals as goal
 
@@ -16,4 +16,4 @@ returns-in-Err-clause-turn g c = λ requests h.
     let on = c.in-Err.ensures.on in
     let some = stopped c.in-Err.fault s s t [] 16 (lasts_all s) (Consumes-nil s.left) c.in-Err.ensures.more within_header on.tells c.in-Err.ensures.refused in
     subst (IsCut c.args.settings.now requests s t session id session.user) (sym c.into.ensures)
-    (none_taken c.args.settings.now requests s t session id session.user _ some.taken refl (header_part some.taken some.within) some.consumed on.unwritten.written h.user some.cause (lasts_read s t on))
+    (none_taken c.args.settings.now requests s t session id session.user _ some.taken refl (header_part some.taken some.within) some.consumed on.unwritten.written h.user some.cause (flushed_read s t on))

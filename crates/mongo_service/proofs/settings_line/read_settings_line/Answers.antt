@@ -1,5 +1,6 @@
-use Rattle.std.proofs.Common.{[], ◌∷◌, ◌≤◌, length, inl, arith}
-use Rattle.mongo_wire.proofs.ReadStopped.{reads_on, rose_after}
+use Rattle.std.proofs.Common.{[], ◌∷◌, ◌≤◌, length, inl, ap, ◌∙◌, arith}
+use Rattle.mongo_wire.proofs.ReadStopped.{reads_on}
+use Rattle.mongo_wire.specs.Outside.{risen}
 use Rattle.mongo_service.specs.declared.settings_line.LineError.TheVariants.{BadSettings, Fault, OutOfMemory}
 use Rattle.mongo_service.proofs.LineRead.{takes_line, one_more, has_no_line, stops_within, same_error, no_value}
 use Rattle.mongo_service.proofs.settings_line.read_settings_line.Goals as goal
@@ -17,9 +18,7 @@ returns-in_err-byte-clause-none g c = λ is.
 
 pub returns-in_err-byte-clause-failed : goal.returns-in_err-byte-clause-failed
 returns-in_err-byte-clause-failed g c = λ is.
-    let state = g.S.Outside.state in
-    rose_after (state c.args.source.now).read_faults (state c.reading.source).read_faults (state c.next_byte.new.source).read_faults c.reading.invariant.on.faults_stay
-    (c.in_err-byte.ensures.failed (same_error c.from_residual.result c.in_err-byte.field-0.0 Fault c.from_residual.ensures.1 is))
+    c.in_err-byte.ensures.failed (same_error c.from_residual.result c.in_err-byte.field-0.0 Fault c.from_residual.ensures.1 is) ∙ ap risen c.reading.invariant.still.reads
 
 pub returns-in_err-byte-clause-within : goal.returns-in_err-byte-clause-within
 returns-in_err-byte-clause-within g c = λ is.
@@ -38,7 +37,7 @@ returns-in_err-byte-clause-on g c = reads_on _ _ _ c.reading.invariant.on c.in_e
 pub returns-then-byte-eq10-clause-line : goal.returns-then-byte-eq10-clause-line
 returns-then-byte-eq10-clause-line g c =
     let state = g.S.Outside.state in
-    takes_line (state c.args.source.now) (state c.reading.source) (state c.next_byte.new.source) c.reading.line.items c.reading.invariant (omega (arith, c.reading-test.true, c.len.ensures)) c.in_ok-byte.byte c.if-byte-eq10.true c.in_ok-byte.ensures.byte
+    takes_line (state c.args.source.now) (state c.reading.source) (state c.next_byte.new.source) c.reading.line.items c.reading.invariant (omega (arith, c.reading-test.true, c.len.ensures)) c.in_ok-byte.byte c.if-byte-eq10.true c.in_ok-byte.ensures.byte c.in_ok-byte.ensures.unstopped
 
 pub returns-then-byte-eq10-clause-on : goal.returns-then-byte-eq10-clause-on
 returns-then-byte-eq10-clause-on g c = reads_on _ _ _ c.reading.invariant.on c.in_ok-byte.ensures.on
@@ -46,7 +45,7 @@ returns-then-byte-eq10-clause-on g c = reads_on _ _ _ c.reading.invariant.on c.i
 pub reading-preserved : goal.reading-preserved
 reading-preserved g c =
     let state = g.S.Outside.state in
-    one_more (state c.args.source.now) (state c.reading.source) (state c.next_byte.new.source) c.reading.line.items c.reading.invariant (omega (arith, c.reading-test.true, c.len.ensures)) c.in_ok-byte.byte c.push.new.self.items c.if-byte-eq10.false c.in-Ok.ensures.items c.in_ok-byte.ensures.byte c.in_ok-byte.ensures.on
+    one_more (state c.args.source.now) (state c.reading.source) (state c.next_byte.new.source) c.reading.line.items c.reading.invariant (omega (arith, c.reading-test.true, c.len.ensures)) c.in_ok-byte.byte c.push.new.self.items c.if-byte-eq10.false c.in-Ok.ensures.items c.in_ok-byte.ensures.byte c.in_ok-byte.ensures.unstopped c.in_ok-byte.ensures.on
 
 pub returns-in-Err-clause-memory : goal.returns-in-Err-clause-memory
 returns-in-Err-clause-memory g c = λ is.
@@ -64,6 +63,7 @@ pub returns-clause-none : goal.returns-clause-none
 returns-clause-none g c = λ is. inl (record {
   front = c.reading.line.items;
   taken = c.reading.invariant.front;
+  unstopped = c.reading.invariant.still;
   unended = c.reading.invariant.unended;
   long = omega (arith, c.reading-test.false, c.len.ensures, c.reading.invariant.within);
 })
