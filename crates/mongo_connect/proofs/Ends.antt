@@ -40,22 +40,17 @@ told_after input line old middle read told = record {
 }
 
 -- a fault after the line is one of the run
-faultless_after : (old middle new : State) → ReadsOn old middle → Faultless old new → Faultless middle new
-faultless_after old middle new on f = record {
-  reads = λ rose. f.reads (rose_before old.read_faults middle.read_faults new.read_faults on.faults_stay rose);
-  writes = λ rose. f.writes (rose_before old.write_faults middle.write_faults new.write_faults (stays old.write_faults middle.write_faults on.unwritten.writes) rose);
-} where
-  rose_before : (a b c : ℕ) → a ≤ b → Rose b c → Rose a c
-  rose_before a b c le rose = omega arith
-
-  stays : (a b : ℕ) → b ≡ a → a ≤ b
-  stays a b e = omega arith
+faultless_after : (line : List ℕ) (old middle new : State) → LineRead line old middle → Faultless old new → Faultless middle new
+faultless_after line old middle new read f = record {
+  reads = λ rose. f.reads (subst (λ n. Rose n new.read_faults) read.unfailed rose);
+  writes = λ rose. f.writes (subst (λ n. Rose n new.write_faults) read.on.unwritten.writes rose);
+}
 
 -- what the settings of the line asked for, over told bytes
 connected : (input line : List ℕ) (settings : Settings) (steps : StepsTaken) (old middle new : State) (x : Rehearsal) → LineRead line old middle → line_judged line ≡ Ok settings
     → ((bytes : List ℕ) → TellsBytes middle bytes → Faultless middle new → ReportsConnection settings bytes steps middle new x) → TellsBytes old input → Faultless old new → Connected input steps x old new
 connected input line settings steps old middle new x read judged rehearses told f =
-    let r = rehearses (after_line input) (told_after input line old middle read told) (faultless_after old middle new read.on f) in
+    let r = rehearses (after_line input) (told_after input line old middle read told) (faultless_after line old middle new read f) in
     record {
       settings = settings;
       settings_are = ap line_judged (sym (read.line_is input told.left)) ∙ judged;
@@ -68,10 +63,10 @@ connected input line settings steps old middle new x read judged rehearses told 
     }
 
 pub attempt : (line : List ℕ) (settings : Settings) (steps : StepsTaken) (old middle new : State) (x : Rehearsal)
-    → ReadsOn old middle → ((input : List ℕ) → old.left ≡ Some input → line ≡ line_of input) → ((input : List ℕ) → old.left ≡ Some input → middle.left ≡ Some (after_line input))
+    → ReadsOn old middle → middle.read_faults ≡ old.read_faults → ((input : List ℕ) → old.left ≡ Some input → line ≡ line_of input) → ((input : List ℕ) → old.left ≡ Some input → middle.left ≡ Some (after_line input))
     → line_judged line ≡ Ok settings → IsConnectionTold settings steps middle new x → ((bytes : List ℕ) → TellsBytes middle bytes → Faultless middle new → ReportsConnection settings bytes steps middle new x) → Attempt steps x old new
-attempt line settings steps old middle new x on line_is left judged told rehearses =
-    let read : LineRead line old middle = record { on = on; line_is = line_is; left = left } in
+attempt line settings steps old middle new x on unfailed line_is left judged told rehearses =
+    let read : LineRead line old middle = record { on = on; unfailed = unfailed; line_is = line_is; left = left } in
     record {
       told = record { line = line; middle = middle; line_read = read; settings = settings; settings_are = judged; done = told };
       connected = λ input is f. connected input line settings steps old middle new x read judged rehearses is f;

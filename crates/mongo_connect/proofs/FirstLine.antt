@@ -114,6 +114,7 @@ pub record LineSoFar (old new : State) (held : List ℕ) : Type 0 where
   pub within : length held ≤ maximum_settings_length + 1
   pub unbroken : IsUnbroken held
   pub front : Consumes old.left new.left held
+  pub unfailed : new.read_faults ≡ old.read_faults
   pub on : ReadsOn old new
 
 stops : (old new : Option (List ℕ)) (held : List ℕ) → IsUnbroken held → length held ≤ maximum_settings_length + 1 → Consumes old new held → TakesNoLineFeed old new
@@ -145,16 +146,17 @@ module _ (old mid new : State) (held : List ℕ) (so_far : LineSoFar old mid hel
       }
 
   -- it is no line feed
-  pub one_more : (next : Option ℕ) (byte : ℕ) → next ≡ Some byte → (byte ≡ 10 → ⊥) → length held ≤ maximum_settings_length → Consumes mid.left new.left (option_to_list next) → ReadsOn mid new → LineSoFar old new (held ++ byte ∷ [])
-  one_more next byte is other short taken on = record {
+  pub one_more : (next : Option ℕ) (byte : ℕ) → next ≡ Some byte → (byte ≡ 10 → ⊥) → length held ≤ maximum_settings_length → Consumes mid.left new.left (option_to_list next) → new.read_faults ≡ mid.read_faults → ReadsOn mid new → LineSoFar old new (held ++ byte ∷ [])
+  one_more next byte is other short taken unfailed on = record {
     within = omega (arith, short, length-append held (byte ∷ []));
     unbroken = unbroken_push held byte so_far.unbroken (no_line_feed byte other);
     front = Consumes-trans old.left mid.left new.left held (byte ∷ []) so_far.front (subst (λ n. Consumes mid.left new.left (option_to_list n)) is taken);
+    unfailed = unfailed ∙ so_far.unfailed;
     on = reads_on old mid new so_far.on on;
   }
 
   -- and was pushed
   pub one_pushed : (next : Option ℕ) (byte : ℕ) (pushed : Bool) (longer : List ℕ) → next ≡ Some byte → (byte ≡ 10 → ⊥) → longer ≡ (if pushed then held ++ byte ∷ [] else held) → pushed ≡ true → length held ≤ maximum_settings_length
-      → Consumes mid.left new.left (option_to_list next) → ReadsOn mid new → LineSoFar old new longer
-  one_pushed next byte false longer is other grown ok short taken on = absurd cc
-  one_pushed next byte true longer is other grown ok short taken on = subst (LineSoFar old new) (sym grown) (one_more next byte is other short taken on)
+      → Consumes mid.left new.left (option_to_list next) → new.read_faults ≡ mid.read_faults → ReadsOn mid new → LineSoFar old new longer
+  one_pushed next byte false longer is other grown ok short taken unfailed on = absurd cc
+  one_pushed next byte true longer is other grown ok short taken unfailed on = subst (LineSoFar old new) (sym grown) (one_more next byte is other short taken unfailed on)

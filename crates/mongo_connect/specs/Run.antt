@@ -38,6 +38,7 @@ pub record Connected (input : List ℕ) (steps : StepsTaken) (rehearsal : Rehear
 -- a line was read of the link: the first, where its bytes are told
 pub record LineRead (line : List ℕ) (old new : State) : Type 0 where
   pub on : ReadsOn old new
+  pub unfailed : new.read_faults ≡ old.read_faults
   pub line_is : (input : List ℕ) → old.left ≡ Some input → line ≡ line_of input
   pub left : (input : List ℕ) → old.left ≡ Some input → new.left ≡ Some (after_line input)
 

@@ -1,5 +1,5 @@
 //! Reading the line of settings from a source.
-ghost use Rattle.std.specs.Prelude.{◌≡◌, ℕ, List, None, Some, IfOk, OnErr, IsErrOf, option_to_list};
+ghost use Rattle.std.specs.Prelude.{◌≡◌, ℕ, List, None, Some, IfOk, OnOk, OnErr, IsErrOf, option_to_list};
 ghost use Rattle.std.specs.Io.KnownBytes.{Consumes, IsAtEnd, Keeps};
 ghost use Rattle.mongo_wire.specs.Outside.{ReadsOn, Rose};
 ghost use Rattle.mongo_connect.specs.Input.{line_of, after_line, TakesOfLine, TakesNoLineFeed};
@@ -17,6 +17,7 @@ pub fn read_line<S: Source>(alloc: Global, source: &mut S) -> Result<Vec<u8>, In
     ensures line { (input : List ℕ) → (S.state source.old).left ≡ Some input → IfOk result (λ line. line.items ≡ line_of input) }
     ensures left { (input : List ℕ) → (S.state source.old).left ≡ Some input → IfOk result (λ line. (S.state source.new).left ≡ Some (after_line input)) }
     ensures failed { IsErrOf result InputError.Fault → Rose (S.state source.old).read_faults (S.state source.new).read_faults }
+    ensures unfailed { OnOk result ((S.state source.new).read_faults ≡ (S.state source.old).read_faults) }
     ensures within { TakesOfLine (S.state source.old).left (S.state source.new).left }
     ensures stopped { OnErr result (TakesNoLineFeed (S.state source.old).left (S.state source.new).left) }
     ensures on { ReadsOn (S.state source.old) (S.state source.new) }
@@ -42,6 +43,7 @@ fn read_byte<S: Source>(source: &mut S) -> Result<Option<u8>, Failed>
     ensures byte { IfOk result (λ next. Consumes (S.state source.old).left (S.state source.new).left (option_to_list next)) }
     ensures end { IfOk result (λ next. next ≡ None → IsAtEnd (S.state source.new).left) }
     ensures failed { OnErr result (Rose (S.state source.old).read_faults (S.state source.new).read_faults) }
+    ensures unfailed { OnOk result ((S.state source.new).read_faults ≡ (S.state source.old).read_faults) }
     ensures kept { OnErr result (Keeps (S.state source.old).left (S.state source.new).left) }
     ensures on { ReadsOn (S.state source.old) (S.state source.new) }
 {

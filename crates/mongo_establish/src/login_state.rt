@@ -48,11 +48,13 @@ pub struct LoginInputs {
 }
 
 impl LoginInputs {
-    ghost use Rattle.std.specs.Prelude.{◌≡◌};
+    ghost use Rattle.std.specs.Prelude.{◌≡◌, pos};
+    ghost use Rattle.mongo_sasl.specs.Moment.{milliseconds_of};
 
     /// These nonces. The time is that of 1970: no mechanism that is spoken asks for it.
     pub fn of_nonces(nonces: Nonces) -> LoginInputs
-        ensures { result.nonces ≡ nonces }
+        ensures nonces { result.nonces ≡ nonces }
+        ensures moment { milliseconds_of result.moment ≡ pos 0 }
     {
         let Some(moment) = Moment::new(0) else {
             unreachable!()

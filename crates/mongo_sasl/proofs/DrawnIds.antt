@@ -47,7 +47,7 @@ sent_draws (InvalidArgument (Bson TooLong)) maximum message old new before after
 sent_draws (InvalidArgument fault) maximum message old new before after kept refused = inl refused.2.ids
 sent_draws WriteFault maximum message old new before after kept refused = inr refused.1.drawn
 sent_draws OutOfMemory maximum message old new before after kept (inl unsent) = inl unsent.ids
-sent_draws OutOfMemory maximum message old new before after kept (inr cut) = inr cut.drawn
+sent_draws OutOfMemory maximum message old new before after kept (inr cut) = inr cut.1.drawn
 sent_draws kind maximum message old new before after kept refused = absurd refused
 
 -- one that was refused draws at most one

@@ -167,14 +167,14 @@ is_of_building document TooLong is = tt
 is_of_building document NoMemory is = tt
 is_of_building document fault is = absurd is
 
-pub document_cause : (too_long : Type 0) (document : List ℕ) (fault : BsonFault) (old new : State) → (maximum_length < length document → too_long) → TooLongFor fault document → WriteCause too_long (fault_of_bson fault) old new
-document_cause too_long document TooLong old new long is = long is
-document_cause too_long document NoMemory old new long is = tt
-document_cause too_long document fault old new long is = absurd is
+pub document_cause : (too_long : Type 0) (document : List ℕ) (fault : BsonFault) (old : State) → (maximum_length < length document → too_long) → TooLongFor fault document → WriteCause too_long (fault_of_bson fault) old old
+document_cause too_long document TooLong old long is = (long is, refl)
+document_cause too_long document NoMemory old long is = tt
+document_cause too_long document fault old long is = absurd is
 
 -- the cause of a reply that is too long
 pub long_cause : (too_long : Type 0) (fault : ServeFault) (old new : State) → WriteCause too_long fault old new → Some fault ≡ Some ReplyTooLong → too_long
-long_cause too_long fault old new cause is = let same : fault ≡ ReplyTooLong = cc in subst (λ f. WriteCause too_long f old new) same cause
+long_cause too_long fault old new cause is = let same : fault ≡ ReplyTooLong = cc in (subst (λ f. WriteCause too_long f old new) same cause).0
 
 pub write_cause : (too_long : Type 0) (fault : ServeFault) (old mid new : State) (cut : List ServerTurn) → length cut ≡ 1 → Lasts old mid → WriteCause too_long fault mid new → HasCause fault old new cut []
 write_cause too_long WriteFault old mid new cut one lasts w = (w ∙ ap risen lasts.writes, (one, refl))

@@ -1,14 +1,15 @@
 -- What a turn comes to, by what its parts answer.
 use Rattle.std.proofs.Common.{◌≡◌, ℕ, ℤ, pos, ◌+◌, ◌<◌, Option, None, Some, IfSome, Result, Ok, Err, OnOk, OnErr, IfErr, List, [], ◌∷◌, ◌++◌, length, take, refl, sym, ap, ◌∙◌, subst, inl, inr, arith, length-append}
 use Rattle.std.proofs.lemmas.List.{take_at}
-use Rattle.std.proofs.KnownBytes.{Consumes-trans}
+use Rattle.std.proofs.KnownBytes.{Appends-nil, Consumes-trans}
 use Rattle.std.specs.Prelude.{⊤}
-use Rattle.std.specs.Io.KnownBytes.{Consumes, prepend_known}
+use Rattle.std.specs.Io.KnownBytes.{Appends, Consumes, prepend_known}
 use Rattle.mongo_wire.specs.Frame.{Frame, IsFrame}
 use Rattle.mongo_wire.specs.Header.{code_number, signed_at}
 use Rattle.mongo_wire.specs.Outside.{State, AppendsFront, WritesOn}
 use Rattle.mongo_wire.specs.declared.op_code.OpCode.TheVariants.{Message, Query}
 use Rattle.mongo_service.specs.declared.fault.ServeFault.{ServeFault}
+use Rattle.mongo_service.specs.declared.fault.ServeFault.TheVariants.{ReplyTooLong}
 use Rattle.mongo_session.specs.declared.reply.Reply.{Reply}
 use Rattle.mongo_session.specs.declared.session.Session.{Session}
 use Rattle.mongo_session.specs.declared.serve_settings.ServeSettings.{ServeSettings}
@@ -25,6 +26,18 @@ use Rattle.mongo_wire.proofs.OneFrame.{signed_in}
 use Rattle.mongo_service.proofs.Causes.{long_cause}
 use Rattle.mongo_service.proofs.Turns.{turn_taken, turn_cut, none_taken}
 
+-- how much of a reply was sent: nothing of one that is too long
+part_of : ServeFault → ℕ → ℕ
+part_of ReplyTooLong n = 0
+part_of fault n = n
+
+appends_part : (too_long : Type 0) (fault : ServeFault) (n : ℕ) (bytes : List ℕ) (old new : State) → Appends old.written new.written (take n bytes) → WriteCause too_long fault old new → Appends old.written new.written (take (part_of fault n) bytes)
+appends_part too_long ReplyTooLong n bytes old new front cause = subst (λ state. Appends old.written state.written (take 0 bytes)) (sym cause.1) (Appends-nil old.written)
+appends_part too_long fault n bytes old new front cause = front
+
+unsent : (fault : ServeFault) (n : ℕ) (bytes : List ℕ) → Some fault ≡ Some ReplyTooLong → take (part_of fault n) bytes ≡ []
+unsent fault n bytes is = let same : fault ≡ ReplyTooLong = cc in subst (λ f. take (part_of f n) bytes ≡ []) (sym same) refl
+
 -- an OP_MSG was taken and answered, and the answer sent or cut
 pub message_part : (settings : ServeSettings) (requests : List (List ℕ)) (old mid new : State) (before : Session) (id : ℤ) (after : Session) (later : ℤ) (frame : List ℕ) (parts : Frame) (document : List ℕ) → IsFrame frame parts → parts.body ≡ document
     → Consumes old.left mid.left frame → mid.written ≡ old.written → Lasts old mid → WritesOn mid new → (reply : Reply) → IsDocumentAnswered settings before document after reply → Remembers settings (requests ++ document ∷ []) after
@@ -36,9 +49,11 @@ message_part settings requests old mid new before id after later frame parts doc
     (record { reply = reply; answered = answered; sent = inl (record { parts = parts; is_frame = is_frame; body_is = body_is; answer = answer }) })
     remembers
 message_part settings requests old mid new before id after later frame parts document is_frame body_is consumed unwritten lasts on reply answered remembers to to_is flags flags_are (Err fault) still h cut cause =
-    let n = cut.front.0 in
     let reply_bytes = document_of_served reply in
-    let sent = take n (message_reply id to reply_bytes) in
+    let n = part_of fault cut.front.0 in
+    let bytes = message_reply id to reply_bytes in
+    let front = appends_part (IsLongMessage reply_bytes) fault cut.front.0 bytes mid new cut.front.1 cause in
+    let sent = take n bytes in
     turn_cut (IsLongMessage reply_bytes) settings requests old mid new before id after.user fault (record { frame = frame; document = document; sent = sent })
     (record {
       is_taken = inl (parts, is_frame, body_is);
@@ -54,9 +69,9 @@ message_part settings requests old mid new before id after later frame parts doc
             wanted = subst (λ f. WantsNone f → ⊥) flags_are cut.wanted;
             front = (n, ap (λ t. take n (message_reply id t reply_bytes)) to_is);
           });
-      too_long = λ is. inl ((parts, is_frame, body_is), long_cause (IsLongMessage reply_bytes) fault mid new cause is);
+      too_long = λ is. (inl ((parts, is_frame, body_is), long_cause (IsLongMessage reply_bytes) fault mid new cause is), unsent fault cut.front.0 bytes is);
     })
-    consumed unwritten lasts on cut.front.1 cause remembers.user
+    consumed unwritten lasts on front cause remembers.user
 
 -- an OP_QUERY was taken and answered, and the answer sent or cut
 pub query_part : (settings : ServeSettings) (requests : List (List ℕ)) (old mid new : State) (before : Session) (id : ℤ) (after : Session) (later : ℤ) (head body command : List ℕ) → IsQuery (head ++ body) command → length head ≡ 16
@@ -70,9 +85,11 @@ query_part settings requests old mid new before id after later head body command
     (record { reply = reply; answered = answered; sent = inr (is_query, greeting, (ap (λ t. query_reply id t (document_of_served reply)) to_front, h.drawn)) })
     remembers
 query_part settings requests old mid new before id after later head body command is_query sixteen consumed unwritten lasts on reply answered greeting remembers to to_is (Err fault) still h front cause =
-    let n = front.0 in
+    let n = part_of fault front.0 in
+    let bytes = query_reply id to (document_of_served reply) in
+    let sent = appends_part (IsLongReply (document_of_served reply)) fault front.0 bytes mid new front.1 cause in
     let to_front : to ≡ signed_at 4 (take 16 (head ++ body)) = to_is ∙ ap (signed_at 4) (sym (take_at head body 16 sixteen)) in
-    turn_cut (IsLongReply (document_of_served reply)) settings requests old mid new before id after.user fault (record { frame = head ++ body; document = command; sent = take n (query_reply id to (document_of_served reply)) })
+    turn_cut (IsLongReply (document_of_served reply)) settings requests old mid new before id after.user fault (record { frame = head ++ body; document = command; sent = take n bytes })
     (record {
       is_taken = inr is_query;
       after = after;
@@ -80,9 +97,9 @@ query_part settings requests old mid new before id after later head body command
       answered = answered;
       user_is = refl;
       sent = inr (is_query, greeting, (n, ap (λ t. take n (query_reply id t (document_of_served reply))) to_front));
-      too_long = λ is. inr (is_query, long_cause (IsLongReply (document_of_served reply)) fault mid new cause is);
+      too_long = λ is. (inr (is_query, long_cause (IsLongReply (document_of_served reply)) fault mid new cause is), unsent fault front.0 bytes is);
     })
-    consumed unwritten lasts on front.1 cause remembers.user
+    consumed unwritten lasts on sent cause remembers.user
 
 -- a header and what follows it are an OP_QUERY
 pub query_of : (head body command : List ℕ) (rest : ℕ) → length head ≡ 16 → signed_at 12 head ≡ code_number Query → pos (16 + rest) ≡ signed_at 0 head → length body ≡ rest → IsQueryBody body command → IsQuery (head ++ body) command

@@ -32,7 +32,8 @@ abbrev pub IsLong : ServerTurn → Reply → Type 0
 IsLong turn reply =
     (IsMessage turn.frame turn.document × IsLongMessage (document_of_served reply)) ⊎ (IsQuery turn.frame turn.document × IsLongReply (document_of_served reply))
 
--- the request was answered by the session, which has this user then, and the reply sent in part, for this fault
+-- the request was answered by the session, which has this user then, and the reply sent in part, for this fault; of one that is too long
+-- nothing is sent
 pub record IsCutTurn (settings : ServeSettings) (before : Session) (id : ℤ) (user : Option (List ℕ)) (fault : Option ServeFault) (turn : ServerTurn) : Type 0 where
   pub is_taken : IsTurnTaken turn
   pub after : Session
@@ -40,7 +41,7 @@ pub record IsCutTurn (settings : ServeSettings) (before : Session) (id : ℤ) (u
   pub answered : IsDocumentAnswered settings before turn.document after reply
   pub user_is : user ≡ after.user
   pub sent : CutsIn turn reply id
-  pub too_long : fault ≡ Some ReplyTooLong → IsLong turn reply
+  pub too_long : fault ≡ Some ReplyTooLong → IsLong turn reply × (turn.sent ≡ [])
 
 -- ---- bytes that were taken and not answered
 

@@ -1,7 +1,7 @@
 //! Writing the report to a sink.
-ghost use Rattle.std.specs.Prelude.{OnOk, OnErr, IsErrOf};
+ghost use Rattle.std.specs.Prelude.{OnOk, OnErr};
 ghost use Rattle.std.specs.Io.KnownBytes.{Appends};
-ghost use Rattle.mongo_wire.specs.Outside.{WritesOn, Rose, AppendsFront, IsFlushed};
+ghost use Rattle.mongo_wire.specs.Outside.{WriteCounts, WritesOn, AppendsFront, IsFlushed};
 
 use mongo_wire::{Sink, SinkError, write_all};
 
@@ -11,7 +11,7 @@ use mongo_wire::{Sink, SinkError, write_all};
 pub fn write_report<K: Sink>(sink: &mut K, text: &[u8]) -> Result<(), SinkError>
     ensures written { OnOk result (Appends (K.state sink.old).written (K.state sink.new).written text.now) }
     ensures flushed { OnOk result (IsFlushed (K.state sink.new)) }
-    ensures failed { IsErrOf result SinkError.Failed → Rose (K.state sink.old).write_faults (K.state sink.new).write_faults }
+    ensures exact { WriteCounts result (K.state sink.old) (K.state sink.new) }
     ensures refused { OnErr result (AppendsFront (K.state sink.old).written (K.state sink.new).written text.now) }
     ensures on { WritesOn (K.state sink.old) (K.state sink.new) }
 {

@@ -1,7 +1,8 @@
-use Rattle.std.proofs.Common.{arith, ◌≡◌, ◌+◌, length}
+use Rattle.std.proofs.Common.{arith, ap, ◌∙◌, ◌≡◌, ◌+◌, length}
 use Rattle.mongo_settings.specs.Settings.{maximum_settings_length}
 use Rattle.mongo_connect.proofs.FirstLine.{gave_line_feed, gave_end, gave_cut, stops_held, stops_kept, takes_stopped, takes_next, one_more, one_pushed}
-use Rattle.mongo_wire.proofs.ReadStopped.{reads_on, rose_after}
+use Rattle.mongo_wire.specs.Outside.{risen}
+use Rattle.mongo_wire.proofs.ReadStopped.{reads_on}
 use Rattle.mongo_connect.proofs.input.read_line.Goals as goal
 
 pub returns-in-Ok-Some-eq10-clause-line : goal.returns-in-Ok-Some-eq10-clause-line
@@ -55,7 +56,7 @@ pub returns-then-is_err-clause-stopped : goal.returns-then-is_err-clause-stopped
 returns-then-is_err-clause-stopped g c =
     let state = g.S.Outside.state in
     stops_held (state c.args.source.now) (state c.read_byte.new.source) _
-    (one_more (state c.args.source.now) (state c.reading.source) (state c.read_byte.new.source) c.reading.held.items c.reading.invariant c.in-Ok-Some.field-0 c.in-Ok-Some.byte c.in-Ok-Some.field-0-is c.in-Ok-Some.byte-test.1 (omega (arith, c.reading-test.true, c.len.ensures)) c.in-Ok-Some.ensures.byte c.in-Ok-Some.ensures.on)
+    (one_more (state c.args.source.now) (state c.reading.source) (state c.read_byte.new.source) c.reading.held.items c.reading.invariant c.in-Ok-Some.field-0 c.in-Ok-Some.byte c.in-Ok-Some.field-0-is c.in-Ok-Some.byte-test.1 (omega (arith, c.reading-test.true, c.len.ensures)) c.in-Ok-Some.ensures.byte c.in-Ok-Some.ensures.unfailed c.in-Ok-Some.ensures.on)
 
 pub returns-then-is_err-clause-on : goal.returns-then-is_err-clause-on
 returns-then-is_err-clause-on g c = reads_on _ _ _ c.reading.invariant.on c.in-Ok-Some.ensures.on
@@ -75,9 +76,7 @@ pub returns-in-Ok-None-clause-on : goal.returns-in-Ok-None-clause-on
 returns-in-Ok-None-clause-on g c = reads_on _ _ _ c.reading.invariant.on c.in-Ok-None.ensures.on
 
 pub returns-in-Err-clause-failed : goal.returns-in-Err-clause-failed
-returns-in-Err-clause-failed g c = λ _.
-    let state = g.S.Outside.state in
-    rose_after (state c.args.source.now).read_faults (state c.reading.source).read_faults (state c.read_byte.new.source).read_faults c.reading.invariant.on.faults_stay c.in-Err.ensures.failed
+returns-in-Err-clause-failed g c = λ _. c.in-Err.ensures.failed ∙ ap risen c.reading.invariant.unfailed
 
 pub returns-in-Err-clause-stopped : goal.returns-in-Err-clause-stopped
 returns-in-Err-clause-stopped g c =

@@ -1,7 +1,8 @@
-use Rattle.std.proofs.Common.{arith, ◌≡◌, ◌∙◌, ◌+◌, ◌<◌, ◌≤◌, length, ◌++◌, take}
+use Rattle.std.proofs.Common.{arith, ap, ◌≡◌, ◌∙◌, ◌+◌, ◌<◌, ◌≤◌, length, ◌++◌, take}
 use Rattle.std.proofs.lemmas.Grind.{common_steps}
 use Rattle.std.proofs.KnownBytes.{Consumes-trans, Consumes-kept}
-use Rattle.mongo_wire.proofs.ReadStopped.{reads_on, rose_after}
+use Rattle.mongo_wire.specs.Outside.{risen}
+use Rattle.mongo_wire.proofs.ReadStopped.{reads_on}
 use Rattle.mongo_settings.specs.Settings.{maximum_settings_length}
 use Rattle.mongo_login.proofs.Front.{reads_whole, reads_front, nothing_more, no_value, of_error, judged-front}
 use Rattle.mongo_login.proofs.input.read_input.Goals as goal
@@ -52,9 +53,8 @@ returns-in-Ok-eq0-clause-consumed g c = nothing_more _ _ _ c.reading.held.items 
 
 pub returns-in-Ok-eq0-clause-ended : goal.returns-in-Ok-eq0-clause-ended
 returns-in-Ok-eq0-clause-ended g c =
-    let state = g.S.Outside.state in
     let room : 0 < length c.read.new.buf = grind (arith, common_steps, c.read.auto.buf) in
-    λ _. rose_after (state c.args.source.now).ends (state c.reading.source).ends (state c.read.new.self).ends c.reading.invariant.on.ends_stay (c.in-Ok-eq0.ensures.ended c.in-Ok-eq0.field-0-test room)
+    λ _. c.in-Ok-eq0.ensures.ended c.in-Ok-eq0.field-0-test room ∙ ap risen c.reading.invariant.unended
 
 pub returns-in-Ok-eq0-clause-at_most : goal.returns-in-Ok-eq0-clause-at_most
 returns-in-Ok-eq0-clause-at_most g c =
@@ -95,9 +95,7 @@ returns-in_err-extend_from_slice-in-Ok-clause-on g c = reads_on _ _ _ c.reading.
 -- ---- it failed
 
 pub returns-in-Err-clause-failed : goal.returns-in-Err-clause-failed
-returns-in-Err-clause-failed g c = λ _.
-    let state = g.S.Outside.state in
-    rose_after (state c.args.source.now).read_faults (state c.reading.source).read_faults (state c.read.new.self).read_faults c.reading.invariant.on.faults_stay c.in-Err.ensures.failed
+returns-in-Err-clause-failed g c = λ _. c.in-Err.ensures.failed ∙ ap risen c.reading.invariant.unfailed
 
 pub returns-in-Err-clause-at_most : goal.returns-in-Err-clause-at_most
 returns-in-Err-clause-at_most g c = (c.reading.held.items, c.reading.invariant.within, Consumes-kept _ _ _ c.reading.held.items c.reading.invariant.front c.in-Err.ensures.bytes)

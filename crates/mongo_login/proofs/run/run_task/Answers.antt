@@ -35,7 +35,7 @@ returns-in-Err-Failed-clause-ends g c =
     (record { reads = c.in-Ok.ensures.read; alike = c.in-Ok.ensures.judged_alike task; ended = c.in-Ok.ensures.ended; at_most = c.read_input.ensures.at_most; unfailed = c.in-Ok.ensures.unfailed })
     (ap (judged_as task) (sym c.as_slice.ensures.value) ∙ c.in-Ok-read.ensures.logins) c.in-Ok-rehearse.ensures.reported
     (subst (AppendsFront _ _) c.as_slice-2.ensures.value c.in-Err-Failed.ensures.refused)
-    ((rw c.in-Err-Failed.field-0-is at c.in-Err-Failed.ensures.failed) refl)
+    (rw c.in-Err-Failed.field-0-is at c.in-Err-Failed.ensures.exact)
 
 pub returns-clause-ends : goal.returns-clause-ends
 returns-clause-ends g c =

@@ -36,4 +36,4 @@ pub returns-in-Err-clause-refused : goal.returns-in-Err-clause-refused
 returns-in-Err-clause-refused g c =
     let old = g.K.Outside.state c.args.sink.now in
     let document = document_of_served c.args.reply.now in
-    subst (λ f. WriteCause (IsLongMessage document) f old old) (sym c.fault_of_document.ensures) (document_cause (IsLongMessage document) document c.in-Err.fault old old (λ long. omega (arith, ints, long)) c.in-Err.ensures.refused)
+    subst (λ f. WriteCause (IsLongMessage document) f old old) (sym c.fault_of_document.ensures) (document_cause (IsLongMessage document) document c.in-Err.fault old (λ long. omega (arith, ints, long)) c.in-Err.ensures.refused)
