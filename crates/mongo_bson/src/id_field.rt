@@ -10,6 +10,9 @@ use crate::writing::{has_room_for, push_element, push_elements};
 use crate::{BsonFault, Bytes, ObjectId, OwnedValue, RawDocumentBuf, RawValue};
 use std::alloc::Global;
 
+// The key of a document's id.
+const ID_KEY: &str = "_id";
+
 // How many bytes an element `_id` with an object id takes.
 const ID_ELEMENT: usize = 17;
 
@@ -29,7 +32,7 @@ pub fn get_or_prepend_id_field(
     ensures unchanged { OnErr result (document.new ≡ document.old) }
     ensures refused { IfErr result IdRefuses }
 {
-    match document.borrow().get_bytes("_id") {
+    match document.borrow().get_bytes(ID_KEY) {
         Ok(Some((kind, bytes))) => owned(alloc, kind, bytes),
         Ok(None) => prepend_id(alloc, document, id),
         Err(fault) => Err(fault),
@@ -81,7 +84,7 @@ fn with_id_first(alloc: Global, document: &[u8], id: ObjectId) -> Result<RawDocu
     }
     let mut held = Vec::with_capacity(alloc, document.len() + ID_ELEMENT)?;
     held.extend_from_slice(&[5, 0, 0, 0, 0])?;
-    push_element(&mut held, "_id", RawValue::ObjectId(id))?;
+    push_element(&mut held, ID_KEY, RawValue::ObjectId(id))?;
     push_elements(&mut held, element_bytes(document))?;
     Ok(RawDocumentBuf { held })
 }

@@ -3,7 +3,7 @@
 use Rattle.std.specs.Prelude.{ℕ, ℤ, pos, ◌-◌, ◌^◌, nat_lt, ◌||◌, Bool, true, false, Option, None, Some, option_map, is_some, is_none, unwrap_or, List, [], ◌∷◌, ◌++◌, codes, if◌then◌else◌}
 use Rattle.mongo_bson.specs.Document.{Element}
 use Rattle.mongo_command.specs.Literal.{text_element, document_element, object_id_element, int32_element, int64_element, boolean_element, document_of}
-use Rattle.mongo_command.specs.Command.{present, command_of}
+use Rattle.mongo_command.specs.Command.{admin, present, command_of}
 use Rattle.mongo_command.specs.declared.server_api.ServerApi.{ServerApi}
 use Rattle.mongo_command.specs.declared.inner_documents.TopologyVersion.{TopologyVersion}
 use Rattle.mongo_command.specs.declared.hello.AwaitableHelloOptions.{AwaitableHelloOptions}
@@ -61,4 +61,4 @@ hello_body server_api load_balanced hello_ok awaitable = document_of (hello_elem
 -- to `admin`, with the server API; more than one answer may come exactly to a hello that waits
 abbrev pub hello_command : Option ServerApi → Option Bool → Option Bool → Option AwaitableHelloOptions → Command
 hello_command server_api load_balanced hello_ok awaitable =
-    record (command_of (hello_name (is_modern server_api load_balanced hello_ok)) (codes "admin") (hello_body server_api load_balanced hello_ok awaitable) server_api) { exhaust_allowed = is_some awaitable }
+    record (command_of (hello_name (is_modern server_api load_balanced hello_ok)) admin (hello_body server_api load_balanced hello_ok awaitable) server_api) { exhaust_allowed = is_some awaitable }

@@ -1,6 +1,6 @@
 -- A hello's body as it grows: each document is no shorter than the one before it, so one that can't be made makes the
 -- hello too long.
-use Rattle.std.proofs.Common.{◌≡◌, ℕ, ◌+◌, ◌-◌, ◌<◌, ◌≤◌, ◌↔◌, ◌∙◌, refl, ap, sym, subst, Option, None, Some, Result, Ok, Err, IfErr, List, ◌++◌, ◌∷◌, Contains, codes, length, drop, arith}
+use Rattle.std.proofs.Common.{◌≡◌, ℕ, ◌+◌, ◌-◌, ◌<◌, ◌≤◌, ◌↔◌, ◌∙◌, refl, ap, sym, subst, Option, None, Some, Result, Ok, Err, IfErr, List, ◌++◌, ◌∷◌, Contains, length, drop, arith}
 use Rattle.std.proofs.lemmas.List.{length-append, length-take-le, length-drop}
 use Rattle.mongo_bson.specs.Document.{Element, spell}
 use Rattle.mongo_bson.specs.Framed.{element_bytes, maximum_length}
@@ -20,7 +20,7 @@ use Rattle.mongo_command.specs.Keys.{speculative_authenticate_key}
 use Rattle.mongo_sasl.specs.declared.credential.Credential.{Credential}
 use Rattle.mongo_meta.specs.declared.client_metadata.ClientMetadata.{ClientMetadata}
 use Rattle.mongo_meta.specs.Client.{client_of}
-use Rattle.mongo_establish.specs.Client.{followed_by_element, with_document, balanced, hello_command_of, common_hello, asking_mechanisms, speculating, introducing, hello_with}
+use Rattle.mongo_establish.specs.Client.{metadata_key, followed_by_element, with_document, balanced, hello_command_of, common_hello, asking_mechanisms, speculating, introducing, hello_with}
 use Rattle.mongo_establish.specs.declared.options.HandshakerOptions.{HandshakerOptions}
 use Rattle.mongo_establish.specs.First.{IsUnmade}
 
@@ -60,13 +60,13 @@ speculating_longer None body = omega arith
 speculating_longer (Some login) body = omega (arith, length_followed body (document_element speculative_authenticate_key login))
 
 pub introducing_longer : (metadata : ClientMetadata) (body : List ℕ) → length body ≤ length (introducing metadata body)
-introducing_longer metadata body = omega (arith, length_followed body (document_element (codes "client") (client_of metadata (length body))))
+introducing_longer metadata body = omega (arith, length_followed body (document_element metadata_key (client_of metadata (length body))))
 
 -- a hello has what stands around every document
 pub least_body : (options : HandshakerOptions) (credential : Option Credential) (login : Option (List ℕ)) → 5 ≤ length (hello_with options credential login).body
 least_body options credential login =
     let body = speculating login (asking_mechanisms credential (common_hello options).body) in
-    omega (arith, length-enclosed (element_bytes body ++ spell (document_element (codes "client") (client_of options.metadata (length body)))))
+    omega (arith, length-enclosed (element_bytes body ++ spell (document_element metadata_key (client_of options.metadata (length body)))))
 
 -- ---- answers
 
@@ -78,7 +78,7 @@ pub client_refused : {T : Type 0} (r : Result T Error) (metadata : ClientMetadat
 client_refused (Ok x) metadata body count is h = tt
 client_refused (Err e) metadata body count is h =
     let client = client_of metadata (length body) in
-    document_refused e.kind client (introducing metadata body) (holds_document (codes "client") client body) (subst (λ n. DocumentRefused e.kind (client_of metadata n)) is h)
+    document_refused e.kind client (introducing metadata body) (holds_document metadata_key client body) (subst (λ n. DocumentRefused e.kind (client_of metadata n)) is h)
 
 pub first_refused : {T : Type 0} (r : Result T Error) (key document body : List ℕ) → IfErr r (λ e. DocumentRefused e.kind document) → IfErr r (λ e. DocumentRefused e.kind (with_document key document body))
 first_refused r key document body h = longer_refused r document (with_document key document body) (holds_document key document body) h

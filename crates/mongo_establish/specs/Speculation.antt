@@ -1,9 +1,10 @@
 -- The login that goes with a hello, by the handshake specification (speculative authentication): which credentials send it,
 -- and its document.
-use Rattle.std.specs.Prelude.{◌≡◌, ℕ, true, Option, None, Some, unwrap_or, List, [], codes, ⊤}
+use Rattle.std.specs.Prelude.{◌≡◌, ℕ, true, Option, None, Some, unwrap_or, List, [], ⊤}
 use Rattle.mongo_wire.specs.declared.error.ErrorKind.{ErrorKind}
 use Rattle.mongo_wire.specs.declared.error.ErrorKind.TheVariants.{Authentication}
 use Rattle.mongo_wire.specs.declared.auth_fault.AuthFault.TheVariants.{MongoDbCr as MongoDbCrFault}
+use Rattle.mongo_command.specs.Command.{admin}
 use Rattle.mongo_sasl.specs.declared.credential.Credential.{Credential}
 use Rattle.mongo_sasl.specs.declared.mechanism.AuthMechanism.{AuthMechanism}
 use Rattle.mongo_sasl.specs.declared.mechanism.AuthMechanism.TheVariants.{MongoDbCr, ScramSha256}
@@ -45,7 +46,7 @@ abbrev pub speculative_message : Credential → List ℕ → List ℕ
 speculative_message credential nonce = open_message (unwrap_or credential.username []) (speculative_nonce nonce)
 
 abbrev pub scram_speculation : ScramVersion → Credential → List ℕ → List ℕ
-scram_speculation version credential nonce = first_body version true (unwrap_or credential.source (codes "admin")) (speculative_message credential nonce)
+scram_speculation version credential nonce = first_body version true (unwrap_or credential.source admin) (speculative_message credential nonce)
 
 -- the document that goes with a hello: that of SCRAM's first message, which names the user's database too, or the body of
 -- X.509's one command

@@ -1,11 +1,12 @@
 -- A client of a possible exchange over the replies of its server: there is a script, by which it writes its last message, and a
 -- key, which it derives where that has no entry.
-use Rattle.std.proofs.Common.{◌≡◌, ℕ, ℤ, pos, ◌^◌, ◌<◌, ◌≤ℤ◌, Option, None, Some, option_map, inr, false, FitsSigned, List, [], ◌∷◌, ◌++◌, length, codes, decimal, append-nil, refl, sym, ap, ◌∙◌, subst, arith}
+use Rattle.std.proofs.Common.{◌≡◌, ℕ, ℤ, pos, ◌^◌, ◌<◌, ◌≤ℤ◌, Option, None, Some, option_map, inr, false, FitsSigned, List, [], ◌∷◌, ◌++◌, length, decimal, append-nil, refl, sym, ap, ◌∙◌, subst, arith}
 use Rattle.std.specs.Int.{w32}
 use Rattle.std.proofs.lemmas.Int.{ints}
 use Rattle.mongo_wire.specs.Bytes.{first_maximum, next_id, IsCommandFrame}
 use Rattle.mongo_wire.specs.Message.{written_frame}
 use Rattle.mongo_wire.specs.declared.error.ErrorKind.{ErrorKind}
+use Rattle.mongo_command.specs.Command.{admin}
 use Rattle.mongo_command.specs.Conversation.{Said, ends, exchanged, HasNone, IsSendable, plain_message, ending}
 use Rattle.mongo_command.specs.Hello.{description_of}
 use Rattle.mongo_command.proofs.Ends.{Ends, ends_both}
@@ -96,7 +97,7 @@ module _ (pending : PendingConnection) (x : Exchange) (nonces : Nonces) (bytes :
   credential = credential_by x.version x.username x.password
 
   abbrev user : User
-  user = record { username = x.username; password = x.password; source = codes "admin" }
+  user = record { username = x.username; password = x.password; source = admin }
 
   -- what the server answers to the login that went with the hello
   abbrev inner : List ℕ

@@ -1,5 +1,5 @@
 -- The two commands of a login: their documents, how long they are at most, and their frames.
-use Rattle.std.proofs.Common.{◌≡◌, ℕ, ℤ, pos, ◌+◌, ◌-◌, ◌^◌, ◌<◌, ◌≤◌, ◌≤ℤ◌, Bool, true, false, Option, None, Some, unwrap_or, FitsSigned, List, [], ◌∷◌, ◌++◌, length, length-append, length-drop, drop, map, codes, if◌then◌else◌, refl, sym, ap, ◌∙◌, subst, arith}
+use Rattle.std.proofs.Common.{◌≡◌, ℕ, ℤ, pos, ◌+◌, ◌-◌, ◌^◌, ◌<◌, ◌≤◌, ◌≤ℤ◌, Bool, true, false, Option, None, Some, unwrap_or, FitsSigned, List, [], ◌∷◌, ◌++◌, length, length-append, length-drop, drop, map, if◌then◌else◌, refl, sym, ap, ◌∙◌, subst, arith}
 use Rattle.std.specs.Int.{w32}
 use Rattle.std.specs.List.{AllByRecursion, flat_map, find}
 use Rattle.std.proofs.lemmas.Grind.{flat_map-append}
@@ -13,7 +13,7 @@ use Rattle.mongo_wire.specs.Bytes.{IsCommandFrame}
 use Rattle.mongo_wire.specs.Message.{written_frame}
 use Rattle.mongo_wire.proofs.IsFrame.{written_is_frame}
 use Rattle.mongo_command.specs.declared.command.Command.{Command}
-use Rattle.mongo_command.specs.Command.{argument_elements, command_document}
+use Rattle.mongo_command.specs.Command.{admin, argument_elements, command_document}
 use Rattle.mongo_command.specs.Conversation.{plain_message}
 use Rattle.mongo_command.specs.Field.{Required}
 use Rattle.mongo_command.specs.Literal.{text_element, document_element, document_of}
@@ -33,7 +33,7 @@ use Rattle.mongo_meta.specs.Providers.{runtime_environment_in}
 use Rattle.mongo_establish.specs.declared.establisher.PendingConnection.{PendingConnection}
 use Rattle.mongo_establish.specs.declared.login_state.Nonces.{Nonces}
 use Rattle.mongo_establish.specs.Asked.{Asked, asked_for}
-use Rattle.mongo_establish.specs.Client.{with_document, common_hello, speculating, introducing, login_hello, hello_document}
+use Rattle.mongo_establish.specs.Client.{metadata_key, with_document, common_hello, speculating, introducing, login_hello, hello_document}
 use Rattle.mongo_establish.specs.Speculation.{scram_speculation, speculation}
 use Rattle.mongo_server.specs.Announced.{conversation_id}
 use Rattle.mongo_server.specs.Exchange.{Exchange}
@@ -94,14 +94,14 @@ speculation_is Sha1 username password nonce = refl
 speculation_is Sha256 username password nonce = refl
 
 length_speculation : (version : ScramVersion) (username password nonce : List ℕ) → length (scram_speculation version (credential_by version username password) nonce) ≤ length (open_message username (base64_of nonce)) + 300
-length_speculation Sha1 username password nonce = omega (arith, length-document_of (start_elements ScramSha1 (open_message username (base64_of nonce)) ++ db_elements true (codes "admin")))
-length_speculation Sha256 username password nonce = omega (arith, length-document_of (start_elements ScramSha256 (open_message username (base64_of nonce)) ++ db_elements true (codes "admin")))
+length_speculation Sha1 username password nonce = omega (arith, length-document_of (start_elements ScramSha1 (open_message username (base64_of nonce)) ++ db_elements true admin))
+length_speculation Sha256 username password nonce = omega (arith, length-document_of (start_elements ScramSha256 (open_message username (base64_of nonce)) ++ db_elements true admin))
 
 length_speculating : (login : Option (List ℕ)) (document d : List ℕ) → login ≡ Some document → length (speculating login d) ≤ length d + length document + 30
 length_speculating login document d is = subst (λ l. length (speculating l d) ≤ length d + length document + 30) (sym is) (omega (arith, length_with speculative_authenticate_key document d))
 
 length_introducing : (d : List ℕ) → length (introducing handshaker_options.metadata d) ≤ length d + 530
-length_introducing d = omega (arith, length_with (codes "client") (client_of handshaker_options.metadata (length d)) d, short_client (length d))
+length_introducing d = omega (arith, length_with metadata_key (client_of handshaker_options.metadata (length d)) d, short_client (length d))
 
 pub length_hello : (pending : PendingConnection) (x : Exchange) (nonces : Nonces) → IsPossible x → base64_of nonces.first ≡ x.nonce → length (hello_document (asked_by_exchange pending x nonces)) ≤ 2 ^ 23
 length_hello pending x nonces possible nonce =
@@ -128,19 +128,19 @@ framed_hello pending x nonces possible nonce = framed_command (login_hello (aske
 -- ---- the last command
 
 abbrev pub close_document : List ℕ → List ℕ
-close_document close = command_document (final_command conversation (codes "admin") close None)
+close_document close = command_document (final_command conversation admin close None)
 
 abbrev close_elements : List ℕ → List Element
-close_elements close = continue_elements conversation close ++ text_element db_key (codes "admin") ∷ []
+close_elements close = continue_elements conversation close ++ text_element db_key admin ∷ []
 
 close_is : (close : List ℕ) → length close < 2 ^ 29 → close_document close ≡ document_of (close_elements close)
 close_is close short =
     let first = continue_elements conversation close in
-    let last = text_element db_key (codes "admin") in
+    let last = text_element db_key admin in
     ap (λ b. enclosed (b ++ flat_map spell (last ∷ []))) (element_bytes-enclosed (flat_map spell first) (omega (arith, length-document_of first, length-enclosed (flat_map spell first)))) ∙ ap enclosed (sym (flat_map-append spell first (last ∷ [])))
 
 close_are : (close : List ℕ) → length close < 2 ^ 29 → AllByRecursion (λ e. IsElement e) (close_elements close)
-close_are close short = (number_is_element sasl_continue_key (pos 1) (cstring sasl_continue_key refl refl) one_fits, (number_is_element conversation_id_key conversation_id conversation_is_cstring one_fits, (binary_is_element payload_key close payload_is_cstring (omega arith), (text_is_element db_key (codes "admin") (cstring db_key refl refl) (ascii_text (codes "admin") refl) (omega arith), tt))))
+close_are close short = (number_is_element sasl_continue_key (pos 1) (cstring sasl_continue_key refl refl) one_fits, (number_is_element conversation_id_key conversation_id conversation_is_cstring one_fits, (binary_is_element payload_key close payload_is_cstring (omega arith), (text_is_element db_key admin (cstring db_key refl refl) (ascii_text admin refl) (omega arith), tt))))
 
 pub close_carries : (close : List ℕ) → length close < 2 ^ 29 → CarriesPayload close (close_document close)
 unfolding Required

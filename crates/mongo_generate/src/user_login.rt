@@ -2,6 +2,7 @@ ghost use Rattle.std.specs.Prelude.{◌≡◌, IsTrue};
 ghost use Rattle.mongo_scram.specs.Commands.{is_scram};
 
 use mongo_bson::Text;
+use mongo_command::ADMIN;
 use mongo_establish::{Credential, Error, LoginInputs, Nonces, ScramVersion};
 use mongo_scram::ClientFirst;
 use std::alloc::Global;
@@ -42,7 +43,7 @@ impl UserLogin {
         ensures login { IfOk result (IsUserLogin version username.now password.now nonces) }
         ensures refused { IfErr result (λ e. e.kind ≡ OutOfMemory) }
     {
-        let first = ClientFirst::new(alloc, "admin", username, true, None, &nonces.first)?;
+        let first = ClientFirst::new(alloc, ADMIN, username, true, None, &nonces.first)?;
         let client_first = Text::from_slice(alloc, first.message())?;
         let username = Text::from_slice(alloc, username)?;
         let password = Text::from_slice(alloc, password)?;

@@ -1,5 +1,5 @@
 -- A document is longer than each of its parts, so it is too long where a part is.
-use Rattle.std.proofs.Common.{◌≡◌, ℕ, ◌+◌, ◌<◌, Option, None, Some, List, [], ◌∷◌, ◌++◌, length, codes, option_map, refl, ap, ◌∙◌, subst, length-append, arith}
+use Rattle.std.proofs.Common.{◌≡◌, ℕ, ◌+◌, ◌<◌, Option, None, Some, List, [], ◌∷◌, ◌++◌, length, option_map, refl, ap, ◌∙◌, subst, length-append, arith}
 use Rattle.std.specs.List.{flat_map}
 use Rattle.std.specs.Option.{IsSomeAnd}
 use Rattle.std.proofs.lemmas.Grind.{flat_map-append}
@@ -16,6 +16,7 @@ use Rattle.mongo_meta.specs.declared.client_metadata.DriverMetadata.{DriverMetad
 use Rattle.mongo_meta.specs.declared.form.Form.{Form}
 use Rattle.mongo_meta.specs.declared.form.Form.TheVariants.{Whole, EnvironmentName, OsType, NoEnvironment, ShortPlatform}
 use Rattle.mongo_meta.specs.Client.{in_form}
+use Rattle.mongo_meta.specs.Keys.{application_key, driver_key, os_key, platform_key, env_key}
 use Rattle.mongo_meta.specs.Metadata.{document_of_parts, metadata_document, application_document, driver_document, os_document, environment_document}
 
 -- a document that is at least as long is too long as well
@@ -46,19 +47,19 @@ given_part fault key (Some part) more long = first_part fault (document_element 
 -- ---- the parts of metadata
 
 application_elements : ClientMetadata → List Element
-application_elements m = present (document_element (codes "application")) (option_map application_document m.application)
+application_elements m = present (document_element application_key) (option_map application_document m.application)
 
 driver_element : ClientMetadata → Element
-driver_element m = document_element (codes "driver") (driver_document m.driver)
+driver_element m = document_element driver_key (driver_document m.driver)
 
 os_element : ClientMetadata → Element
-os_element m = document_element (codes "os") (os_document m.os)
+os_element m = document_element os_key (os_document m.os)
 
 platform_element : ClientMetadata → Element
-platform_element m = text_element (codes "platform") m.platform
+platform_element m = text_element platform_key m.platform
 
 environment_elements : ClientMetadata → List Element
-environment_elements m = present (document_element (codes "env")) (option_map environment_document m.env) ++ []
+environment_elements m = present (document_element env_key) (option_map environment_document m.env) ++ []
 
 driver_long : (fault : BsonFault) (m : ClientMetadata) → TooLongFor fault (driver_document m.driver) → TooLongFor fault (metadata_document m)
 unfolding application_elements driver_element os_element platform_element environment_elements
@@ -78,7 +79,7 @@ unfolding application_elements driver_element os_element platform_element enviro
 environment_long fault m long =
     later_part fault (application_elements m) (driver_element m ∷ (os_element m ∷ (platform_element m ∷ environment_elements m)))
     (later_part fault (driver_element m ∷ (os_element m ∷ (platform_element m ∷ []))) (environment_elements m)
-    (given_part fault (codes "env") (option_map environment_document m.env) [] long))
+    (given_part fault env_key (option_map environment_document m.env) [] long))
 
 -- no form changes the application or the driver
 in_form-application : (form : Form) (m : ClientMetadata) → m.application ≡ (in_form form m).application

@@ -1,3 +1,4 @@
+pub mod Keys
 pub mod Variables
 pub mod Providers
 pub mod Metadata

@@ -8,6 +8,7 @@ use Rattle.mongo_meta.specs.declared.client_metadata.DriverMetadata.{DriverMetad
 use Rattle.mongo_meta.specs.declared.client_metadata.ClientMetadata.{ClientMetadata}
 use Rattle.mongo_meta.specs.declared.os_metadata.OsMetadata.{OsMetadata}
 use Rattle.mongo_meta.specs.declared.runtime_environment.RuntimeEnvironment.{RuntimeEnvironment}
+use Rattle.mongo_meta.specs.Keys.{application_key, driver_key, os_key, platform_key, env_key, name_key, version_key, type_key, runtime_key}
 use Rattle.mongo_meta.specs.Providers.{name_text}
 
 -- the document of the fields that are there
@@ -16,27 +17,27 @@ document_of_given fields = document_of (flat_map (λ es. es) fields)
 
 abbrev pub application_document : AppMetadata → List ℕ
 application_document application = document_of_given (
-    present (text_element (codes "name")) (Some application.name)
+    present (text_element name_key) (Some application.name)
     ∷ [])
 
 abbrev pub driver_document : DriverMetadata → List ℕ
 driver_document driver = document_of_given (
-    present (text_element (codes "name")) (Some driver.name)
-    ∷ present (text_element (codes "version")) (Some driver.version)
+    present (text_element name_key) (Some driver.name)
+    ∷ present (text_element version_key) (Some driver.version)
     ∷ [])
 
 abbrev pub os_document : OsMetadata → List ℕ
 os_document os = document_of_given (
-    present (text_element (codes "type")) (Some os.os_type)
-    ∷ present (text_element (codes "name")) os.name
+    present (text_element type_key) (Some os.os_type)
+    ∷ present (text_element name_key) os.name
     ∷ present (text_element (codes "architecture")) os.architecture
-    ∷ present (text_element (codes "version")) os.version
+    ∷ present (text_element version_key) os.version
     ∷ [])
 
 abbrev pub environment_document : RuntimeEnvironment → List ℕ
 environment_document env = document_of_given (
-    present (text_element (codes "name")) (option_map name_text env.name)
-    ∷ present (text_element (codes "runtime")) env.runtime
+    present (text_element name_key) (option_map name_text env.name)
+    ∷ present (text_element runtime_key) env.runtime
     ∷ present (int32_element (codes "timeout_sec")) env.timeout_sec
     ∷ present (int32_element (codes "memory_mb")) env.memory_mb
     ∷ present (text_element (codes "region")) env.region
@@ -46,11 +47,11 @@ environment_document env = document_of_given (
 -- by the documents of its parts
 abbrev pub document_of_parts : Option (List ℕ) → List ℕ → List ℕ → List ℕ → Option (List ℕ) → List ℕ
 document_of_parts application driver os platform env = document_of_given (
-    present (document_element (codes "application")) application
-    ∷ present (document_element (codes "driver")) (Some driver)
-    ∷ present (document_element (codes "os")) (Some os)
-    ∷ present (text_element (codes "platform")) (Some platform)
-    ∷ present (document_element (codes "env")) env
+    present (document_element application_key) application
+    ∷ present (document_element driver_key) (Some driver)
+    ∷ present (document_element os_key) (Some os)
+    ∷ present (text_element platform_key) (Some platform)
+    ∷ present (document_element env_key) env
     ∷ [])
 
 abbrev pub metadata_document : ClientMetadata → List ℕ

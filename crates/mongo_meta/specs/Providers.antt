@@ -7,6 +7,7 @@ use Rattle.mongo_meta.specs.declared.environment.Environment.{Environment}
 use Rattle.mongo_meta.specs.declared.faas.FaasEnvironmentName.{FaasEnvironmentName}
 use Rattle.mongo_meta.specs.declared.faas.FaasEnvironmentName.TheVariants.{AwsLambda, AzureFunc, GcpFunc, Vercel}
 use Rattle.mongo_meta.specs.declared.runtime_environment.RuntimeEnvironment.{RuntimeEnvironment}
+use Rattle.mongo_meta.specs.Keys.{runtime_key}
 use Rattle.mongo_meta.specs.Variables.{variable_value, is_set, number_under}
 
 abbrev pub name_text : FaasEnvironmentName → List ℕ
@@ -16,6 +17,13 @@ name_text GcpFunc = codes "gcp.func"
 name_text Vercel = codes "vercel"
 
 -- ---- the table of providers
+
+-- the variables that show a provider and say what it runs functions on
+abbrev pub aws_execution_env : List ℕ
+aws_execution_env = codes "AWS_EXECUTION_ENV"
+
+abbrev pub functions_worker_runtime : List ℕ
+functions_worker_runtime = codes "FUNCTIONS_WORKER_RUNTIME"
 
 -- whether a provider's variables are there, and what is taken of them
 pub record ProviderSigns : Type 0 where
@@ -34,16 +42,16 @@ abbrev pub found_by : Bool → ProviderSigns
 found_by found = record { found = found; runtime = None; timeout_sec = None; memory_mb = None; region = None }
 
 abbrev pub provider : FaasEnvironmentName → Environment → ProviderSigns
-provider AwsLambda env = record (found_by (begins_with (codes "AWS_Lambda_") (variable_value (codes "AWS_EXECUTION_ENV") env) || is_set (codes "AWS_LAMBDA_RUNTIME_API") env)) {
-  runtime = variable_value (codes "AWS_EXECUTION_ENV") env;
+provider AwsLambda env = record (found_by (begins_with (codes "AWS_Lambda_") (variable_value aws_execution_env env) || is_set (codes "AWS_LAMBDA_RUNTIME_API") env)) {
+  runtime = variable_value aws_execution_env env;
   memory_mb = number_under (codes "AWS_LAMBDA_FUNCTION_MEMORY_SIZE") env;
   region = variable_value (codes "AWS_REGION") env;
 }
 provider Vercel env = record (found_by (is_set (codes "VERCEL") env)) {
   region = variable_value (codes "VERCEL_REGION") env;
 }
-provider AzureFunc env = record (found_by (is_set (codes "FUNCTIONS_WORKER_RUNTIME") env)) {
-  runtime = variable_value (codes "FUNCTIONS_WORKER_RUNTIME") env;
+provider AzureFunc env = record (found_by (is_set functions_worker_runtime env)) {
+  runtime = variable_value functions_worker_runtime env;
 }
 provider GcpFunc env = record (found_by (is_set (codes "K_SERVICE") env || is_set (codes "FUNCTION_NAME") env)) {
   timeout_sec = number_under (codes "FUNCTION_TIMEOUT_SEC") env;
@@ -71,7 +79,7 @@ element_if false e = []
 
 abbrev pub container_elements : Environment → List (List Element)
 container_elements env =
-    element_if env.dockerenv (text_element (codes "runtime") (codes "docker"))
+    element_if env.dockerenv (text_element runtime_key (codes "docker"))
     ∷ element_if (is_set (codes "KUBERNETES_SERVICE_HOST") env) (text_element (codes "orchestrator") (codes "kubernetes"))
     ∷ []
 

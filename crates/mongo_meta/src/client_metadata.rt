@@ -3,6 +3,7 @@ ghost use Rattle.mongo_command.specs.Arguments.{TooLongFor};
 ghost use Rattle.mongo_meta.specs.Options.{with_part, bar};
 
 use crate::driver_info::holds;
+use crate::keys::{NAME, VERSION};
 use crate::text_fields::owned_text_field;
 use crate::{ClientOptions, DriverInfo, DriverInfos, OsMetadata, RuntimeEnvironment};
 use mongo_bson::{BsonFault, RawDocumentBuf, Text, copy_of};
@@ -35,7 +36,7 @@ impl AppMetadata {
         ensures document { IfOk result (λ document. document ≡ application_document self.now) }
         ensures refused { IfErr result (λ fault. TooLongFor fault (application_document self.now)) }
     {
-        document_of(alloc, &[owned_text_field("name", &self.name)])
+        document_of(alloc, &[owned_text_field(NAME, &self.name)])
     }
 }
 
@@ -92,8 +93,8 @@ impl DriverMetadata {
         document_of(
             alloc,
             &[
-                owned_text_field("name", &self.name),
-                owned_text_field("version", &self.version),
+                owned_text_field(NAME, &self.name),
+                owned_text_field(VERSION, &self.version),
             ],
         )
     }

@@ -4,6 +4,12 @@ ghost use Rattle.mongo_meta.specs.declared.faas.FaasEnvironmentName.TheVariants.
 
 use crate::Environment;
 
+// The variable by which AWS Lambda is seen, and which says what it runs functions on.
+pub(crate) const AWS_EXECUTION_ENV: &str = "AWS_EXECUTION_ENV";
+
+// The same of Azure Functions.
+pub(crate) const FUNCTIONS_WORKER_RUNTIME: &str = "FUNCTIONS_WORKER_RUNTIME";
+
 /// The providers that run functions as a service.
 #[derive(Clone, Copy, Debug, PartialEq, Eq)]
 pub enum FaasEnvironmentName {
@@ -40,7 +46,7 @@ impl FaasEnvironmentName {
     {
         let lambda = runs_lambda(env);
         let vercel = env.is_set("VERCEL");
-        let azure = env.is_set("FUNCTIONS_WORKER_RUNTIME");
+        let azure = env.is_set(FUNCTIONS_WORKER_RUNTIME);
         let gcp = runs_gcp(env);
         match (lambda, vercel, azure, gcp) {
             (_, true, false, false) => Some(FaasEnvironmentName::Vercel),
@@ -56,8 +62,7 @@ impl FaasEnvironmentName {
 fn runs_lambda(env: &Environment) -> bool
     ensures { result ≡ (provider AwsLambda env.now).found }
 {
-    begins_with(env.value("AWS_EXECUTION_ENV"), "AWS_Lambda_")
-        || env.is_set("AWS_LAMBDA_RUNTIME_API")
+    begins_with(env.value(AWS_EXECUTION_ENV), "AWS_Lambda_") || env.is_set("AWS_LAMBDA_RUNTIME_API")
 }
 
 // Whether those of Google Cloud Functions are there.

@@ -20,6 +20,7 @@ mod driver_info;
 mod environment;
 mod faas;
 mod form;
+mod keys;
 mod os_metadata;
 mod runtime_environment;
 mod text_fields;

@@ -1,6 +1,7 @@
 ghost use Rattle.std.specs.Prelude.{◌≡◌, IfOk, IfErr};
 ghost use Rattle.mongo_command.specs.Arguments.{TooLongFor};
 
+use crate::keys::{NAME, TYPE, VERSION};
 use crate::text_fields::owned_text_field;
 use mongo_bson::{BsonFault, RawDocumentBuf, Text, copy_of};
 use mongo_command::{document_of, optional_text_field};
@@ -60,10 +61,10 @@ impl OsMetadata {
         document_of(
             alloc,
             &[
-                owned_text_field("type", &self.os_type),
-                optional_text_field("name", &self.name),
+                owned_text_field(TYPE, &self.os_type),
+                optional_text_field(NAME, &self.name),
                 optional_text_field("architecture", &self.architecture),
-                optional_text_field("version", &self.version),
+                optional_text_field(VERSION, &self.version),
             ],
         )
     }
@@ -73,6 +74,6 @@ impl OsMetadata {
         ensures document { IfOk result (λ document. document ≡ os_document (type_alone self.now)) }
         ensures refused { IfErr result (λ fault. TooLongFor fault (os_document (type_alone self.now))) }
     {
-        document_of(alloc, &[owned_text_field("type", &self.os_type)])
+        document_of(alloc, &[owned_text_field(TYPE, &self.os_type)])
     }
 }

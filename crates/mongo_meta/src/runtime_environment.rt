@@ -1,11 +1,14 @@
-ghost use Rattle.std.specs.Prelude.{◌≡◌, option_map, codes, IfOk, IfErr};
+ghost use Rattle.std.specs.Prelude.{◌≡◌, option_map, IfOk, IfErr};
 ghost use Rattle.mongo_command.specs.Literal.{text_element};
 ghost use Rattle.mongo_command.specs.Command.{present};
 ghost use Rattle.mongo_command.specs.Arguments.{field_elements, IsNamed, TooLongFor};
+ghost use Rattle.mongo_meta.specs.Keys.{name_key};
 ghost use Rattle.mongo_meta.specs.Providers.{name_text, provider, taken_of};
 ghost use Rattle.mongo_wire.specs.declared.error.ErrorKind.TheVariants.{OutOfMemory};
 
 use crate::container::container_in;
+use crate::faas::{AWS_EXECUTION_ENV, FUNCTIONS_WORKER_RUNTIME};
+use crate::keys::{NAME, RUNTIME};
 use crate::{Environment, FaasEnvironmentName};
 use mongo_bson::{BsonFault, RawDocumentBuf, RawValue, Text, copy_of};
 use mongo_command::{
@@ -94,7 +97,7 @@ impl RuntimeEnvironment {
             alloc,
             &[
                 name_field(self.name),
-                optional_text_field("runtime", &self.runtime),
+                optional_text_field(RUNTIME, &self.runtime),
                 optional_int32_field("timeout_sec", self.timeout_sec),
                 optional_int32_field("memory_mb", self.memory_mb),
                 optional_text_field("region", &self.region),
@@ -124,7 +127,7 @@ fn taken_of(
     match name {
         FaasEnvironmentName::AwsLambda => Ok(RuntimeEnvironment {
             name: Some(name),
-            runtime: env.text(alloc, "AWS_EXECUTION_ENV")?,
+            runtime: env.text(alloc, AWS_EXECUTION_ENV)?,
             memory_mb: env.number("AWS_LAMBDA_FUNCTION_MEMORY_SIZE"),
             region: env.text(alloc, "AWS_REGION")?,
             ..RuntimeEnvironment::UNSET
@@ -136,7 +139,7 @@ fn taken_of(
         }),
         FaasEnvironmentName::AzureFunc => Ok(RuntimeEnvironment {
             name: Some(name),
-            runtime: env.text(alloc, "FUNCTIONS_WORKER_RUNTIME")?,
+            runtime: env.text(alloc, FUNCTIONS_WORKER_RUNTIME)?,
             ..RuntimeEnvironment::UNSET
         }),
         FaasEnvironmentName::GcpFunc => Ok(RuntimeEnvironment {
@@ -151,11 +154,11 @@ fn taken_of(
 
 // The provider's name.
 fn name_field(name: Option<FaasEnvironmentName>) -> ArgumentField<'static>
-    ensures elements { field_elements result ≡ present (text_element (codes "name")) (option_map name_text name) }
+    ensures elements { field_elements result ≡ present (text_element name_key) (option_map name_text name) }
     ensures named { IsNamed result }
 {
     match name {
-        Some(name) => Some(("name", RawValue::Str(name.name()))),
+        Some(name) => Some((NAME, RawValue::Str(name.name()))),
         None => None,
     }
 }

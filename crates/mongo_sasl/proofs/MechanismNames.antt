@@ -1,10 +1,10 @@
 -- The name of a mechanism reads as that mechanism and as nothing else.
-use Rattle.std.proofs.Common.{◌≡◌, ℕ, Option, None, Some, Result, Ok, Err, List, codes, bytes_eq, if◌then◌else◌, refl, sym, ap, ◌∙◌}
+use Rattle.std.proofs.Common.{◌≡◌, ℕ, Option, None, Some, Result, Ok, Err, List, bytes_eq, if◌then◌else◌, refl, sym, ap, ◌∙◌}
 use Rattle.mongo_wire.specs.declared.fault.ArgumentFault.{ArgumentFault}
 use Rattle.mongo_wire.specs.declared.fault.ArgumentFault.TheVariants.{MechanismUnknown, MechanismGssapi}
 use Rattle.mongo_sasl.specs.declared.mechanism.AuthMechanism.{AuthMechanism}
 use Rattle.mongo_sasl.specs.declared.mechanism.AuthMechanism.TheVariants.{MongoDbCr, ScramSha1, ScramSha256, MongoDbX509, Plain, MongoDbAws, MongoDbOidc}
-use Rattle.mongo_sasl.specs.Mechanism.{name_of, Names}
+use Rattle.mongo_sasl.specs.Mechanism.{name_of, gssapi, Names}
 
 -- the names told apart, so that two that are equal are of one mechanism
 mechanism_of : List ℕ → Option AuthMechanism
@@ -28,14 +28,14 @@ mechanism_of-name_of Plain = refl
 mechanism_of-name_of MongoDbAws = refl
 mechanism_of-name_of MongoDbOidc = refl
 
-mechanism_of-gssapi : mechanism_of (codes "GSSAPI") ≡ None
+mechanism_of-gssapi : mechanism_of gssapi ≡ None
 unfolding mechanism_of
 mechanism_of-gssapi = refl
 
 one_name : (a b : AuthMechanism) → name_of a ≡ name_of b → b ≡ a
 one_name a b same = let one : Some b ≡ Some a = sym (mechanism_of-name_of b) ∙ ap mechanism_of (sym same) ∙ mechanism_of-name_of a in cc
 
-not_gssapi : (mechanism : AuthMechanism) → name_of mechanism ≡ codes "GSSAPI" → ⊥
+not_gssapi : (mechanism : AuthMechanism) → name_of mechanism ≡ gssapi → ⊥
 not_gssapi mechanism same = let none : Some mechanism ≡ None = sym (mechanism_of-name_of mechanism) ∙ ap mechanism_of same ∙ mechanism_of-gssapi in cc
 
 pub again : (mechanism : AuthMechanism) (read : Result AuthMechanism ArgumentFault) → Names (name_of mechanism) read → read ≡ Ok mechanism

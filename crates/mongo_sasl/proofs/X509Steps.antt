@@ -1,5 +1,5 @@
 -- What an X.509 login does is a step of its plan.
-use Rattle.std.proofs.Common.{◌≡◌, ◌⊎◌, ℕ, ℤ, Bool, true, false, refl, sym, ◌∙◌, subst, inl, inr, arith, Option, None, Result, Ok, Err, List, [], ◌∷◌, codes, pos, IfErr, OnOk, flat_map}
+use Rattle.std.proofs.Common.{◌≡◌, ◌⊎◌, ℕ, ℤ, Bool, true, false, refl, sym, ◌∙◌, subst, inl, inr, arith, Option, None, Result, Ok, Err, List, [], ◌∷◌, pos, IfErr, OnOk, flat_map}
 use Rattle.std.proofs.lemmas.Bool.{false≢true}
 use Rattle.mongo_bson.specs.Document.{spell}
 use Rattle.mongo_bson.proofs.Enclosed.{length-enclosed}
@@ -16,7 +16,7 @@ use Rattle.mongo_sasl.specs.declared.mechanism.AuthMechanism.TheVariants.{MongoD
 use Rattle.mongo_sasl.specs.Stops.{StoppedKeeping, BeginsWithCommand, RefusedAtOnce}
 use Rattle.mongo_sasl.specs.Login.{EndsByReply}
 use Rattle.mongo_sasl.specs.X509.{IsCertificateTaken, X509Row, x509_body, x509_command, X509Handed, x509_said, x509_heard, x509_plan_from, x509_plan}
-use Rattle.mongo_sasl.specs.Keys.{authenticate_key, mechanism_key}
+use Rattle.mongo_sasl.specs.Keys.{authenticate_key, mechanism_key, username_key}
 use Rattle.mongo_sasl.specs.Mechanism.{name_of}
 use Rattle.mongo_sasl.proofs.LastReply.{ends_by_reply}
 use Rattle.mongo_sasl.proofs.NotBuilt.{not_built}
@@ -37,7 +37,7 @@ module _ (handed : X509Handed) (later : handed.speculated ≡ false) where
   x509_unbuilt kind unbuilt =
       subst (λ s. RefusedAtOnce (x509_plan_from s handed) kind) (sym later)
       (not_built (x509_said handed) x509_heard (x509_command handed.credential handed.server_api) kind refl
-      (omega (arith, length-enclosed (flat_map spell (int32_element authenticate_key (pos 1) ∷ text_element mechanism_key (name_of MongoDbX509) ∷ present (text_element (codes "username")) handed.credential.username)))) unbuilt)
+      (omega (arith, length-enclosed (flat_map spell (int32_element authenticate_key (pos 1) ∷ text_element mechanism_key (name_of MongoDbX509) ∷ present (text_element username_key) handed.credential.username)))) unbuilt)
 
   -- the server took the certificate
   pub x509_replied : {T : Type 0} (r : Result T Error) (reply held : List ℕ) (old new : State) (before after : ℤ) → reply ≡ held → Exchanges handed.maximum (plain_message (x509_said handed).document) old new before after reply → CountsStay old new → OnOk r (IsCertificateTaken reply) → OnOk r (EndsByReply (x509_plan handed) tt held old new before after)

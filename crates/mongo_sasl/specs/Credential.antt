@@ -8,6 +8,7 @@ use Rattle.mongo_wire.specs.declared.error.ErrorKind.TheVariants.{InvalidArgumen
 use Rattle.mongo_wire.specs.declared.auth_fault.AuthFault.{AuthFault}
 use Rattle.mongo_wire.specs.declared.auth_fault.AuthFault.TheVariants.{NoUsername, NoPassword}
 use Rattle.mongo_wire.specs.declared.fault.ArgumentFault.TheVariants.{Bson}
+use Rattle.mongo_command.specs.Command.{admin}
 use Rattle.mongo_command.specs.Conversation.{Demands, no_demand, demand, UnmetRow, row_of}
 use Rattle.mongo_command.specs.Literal.{text_element}
 use Rattle.mongo_command.specs.Keys.{sasl_supported_mechs_key}
@@ -28,12 +29,16 @@ NoUserRow credential = row_of Authentication (UnmetRow (user_demands credential 
 
 -- the database of a credential's mechanism, whatever database the credential names
 abbrev pub resolved_source : Option AuthMechanism → List ℕ
-resolved_source None = codes "admin"
+resolved_source None = admin
 resolved_source (Some mechanism) = source_of mechanism None
+
+-- the user of this name that belongs to `admin`, as a server writes users
+abbrev pub user_of_admin : List ℕ → List ℕ
+user_of_admin username = codes "admin." ++ username
 
 -- what a hello is asked of a user's mechanisms: the user of `admin`
 abbrev pub negotiation_element : List ℕ → Element
-negotiation_element username = text_element sasl_supported_mechs_key (codes "admin." ++ username)
+negotiation_element username = text_element sasl_supported_mechs_key (user_of_admin username)
 
 -- a document and the question after it, which is asked where there are a user name and no mechanism
 abbrev pub negotiated_by : Option (List ℕ) → Option AuthMechanism → List ℕ → List ℕ

@@ -13,6 +13,9 @@ authenticate_key = codes "authenticate"
 abbrev pub mechanism_key : List ℕ
 mechanism_key = codes "mechanism"
 
+abbrev pub username_key : List ℕ
+username_key = codes "username"
+
 abbrev pub payload_key : List ℕ
 payload_key = codes "payload"
 

@@ -3,6 +3,7 @@ use Rattle.std.specs.Prelude.{◌≡◌, ◌≢◌, ℕ, Option, None, Some, Res
 use Rattle.std.specs.List.{Contains}
 use Rattle.mongo_wire.specs.declared.fault.ArgumentFault.{ArgumentFault}
 use Rattle.mongo_wire.specs.declared.fault.ArgumentFault.TheVariants.{MechanismUnknown, MechanismGssapi}
+use Rattle.mongo_command.specs.Command.{admin}
 use Rattle.mongo_sasl.specs.declared.mechanism.AuthMechanism.{AuthMechanism}
 use Rattle.mongo_sasl.specs.declared.mechanism.AuthMechanism.TheVariants.{MongoDbCr, ScramSha1, ScramSha256, MongoDbX509, Plain, MongoDbAws, MongoDbOidc}
 
@@ -15,11 +16,15 @@ name_of Plain = codes "PLAIN"
 name_of MongoDbAws = codes "MONGODB-AWS"
 name_of MongoDbOidc = codes "MONGODB-OIDC"
 
+-- no mechanism that is spoken here, and refused by its name
+abbrev pub gssapi : List ℕ
+gssapi = codes "GSSAPI"
+
 -- what a text names: a mechanism, GSSAPI, which is none here, or nothing
 abbrev pub Names : List ℕ → Result AuthMechanism ArgumentFault → Type 0
 Names text (Ok mechanism) = text ≡ name_of mechanism
-Names text (Err MechanismGssapi) = text ≡ codes "GSSAPI"
-Names text (Err MechanismUnknown) = ((mechanism : AuthMechanism) → text ≢ name_of mechanism) × (text ≢ codes "GSSAPI")
+Names text (Err MechanismGssapi) = text ≡ gssapi
+Names text (Err MechanismUnknown) = ((mechanism : AuthMechanism) → text ≢ name_of mechanism) × (text ≢ gssapi)
 Names text (Err other) = ⊥
 
 -- the database of users that are known elsewhere
@@ -28,9 +33,9 @@ external = codes "$external"
 
 -- the database that a mechanism logs in on where the credential names none, by the one that the connection string names
 abbrev pub source_of : AuthMechanism → Option (List ℕ) → List ℕ
-source_of MongoDbCr database = unwrap_or database (codes "admin")
-source_of ScramSha1 database = unwrap_or database (codes "admin")
-source_of ScramSha256 database = unwrap_or database (codes "admin")
+source_of MongoDbCr database = unwrap_or database admin
+source_of ScramSha1 database = unwrap_or database admin
+source_of ScramSha256 database = unwrap_or database admin
 source_of MongoDbX509 database = external
 source_of Plain database = unwrap_or database external
 source_of MongoDbAws database = external

@@ -25,10 +25,14 @@ abbrev pub SaysFailure : Option Element → Type 0
 SaysFailure None = ⊥
 SaysFailure (Some ok) = (number : ℤ) × (int_of_kind ok.kind ok.value ≡ Some number) × (number ≢ pos 1)
 
+-- what is said of a failure that says nothing itself
+abbrev pub untold_failure : List ℕ
+untold_failure = codes "Authentication failure"
+
 -- what a failure says: `errmsg`, where it is a text
 abbrev pub failure_text : Option Element → List ℕ
-failure_text None = codes "Authentication failure"
-failure_text (Some errmsg) = if errmsg.kind == 0x02 then text_of errmsg.value else codes "Authentication failure"
+failure_text None = untold_failure
+failure_text (Some errmsg) = if errmsg.kind == 0x02 then text_of errmsg.value else untold_failure
 
 -- ---- the fields of a success
 

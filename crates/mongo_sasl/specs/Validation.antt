@@ -39,8 +39,17 @@ aws_rules c properties =
     ∷ []
 
 -- the properties that OIDC has
+abbrev pub token_resource : List ℕ
+token_resource = codes "TOKEN_RESOURCE"
+
+abbrev pub environment_property : List ℕ
+environment_property = codes "ENVIRONMENT"
+
+abbrev pub allowed_hosts : List ℕ
+allowed_hosts = codes "ALLOWED_HOSTS"
+
 abbrev pub is_oidc_property : List ℕ → Bool
-is_oidc_property name = bytes_eq name (codes "TOKEN_RESOURCE") || bytes_eq name (codes "ENVIRONMENT") || bytes_eq name (codes "ALLOWED_HOSTS")
+is_oidc_property name = bytes_eq name token_resource || bytes_eq name environment_property || bytes_eq name allowed_hosts
 
 -- a property is there that OIDC doesn't have
 abbrev pub has_foreign_property : List Element → Bool
@@ -73,9 +82,9 @@ abbrev pub oidc_rules : Credential → Bool → List Element → List Rule
 oidc_rules c callback_given properties =
     oidc_table c callback_given
     (has_foreign_property properties)
-    (text_property (codes "ENVIRONMENT") properties)
-    (has_property (codes "TOKEN_RESOURCE") properties)
-    (is_other_than_array (field_of (codes "ALLOWED_HOSTS") properties))
+    (text_property environment_property properties)
+    (has_property token_resource properties)
+    (is_other_than_array (field_of allowed_hosts properties))
 
 -- ---- the answer
 

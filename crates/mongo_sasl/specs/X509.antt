@@ -1,6 +1,6 @@
 -- MONGODB-X509, by the authentication specification: the certificate of the link is the credential, and one command asks the
 -- server to take it.
-use Rattle.std.specs.Prelude.{◌≡◌, ℕ, ℤ, pos, Bool, true, false, Result, Option, List, [], ◌∷◌, codes}
+use Rattle.std.specs.Prelude.{◌≡◌, ℕ, ℤ, pos, Bool, true, false, Result, Option, List, [], ◌∷◌}
 use Rattle.mongo_bson.specs.Document.{Element, IsWellFormed}
 use Rattle.mongo_wire.specs.declared.error.Error.{Error}
 use Rattle.mongo_wire.specs.declared.error.ErrorKind.{ErrorKind}
@@ -18,7 +18,7 @@ use Rattle.mongo_command.specs.Keys.{ok_key}
 use Rattle.mongo_sasl.specs.declared.mechanism.AuthMechanism.TheVariants.{MongoDbX509}
 use Rattle.mongo_sasl.specs.declared.credential.Credential.{Credential}
 use Rattle.mongo_sasl.specs.EndsByScript.{Standing, EndsByScript}
-use Rattle.mongo_sasl.specs.Keys.{authenticate_key, mechanism_key}
+use Rattle.mongo_sasl.specs.Keys.{authenticate_key, mechanism_key, username_key}
 use Rattle.mongo_sasl.specs.Mechanism.{external, name_of}
 
 -- ---- what is said
@@ -29,7 +29,7 @@ x509_body username =
     document_of
     (int32_element authenticate_key (pos 1)
     ∷ text_element mechanism_key (name_of MongoDbX509)
-    ∷ present (text_element (codes "username")) username)
+    ∷ present (text_element username_key) username)
 
 -- the `authenticate` of `$external`
 abbrev pub x509_command : Credential → Option ServerApi → Command

@@ -1,8 +1,10 @@
-ghost use Rattle.std.specs.Prelude.{◌≡◌, ◌++◌, codes, IfOk, IfErr};
+ghost use Rattle.std.specs.Prelude.{◌≡◌, IfOk, IfErr};
+ghost use Rattle.mongo_sasl.specs.Credential.{user_of_admin};
 ghost use Rattle.mongo_wire.specs.declared.error.ErrorKind.TheVariants.{OutOfMemory};
 
 use crate::AuthMechanism;
 use mongo_bson::{BsonFault, RawDocumentBuf, RawValue, Text, copy_of};
+use mongo_command::ADMIN;
 use mongo_command::keys::SASL_SUPPORTED_MECHS;
 use mongo_wire::Error;
 use std::alloc::Global;
@@ -78,7 +80,7 @@ impl Credential {
     {
         match &self.mechanism {
             Some(mechanism) => mechanism.default_source(None),
-            None => "admin",
+            None => ADMIN,
         }
     }
 
@@ -135,7 +137,7 @@ impl fmt::Debug for Credential {
 
 // The user of this name that belongs to `admin`.
 fn user_of_admin(alloc: Global, username: &Text) -> Result<Text, Error>
-    ensures user { IfOk result (λ user. user ≡ codes "admin." ++ username.now) }
+    ensures user { IfOk result (λ user. user ≡ user_of_admin username.now) }
     ensures refused { IfErr result (λ e. e.kind ≡ OutOfMemory) }
 {
     let mut user = Text::from_slice(alloc, "admin.")?;

@@ -1,10 +1,30 @@
-ghost use Rattle.std.specs.Prelude.{◌↔◌, IsTrue, Contains, codes};
+ghost use Rattle.std.specs.Prelude.{◌↔◌, IsTrue, Contains};
+ghost use Rattle.mongo_sasl.specs.declared.mechanism.AuthMechanism.TheVariants.{ScramSha256};
+ghost use Rattle.mongo_sasl.specs.Mechanism.{name_of};
 
 use crate::EXTERNAL;
 use mongo_bson::Texts;
-use mongo_command::StreamDescription;
+use mongo_command::{ADMIN, StreamDescription};
 use mongo_wire::ArgumentFault;
 use std::str::FromStr;
+
+// The mechanisms' names, as the authentication specification spells them.
+const MONGODB_CR: &str = "MONGODB-CR";
+
+const SCRAM_SHA_1: &str = "SCRAM-SHA-1";
+
+const SCRAM_SHA_256: &str = "SCRAM-SHA-256";
+
+const MONGODB_X509: &str = "MONGODB-X509";
+
+const PLAIN: &str = "PLAIN";
+
+const MONGODB_AWS: &str = "MONGODB-AWS";
+
+const MONGODB_OIDC: &str = "MONGODB-OIDC";
+
+// The name of Kerberos' mechanism, which isn't spoken here and has a refusal of its own.
+const GSSAPI: &str = "GSSAPI";
 
 /// The login mechanisms of the authentication specification.
 #[derive(Clone, Copy, Debug, PartialEq, Eq)]
@@ -37,13 +57,13 @@ impl AuthMechanism {
         ensures again { (read : Result AuthMechanism ArgumentFault) → Names result.now read → read ≡ Ok self.now }
     {
         match self {
-            AuthMechanism::MongoDbCr => "MONGODB-CR",
-            AuthMechanism::ScramSha1 => "SCRAM-SHA-1",
-            AuthMechanism::ScramSha256 => "SCRAM-SHA-256",
-            AuthMechanism::MongoDbX509 => "MONGODB-X509",
-            AuthMechanism::Plain => "PLAIN",
-            AuthMechanism::MongoDbAws => "MONGODB-AWS",
-            AuthMechanism::MongoDbOidc => "MONGODB-OIDC",
+            AuthMechanism::MongoDbCr => MONGODB_CR,
+            AuthMechanism::ScramSha1 => SCRAM_SHA_1,
+            AuthMechanism::ScramSha256 => SCRAM_SHA_256,
+            AuthMechanism::MongoDbX509 => MONGODB_X509,
+            AuthMechanism::Plain => PLAIN,
+            AuthMechanism::MongoDbAws => MONGODB_AWS,
+            AuthMechanism::MongoDbOidc => MONGODB_OIDC,
         }
     }
 
@@ -54,7 +74,7 @@ impl AuthMechanism {
     {
         match self {
             AuthMechanism::MongoDbCr | AuthMechanism::ScramSha1 | AuthMechanism::ScramSha256 => {
-                uri_db.unwrap_or("admin")
+                uri_db.unwrap_or(ADMIN)
             }
             AuthMechanism::Plain => uri_db.unwrap_or(EXTERNAL),
             AuthMechanism::MongoDbX509 | AuthMechanism::MongoDbAws | AuthMechanism::MongoDbOidc => {
@@ -77,12 +97,12 @@ impl AuthMechanism {
 
 // Whether SCRAM-SHA-256 is among the names.
 fn lists_scram_sha_256(names: &Texts) -> bool
-    ensures { IsTrue result ↔ Contains names.now (codes "SCRAM-SHA-256") }
+    ensures { IsTrue result ↔ Contains names.now (name_of ScramSha256) }
 {
     names
         .as_slice()
         .iter()
-        .any(|name| name.as_str() == "SCRAM-SHA-256")
+        .any(|name| name.as_str() == SCRAM_SHA_256)
 }
 
 /// Reads a mechanism's name.
@@ -97,14 +117,14 @@ impl FromStr for AuthMechanism {
 
     fn from_str(name: &str) -> Result<AuthMechanism, ArgumentFault> {
         match name {
-            "MONGODB-CR" => Ok(AuthMechanism::MongoDbCr),
-            "SCRAM-SHA-1" => Ok(AuthMechanism::ScramSha1),
-            "SCRAM-SHA-256" => Ok(AuthMechanism::ScramSha256),
-            "MONGODB-X509" => Ok(AuthMechanism::MongoDbX509),
-            "PLAIN" => Ok(AuthMechanism::Plain),
-            "MONGODB-AWS" => Ok(AuthMechanism::MongoDbAws),
-            "MONGODB-OIDC" => Ok(AuthMechanism::MongoDbOidc),
-            "GSSAPI" => Err(ArgumentFault::MechanismGssapi),
+            MONGODB_CR => Ok(AuthMechanism::MongoDbCr),
+            SCRAM_SHA_1 => Ok(AuthMechanism::ScramSha1),
+            SCRAM_SHA_256 => Ok(AuthMechanism::ScramSha256),
+            MONGODB_X509 => Ok(AuthMechanism::MongoDbX509),
+            PLAIN => Ok(AuthMechanism::Plain),
+            MONGODB_AWS => Ok(AuthMechanism::MongoDbAws),
+            MONGODB_OIDC => Ok(AuthMechanism::MongoDbOidc),
+            GSSAPI => Err(ArgumentFault::MechanismGssapi),
             _ => Err(ArgumentFault::MechanismUnknown),
         }
     }

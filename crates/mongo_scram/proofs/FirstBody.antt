@@ -1,5 +1,5 @@
 -- The body of a `saslStart` with the database named behind it, and the command of it.
-use Rattle.std.proofs.Common.{◌≡◌, ◌≢◌, ℕ, ◌+◌, ◌^◌, ◌<◌, ◌≤◌, true, false, Bool, suc, Option, Ok, Err, List, ◌++◌, length, codes, flat_map, refl, sym, ap, ◌∙◌, subst, arith, Contains, length-append, append-nil}
+use Rattle.std.proofs.Common.{◌≡◌, ◌≢◌, ℕ, ◌+◌, ◌^◌, ◌<◌, ◌≤◌, true, false, Bool, suc, Option, Ok, Err, List, ◌++◌, length, flat_map, refl, sym, ap, ◌∙◌, subst, arith, Contains, length-append, append-nil}
 use Rattle.std.proofs.lemmas.Grind.{flat_map-append}
 use Rattle.mongo_bson.specs.Framed.{element_bytes, enclosed, maximum_length}
 use Rattle.mongo_bson.specs.Document.{Element, spell}
@@ -19,10 +19,10 @@ use Rattle.mongo_sasl.specs.declared.sasl_start.SaslStart.{SaslStart}
 use Rattle.mongo_sasl.specs.Commands.{start_elements, start_body, start_command}
 use Rattle.mongo_sasl.specs.Keys.{sasl_start_key}
 use Rattle.mongo_scram.specs.declared.scram_version.ScramVersion.{ScramVersion}
-use Rattle.mongo_scram.specs.Commands.{mechanism_of, db_elements, first_body, first_command}
+use Rattle.mongo_scram.specs.Commands.{mechanism_of, login_db_key, db_elements, first_body, first_command}
 
 abbrev db_bytes : List ℕ → List ℕ
-db_bytes source = spell (text_element (codes "db") source)
+db_bytes source = spell (text_element login_db_key source)
 
 -- the elements' bytes with the database named behind them
 spelled : (elements : List Element) (source : List ℕ) → flat_map spell elements ++ db_bytes source ≡ flat_map spell (elements ++ db_elements true source)
@@ -47,8 +47,8 @@ db_added version source message old new is short added =
 
 -- ---- the command
 
-plain_db : Contains (codes "db") 0 → ⊥
-plain_db = without_zero (codes "db") (codes "db") refl (not_zero 99, (not_zero 97, tt))
+plain_db : Contains login_db_key 0 → ⊥
+plain_db = without_zero login_db_key login_db_key refl (not_zero 99, (not_zero 97, tt))
   where
     not_zero : (n : ℕ) → suc n ≢ 0
     not_zero n is = absurd (omega (arith, is))
@@ -82,7 +82,7 @@ start_sent version source message include_db api start command is built plain =
 
 -- the start with the database put behind it
 pub db_sent : (version : ScramVersion) (source text message : List ℕ) (include_db : Bool) (api : Option ServerApi) (start : SaslStart) (command named : Command) (new : List ℕ) → text ≡ source → start ≡ step version source message api → command ≡ start_command start → include_db ≡ true
-    → ((Contains (codes "db") 0 → ⊥) × (maximum_length < length command.body + length (db_bytes text)) → ⊥)
+    → ((Contains login_db_key 0 → ⊥) × (maximum_length < length command.body + length (db_bytes text)) → ⊥)
     → new ≡ enclosed (element_bytes command.body ++ db_bytes text) → named ≡ record command { body = new } → named ≡ first_command version include_db source message api
 db_sent version source text message include_db api start command named new said is built named_db room added is_named =
     let old : command.body ≡ start_body (mechanism_of version) message = ap (λ (c : Command). c.body) (built ∙ ap start_command is) in
@@ -98,7 +98,7 @@ no_fault t e is = absurd (cc)
 
 -- why the database isn't put behind it
 pub db_refused : (version : ScramVersion) (source text message : List ℕ) (include_db : Bool) (api : Option ServerApi) (start : SaslStart) (command : Command) → text ≡ source → start ≡ step version source message api → command ≡ start_command start → include_db ≡ true
-    → (fault : BsonFault) → AppendRefuses fault → (fault ≡ KeyHasZero → Contains (codes "db") 0) → (fault ≡ TooLong → maximum_length < length command.body + length (db_bytes text))
+    → (fault : BsonFault) → AppendRefuses fault → (fault ≡ KeyHasZero → Contains login_db_key 0) → (fault ≡ TooLong → maximum_length < length command.body + length (db_bytes text))
     → DocumentRefused (kind_of_fault fault) (first_body version include_db source message)
 db_refused version source text message include_db api start command said is built named_db KeyHasZero refuses holds long = absurd (plain_db (holds refl))
 db_refused version source text message include_db api start command said is built named_db TooLong refuses holds long =

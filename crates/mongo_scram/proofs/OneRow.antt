@@ -1,8 +1,9 @@
 -- A credential has one user, and each step of a login is refused for one reason at most.
-use Rattle.std.proofs.Common.{◌≡◌, ℕ, Option, None, Some, IsSome, unwrap_or, List, codes, refl, sym, ◌∙◌}
+use Rattle.std.proofs.Common.{◌≡◌, ℕ, Option, None, Some, IsSome, unwrap_or, List, refl, sym, ◌∙◌}
 use Rattle.std.proofs.lemmas.Bool.{false≢true}
 use Rattle.mongo_bson.specs.declared.owned_value.OwnedValue.{OwnedValue}
 use Rattle.mongo_wire.specs.declared.error.ErrorKind.TheVariants.{Authentication}
+use Rattle.mongo_command.specs.Command.{admin}
 use Rattle.mongo_command.specs.Conversation.{IsOne, HasNone}
 use Rattle.mongo_command.proofs.Plans.{all_met, no_of, none_unmet, of_denied, one_else, one_of, one_row, one_unmet}
 use Rattle.mongo_sasl.specs.declared.credential.Credential.{Credential}
@@ -79,7 +80,7 @@ user_in credential none =
     (of_denied Authentication _ none) in
     let username = value_in credential.username met.0 in
     let password = value_in credential.password met.1.0 in
-    let user : User = record { username = username.0; password = password.0; source = unwrap_or credential.source (codes "admin") } in
+    let user : User = record { username = username.0; password = password.0; source = unwrap_or credential.source admin } in
     (user, record { username = username.1; password = password.1; properties = met.1.1.0; source = refl })
 
 -- ---- passwords

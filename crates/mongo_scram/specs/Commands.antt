@@ -23,9 +23,13 @@ is_scram (Some ScramSha1) = true
 is_scram (Some ScramSha256) = true
 is_scram mechanism = false
 
+-- the database of a login that goes with a hello, for there is no command whose `$db` names it
+abbrev pub login_db_key : List ℕ
+login_db_key = codes "db"
+
 -- the database that is named beside the message where it goes with a hello
 abbrev pub db_elements : Bool → List ℕ → List Element
-db_elements include_db source = if include_db then text_element (codes "db") source ∷ [] else []
+db_elements include_db source = if include_db then text_element login_db_key source ∷ [] else []
 
 -- the body that carries the client's first message
 abbrev pub first_body : ScramVersion → Bool → List ℕ → List ℕ → List ℕ

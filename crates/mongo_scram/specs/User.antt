@@ -1,9 +1,10 @@
 -- Who logs in by SCRAM, as a credential says it (RFC 5802, section 5, and MongoDB's authentication specification).
-use Rattle.std.specs.Prelude.{◌≡◌, ℕ, None, Some, unwrap_or, List, codes}
+use Rattle.std.specs.Prelude.{◌≡◌, ℕ, None, Some, unwrap_or, List}
 use Rattle.mongo_wire.specs.declared.error.ErrorKind.{ErrorKind}
 use Rattle.mongo_wire.specs.declared.error.ErrorKind.TheVariants.{Authentication}
 use Rattle.mongo_wire.specs.declared.auth_fault.AuthFault.{AuthFault}
 use Rattle.mongo_wire.specs.declared.auth_fault.AuthFault.TheVariants.{PropertiesGiven}
+use Rattle.mongo_command.specs.Command.{admin}
 use Rattle.mongo_command.specs.Conversation.{Demands, no_demand, demand, UnmetRow, row_of}
 use Rattle.mongo_sasl.specs.declared.credential.Credential.{Credential}
 use Rattle.mongo_sasl.specs.Credential.{user_demands}
@@ -19,7 +20,7 @@ pub record IsUser (credential : Credential) (user : User) : Type 0 where
   pub username : credential.username ≡ Some user.username
   pub password : credential.password ≡ Some user.password
   pub properties : credential.mechanism_properties ≡ None
-  pub source : user.source ≡ unwrap_or credential.source (codes "admin")
+  pub source : user.source ≡ unwrap_or credential.source admin
 
 -- what is demanded of a credential that logs in by SCRAM
 abbrev pub credential_demands : Credential → Demands AuthFault

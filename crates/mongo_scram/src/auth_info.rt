@@ -3,6 +3,7 @@ ghost use Rattle.mongo_scram.specs.User.{IsUser, CredentialRow};
 ghost use Rattle.mongo_scram.specs.Client.{user_of};
 
 use crate::ScramVersion;
+use mongo_command::ADMIN;
 use mongo_sasl::{Credential, refused};
 use mongo_wire::{AuthFault, Error};
 
@@ -40,7 +41,7 @@ impl ScramVersion {
         }
         let source = match &credential.source {
             Some(source) => source.as_str(),
-            None => "admin",
+            None => ADMIN,
         };
         Ok(ClientAuthInfo {
             username: username.as_str(),

@@ -5,6 +5,7 @@ ghost use Rattle.std.specs.Prelude.{◌≡◌, ◌+◌, ◌-◌, ◌^◌, min, �
 ghost use Rattle.mongo_scram.specs.Base64.{base64_of};
 ghost use Rattle.mongo_scram.specs.Messages.{open_message, no_proof, transcript};
 
+use crate::attributes::{BOUND_NONCE, NEXT_NONCE, USER_NAME};
 use crate::base64_text::encoded;
 use crate::user_name::saslname;
 use mongo_mac::Tag;
@@ -24,9 +25,9 @@ pub fn open_text(alloc: Global, username: &str, nonce: &str) -> Result<String, A
     let name = saslname(alloc, username)?;
     let mut text = String::with_capacity(alloc, room(name.as_str().len(), nonce.len()))?;
     text.push_str(GS2_HEADER)?;
-    text.push_str("n=")?;
+    text.push_str(USER_NAME)?;
     text.push_str(name.as_str())?;
-    text.push_str(",r=")?;
+    text.push_str(NEXT_NONCE)?;
     text.push_str(nonce)?;
     Ok(text)
 }
@@ -68,7 +69,7 @@ pub fn close_text(alloc: Global, nonce: &str, proof: &Tag) -> Result<String, All
 fn push_no_proof(text: &mut String, nonce: &str) -> Result<(), AllocError>
     ensures { OnOk result (string_bytes text.new ≡ string_bytes text.old ++ no_proof nonce.now) }
 {
-    text.push_str("c=biws,r=")?;
+    text.push_str(BOUND_NONCE)?;
     text.push_str(nonce)
 }
 

@@ -4,6 +4,7 @@ ghost use Rattle.std.specs.Prelude.{◌≡◌, ◌≢◌, ℕ, ◌<◌, ◌++◌
 ghost use Rattle.mongo_scram.specs.ServerMessages.{HasNo, BeginsWithParts, IsBeforeComma, SaysFinal};
 ghost use Rattle.mongo_scram.specs.Parsed.{HoldsServerFirst, FirstRefused, ServerFinalUnread};
 
+use crate::attributes::{ERROR, ITERATION_COUNT, NONCE, SALT, VERIFIER};
 use crate::base64_text::decoded;
 use crate::server_final::ServerFinalBody;
 use mongo_bson::{Bytes, Text};
@@ -34,16 +35,16 @@ pub fn read_server_first<'a>(alloc: Global, message: &'a str) -> Result<ServerFi
     let Some(parts) = message_parts(message) else {
         return Err(refused(AuthFault::Malformed));
     };
-    let Some(nonce) = attribute_value(parts.first, "r=") else {
+    let Some(nonce) = attribute_value(parts.first, NONCE) else {
         return Err(refused(AuthFault::Malformed));
     };
-    let Some(salt_text) = attribute_value(parts.second, "s=") else {
+    let Some(salt_text) = attribute_value(parts.second, SALT) else {
         return Err(refused(AuthFault::Malformed));
     };
     let Some(salt) = decoded(alloc, salt_text.as_bytes())? else {
         return Err(refused(AuthFault::Malformed));
     };
-    let Some(count) = attribute_value(parts.third, "i=") else {
+    let Some(count) = attribute_value(parts.third, ITERATION_COUNT) else {
         return Err(refused(AuthFault::Malformed));
     };
     match count.parse::<u32>() {
@@ -60,10 +61,10 @@ pub fn read_server_final(alloc: Global, message: &str) -> Result<ServerFinalBody
     ensures says { IfOk result (SaysFinal message.now) }
     ensures refused { IfErr result (λ e. ServerFinalUnread message.now e.kind) }
 {
-    if let Some(text) = attribute_value(message, "e=") {
+    if let Some(text) = attribute_value(message, ERROR) {
         return Ok(ServerFinalBody::Error(Text::from_slice(alloc, text)?));
     }
-    match attribute_value(message, "v=") {
+    match attribute_value(message, VERIFIER) {
         Some(text) => {
             let verifier = decoded(alloc, text.as_bytes())?;
             Ok(ServerFinalBody::Verifier(verifier))

@@ -9,6 +9,7 @@ use crate::fault::ServerFault;
 use itoa::Buffer;
 use mongo_bson::Text;
 use mongo_mac::Tag;
+use mongo_scram::attributes::{NONCE, VERIFIER};
 use mongo_scram::{encoded, room};
 use std::alloc::Global;
 
@@ -36,7 +37,7 @@ pub fn server_first_text(
 {
     let salt = encoded(alloc, salt)?;
     let mut text = String::with_capacity(alloc, room(nonce.len(), salt.len()))?;
-    text.push_str("r=")?;
+    text.push_str(NONCE)?;
     text.push_str(nonce)?;
     text.push_str(",s=")?;
     text.push_str(salt.as_str())?;
@@ -53,7 +54,7 @@ pub fn server_final_text(alloc: Global, verifier: &Tag) -> Result<Text, ServerFa
 {
     let verifier = encoded(alloc, verifier.as_bytes())?;
     let mut text = String::with_capacity(alloc, room(verifier.len(), 0))?;
-    text.push_str("v=")?;
+    text.push_str(VERIFIER)?;
     text.push_str(verifier.as_str())?;
     Ok(Text::from_string(text))
 }

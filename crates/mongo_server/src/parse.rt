@@ -9,7 +9,8 @@ use crate::fault::ServerFault;
 use crate::user_name::is_saslname;
 use memchr::memrchr;
 use mongo_bson::Bytes;
-use mongo_scram::{cut, decoded};
+use mongo_scram::attributes::{BOUND_NONCE, NONCE, PROOF, USER_NAME};
+use mongo_scram::{GS2_HEADER, cut, decoded};
 use std::alloc::Global;
 use std::str;
 
@@ -42,16 +43,16 @@ pub fn read_client_first(message: &[u8]) -> Option<ClientFirstParts<'_>>
     let Ok(message) = str::from_utf8(message) else {
         return None;
     };
-    let Some(bare) = message.strip_prefix("n,,") else {
+    let Some(bare) = message.strip_prefix(GS2_HEADER) else {
         return None;
     };
-    let Some(attributes) = bare.strip_prefix("n=") else {
+    let Some(attributes) = bare.strip_prefix(USER_NAME) else {
         return None;
     };
     let Some((saslname, attribute)) = cut(attributes, ',') else {
         return None;
     };
-    let Some(nonce) = attribute.strip_prefix("r=") else {
+    let Some(nonce) = attribute.strip_prefix(NONCE) else {
         return None;
     };
     if !is_saslname(saslname) {
@@ -74,13 +75,13 @@ pub fn read_client_final(alloc: Global, message: &[u8]) -> Result<ClientFinalPar
     ensures read { IfOk result (HoldsClientFinal message.now) }
     ensures refused { IfErr result (ClientFinalUnread message.now) }
 {
-    let Some(attributes) = after(message, b"c=biws,r=") else {
+    let Some(attributes) = after(message, BOUND_NONCE.as_bytes()) else {
         return Err(ServerFault::Malformed);
     };
     let Some((nonce, attribute)) = cut_last(attributes) else {
         return Err(ServerFault::Malformed);
     };
-    let Some(text) = after(attribute, b"p=") else {
+    let Some(text) = after(attribute, PROOF.as_bytes()) else {
         return Err(ServerFault::Malformed);
     };
     match decoded(alloc, text)? {

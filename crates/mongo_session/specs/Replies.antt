@@ -62,6 +62,14 @@ build_info_document =
 
 -- ---- a hello's
 
+-- the server's time
+abbrev pub local_time_key : List ℕ
+local_time_key = codes "localTime"
+
+-- whether no writes are taken at all
+abbrev pub read_only_key : List ℕ
+read_only_key = codes "readOnly"
+
 -- what is said of the server, whoever asks
 abbrev pub description : List Element
 description =
@@ -69,12 +77,12 @@ description =
     ∷ int32_element max_bson_object_size_key maximum_document_length
     ∷ int32_element max_message_size_bytes_key maximum_message_length
     ∷ int32_element max_write_batch_size_key (pos 100000)
-    ∷ date_element (codes "localTime") (pos 0)
+    ∷ date_element local_time_key (pos 0)
     ∷ int32_element logical_session_timeout_minutes_key (pos 30)
     ∷ int32_element connection_id_key (pos 1)
     ∷ int32_element min_wire_version_key (pos 0)
     ∷ int32_element max_wire_version_key (pos 21)
-    ∷ boolean_element (codes "readOnly") false
+    ∷ boolean_element read_only_key false
     ∷ []
 
 -- the key that says that writes are taken

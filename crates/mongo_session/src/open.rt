@@ -11,6 +11,7 @@ use crate::serve_settings::{Account, ServeSettings};
 use crate::session::OpenLogin;
 use mongo_bson::{BsonFault, Text};
 use mongo_mac::Steps;
+use mongo_scram::attributes::NEXT_NONCE;
 use mongo_scram::{ScramVersion, saslname};
 use mongo_server::{ServerCore, ServerFault, ServerUser};
 use mongo_wire::{Error, ErrorKind};
@@ -93,7 +94,7 @@ fn names(alloc: Global, name: &str, payload: &[u8]) -> Result<bool, AllocError>
     let carried = saslname(alloc, name)?;
     let mut front = String::from_str(alloc, "n,,n=")?;
     front.push_str(carried.as_str())?;
-    front.push_str(",r=")?;
+    front.push_str(NEXT_NONCE)?;
     Ok(payload.starts_with(front.as_bytes()))
 }
 

@@ -2,6 +2,7 @@
 use Rattle.std.specs.Prelude.{ℕ, false, if◌then◌else◌, Option, None, Some, option_and_then, unwrap_or, List, [], ◌∷◌, codes, bytes_eq}
 use Rattle.serde_json.specs.Data.{Data, Items, no_items, item}
 use Rattle.serde_json.specs.Find.{as_str, as_bool, as_array}
+use Rattle.mongo_command.specs.Command.{version_text}
 use Rattle.mongo_command.specs.declared.server_api.ServerApi.{ServerApi}
 use Rattle.mongo_command.specs.declared.server_api.ServerApiVersion.{ServerApiVersion}
 use Rattle.mongo_command.specs.declared.server_api.ServerApiVersion.TheVariants.{V1}
@@ -45,7 +46,7 @@ os_in d = do
 
 -- the one version that there is
 abbrev pub version_in : Data → Option ServerApiVersion
-version_in d = option_and_then (λ text. if bytes_eq text (codes "1") then Some V1 else None) (as_str d)
+version_in d = option_and_then (λ text. if bytes_eq text (version_text V1) then Some V1 else None) (as_str d)
 
 unfoldable pub server_api_in : Data → Option ServerApi
 server_api_in d = do

@@ -145,7 +145,7 @@ impl SettingValue for ServerApiVersion {
 
     fn read(_alloc: Global, value: &Value) -> Result<ServerApiVersion, SettingsError> {
         match value.as_str() {
-            Some(text) if text == "1" => Ok(ServerApiVersion::V1),
+            Some(text) if text == ServerApiVersion::V1.as_str() => Ok(ServerApiVersion::V1),
             _ => Err(SettingsError::BadSettings),
         }
     }

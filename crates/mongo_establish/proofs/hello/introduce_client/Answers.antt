@@ -1,6 +1,6 @@
-use Rattle.std.proofs.Common.{rules, ap, subst, ◌∙◌, length, codes, IfErr}
+use Rattle.std.proofs.Common.{rules, ap, subst, ◌∙◌, length, IfErr}
 use Rattle.mongo_meta.specs.Client.{client_of}
-use Rattle.mongo_establish.specs.Client.{with_document}
+use Rattle.mongo_establish.specs.Client.{metadata_key, with_document}
 use Rattle.mongo_command.specs.Exchange.{DocumentRefused}
 use Rattle.mongo_establish.proofs.HelloBody.{client_refused}
 use Rattle.mongo_establish.proofs.hello.introduce_client.Goals as goal
@@ -11,4 +11,4 @@ returns-in_err-client-clause-refused c = client_refused _ c.args.metadata.now c.
 pub returns-clause-refused : goal.returns-clause-refused
 returns-clause-refused c =
     let client = c.in_ok-client.ensures.document ∙ ap (λ bytes. client_of c.args.metadata.now (length bytes)) c.as_bytes.ensures.bytes in
-    subst (λ document. IfErr c.put.result (λ e. DocumentRefused e.kind (with_document (codes "client") document c.args.body.now))) client c.put.ensures.refused
+    subst (λ document. IfErr c.put.result (λ e. DocumentRefused e.kind (with_document metadata_key document c.args.body.now))) client c.put.ensures.refused

@@ -1,7 +1,8 @@
-use Rattle.std.proofs.Common.{◌≡◌, List, ℕ, ap, subst, IfOk, IfErr, codes, rules}
+use Rattle.std.proofs.Common.{◌≡◌, List, ℕ, ap, subst, IfOk, IfErr, rules}
 use Rattle.mongo_command.specs.Arguments.{TooLongFor}
 use Rattle.mongo_command.specs.Keys.{connection_id_key, hello_ok_key, logical_session_timeout_minutes_key, max_bson_object_size_key, max_message_size_bytes_key, max_wire_version_key, max_write_batch_size_key, min_wire_version_key}
 use Rattle.mongo_command.specs.Literal.{document_of}
+use Rattle.mongo_session.specs.Replies.{local_time_key, read_only_key}
 use Rattle.mongo_session.proofs.Described.{around}
 use Rattle.mongo_session.proofs.PlainKeys.{plain, writable_plain}
 use Rattle.mongo_session.proofs.hello_document.document_around.Goals as goal
@@ -18,7 +19,7 @@ document_of-requires c = record {
         (
           plain max_write_batch_size_key (search rules),
           (
-            plain (codes "localTime") (search rules),
+            plain local_time_key (search rules),
             (
               plain logical_session_timeout_minutes_key (search rules),
               (
@@ -28,7 +29,7 @@ document_of-requires c = record {
                   (
                     plain max_wire_version_key (search rules),
                     (
-                      plain (codes "readOnly") (search rules),
+                      plain read_only_key (search rules),
                       (writable_plain c.args.hello.now.is_legacy c.writable_key.result.now c.writable_key.ensures, (c.mechanisms_field.ensures.named, (c.optional_document_field.ensures.named, (c.ok_field.ensures.named, tt)))),
                     ),
                   ),
