@@ -15,8 +15,8 @@ use Rattle.mongo_bson.specs.declared.fault.BsonFault.TheVariants.{DuplicateKey}
 use Rattle.mongo_bson.proofs.OneElement.{one_element, one_list}
 
 -- bytes that begin with elements of other keys than this one, and go on as the rest
-abbrev GoesOn : List ℕ → List ℕ → List Element → List ℕ → Type 0
-GoesOn bytes key before rest = (bytes ≡ flat_map spell before ++ rest) × AllByRecursion IsElement before × AllByRecursion (λ e. e.key ≢ key) before
+abbrev PassesOtherKeys : List ℕ → List ℕ → List Element → List ℕ → Type 0
+PassesOtherKeys bytes key before rest = (bytes ≡ flat_map spell before ++ rest) × AllByRecursion IsElement before × AllByRecursion (λ e. e.key ≢ key) before
 
 begins_first : (e : Element) (es : List Element) (bytes rest : List ℕ) → IsElement e → bytes ≡ flat_map spell (e ∷ es) ++ rest → BeginsWithElement bytes e (flat_map spell es ++ rest)
 begins_first e es bytes rest is same = record { is_element = is; spelled = same ∙ append_assoc (spell e) (flat_map spell es) rest }
@@ -28,20 +28,20 @@ one_first : (bytes x y : List ℕ) (e f : Element) → BeginsWithElement bytes e
 one_first bytes x y e f p q = one_element e f x y p.is_element q.is_element (sym p.spelled ∙ q.spelled)
 
 -- both walks pass over the same elements, as long as both go on
-abbrev Outcome : List ℕ → List ℕ → Type 0
-Outcome key rest = (rest ≡ []) ⊎ (IsBroken rest ⊎ ((e : Element) × (after : List ℕ) × BeginsWithElement rest e after × (e.key ≡ key)))
+abbrev StopsSearch : List ℕ → List ℕ → Type 0
+StopsSearch key rest = (rest ≡ []) ⊎ (IsBroken rest ⊎ ((e : Element) × (after : List ℕ) × BeginsWithElement rest e after × (e.key ≡ key)))
 
 nothing_begins : (rest after : List ℕ) (e : Element) → rest ≡ [] → BeginsWithElement rest e after → ⊥
 nothing_begins rest after e none begins = let over : spell e ++ after ≡ [] = sym begins.spelled ∙ none in cc
 
 -- what ends a walk isn't an element of another key
-not_passed : (key rest after : List ℕ) (e : Element) → Outcome key rest → BeginsWithElement rest e after → e.key ≢ key → ⊥
+not_passed : (key rest after : List ℕ) (e : Element) → StopsSearch key rest → BeginsWithElement rest e after → e.key ≢ key → ⊥
 not_passed key rest after e (inl none) begins other = nothing_begins rest after e none begins
 not_passed key rest after e (inr (inl none)) begins other = no_first rest after e none begins
 not_passed key rest after e (inr (inr (f, more, starts, same))) begins other = other (ap (λ x. x.key) (one_first rest after more e f begins starts).0 ∙ same)
 
 -- so two walks end at the same place
-one_end : (before others : List Element) (bytes key x y : List ℕ) → GoesOn bytes key before x → GoesOn bytes key others y → Outcome key x → Outcome key y → x ≡ y
+one_end : (before others : List Element) (bytes key x y : List ℕ) → PassesOtherKeys bytes key before x → PassesOtherKeys bytes key others y → StopsSearch key x → StopsSearch key y → x ≡ y
 one_end [] [] bytes key x y p q a b = sym p.0 ∙ q.0
 one_end [] (f ∷ fs) bytes key x y p q a b = absurd (not_passed key x (flat_map spell fs ++ y) f a (begins_first f fs x y q.1.0 (sym p.0 ∙ q.0)) q.2.0)
 one_end (e ∷ es) [] bytes key x y p q a b = absurd (not_passed key y (flat_map spell es ++ x) e b (begins_first e es y x p.1.0 (sym q.0 ∙ p.0)) p.2.0)
@@ -50,25 +50,25 @@ one_end (e ∷ es) (f ∷ fs) bytes key x y p q a b =
     one_end es fs (flat_map spell fs ++ y) key x y (sym one.1, p.1.1, p.2.1) (refl, q.1.1, q.2.1) a b
 
 -- where a search ends, and how
-record Ends (bytes key : List ℕ) : Type 0 where
+record SearchEnds (bytes key : List ℕ) : Type 0 where
   before : List Element
   rest : List ℕ
-  walk : GoesOn bytes key before rest
-  outcome : Outcome key rest
+  walk : PassesOtherKeys bytes key before rest
+  outcome : StopsSearch key rest
 
-same_end : (bytes key : List ℕ) (p q : Ends bytes key) → p.rest ≡ q.rest
+same_end : (bytes key : List ℕ) (p q : SearchEnds bytes key) → p.rest ≡ q.rest
 same_end bytes key p q = one_end p.before q.before bytes key p.rest q.rest p.walk q.walk p.outcome q.outcome
 
-abbrev none_ends : (bytes key : List ℕ) → LacksKey bytes key → Ends bytes key
+abbrev none_ends : (bytes key : List ℕ) → LacksKey bytes key → SearchEnds bytes key
 none_ends bytes key none =
     record { before = none.elements; rest = []; walk = (none.fill.spelled ∙ sym (append-nil (flat_map spell none.elements)), none.fill.each, none.other); outcome = inl refl }
 
-abbrev broken_ends : (bytes key : List ℕ) → BreaksOff bytes key → Ends bytes key
+abbrev broken_ends : (bytes key : List ℕ) → BreaksOff bytes key → SearchEnds bytes key
 broken_ends bytes key broken =
     let passed = broken.passed in
     record { before = passed.before; rest = broken.rest; walk = (passed.spelled, passed.each, passed.other); outcome = inr (inl broken.broken) }
 
-abbrev found_ends : (bytes key : List ℕ) (e : Element) → IsFirstOf bytes key e → Ends bytes key
+abbrev found_ends : (bytes key : List ℕ) (e : Element) → IsFirstOf bytes key e → SearchEnds bytes key
 found_ends bytes key e found =
     let passed = found.passed in
     record { before = passed.before; rest = found.rest; walk = (passed.spelled, passed.each, passed.other); outcome = inr (inr (e, found.after, found.begins, found.key_is)) }

@@ -43,17 +43,17 @@ abbrev pub IsSpelled : List ℕ → Type 0
 IsSpelled bytes = (e : Element) × IsElement e × (bytes ≡ spell e)
 
 -- bytes that elements fill
-abbrev pub IsFilled : List ℕ → Type 0
-IsFilled bytes = (elements : List Element) × Fill bytes elements
+abbrev pub IsFilledByElements : List ℕ → Type 0
+IsFilledByElements bytes = (elements : List Element) × Fill bytes elements
 
-pub filled_from : (bytes : List ℕ) → Splits IsSpelled IsFilled bytes → IsFilled bytes
+pub filled_from : (bytes : List ℕ) → Splits IsSpelled IsFilledByElements bytes → IsFilledByElements bytes
 filled_from bytes splits =
     let e = splits.first.0 in
     let es = splits.second.0 in
     let fill = splits.second.1 in
     (e ∷ es, record { spelled = splits.spelled ∙ ap (λ w. w ++ splits.back) splits.first.2 ∙ ap (λ w. spell e ++ w) fill.spelled; each = (splits.first.1, fill.each) })
 
-pub filled_splits : (bytes : List ℕ) → (bytes ≡ [] → ⊥) → IsFilled bytes → Splits IsSpelled IsFilled bytes
+pub filled_splits : (bytes : List ℕ) → (bytes ≡ [] → ⊥) → IsFilledByElements bytes → Splits IsSpelled IsFilledByElements bytes
 filled_splits bytes left ([], fill) = absurd (left fill.spelled)
 filled_splits bytes left (e ∷ es, fill) =
     record { front = spell e; back = flat_map spell es; spelled = fill.spelled; first = (e, fill.each.0, refl); second = (es, record { spelled = refl; each = fill.each.1 }) }

@@ -26,9 +26,9 @@ in_command fault body db a is =
     let rest = flat_map spell (argument_elements db a) in
     longer fault arguments (enclosed (body ++ rest)) is (omega (arith, length-enclosed (body ++ rest), length-append body rest, length-append first arguments))
 
-passed_on : {T : Type 0} (answer : Result T BsonFault) (fault : BsonFault) (document : List ℕ) → IsErrAnd answer (λ e. e ≡ fault) → TooLongFor fault document → IfErr answer (λ e. TooLongFor e document)
-passed_on (Ok x) fault document passed is = absurd passed
-passed_on (Err e) fault document passed is = subst (λ f. TooLongFor f document) (sym passed) is
+too_long_passed_on : {T : Type 0} (answer : Result T BsonFault) (fault : BsonFault) (document : List ℕ) → IsErrAnd answer (λ e. e ≡ fault) → TooLongFor fault document → IfErr answer (λ e. TooLongFor e document)
+too_long_passed_on (Ok x) fault document passed is = absurd passed
+too_long_passed_on (Err e) fault document passed is = subst (λ f. TooLongFor f document) (sym passed) is
 
 pub arguments_refused : {T : Type 0} (answer : Result T BsonFault) (fault : BsonFault) (body db : List ℕ) (a : GenericArguments) → IsErrAnd answer (λ e. e ≡ fault) → TooLongFor fault (flat_map spell (carried_elements a)) → IfErr answer (λ e. TooLongFor e (enclosed (element_bytes body ++ flat_map spell (argument_elements db a))))
-arguments_refused answer fault body db a passed is = passed_on answer fault _ passed (in_command fault (element_bytes body) db a is)
+arguments_refused answer fault body db a passed is = too_long_passed_on answer fault _ passed (in_command fault (element_bytes body) db a is)

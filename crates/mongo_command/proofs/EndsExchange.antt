@@ -25,8 +25,8 @@ no_answer x e is = cc
 
 module _ {L : Type 0} (state : L → State) (command : Command) where
   -- a refusal has its cause, and says what it left
-  abbrev pub HasCause : Refusals → ErrorKind → Footing L → Footing L → Type 0
-  HasCause Refused kind old new = Refused kind (frame_maximum old.connection.stream_description) (command_message command) (state old.link) (state new.link) old.id new.id (kept_fault new.connection)
+  abbrev pub HasRefusalCause : Refusals → ErrorKind → Footing L → Footing L → Type 0
+  HasRefusalCause Refused kind old new = Refused kind (frame_maximum old.connection.stream_description) (command_message command) (state old.link) (state new.link) old.id new.id (kept_fault new.connection)
 
   -- a fault that is kept was answered
   pub ends_kept : {T U : Type 0} (Refused : Refusals) (at : Footing L) (r : Result T Error) (e : Error) → IsErrAnd r (λ x. x ≡ e) → ((kind : ErrorKind) → kept_fault at.connection ≡ Some kind → ◌≡◌ {A = Result U Error} (Err e) (Err (record { kind = kind })))
@@ -41,12 +41,12 @@ module _ {L : Type 0} (state : L → State) (command : Command) where
   }
 
   -- a connection without a fault, and a refusal
-  pub ends_refused : {T : Type 0} (Refused : Refusals) (old new : Footing L) (r : Result T Error) (e : Error) → IsErrAnd r (λ x. x ≡ e) → kept_fault old.connection ≡ None → HasCause Refused e.kind old new
+  pub ends_refused : {T : Type 0} (Refused : Refusals) (old new : Footing L) (r : Result T Error) (e : Error) → IsErrAnd r (λ x. x ≡ e) → kept_fault old.connection ≡ None → HasRefusalCause Refused e.kind old new
       → KeepsRest old.connection new.connection → CountsStay (state old.link) (state new.link) → EndsExchange state Refused command r old new
   ends_refused Refused old new (Ok x) e handed was cause rest counts = absurd handed
   ends_refused Refused old new (Err x) e handed was cause rest counts = record {
     kept = λ kind is. absurd (none_some (sym was ∙ is));
-    refused = λ faultless. subst (λ (y : Error). HasCause Refused y.kind old new) (sym handed) cause;
+    refused = λ faultless. subst (λ (y : Error). HasRefusalCause Refused y.kind old new) (sym handed) cause;
     faultless = tt;
     rest = rest;
     counts = counts;
@@ -56,8 +56,8 @@ module _ {L : Type 0} (state : L → State) (command : Command) where
   pub ends_wanting : {T : Type 0} (at : Footing L) (r : Result T Error) (fault : BsonFault) → IsErrAnd r (λ x. x.kind ≡ kind_of_fault fault) → fault ≡ BsonMemory → kept_fault at.connection ≡ None → EndsExchange state ExchangeRefused command r at at
   ends_wanting at (Ok x) fault given memory was = absurd given
   ends_wanting at (Err x) fault given memory was =
-      let cause : HasCause ExchangeRefused OutOfMemory at at = inl (inl (record { link = refl; ids = refl; kept_is = was })) in
-      ends_refused ExchangeRefused at at (Err x) x refl was (subst (λ kind. HasCause ExchangeRefused kind at at) (sym (given ∙ ap kind_of_fault memory)) cause) (keeps_all at.connection) (still_counts (state at.link))
+      let cause : HasRefusalCause ExchangeRefused OutOfMemory at at = inl (inl (record { link = refl; ids = refl; kept_is = was })) in
+      ends_refused ExchangeRefused at at (Err x) x refl was (subst (λ kind. HasRefusalCause ExchangeRefused kind at at) (sym (given ∙ ap kind_of_fault memory)) cause) (keeps_all at.connection) (still_counts (state at.link))
 
   -- and an answer
   pub ends_answered : {T : Type 0} (Refused : Refusals) (old new : Footing L) (x : T) → kept_fault old.connection ≡ None → kept_fault new.connection ≡ None
@@ -71,19 +71,19 @@ module _ {L : Type 0} (state : L → State) (command : Command) where
   }
 
   -- a refusal of the exchange was handed on
-  pub ends_handed : {T U : Type 0} (First Refused : Refusals) (old new : Footing L) (r : Result T Error) (e : Error) → IsErrAnd r (λ x. x ≡ e) → (HasCause First e.kind old new → HasCause Refused e.kind old new)
+  pub ends_handed : {T U : Type 0} (First Refused : Refusals) (old new : Footing L) (r : Result T Error) (e : Error) → IsErrAnd r (λ x. x ≡ e) → (HasRefusalCause First e.kind old new → HasRefusalCause Refused e.kind old new)
       → EndsExchange {T = U} state First command (Err e) old new → EndsExchange state Refused command r old new
   ends_handed First Refused old new (Ok x) e handed so ends = absurd handed
   ends_handed First Refused old new (Err x) e handed so ends = record {
     kept = λ kind is. let kept = ends.kept kind is in (ap (λ (y : Error). Err y) (handed ∙ same_error e (record { kind = kind }) kept.0), kept.1, kept.2, kept.3);
-    refused = λ faultless. subst (λ (y : Error). HasCause Refused y.kind old new) (sym handed) (so (ends.refused faultless));
+    refused = λ faultless. subst (λ (y : Error). HasRefusalCause Refused y.kind old new) (sym handed) (so (ends.refused faultless));
     faultless = tt;
     rest = ends.rest;
     counts = ends.counts;
   }
 
   -- the reply was taken, and answered or refused
-  pub ends_replied : {T U : Type 0} (First Refused : Refusals) (old new : Footing L) (x : U) (r : Result T Error) → IfErr r (λ e. HasCause Refused e.kind old new)
+  pub ends_replied : {T U : Type 0} (First Refused : Refusals) (old new : Footing L) (x : U) (r : Result T Error) → IfErr r (λ e. HasRefusalCause Refused e.kind old new)
       → EndsExchange {T = U} state First command (Ok x) old new → EndsExchange state Refused command r old new
   ends_replied First Refused old new x (Ok y) cause ends = record {
     kept = λ kind is. absurd (no_answer x (record { kind = kind }) (ends.kept kind is).0);

@@ -12,8 +12,8 @@ use Rattle.mongo_command.specs.declared.field.FieldFault.TheVariants.{Unreadable
 use Rattle.mongo_command.specs.Fields.{Answers, IsNotWellFormed}
 use Rattle.mongo_command.specs.Field.{HoldsTable}
 use Rattle.mongo_command.specs.WriteReply.{EachReads, ReadsWriteError, HoldsWriteErrors}
-use Rattle.mongo_command.proofs.Elements.{Passes, passes_none, passes_more, passes_all, no_element, document_begins_with}
-use Rattle.mongo_command.proofs.FieldAnswers.{ReadsValue, part_fault}
+use Rattle.mongo_command.proofs.Elements.{PassesElements, passes_none, passes_more, passes_all, no_element, document_begins_with}
+use Rattle.mongo_command.proofs.FieldAnswers.{AnswersOfValue, part_fault}
 
 -- ---- a table
 
@@ -31,7 +31,7 @@ no_table Reads document OutOfMemory none = tt
 
 pub record ReadsEachSoFar {A : Type 0} (Reads : Element → A → Type 0) (bytes rest : List ℕ) (values : List A) : Type 0 where
   pub elements : List Element
-  pub passes : Passes bytes rest elements
+  pub passes : PassesElements bytes rest elements
   pub each : EachReads Reads elements values
 
 pub none_each : {A : Type 0} (Reads : Element → A → Type 0) (bytes rest : List ℕ) → rest ≡ bytes → ReadsEachSoFar Reads bytes rest []
@@ -68,7 +68,7 @@ pub errors_broken_off : (document rest : List ℕ) (read : List IndexedWriteErro
 errors_broken_off document rest read so_far none errors holds = no_element document rest so_far.elements so_far.passes none holds.items holds.filled
 
 -- nor one of which an element is no write error
-pub no_write_error : (document rest after key : List ℕ) (value : RawValue) (read : List IndexedWriteError) (fault : FieldFault) (answer : Result (List IndexedWriteError) FieldFault) → IsErrAnd answer (λ e. e ≡ fault) → ReadsEachSoFar ReadsWriteError (element_bytes document) rest read → TakesElement rest key value after → ReadsValue ReadsWriteError value (Err fault) → Answers HoldsWriteErrors document answer
+pub no_write_error : (document rest after key : List ℕ) (value : RawValue) (read : List IndexedWriteError) (fault : FieldFault) (answer : Result (List IndexedWriteError) FieldFault) → IsErrAnd answer (λ e. e ≡ fault) → ReadsEachSoFar ReadsWriteError (element_bytes document) rest read → TakesElement rest key value after → AnswersOfValue ReadsWriteError value (Err fault) → Answers HoldsWriteErrors document answer
 no_write_error document rest after key value read fault answer passed so_far takes none =
     let e = takes.element in
     part_fault HoldsWriteErrors ReadsWriteError document e fault answer passed

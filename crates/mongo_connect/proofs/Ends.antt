@@ -22,7 +22,7 @@ use Rattle.mongo_settings.specs.declared.status.Status.TheVariants.{Done, Refuse
 use Rattle.mongo_connect.specs.Connecting.{IsConnectionTold, TellsBytes, Faultless, ReportsConnection}
 use Rattle.mongo_connect.specs.Input.{is_line_feed, line_of, after_line}
 use Rattle.mongo_connect.specs.Settings.{line_judged, with_replies}
-use Rattle.mongo_connect.specs.Run.{Connected, LineRead, Attempt, ConnectReported, IsRefusedLine, Ends, RunEnds, ConnectUnfailed, LineComesOut, ConnectDecided}
+use Rattle.mongo_connect.specs.Run.{Connected, LineRead, Attempt, ConnectReported, IsRefusedLine, Ends, ConnectRunEnds, ConnectUnfailed, LineComesOut, ConnectDecided}
 
 -- ---- after the line
 
@@ -92,7 +92,7 @@ module _ {L K : Type 0} (link : L → State) (sink : K → State) (steps : Steps
   ends_reported x a written flushed = reported_end x.status (record { rehearsal = x; status_is = refl; attempt = a; written = written; flushed = flushed })
 
   -- an end on the line is an end of a run without words
-  pub run_ends : (words : ℕ) (status : Status) → words ≡ 0 → Ends link sink steps run status → RunEnds link sink words steps run status
+  pub run_ends : (words : ℕ) (status : Status) → words ≡ 0 → Ends link sink steps run status → ConnectRunEnds link sink words steps run status
   run_ends words Usage is e = absurd e
   run_ends words status is e = record { none = is; ends = e }
 

@@ -120,8 +120,8 @@ module _ {L K : Type 0} (link : L → State) (sink : K → State) where
     pub ends : Ends steps run status
 
   -- how a run with so many words ends: on a line without any, and having done nothing with some
-  abbrev pub RunEnds : ℕ → StepsTaken → Run L K → Status → Type 0
-  RunEnds words steps run status = UnlessUsage (0 < words) run (RanLine words steps run) status
+  abbrev pub ConnectRunEnds : ℕ → StepsTaken → Run L K → Status → Type 0
+  ConnectRunEnds words steps run status = UnlessUsage (0 < words) run (RanLine words steps run) status
 
   -- ---- what decides
 

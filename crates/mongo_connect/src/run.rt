@@ -3,7 +3,7 @@ ghost use Rattle.std.specs.Prelude.{◌≡◌, ◌<◌, ℕ, length};
 ghost use Rattle.mongo_settings.specs.Run.{run_of};
 ghost use Rattle.mongo_settings.specs.Status.{StepsAfter};
 ghost use Rattle.mongo_settings.specs.Task.{steps_of};
-ghost use Rattle.mongo_connect.specs.Run.{Ends, RunEnds, ConnectDecided};
+ghost use Rattle.mongo_connect.specs.Run.{Ends, ConnectRunEnds, ConnectDecided};
 
 #[cfg(test)]
 mod tests;
@@ -30,7 +30,7 @@ pub fn run<L: Link, K: Sink, G: Ledger>(
 ) -> (Status, L)
     // How it ends, a row a status: done, what was printed, sent and taken are exactly those of the settings' one report, and the
     // steps rise by the rounds of the key that it derives from.
-    ensures ends { RunEnds L.state K.state (length words.items) (steps_of steps.old steps.new) (run_of link result.1 report.old report.new) result.0 }
+    ensures ends { ConnectRunEnds L.state K.state (length words.items) (steps_of steps.old steps.new) (run_of link result.1 report.old report.new) result.0 }
     // Where nothing fails, the words, the line and what follows it decide.
     ensures decided { ConnectDecided L.state K.state (length words.items) (run_of link result.1 report.old report.new) result.0 }
     ensures steps { StepsAfter result.0 steps.old steps.new }
@@ -53,7 +53,7 @@ pub fn run_counted<L: Link, K: Sink, G: Ledger>(
     requires name { blank.name ≡ G.name }
     requires parts { blank.parts ≡ G.parts }
     requires has_a_part { 0 < G.parts }
-    ensures ends { (steps : ℕ) × RunEnds L.state K.state (length words.items) (steps_of 0 steps) (run_of link result.1 report.old report.new) result.0 }
+    ensures ends { (steps : ℕ) × ConnectRunEnds L.state K.state (length words.items) (steps_of 0 steps) (run_of link result.1 report.old report.new) result.0 }
     ensures decided { ConnectDecided L.state K.state (length words.items) (run_of link result.1 report.old report.new) result.0 }
 {
     let mut steps = Steps::<G>::new(blank);

@@ -24,7 +24,7 @@ use Rattle.mongo_establish.specs.Refusal.{DocumentRow}
 use Rattle.mongo_establish.specs.Speculation.{mechanism_before, ConversationRow, MechanismRow, HelloRow}
 use Rattle.mongo_establish.specs.Spoken.{conversation_of, HasConversation}
 use Rattle.mongo_establish.proofs.Conversations.{joins}
-use Rattle.mongo_sasl.proofs.Fits.{Fits}
+use Rattle.mongo_sasl.proofs.Fits.{NeverIncompatible}
 use Rattle.mongo_sasl.proofs.StoppedKeeping.{stopped_of}
 use Rattle.mongo_scram.proofs.ScramFits.{credential_other}
 
@@ -33,7 +33,7 @@ use Rattle.mongo_scram.proofs.ScramFits.{credential_other}
 no_exchange : (maximum : ℤ) (m : Message) (old new : State) (before after : ℤ) (kept : Option ErrorKind) → ExchangeRefused IncompatibleServer maximum m old new before after kept → ⊥
 no_exchange maximum m old new before after kept r = elim r [ inl x ↦ x | inr u ↦ u.refused.refused ]
 
-no_stop : {A : Type 0} (plan : Plan A) (old new : State) (before after : ℤ) → Fits plan → Stopped plan IncompatibleServer old new before after → ⊥
+no_stop : {A : Type 0} (plan : Plan A) (old new : State) (before after : ℤ) → NeverIncompatible plan → Stopped plan IncompatibleServer old new before after → ⊥
 no_stop plan old new before after fits r =
     elim r.stop [
       | inl h ↦ elim h.cause [ inl is ↦ fits r.events is | inr memory ↦ cc ]
@@ -59,7 +59,7 @@ no_document_row document (inl (other, inl said)) = let is = said.1 in cc
 no_document_row document (inl (other, inr row)) = let is = row.1.0 in cc
 no_document_row document (inr (other, said)) = description_row_other said.response IncompatibleServer said.row refl
 
-fits_hello : (asked : Asked) → Fits (hello_plan asked)
+fits_hello : (asked : Asked) → NeverIncompatible (hello_plan asked)
 unfolding hello_plan
 fits_hello asked =
     never_unless IncompatibleServer (HelloRow asked.credential) (saying (hello_said asked) (after_hello asked.pending.address)) (no_hello_row asked.credential) (never_saying IncompatibleServer (hello_said asked) (after_hello asked.pending.address) (λ reply.
@@ -71,15 +71,15 @@ no_invalid : (reply : Option (List ℕ)) (mechanism : AuthMechanism) (credential
 no_invalid None mechanism credential row = row
 no_invalid (Some reply) mechanism credential row = row
 
-fits_validated : (mechanism : AuthMechanism) (asked : Asked) (credential : Credential) (greeting : Greeting) (conversation : Conversation) → Fits (validated mechanism asked credential greeting conversation)
+fits_validated : (mechanism : AuthMechanism) (asked : Asked) (credential : Credential) (greeting : Greeting) (conversation : Conversation) → NeverIncompatible (validated mechanism asked credential greeting conversation)
 fits_validated mechanism asked credential greeting conversation =
     never_unless IncompatibleServer (InvalidRow (speculative_reply asked greeting) mechanism credential) (conversation_plan conversation asked credential greeting) (no_invalid (speculative_reply asked greeting) mechanism credential) (joins conversation asked credential greeting).fits
 
-fits_mechanism : (mechanism : AuthMechanism) (asked : Asked) (credential : Credential) (greeting : Greeting) → Fits (mechanism_plan mechanism asked credential greeting)
+fits_mechanism : (mechanism : AuthMechanism) (asked : Asked) (credential : Credential) (greeting : Greeting) → NeverIncompatible (mechanism_plan mechanism asked credential greeting)
 unfolding mechanism_plan
 fits_mechanism mechanism asked credential greeting = never_reading IncompatibleServer (HasConversation mechanism) (validated mechanism asked credential greeting) (fits_validated mechanism asked credential greeting)
 
-fits_login_by : (who : Option Credential) (asked : Asked) (greeting : Greeting) → Fits (login_by who asked greeting)
+fits_login_by : (who : Option Credential) (asked : Asked) (greeting : Greeting) → NeverIncompatible (login_by who asked greeting)
 fits_login_by None asked greeting = never_ending IncompatibleServer greeting
 fits_login_by (Some credential) asked greeting =
     never_reading IncompatibleServer (IsMechanism credential.mechanism (speculative_reply asked greeting) greeting.description) (λ mechanism. mechanism_plan mechanism asked credential greeting) (λ mechanism. fits_mechanism mechanism asked credential greeting)

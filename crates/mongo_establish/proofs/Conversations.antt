@@ -2,13 +2,13 @@
 use Rattle.std.proofs.Common.{◌≡◌, ℕ, ℤ, ◌∙◌, refl, ap, subst, sym, is_some, List, [], ◌++◌, append-nil}
 use Rattle.mongo_wire.specs.declared.error.ErrorKind.TheVariants.{IncompatibleServer}
 use Rattle.mongo_command.specs.Conversation.{Event, Plan, HasOneTurn, ending, followed_by}
-use Rattle.mongo_command.proofs.Ends.{Ends, ends_ending, ends_followed, ends_both}
+use Rattle.mongo_command.proofs.Ends.{PlanEnds, ends_ending, ends_followed, ends_both}
 use Rattle.mongo_command.proofs.Leads.{never_ending}
 use Rattle.mongo_command.proofs.Plans.{one_ending, one_followed}
 use Rattle.mongo_sasl.specs.declared.credential.Credential.{Credential}
 use Rattle.mongo_sasl.specs.Plain.{plain_handed}
 use Rattle.mongo_sasl.specs.X509.{x509_handed}
-use Rattle.mongo_sasl.proofs.Fits.{Fits, fits_followed}
+use Rattle.mongo_sasl.proofs.Fits.{NeverIncompatible, fits_followed}
 use Rattle.mongo_sasl.proofs.Joining.{JoinsLogin}
 use Rattle.mongo_sasl.proofs.LoginEvents.{replies_in, documents_in, AreWithin, LoginEnd, EndsBy}
 use Rattle.mongo_sasl.proofs.PlainJoins.{plain_joins}
@@ -24,39 +24,39 @@ use Rattle.mongo_establish.specs.Plan.{conversation_plan}
 use Rattle.mongo_establish.specs.Script.{HoldsConversation}
 
 -- the server's maximum
-abbrev pub maximum_of : Greeting → ℤ
-maximum_of greeting = greeting.description.max_message_size_bytes
+abbrev pub greeted_maximum : Greeting → ℤ
+greeted_maximum greeting = greeting.description.max_message_size_bytes
 
 -- Its plan has one turn, never refuses by `IncompatibleServer`, which is the establishment's own refusal, and ends by just the
 -- commands and replies that hold the conversation.
 pub record Joins (plan : Plan Greeting) (login : List (List ℕ) → List (List ℕ) → Type 0) (greeting : Greeting) : Type 0 where
   pub one : HasOneTurn plan
-  pub fits : Fits plan
-  pub ended : (events : List Event) (answer : Greeting) → Ends plan events answer → EndsBy login greeting (maximum_of greeting) events answer
-  pub ends : (commands replies : List (List ℕ)) → login commands replies → LoginEnd plan greeting (maximum_of greeting) commands replies
+  pub fits : NeverIncompatible plan
+  pub ended : (events : List Event) (answer : Greeting) → PlanEnds plan events answer → EndsBy login greeting (greeted_maximum greeting) events answer
+  pub ends : (commands replies : List (List ℕ)) → login commands replies → LoginEnd plan greeting (greeted_maximum greeting) commands replies
 
 -- a conversation whose answer isn't looked at joins by what its own crate says of its plan
-module _ {A : Type 0} {plan : Plan A} {login : List (List ℕ) → List (List ℕ) → Type 0} (greeting : Greeting) (own : JoinsLogin plan login (maximum_of greeting)) where
+module _ {A : Type 0} {plan : Plan A} {login : List (List ℕ) → List (List ℕ) → Type 0} (greeting : Greeting) (own : JoinsLogin plan login (greeted_maximum greeting)) where
   abbrev then_greeting : Plan Greeting
   then_greeting = followed_by plan (λ done. ending greeting)
 
-  then_ended : (events : List Event) (answer : Greeting) → Ends then_greeting events answer → EndsBy login greeting (maximum_of greeting) events answer
+  then_ended : (events : List Event) (answer : Greeting) → PlanEnds then_greeting events answer → EndsBy login greeting (greeted_maximum greeting) events answer
   then_ended events answer e =
       let split = ends_followed plan (λ done. ending greeting) events answer own.one e in
       let last = ends_ending greeting split.more answer split.second in
       let same : split.front ≡ events = sym (split.events_are ∙ ap (λ x. split.front ++ x) last.0 ∙ append-nil split.front) in
       let found = own.ended split.front split.answer split.first in
-      (last.1, subst (λ x. login (documents_in x) (replies_in x)) same found.0, subst (AreWithin (maximum_of greeting)) same found.1)
+      (last.1, subst (λ x. login (documents_in x) (replies_in x)) same found.0, subst (AreWithin (greeted_maximum greeting)) same found.1)
 
-  then_ends : (answer : A) (commands replies : List (List ℕ)) → LoginEnd plan answer (maximum_of greeting) commands replies → LoginEnd then_greeting greeting (maximum_of greeting) commands replies
+  then_ends : (answer : A) (commands replies : List (List ℕ)) → LoginEnd plan answer (greeted_maximum greeting) commands replies → LoginEnd then_greeting greeting (greeted_maximum greeting) commands replies
   then_ends answer commands replies l = record {
     events = l.events;
     commands_are = l.commands_are;
     replies_are = l.replies_are;
     within = l.within;
     ends = λ sendable.
-        let both : Ends then_greeting (l.events ++ []) greeting = ends_both plan (λ done. ending greeting) l.events [] answer greeting (l.ends sendable) (record { follows = tt; answer_is = refl }) in
-        subst (λ x. Ends then_greeting x greeting) (append-nil l.events) both;
+        let both : PlanEnds then_greeting (l.events ++ []) greeting = ends_both plan (λ done. ending greeting) l.events [] answer greeting (l.ends sendable) (record { follows = tt; answer_is = refl }) in
+        subst (λ x. PlanEnds then_greeting x greeting) (append-nil l.events) both;
   }
 
   then_joins : Joins then_greeting login greeting

@@ -3,7 +3,7 @@ use Rattle.std.proofs.Common.{◌≡◌, ℕ, ℤ, ◌∙◌, append-nil, append
 use Rattle.mongo_wire.specs.Outside.{State}
 use Rattle.mongo_wire.specs.Bytes.{IsSent, IsWhole, next_id}
 use Rattle.mongo_command.specs.Conversation.{Said, Event, exchanged, ends, Plan, said_in, given_in, id_after_said, IsSaid, IsHeard, IsFlushedAfter, Reached, Leads}
-use Rattle.mongo_command.proofs.Ends.{Ends}
+use Rattle.mongo_command.proofs.Ends.{PlanEnds}
 use Rattle.mongo_command.proofs.FollowedBy.{reached_both}
 use Rattle.mongo_command.proofs.Leads.{told_taken}
 use Rattle.mongo_command.proofs.OneSaid.{framed_sendable}
@@ -16,7 +16,7 @@ use Rattle.mongo_establish.specs.Greeting.{Greeting}
 use Rattle.mongo_establish.specs.Plan.{hello_said, hello_plan, login_plan, handshake_plan, establishment_plan}
 use Rattle.mongo_establish.specs.Script.{Script, IsScript, HasScript}
 use Rattle.mongo_establish.proofs.LoginBytes.{within_ids}
-use Rattle.mongo_establish.proofs.Conversations.{maximum_of}
+use Rattle.mongo_establish.proofs.Conversations.{greeted_maximum}
 use Rattle.mongo_establish.proofs.EstablishmentPlan.{IsEstablished, handshake_ended, script_ends}
 
 -- ---- what was made
@@ -43,15 +43,15 @@ is_script asked events greeting e = record {
   service = e.service;
 }
 
-script_sent : (asked : Asked) (events : List Event) (greeting : Greeting) (e : IsEstablished asked events greeting) (bytes : List ℕ) → IsSaid (said_in events) asked.first_id bytes → IsSent (hello_document asked ∷ documents_in e.more) asked.first_id (maximum_of greeting) bytes
+script_sent : (asked : Asked) (events : List Event) (greeting : Greeting) (e : IsEstablished asked events greeting) (bytes : List ℕ) → IsSaid (said_in events) asked.first_id bytes → IsSent (hello_document asked ∷ documents_in e.more) asked.first_id (greeted_maximum greeting) bytes
 script_sent asked events greeting e bytes said =
     let first : IsSaid (hello_said asked ∷ said_in e.more) asked.first_id bytes = subst (λ x. IsSaid (said_in x) asked.first_id bytes) e.events_are said in
-    (first.0, first.1, first.2, first.3, first.4, within_sent (maximum_of greeting) e.more (next_id asked.first_id) first.1 e.within first.5)
+    (first.0, first.1, first.2, first.3, first.4, within_sent (greeted_maximum greeting) e.more (next_id asked.first_id) first.1 e.within first.5)
 
-script_heard : (asked : Asked) (events : List Event) (greeting : Greeting) (e : IsEstablished asked events greeting) (bytes : List ℕ) → IsHeard events bytes → IsWhole (e.reply ∷ replies_in e.more) (maximum_of greeting) bytes
+script_heard : (asked : Asked) (events : List Event) (greeting : Greeting) (e : IsEstablished asked events greeting) (bytes : List ℕ) → IsHeard events bytes → IsWhole (e.reply ∷ replies_in e.more) (greeted_maximum greeting) bytes
 script_heard asked events greeting e bytes heard =
     let first : IsHeard (exchanged (hello_said asked) e.reply ∷ e.more) bytes = subst (λ x. IsHeard x bytes) e.events_are heard in
-    (first.0, first.1, first.2, first.3, first.4, first.5, first.6, within_heard (maximum_of greeting) e.more first.1 e.within first.7)
+    (first.0, first.1, first.2, first.3, first.4, first.5, first.6, within_heard (greeted_maximum greeting) e.more first.1 e.within first.7)
 
 -- of a handshake that was followed to its end
 pub ended_by : (asked : Asked) (greeting : Greeting) (old new : State) (after : ℤ) (r : Reached (handshake_plan asked) greeting old new asked.first_id after) → NamesService asked.pending.generation greeting.description → IsEstablished asked r.events greeting
@@ -79,7 +79,7 @@ scripted_by asked greeting old new after r named =
 -- ---- what bytes lead to
 
 -- an end of a plan that asks nothing, over bytes that begin with its replies
-ended_leads : (plan : Plan Greeting) (events : List Event) (greeting : Greeting) (bytes heard rest : List ℕ) → Ends plan events greeting → [] ≡ given_in events → IsHeard events heard → bytes ≡ heard ++ rest → Leads plan bytes (ends greeting) (said_in events) heard rest
+ended_leads : (plan : Plan Greeting) (events : List Event) (greeting : Greeting) (bytes heard rest : List ℕ) → PlanEnds plan events greeting → [] ≡ given_in events → IsHeard events heard → bytes ≡ heard ++ rest → Leads plan bytes (ends greeting) (said_in events) heard rest
 ended_leads plan events greeting bytes heard rest ended given is joined = record {
   events = events;
   follows = ended.follows;
@@ -111,10 +111,10 @@ script_leads asked bytes h =
     let s = h.is_script in
     let greeting = script.greeting in
     let e = script_ends asked script s in
-    let sent : IsSent (hello_document asked ∷ documents_in e.more) asked.first_id (maximum_of greeting) h.sent = subst (λ x. IsSent x asked.first_id (maximum_of greeting) h.sent) (s.commands_are ∙ ap (λ x. hello_document asked ∷ x) e.commands_are) h.is_written in
-    let taken : IsWhole (s.first_reply ∷ replies_in e.more) (maximum_of greeting) h.taken = subst (λ x. IsWhole x (maximum_of greeting) h.taken) (s.replies_are ∙ ap (λ x. s.first_reply ∷ x) e.replies_are) h.is_taken in
-    let later_said = sent_within (maximum_of greeting) e.more (next_id asked.first_id) sent.1 e.within sent.5 in
-    let later_heard = heard_within (maximum_of greeting) e.more taken.1 e.within taken.7 in
+    let sent : IsSent (hello_document asked ∷ documents_in e.more) asked.first_id (greeted_maximum greeting) h.sent = subst (λ x. IsSent x asked.first_id (greeted_maximum greeting) h.sent) (s.commands_are ∙ ap (λ x. hello_document asked ∷ x) e.commands_are) h.is_written in
+    let taken : IsWhole (s.first_reply ∷ replies_in e.more) (greeted_maximum greeting) h.taken = subst (λ x. IsWhole x (greeted_maximum greeting) h.taken) (s.replies_are ∙ ap (λ x. s.first_reply ∷ x) e.replies_are) h.is_taken in
+    let later_said = sent_within (greeted_maximum greeting) e.more (next_id asked.first_id) sent.1 e.within sent.5 in
+    let later_heard = heard_within (greeted_maximum greeting) e.more taken.1 e.within taken.7 in
     let sendable = framed_sendable (hello_said asked) sent.0 asked.first_id sent.3 sent.4 in
     let heard_first : IsHeard (exchanged (hello_said asked) s.first_reply ∷ []) taken.0 = (taken.0, [], taken.2, sym (append-nil taken.0), taken.4, taken.5, taken.6, refl) in
     let heard_all : IsHeard (exchanged (hello_said asked) s.first_reply ∷ e.more) h.taken = (taken.0, taken.1, taken.2, taken.3, taken.4, taken.5, taken.6, later_heard) in
@@ -123,6 +123,6 @@ script_leads asked bytes h =
       later = taken.1 ++ h.rest;
       hello = ended_leads (hello_plan asked) _ greeting bytes taken.0 (taken.1 ++ h.rest) (e.hello sendable) refl heard_first (h.joined ∙ ap (λ x. x ++ h.rest) taken.3 ∙ append_assoc taken.0 taken.1 h.rest);
       commands = hello_said asked ∷ said_in e.more;
-      whole = ended_leads (establishment_plan asked) _ greeting bytes h.taken h.rest (e.whole sendable (said_sendable (said_in e.more) (next_id asked.first_id) sent.1 later_said)) (within_given (maximum_of greeting) e.more e.within) heard_all h.joined;
+      whole = ended_leads (establishment_plan asked) _ greeting bytes h.taken h.rest (e.whole sendable (said_sendable (said_in e.more) (next_id asked.first_id) sent.1 later_said)) (within_given (greeted_maximum greeting) e.more e.within) heard_all h.joined;
       said = (sent.0, sent.1, sent.2, sent.3, sent.4, later_said);
     }

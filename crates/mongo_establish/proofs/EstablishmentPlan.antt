@@ -3,7 +3,7 @@ use Rattle.std.proofs.Common.{◌≡◌, ℕ, ◌∙◌, refl, subst, sym, inr, 
 use Rattle.mongo_command.specs.declared.stream_description.StreamDescription.{StreamDescription}
 use Rattle.mongo_command.specs.Conversation.{Event, exchanged, IsOne, HasNone, HasOneTurn, IsSendable, said_in}
 use Rattle.mongo_command.proofs.Plans.{one_ending, one_unless, one_followed}
-use Rattle.mongo_command.proofs.Ends.{Ends, ends_followed, ends_both}
+use Rattle.mongo_command.proofs.Ends.{PlanEnds, ends_followed, ends_both}
 use Rattle.mongo_sasl.proofs.LoginEvents.{replies_in, documents_in, AreSendable, AreWithin}
 use Rattle.mongo_establish.specs.declared.generation.PoolGeneration.{PoolGeneration}
 use Rattle.mongo_establish.specs.Asked.{Asked}
@@ -15,7 +15,7 @@ use Rattle.mongo_establish.specs.Script.{Script, IsScript, IsLogin}
 use Rattle.mongo_establish.specs.Speculation.{HelloRow}
 use Rattle.mongo_establish.proofs.HelloPlan.{one_hello, greeted, greeting_ends}
 use Rattle.mongo_establish.proofs.LoginPlan.{one_login}
-use Rattle.mongo_establish.proofs.Conversations.{maximum_of}
+use Rattle.mongo_establish.proofs.Conversations.{greeted_maximum}
 use Rattle.mongo_establish.proofs.LoginEnds.{login_ended, login_ends}
 
 -- ---- one turn
@@ -49,10 +49,10 @@ pub record IsEstablished (asked : Asked) (events : List Event) (greeting : Greet
   pub events_are : events ≡ exchanged (hello_said asked) reply ∷ more
   pub greets : Greets asked.pending.address reply greeting
   pub login : IsLogin asked greeting (documents_in more) (replies_in more)
-  pub within : AreWithin (maximum_of greeting) more
+  pub within : AreWithin (greeted_maximum greeting) more
   pub service : NamesService asked.pending.generation greeting.description
 
-pub handshake_ended : (asked : Asked) (events : List Event) (greeting : Greeting) → Ends (handshake_plan asked) events greeting → NamesService asked.pending.generation greeting.description → IsEstablished asked events greeting
+pub handshake_ended : (asked : Asked) (events : List Event) (greeting : Greeting) → PlanEnds (handshake_plan asked) events greeting → NamesService asked.pending.generation greeting.description → IsEstablished asked events greeting
 unfolding handshake_plan
 handshake_ended asked events greeting ended service =
     let both = ends_followed (hello_plan asked) (login_plan asked) events greeting (one_hello asked) ended in
@@ -66,7 +66,7 @@ handshake_ended asked events greeting ended service =
       events_are = both.events_are ∙ ap (λ x. x ++ both.more) hello.events_are;
       greets = subst (Greets asked.pending.address hello.reply) same hello.greets;
       login = subst (λ g. IsLogin asked g (documents_in both.more) (replies_in both.more)) same login.1;
-      within = subst (λ g. AreWithin (maximum_of g) both.more) same login.2;
+      within = subst (λ g. AreWithin (greeted_maximum g) both.more) same login.2;
       service = service;
     }
 
@@ -77,17 +77,17 @@ pub record ScriptEnds (asked : Asked) (script : Script) (s : IsScript asked scri
   pub more : List Event
   pub commands_are : s.later_commands ≡ documents_in more
   pub replies_are : s.later_replies ≡ replies_in more
-  pub within : AreWithin (maximum_of script.greeting) more
-  pub hello : IsSendable (hello_said asked) → Ends (hello_plan asked) (exchanged (hello_said asked) s.first_reply ∷ []) script.greeting
-  pub whole : IsSendable (hello_said asked) → AreSendable (said_in more) → Ends (establishment_plan asked) (exchanged (hello_said asked) s.first_reply ∷ more) script.greeting
+  pub within : AreWithin (greeted_maximum script.greeting) more
+  pub hello : IsSendable (hello_said asked) → PlanEnds (hello_plan asked) (exchanged (hello_said asked) s.first_reply ∷ []) script.greeting
+  pub whole : IsSendable (hello_said asked) → AreSendable (said_in more) → PlanEnds (establishment_plan asked) (exchanged (hello_said asked) s.first_reply ∷ more) script.greeting
 
-established_ends : (asked : Asked) (greeting : Greeting) (first more : List Event) → Ends (hello_plan asked) first greeting → Ends (login_plan asked greeting) more greeting → NamesService asked.pending.generation greeting.description → Ends (establishment_plan asked) (first ++ more) greeting
+established_ends : (asked : Asked) (greeting : Greeting) (first more : List Event) → PlanEnds (hello_plan asked) first greeting → PlanEnds (login_plan asked greeting) more greeting → NamesService asked.pending.generation greeting.description → PlanEnds (establishment_plan asked) (first ++ more) greeting
 unfolding handshake_plan establishment_plan
 established_ends asked greeting first more hello login service =
     let named = named_service asked.pending.generation greeting.description service in
-    let handshake : Ends (handshake_plan asked) (first ++ more) greeting = ends_both (hello_plan asked) (login_plan asked) first more greeting greeting hello login in
-    let both : Ends (establishment_plan asked) ((first ++ more) ++ []) greeting = ends_both (handshake_plan asked) (service_plan asked) (first ++ more) [] greeting greeting handshake (record { follows = tt; answer_is = inr (named, refl) }) in
-    subst (λ x. Ends (establishment_plan asked) x greeting) (append-nil (first ++ more)) both
+    let handshake : PlanEnds (handshake_plan asked) (first ++ more) greeting = ends_both (hello_plan asked) (login_plan asked) first more greeting greeting hello login in
+    let both : PlanEnds (establishment_plan asked) ((first ++ more) ++ []) greeting = ends_both (handshake_plan asked) (service_plan asked) (first ++ more) [] greeting greeting handshake (record { follows = tt; answer_is = inr (named, refl) }) in
+    subst (λ x. PlanEnds (establishment_plan asked) x greeting) (append-nil (first ++ more)) both
 
 pub script_ends : (asked : Asked) (script : Script) (s : IsScript asked script) → ScriptEnds asked script s
 script_ends asked script s =

@@ -80,14 +80,14 @@ x509_document credential None is = absurd is
 x509_document credential (Some (Scram also first)) is = absurd is
 x509_document credential (Some (X509 command)) is = ap (λ command. Some command.body) is
 
-document_in : (conversation : Option Conversation) (credential : Credential) (nonce : List ℕ) (first : Option ClientFirst) → IsFirstIn conversation credential nonce first → option_map first_document first ≡ speculation_in conversation credential nonce
-document_in (Some (ByScram version)) credential nonce first is = scram_document version credential nonce first is
-document_in (Some ByX509) credential nonce first is = x509_document credential first is
-document_in conversation credential nonce first is = ap (option_map first_document) is
+speculated_document : (conversation : Option Conversation) (credential : Credential) (nonce : List ℕ) (first : Option ClientFirst) → IsFirstIn conversation credential nonce first → option_map first_document first ≡ speculation_in conversation credential nonce
+speculated_document (Some (ByScram version)) credential nonce first is = scram_document version credential nonce first is
+speculated_document (Some ByX509) credential nonce first is = x509_document credential first is
+speculated_document conversation credential nonce first is = ap (option_map first_document) is
 
 pub first_speculation : (who : Option Credential) (nonce : List ℕ) (first : Option ClientFirst) → IsFirstMessage who nonce first → option_map first_document first ≡ speculation who nonce
 first_speculation None nonce first is = ap (option_map first_document) is
-first_speculation (Some credential) nonce first is = document_in (conversation_of (mechanism_before credential.mechanism)) credential nonce first is
+first_speculation (Some credential) nonce first is = speculated_document (conversation_of (mechanism_before credential.mechanism)) credential nonce first is
 
 -- ---- the first round
 

@@ -8,7 +8,7 @@ use Rattle.mongo_command.specs.declared.stream_description.StreamDescription.{St
 use Rattle.mongo_command.specs.Conversation.{Event, exchanged, AreMet, IsOne, HasNone, HasOneTurn, ending, reading, saying, IsSendable}
 use Rattle.mongo_command.specs.Hello.{IsHelloResponse, description_demands, DescriptionRow, description_of}
 use Rattle.mongo_command.proofs.OneReply.{one_hello_response, one_hello_reply_row, one_description_row}
-use Rattle.mongo_command.proofs.Ends.{Ends, ends_ending, ends_unless, ends_reading, ends_saying}
+use Rattle.mongo_command.proofs.Ends.{PlanEnds, ends_ending, ends_unless, ends_reading, ends_saying}
 use Rattle.mongo_command.proofs.Plans.{no_of, none_unmet, one_else, one_is, one_ending, one_unless, one_reading, one_saying}
 use Rattle.mongo_sasl.specs.declared.credential.Credential.{Credential}
 use Rattle.mongo_sasl.specs.declared.mechanism.AuthMechanism.{AuthMechanism}
@@ -82,7 +82,7 @@ pub record IsGreeted (asked : Asked) (events : List Event) (greeting : Greeting)
   pub events_are : events ≡ exchanged (hello_said asked) reply ∷ []
   pub greets : Greets asked.pending.address reply greeting
 
-pub greeted : (asked : Asked) (events : List Event) (greeting : Greeting) → Ends (hello_plan asked) events greeting → IsGreeted asked events greeting
+pub greeted : (asked : Asked) (events : List Event) (greeting : Greeting) → PlanEnds (hello_plan asked) events greeting → IsGreeted asked events greeting
 unfolding hello_plan
 greeted asked events greeting ended =
     let address = asked.pending.address in
@@ -99,7 +99,7 @@ greeted asked events greeting ended =
     }
 
 -- a hello that could be made and was said, and a reply that greets, are an end of it
-pub greeting_ends : (asked : Asked) (reply : List ℕ) (greeting : Greeting) → HasNone (HelloRow asked.credential) → IsSendable (hello_said asked) → Greets asked.pending.address reply greeting → Ends (hello_plan asked) (exchanged (hello_said asked) reply ∷ []) greeting
+pub greeting_ends : (asked : Asked) (reply : List ℕ) (greeting : Greeting) → HasNone (HelloRow asked.credential) → IsSendable (hello_said asked) → Greets asked.pending.address reply greeting → PlanEnds (hello_plan asked) (exchanged (hello_said asked) reply ∷ []) greeting
 unfolding hello_plan
 greeting_ends asked reply greeting made sendable greets = record {
   follows = (inr (made, refl), sendable, tt);

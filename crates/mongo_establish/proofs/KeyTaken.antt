@@ -140,11 +140,11 @@ nothing_taken old new nothing = record { key = None; middle = old.state; between
 nothing_spent : (kind : ErrorKind) (old new : Balance) → CostsNothing old.ledgers new.ledgers → KeySpent (ending None) kind old new
 nothing_spent kind old new nothing = inr (record { key = None; middle = old.state; between = old.id; reached = reached_ending None old.state old.id; takes = inl nothing })
 
-taken_by : (conversation : Option Conversation) (mechanism : AuthMechanism) (asked : Asked) (credential : Credential) (greeting : Greeting) (old new : Balance) → (IsScram conversation → HasNone (InvalidRow (speculative_reply asked greeting) mechanism credential))
+key_taken_by : (conversation : Option Conversation) (mechanism : AuthMechanism) (asked : Asked) (credential : Credential) (greeting : Greeting) (old new : Balance) → (IsScram conversation → HasNone (InvalidRow (speculative_reply asked greeting) mechanism credential))
     → AcceptedCosts (scram_in conversation) asked credential greeting old new → KeyTaken (derivation_by conversation mechanism asked credential greeting) old new
 unfolding derivation_by
-taken_by (Some (Scram version)) mechanism asked credential greeting old new none c = scram_takes version mechanism asked credential greeting (none tt) c.buffer old new c.accepted
-taken_by conversation mechanism asked credential greeting old new none c = nothing_taken old new c
+key_taken_by (Some (Scram version)) mechanism asked credential greeting old new none c = scram_takes version mechanism asked credential greeting (none tt) c.buffer old new c.accepted
+key_taken_by conversation mechanism asked credential greeting old new none c = nothing_taken old new c
 
 spent_by : (conversation : Option Conversation) (mechanism : AuthMechanism) (asked : Asked) (credential : Credential) (greeting : Greeting) (kind : ErrorKind) (old new : Balance) → (IsScram conversation → HasNone (InvalidRow (speculative_reply asked greeting) mechanism credential))
     → StoppedCosts (scram_in conversation) asked credential greeting kind old new → KeySpent (derivation_by conversation mechanism asked credential greeting) kind old new
@@ -166,7 +166,7 @@ login_taken None asked greeting old new made c = nothing_taken old new c
 login_taken (Some credential) asked greeting old new made c =
     let none = taken credential (speculative_reply asked greeting) greeting.description c.mechanism c.is_mechanism made in
     taken_more (derivation_by (conversation_of c.mechanism) c.mechanism asked credential greeting) (derivation_of (Some credential) asked greeting) old new (λ past turn h. (c.mechanism, c.is_mechanism, h))
-    (taken_by (conversation_of c.mechanism) c.mechanism asked credential greeting old new none c.costs)
+    (key_taken_by (conversation_of c.mechanism) c.mechanism asked credential greeting old new none c.costs)
 
 login_spent : (who : Option Credential) (asked : Asked) (greeting : Greeting) (kind : ErrorKind) (old new : Balance) → HasNone (HelloRow who) → StoppedLoginCostsOf who asked greeting kind old new → KeySpent (derivation_of who asked greeting) kind old new
 login_spent None asked greeting kind old new made c = nothing_spent kind old new c

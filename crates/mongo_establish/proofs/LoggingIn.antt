@@ -75,8 +75,8 @@ module _ (opened : Connection) (options : HandshakerOptions) (given : Option Cre
   users : (greeting : Greeting) → held ≡ Some greeting.description → holds_users greeting.description.initial_server_type ≡ true
   users greeting described = subst (λ d. holds_users d.initial_server_type ≡ true) (described_same greeting described) at.0
 
-  mechanisms : (greeting : Greeting) → held ≡ Some greeting.description → (reply : Option (List ℕ)) → is_some reply ≡ is_some round → IsMechanism credential.mechanism reply greeting.description mechanism
-  mechanisms greeting described reply like = subst (λ d. IsMechanism credential.mechanism reply d mechanism) (described_same greeting described) (at.1 reply like)
+  greeted_mechanism : (greeting : Greeting) → held ≡ Some greeting.description → (reply : Option (List ℕ)) → is_some reply ≡ is_some round → IsMechanism credential.mechanism reply greeting.description mechanism
+  greeted_mechanism greeting described reply like = subst (λ d. IsMechanism credential.mechanism reply d mechanism) (described_same greeting described) (at.1 reply like)
 
   went : (greeting : Greeting) → IsRoundOf asked.credential asked greeting round → IsRoundBy (conversation_of (mechanism_before credential.mechanism)) credential asked greeting round
   went greeting r = subst (λ c. IsRoundOf c asked greeting round) who r
@@ -86,14 +86,14 @@ module _ (opened : Connection) (options : HandshakerOptions) (given : Option Cre
       → IfErr r (λ e. LoginStops asked held round e.kind kept old old)
   log_in_invalid (Ok x) kept old none nothing h = tt
   log_in_invalid (Err e) kept old none nothing h = record {
-    stopped = λ greeting described r. subst (StoppedKeeping (login_plan asked greeting) e.kind old.state old.state old.id old.id) (sym none) (invalid_stopped asked greeting credential round mechanism who (users greeting described) (went greeting r) (mechanisms greeting described) found.0 found.1 e.kind old.state old.id h.0 h.1);
-    costs = λ greeting described r. invalid_costs asked greeting credential round mechanism who (users greeting described) (went greeting r) (mechanisms greeting described) found.0 found.1 e.kind old h.0 h.1 nothing;
+    stopped = λ greeting described r. subst (StoppedKeeping (login_plan asked greeting) e.kind old.state old.state old.id old.id) (sym none) (invalid_stopped asked greeting credential round mechanism who (users greeting described) (went greeting r) (greeted_mechanism greeting described) found.0 found.1 e.kind old.state old.id h.0 h.1);
+    costs = λ greeting described r. invalid_costs asked greeting credential round mechanism who (users greeting described) (went greeting r) (greeted_mechanism greeting described) found.0 found.1 e.kind old h.0 h.1 nothing;
   }
 
   module _ (taken : IsCredentialTaken (is_some round) mechanism credential) (conversation : Conversation) (has : HasConversation mechanism conversation) where
     -- its round is the conversation's
     abbrev by_it : (greeting : Greeting) → held ≡ Some greeting.description → IsRoundOf asked.credential asked greeting round → IsRoundBy (Some conversation) credential asked greeting round
-    by_it greeting described r = went_by asked greeting credential round mechanism who (users greeting described) (went greeting r) (mechanisms greeting described) conversation has
+    by_it greeting described r = went_by asked greeting credential round mechanism who (users greeting described) (went greeting r) (greeted_mechanism greeting described) conversation has
 
     abbrev this : Option Credential → Asked
     this c = asked_over opened options c nonces id
@@ -106,8 +106,8 @@ module _ (opened : Connection) (options : HandshakerOptions) (given : Option Cre
     log_in_accepted (Ok done) left old new h =
         let conversed = (here (Ok done) left old new h).accepted in
         record {
-          reached = λ greeting described r. conversed_reached asked greeting credential round mechanism who (users greeting described) (went greeting r) (mechanisms greeting described) conversation has taken old new (conversed greeting described (by_it greeting described r));
-          costs = λ greeting described r. conversed_costs asked greeting credential round mechanism who (users greeting described) (went greeting r) (mechanisms greeting described) conversation has taken old new (conversed greeting described (by_it greeting described r));
+          reached = λ greeting described r. conversed_reached asked greeting credential round mechanism who (users greeting described) (went greeting r) (greeted_mechanism greeting described) conversation has taken old new (conversed greeting described (by_it greeting described r));
+          costs = λ greeting described r. conversed_costs asked greeting credential round mechanism who (users greeting described) (went greeting r) (greeted_mechanism greeting described) conversation has taken old new (conversed greeting described (by_it greeting described r));
         }
     log_in_accepted (Err e) left old new h = tt
 
@@ -117,6 +117,6 @@ module _ (opened : Connection) (options : HandshakerOptions) (given : Option Cre
     log_in_stopped (Err e) left old new h =
         let stopped = (here (Err e) left old new h).refused in
         record {
-          stopped = λ greeting described r. stopped_stopped asked greeting credential round mechanism who (users greeting described) (went greeting r) (mechanisms greeting described) conversation has taken e.kind old new (stopped greeting described (by_it greeting described r));
-          costs = λ greeting described r. stopped_costs asked greeting credential round mechanism who (users greeting described) (went greeting r) (mechanisms greeting described) conversation has taken e.kind old new (stopped greeting described (by_it greeting described r));
+          stopped = λ greeting described r. stopped_stopped asked greeting credential round mechanism who (users greeting described) (went greeting r) (greeted_mechanism greeting described) conversation has taken e.kind old new (stopped greeting described (by_it greeting described r));
+          costs = λ greeting described r. stopped_costs asked greeting credential round mechanism who (users greeting described) (went greeting r) (greeted_mechanism greeting described) conversation has taken e.kind old new (stopped greeting described (by_it greeting described r));
         }

@@ -3,7 +3,7 @@ use Rattle.std.proofs.Common.{◌≡◌, ℕ, refl, ap, subst, sym, inr, Option,
 use Rattle.mongo_wire.specs.declared.error.ErrorKind.{ErrorKind}
 use Rattle.mongo_command.specs.Conversation.{Event, Plan, HasNone, unless, reading}
 use Rattle.mongo_command.proofs.Talked.{follows_more}
-use Rattle.mongo_command.proofs.Ends.{Ends, ends_ending, ends_unless, ends_reading}
+use Rattle.mongo_command.proofs.Ends.{PlanEnds, ends_ending, ends_unless, ends_reading}
 use Rattle.mongo_sasl.specs.declared.credential.Credential.{Credential}
 use Rattle.mongo_sasl.specs.declared.mechanism.AuthMechanism.{AuthMechanism}
 use Rattle.mongo_sasl.proofs.LoginEvents.{replies_in, documents_in, AreWithin, LoginEnd, EndsBy}
@@ -13,20 +13,20 @@ use Rattle.mongo_establish.specs.Login.{logging_in, speculative_reply, IsMechani
 use Rattle.mongo_establish.specs.Plan.{conversation_plan, validated, mechanism_plan, login_by, login_plan}
 use Rattle.mongo_establish.specs.Script.{IsLoginBy, IsLoginOf, IsLogin}
 use Rattle.mongo_establish.specs.Spoken.{HasConversation}
-use Rattle.mongo_establish.proofs.Conversations.{maximum_of, joins}
+use Rattle.mongo_establish.proofs.Conversations.{greeted_maximum, joins}
 use Rattle.mongo_establish.proofs.LoginPlan.{one_mechanism, one_conversation}
 use Rattle.mongo_establish.proofs.Validated.{taken_no_row, no_row_taken}
 
 -- ---- parts of a plan
 
 -- a row that doesn't apply, and what was read, change no end
-unless_ends : {A : Type 0} (row : ErrorKind → Type 0) (plan : Plan A) (events : List Event) (answer : A) → HasNone row → Ends plan events answer → Ends (unless row plan) events answer
+unless_ends : {A : Type 0} (row : ErrorKind → Type 0) (plan : Plan A) (events : List Event) (answer : A) → HasNone row → PlanEnds plan events answer → PlanEnds (unless row plan) events answer
 unless_ends row plan events answer none e = record { follows = follows_more plan (unless row plan) events e.follows (λ past turn h. inr (none, h)); answer_is = inr (none, e.answer_is) }
 
-reading_ends : {X A : Type 0} (reads : X → Type 0) (plan : X → Plan A) (x : X) (events : List Event) (answer : A) → reads x → Ends (plan x) events answer → Ends (reading reads plan) events answer
+reading_ends : {X A : Type 0} (reads : X → Type 0) (plan : X → Plan A) (x : X) (events : List Event) (answer : A) → reads x → PlanEnds (plan x) events answer → PlanEnds (reading reads plan) events answer
 reading_ends reads plan x events answer is e = record { follows = follows_more (plan x) (reading reads plan) events e.follows (λ past turn h. (x, is, h)); answer_is = (x, is, e.answer_is) }
 
-unless_end : (row : ErrorKind → Type 0) (plan : Plan Greeting) (greeting : Greeting) (commands replies : List (List ℕ)) → HasNone row → LoginEnd plan greeting (maximum_of greeting) commands replies → LoginEnd (unless row plan) greeting (maximum_of greeting) commands replies
+unless_end : (row : ErrorKind → Type 0) (plan : Plan Greeting) (greeting : Greeting) (commands replies : List (List ℕ)) → HasNone row → LoginEnd plan greeting (greeted_maximum greeting) commands replies → LoginEnd (unless row plan) greeting (greeted_maximum greeting) commands replies
 unless_end row plan greeting commands replies none l = record {
   events = l.events;
   commands_are = l.commands_are;
@@ -35,7 +35,7 @@ unless_end row plan greeting commands replies none l = record {
   ends = λ sendable. unless_ends row plan l.events greeting none (l.ends sendable);
 }
 
-reading_end : {X : Type 0} (reads : X → Type 0) (plan : X → Plan Greeting) (x : X) (greeting : Greeting) (commands replies : List (List ℕ)) → reads x → LoginEnd (plan x) greeting (maximum_of greeting) commands replies → LoginEnd (reading reads plan) greeting (maximum_of greeting) commands replies
+reading_end : {X : Type 0} (reads : X → Type 0) (plan : X → Plan Greeting) (x : X) (greeting : Greeting) (commands replies : List (List ℕ)) → reads x → LoginEnd (plan x) greeting (greeted_maximum greeting) commands replies → LoginEnd (reading reads plan) greeting (greeted_maximum greeting) commands replies
 reading_end reads plan x greeting commands replies is l = record {
   events = l.events;
   commands_are = l.commands_are;
@@ -46,7 +46,7 @@ reading_end reads plan x greeting commands replies is l = record {
 
 -- ---- a mechanism
 
-mechanism_ended : (mechanism : AuthMechanism) (asked : Asked) (credential : Credential) (greeting answer : Greeting) (events : List Event) → Ends (mechanism_plan mechanism asked credential greeting) events answer → EndsBy (IsLoginBy mechanism asked credential greeting) greeting (maximum_of greeting) events answer
+mechanism_ended : (mechanism : AuthMechanism) (asked : Asked) (credential : Credential) (greeting answer : Greeting) (events : List Event) → PlanEnds (mechanism_plan mechanism asked credential greeting) events answer → EndsBy (IsLoginBy mechanism asked credential greeting) greeting (greeted_maximum greeting) events answer
 unfolding mechanism_plan
 mechanism_ended mechanism asked credential greeting answer events e =
     let reply = speculative_reply asked greeting in
@@ -55,7 +55,7 @@ mechanism_ended mechanism asked credential greeting answer events e =
     let ended = (joins read.0 asked credential greeting).ended events answer passed.1 in
     (ended.0, record { taken = no_row_taken reply mechanism read.0 credential read.1 passed.0; conversation = read.0; has_conversation = read.1; holds = ended.1 }, ended.2)
 
-mechanism_ends : (mechanism : AuthMechanism) (asked : Asked) (credential : Credential) (greeting : Greeting) (commands replies : List (List ℕ)) → IsLoginBy mechanism asked credential greeting commands replies → LoginEnd (mechanism_plan mechanism asked credential greeting) greeting (maximum_of greeting) commands replies
+mechanism_ends : (mechanism : AuthMechanism) (asked : Asked) (credential : Credential) (greeting : Greeting) (commands replies : List (List ℕ)) → IsLoginBy mechanism asked credential greeting commands replies → LoginEnd (mechanism_plan mechanism asked credential greeting) greeting (greeted_maximum greeting) commands replies
 unfolding mechanism_plan
 mechanism_ends mechanism asked credential greeting commands replies is =
     reading_end (HasConversation mechanism) (validated mechanism asked credential greeting) is.conversation greeting commands replies is.has_conversation
@@ -63,25 +63,25 @@ mechanism_ends mechanism asked credential greeting commands replies is =
 
 -- ---- a login
 
-login_by_ended : (who : Option Credential) (asked : Asked) (greeting answer : Greeting) (events : List Event) → Ends (login_by who asked greeting) events answer → EndsBy (IsLoginOf who asked greeting) greeting (maximum_of greeting) events answer
+login_by_ended : (who : Option Credential) (asked : Asked) (greeting answer : Greeting) (events : List Event) → PlanEnds (login_by who asked greeting) events answer → EndsBy (IsLoginOf who asked greeting) greeting (greeted_maximum greeting) events answer
 login_by_ended None asked greeting answer events e =
     let last = ends_ending greeting events answer e in
-    (last.1, (ap documents_in last.0, ap replies_in last.0), subst (AreWithin (maximum_of greeting)) (sym last.0) tt)
+    (last.1, (ap documents_in last.0, ap replies_in last.0), subst (AreWithin (greeted_maximum greeting)) (sym last.0) tt)
 login_by_ended (Some credential) asked greeting answer events e =
     let reads = IsMechanism credential.mechanism (speculative_reply asked greeting) greeting.description in
     let read = ends_reading reads (λ mechanism. mechanism_plan mechanism asked credential greeting) events answer (one_mechanism credential.mechanism (speculative_reply asked greeting) greeting.description) e in
     let ended = mechanism_ended read.0 asked credential greeting answer events read.2 in
     (ended.0, (read.0, read.1, ended.1), ended.2)
 
-pub login_ended : (asked : Asked) (greeting answer : Greeting) (events : List Event) → Ends (login_plan asked greeting) events answer → (answer ≡ greeting) × IsLogin asked greeting (documents_in events) (replies_in events) × AreWithin (maximum_of greeting) events
+pub login_ended : (asked : Asked) (greeting answer : Greeting) (events : List Event) → PlanEnds (login_plan asked greeting) events answer → (answer ≡ greeting) × IsLogin asked greeting (documents_in events) (replies_in events) × AreWithin (greeted_maximum greeting) events
 unfolding login_plan
 login_ended asked greeting answer events e = login_by_ended (logging_in asked greeting) asked greeting answer events e
 
-login_by_ends : (who : Option Credential) (asked : Asked) (greeting : Greeting) (commands replies : List (List ℕ)) → IsLoginOf who asked greeting commands replies → LoginEnd (login_by who asked greeting) greeting (maximum_of greeting) commands replies
+login_by_ends : (who : Option Credential) (asked : Asked) (greeting : Greeting) (commands replies : List (List ℕ)) → IsLoginOf who asked greeting commands replies → LoginEnd (login_by who asked greeting) greeting (greeted_maximum greeting) commands replies
 login_by_ends None asked greeting commands replies is = record { events = []; commands_are = is.0; replies_are = is.1; within = tt; ends = λ sendable. record { follows = tt; answer_is = refl } }
 login_by_ends (Some credential) asked greeting commands replies is =
     reading_end (IsMechanism credential.mechanism (speculative_reply asked greeting) greeting.description) (λ mechanism. mechanism_plan mechanism asked credential greeting) is.0 greeting commands replies is.1 (mechanism_ends is.0 asked credential greeting commands replies is.2)
 
-pub login_ends : (asked : Asked) (greeting : Greeting) (commands replies : List (List ℕ)) → IsLogin asked greeting commands replies → LoginEnd (login_plan asked greeting) greeting (maximum_of greeting) commands replies
+pub login_ends : (asked : Asked) (greeting : Greeting) (commands replies : List (List ℕ)) → IsLogin asked greeting commands replies → LoginEnd (login_plan asked greeting) greeting (greeted_maximum greeting) commands replies
 unfolding login_plan
 login_ends asked greeting commands replies is = login_by_ends (logging_in asked greeting) asked greeting commands replies is

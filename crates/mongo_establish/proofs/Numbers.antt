@@ -15,13 +15,13 @@ unequal Less none = refl
 unequal Equal none = absurd (none refl)
 unequal Greater none = refl
 
-id_of : List ℕ → ObjectId
-id_of bytes = record { 0 = bytes }
+object_id_from_bytes : List ℕ → ObjectId
+object_id_from_bytes bytes = record { 0 = bytes }
 
 -- an id isn't found where another stands
 not_at : (id other : ObjectId) → (other ≡ id → ⊥) → is_at (slice_cmp nat_cmp id.0) other.0 ≡ false
-unfolding id_of
-not_at id other apart = unequal (slice_cmp nat_cmp id.0 other.0) (λ same. apart (ap id_of (sym (exact_bytes id.0 other.0 same))))
+unfolding object_id_from_bytes
+not_at id other apart = unequal (slice_cmp nat_cmp id.0 other.0) (λ same. apart (ap object_id_from_bytes (sym (exact_bytes id.0 other.0 same))))
 
 -- what the map's own clauses come to
 pub sets_number : (id : ObjectId) (number : ℕ) (old held new : Numbers) → held ≡ old → new ≡ with_number id number held → number_of id new ≡ Some number → ((other : List ℕ) → is_at (slice_cmp nat_cmp id.0) other ≡ false → lookup (is_at (slice_cmp nat_cmp other)) new ≡ lookup (is_at (slice_cmp nat_cmp other)) held)

@@ -56,13 +56,13 @@ no_row_taken (Some reply) mechanism conversation credential has none = tt
 
 -- ---- SCRAM
 
-named : (credential : Credential) (user : User) → IsUser credential user → Ok tt ≡ first_broken (rule ScramUsername (is_none credential.username) ∷ [])
-named credential user is = sym (ap (λ name. first_broken (rule ScramUsername (is_none name) ∷ [])) is.username)
+user_has_name : (credential : Credential) (user : User) → IsUser credential user → Ok tt ≡ first_broken (rule ScramUsername (is_none credential.username) ∷ [])
+user_has_name credential user is = sym (ap (λ name. first_broken (rule ScramUsername (is_none name) ∷ [])) is.username)
 
 -- a mechanism of SCRAM takes each credential with a user name
 user_validated : (mechanism : AuthMechanism) (version : ScramVersion) (credential : Credential) (user : User) → HasConversation mechanism (Scram version) → IsUser credential user → IsValidated mechanism credential false (Ok tt)
-user_validated ScramSha1 version credential user has is = named credential user is
-user_validated ScramSha256 version credential user has is = named credential user is
+user_validated ScramSha1 version credential user has is = user_has_name credential user is
+user_validated ScramSha256 version credential user has is = user_has_name credential user is
 user_validated mechanism version credential user has is = let no : ⊥ = cc in absurd no
 
 user_taken : (reply : Option (List ℕ)) (mechanism : AuthMechanism) (version : ScramVersion) (credential : Credential) (user : User) → HasConversation mechanism (Scram version) → IsUser credential user → TakesCredential reply mechanism credential

@@ -14,8 +14,8 @@ abbrev pub key_at : ℕ → SaltedKey
 key_at k = key_of (exchange_at k)
 
 -- by what is left of it modulo 2, 7, 3 and 5
-abbrev key_by : ℕ → ℕ → ℕ → ℕ → SaltedKey
-key_by two seven three five = record {
+abbrev key_by_remainders : ℕ → ℕ → ℕ → ℕ → SaltedKey
+key_by_remainders two seven three five = record {
   version = if two == 0 then Sha1 else Sha256;
   username = codes "u" ++ decimal seven;
   password = codes "p" ++ decimal three;
@@ -70,7 +70,7 @@ same_rest a b same =
 -- ---- and comes again
 
 pub same_again : (k : ℕ) → key_at k ≡ key_at (k + key_count)
-same_again k = λ i. key_by (two i) (seven i) (three i) (five i) where
+same_again k = λ i. key_by_remainders (two i) (seven i) (three i) (five i) where
   two : k % 2 ≡ (k + 210) % 2
   two = omega arith
 

@@ -9,7 +9,7 @@ use Rattle.mongo_wire.specs.declared.error.ErrorKind.{ErrorKind}
 use Rattle.mongo_command.specs.Command.{admin}
 use Rattle.mongo_command.specs.Conversation.{Said, ends, exchanged, HasNone, IsSendable, plain_message, ending}
 use Rattle.mongo_command.specs.Hello.{description_of}
-use Rattle.mongo_command.proofs.Ends.{Ends, ends_both}
+use Rattle.mongo_command.proofs.Ends.{PlanEnds, ends_both}
 use Rattle.mongo_command.proofs.OneSaid.{framed_sendable}
 use Rattle.mongo_sasl.specs.declared.credential.Credential.{Credential}
 use Rattle.mongo_sasl.specs.declared.mechanism.AuthMechanism.{AuthMechanism}
@@ -26,7 +26,7 @@ use Rattle.mongo_scram.specs.Script.{IsScramLogin, IsLoginFrom, IsConversation}
 use Rattle.mongo_scram.specs.User.{User, IsUser, CredentialRow}
 use Rattle.mongo_scram.specs.Validity.{BeginsWith}
 use Rattle.mongo_scram.proofs.OneRow.{no_credential_row}
-use Rattle.mongo_scram.proofs.OpeningEnds.{IsOpened, OpensBy, CanOpen, opening_ends}
+use Rattle.mongo_scram.proofs.OpeningEnds.{IsOpened, OpensByEvents, CanOpen, opening_ends}
 use Rattle.mongo_establish.specs.declared.conversation.Conversation.TheVariants.{Scram}
 use Rattle.mongo_establish.specs.declared.establisher.PendingConnection.{PendingConnection}
 use Rattle.mongo_establish.specs.declared.generation.PoolGeneration.TheVariants.{Normal}
@@ -69,16 +69,16 @@ has_scram Sha1 = refl
 has_scram Sha256 = refl
 
 -- which was answered in the hello, so that its mechanism isn't asked whether it takes the credential
-login_by : (version : ScramVersion) (asked : Asked) (credential : Credential) (greeting : Greeting) (given : List ℕ) (commands replies : List (List ℕ)) → speculative_reply asked greeting ≡ Some given → IsScramLogin (scram_handed_by version asked credential greeting) commands replies
+login_answered_in_hello : (version : ScramVersion) (asked : Asked) (credential : Credential) (greeting : Greeting) (given : List ℕ) (commands replies : List (List ℕ)) → speculative_reply asked greeting ≡ Some given → IsScramLogin (scram_handed_by version asked credential greeting) commands replies
     → IsLoginBy (mechanism_of version) asked credential greeting commands replies
-login_by version asked credential greeting given commands replies is login = record {
+login_answered_in_hello version asked credential greeting given commands replies is login = record {
   taken = subst (λ reply. TakesCredential reply (mechanism_of version) credential) (sym is) tt;
   conversation = Scram version;
   has_conversation = has_scram version;
   holds = login;
 }
 
-derivation_ends : (version : ScramVersion) (asked : Asked) (credential : Credential) (greeting : Greeting) (key : SaltedKey) → HasNone (InvalidRow (speculative_reply asked greeting) (mechanism_of version) credential) → Ends (scram_derivation version asked credential greeting) [] (Some key)
+derivation_ends : (version : ScramVersion) (asked : Asked) (credential : Credential) (greeting : Greeting) (key : SaltedKey) → HasNone (InvalidRow (speculative_reply asked greeting) (mechanism_of version) credential) → PlanEnds (scram_derivation version asked credential greeting) [] (Some key)
     → derivation_by (conversation_of (mechanism_of version)) (mechanism_of version) asked credential greeting [] (ends (Some key))
 unfolding derivation_by
 derivation_ends Sha1 asked credential greeting key none is = inr (none, is.answer_is)
@@ -106,8 +106,8 @@ module _ (pending : PendingConnection) (x : Exchange) (nonces : Nonces) (bytes :
   abbrev hello_heard : List ℕ
   hello_heard = hello_reply (first_of x)
 
-  abbrev last_heard : List ℕ
-  last_heard = final_reply (server_final_of x)
+  abbrev final_heard : List ℕ
+  final_heard = final_reply (server_final_of x)
 
   abbrev greeting : Greeting
   greeting = record { document = hello_heard; description = description_of pending.address (standalone inner); speculative = Some inner; connection_id = None }
@@ -171,8 +171,8 @@ module _ (pending : PendingConnection) (x : Exchange) (nonces : Nonces) (bytes :
         usable = possible.usable;
       }
 
-  abbrev accepted : IsAccepted x handed user conversation inner last_heard
-  accepted = heard.accepts handed user conversation inner last_heard is_client (record { first_carried = speculative_says (first_of x) (omega (arith, short_first)); last_carried = final_says (server_final_of x) short_final })
+  abbrev accepted : IsAccepted x handed user conversation inner final_heard
+  accepted = heard.accepts handed user conversation inner final_heard is_client (record { first_carried = speculative_says (first_of x) (omega (arith, short_first)); last_carried = final_says (server_final_of x) short_final })
 
   -- ---- what it says
 
@@ -215,14 +215,14 @@ module _ (pending : PendingConnection) (x : Exchange) (nonces : Nonces) (bytes :
   -- ---- the script
 
   abbrev script : Script
-  script = record { commands = hello_document asked ∷ close_document (close_of x) ∷ []; replies = hello_heard ∷ last_heard ∷ []; greeting = greeting }
+  script = record { commands = hello_document asked ∷ close_document (close_of x) ∷ []; replies = hello_heard ∷ final_heard ∷ []; greeting = greeting }
 
-  is_login : IsScramLogin handed (close_document (close_of x) ∷ []) (last_heard ∷ [])
+  is_login : IsScramLogin handed (close_document (close_of x) ∷ []) (final_heard ∷ [])
   is_login = record {
     user = user;
     is_user = is_user;
-    login = subst (λ s. IsLoginFrom s handed user (close_document (close_of x) ∷ []) (last_heard ∷ [])) (sym speculates)
-        (close_document (close_of x), last_heard, refl, refl, subst (λ command. IsConversation handed user inner command last_heard) said_is accepted.conversation);
+    login = subst (λ s. IsLoginFrom s handed user (close_document (close_of x) ∷ []) (final_heard ∷ [])) (sym speculates)
+        (close_document (close_of x), final_heard, refl, refl, subst (λ command. IsConversation handed user inner command final_heard) said_is accepted.conversation);
   }
 
   is_script : IsScript asked script
@@ -231,10 +231,10 @@ module _ (pending : PendingConnection) (x : Exchange) (nonces : Nonces) (bytes :
     later_commands = close_document (close_of x) ∷ [];
     commands_are = refl;
     first_reply = hello_heard;
-    later_replies = last_heard ∷ [];
+    later_replies = final_heard ∷ [];
     replies_are = refl;
     greets = greets;
-    login = (mechanism_of x.version, refl, login_by x.version asked credential greeting inner (close_document (close_of x) ∷ []) (last_heard ∷ []) replied is_login);
+    login = (mechanism_of x.version, refl, login_answered_in_hello x.version asked credential greeting inner (close_document (close_of x) ∷ []) (final_heard ∷ []) replied is_login);
     service = subst (λ generation. NamesService generation greeting.description) (sym pool) tt;
   }
 
@@ -290,11 +290,11 @@ module _ (pending : PendingConnection) (x : Exchange) (nonces : Nonces) (bytes :
     is_count = heard.reads.is_count;
   }
 
-  opened : IsOpened handed [] close_heard
-  opened = record {
+  is_opened : IsOpened handed [] close_heard
+  is_opened = record {
     user = is_user;
     reply = inner;
-    events_are = subst (λ s. OpensBy s handed close_heard [] inner) (sym speculates) (refl, refl);
+    events_are = subst (λ s. OpensByEvents s handed close_heard [] inner) (sym speculates) (refl, refl);
     challenged = record {
       carries = first_carries;
       valid = (refl, (subst (BeginsWith (joined_of x)) (sym is_client.nonce) heard.reads.begins, (possible.enough, (is_client.within, tt))));
@@ -302,15 +302,15 @@ module _ (pending : PendingConnection) (x : Exchange) (nonces : Nonces) (bytes :
     };
   }
 
-  opens : Ends (opening handed) [] close_heard
-  opens = opening_ends handed [] close_heard (subst (λ s. CanOpen s handed user) (sym speculates) tt) opened
+  opens : PlanEnds (opening handed) [] close_heard
+  opens = opening_ends handed [] close_heard (subst (λ s. CanOpen s handed user) (sym speculates) tt) is_opened
 
-  derives : Ends (scram_derivation x.version asked credential greeting) [] (Some (key_of x))
+  derives : PlanEnds (scram_derivation x.version asked credential greeting) [] (Some (key_of x))
   derives = ends_both (opening handed) (λ challenge. ending (Some (key_by handed challenge))) [] [] close_heard (Some (key_of x)) opens (record { follows = tt; answer_is = refl })
 
-  logs_in : Ends (login_derivation asked greeting) [] (Some (key_of x))
+  login_ends_with_key : PlanEnds (login_derivation asked greeting) [] (Some (key_of x))
   unfolding login_derivation
-  logs_in = record {
+  login_ends_with_key = record {
     follows = tt;
     answer_is = (mechanism_of x.version, refl, derivation_ends x.version asked credential greeting (key_of x) (never_invalid (speculative_reply asked greeting) inner (mechanism_of x.version) credential replied) derives);
   }
@@ -318,9 +318,9 @@ module _ (pending : PendingConnection) (x : Exchange) (nonces : Nonces) (bytes :
   sendable : IsSendable (hello_said asked)
   sendable = framed_sendable (hello_said asked) first_frame (pos 0) first_is_frame first_within
 
-  ends_with_key : Ends (derivation_plan asked) (exchanged (hello_said asked) hello_heard ∷ []) (Some (key_of x))
+  ends_with_key : PlanEnds (derivation_plan asked) (exchanged (hello_said asked) hello_heard ∷ []) (Some (key_of x))
   unfolding derivation_plan
-  ends_with_key = ends_both (hello_plan asked) (login_derivation asked) (exchanged (hello_said asked) hello_heard ∷ []) [] greeting (Some (key_of x)) (greeting_ends asked hello_heard greeting made sendable greets) logs_in
+  ends_with_key = ends_both (hello_plan asked) (login_derivation asked) (exchanged (hello_said asked) hello_heard ∷ []) [] greeting (Some (key_of x)) (greeting_ends asked hello_heard greeting made sendable greets) login_ends_with_key
 
   pub leads_to_key : LeadsToKey asked bytes (Some (key_of x))
   leads_to_key =

@@ -39,9 +39,9 @@ content_read e (Int32 n) payload reads is = let k = sym reads.0 ∙ is.0 in absu
 content_read e (Int64 n) payload reads is = let k = sym reads.0 ∙ is.0 in absurd (omega (arith, k))
 content_read e (Other kind content) payload reads is = absurd (false≢true (sym is.2 ∙ five e.kind reads.0))
 
-required : (found : Option Element) (e : Element) (payload : List ℕ) → found ≡ Some e → Required ReadsGeneric found payload → ReadsGeneric e payload
+required_is_read : (found : Option Element) (e : Element) (payload : List ℕ) → found ≡ Some e → Required ReadsGeneric found payload → ReadsGeneric e payload
 unfolding Required
-required found e payload is reads = subst (λ f. Required ReadsGeneric f payload) is reads
+required_is_read found e payload is reads = subst (λ f. Required ReadsGeneric f payload) is reads
 
 absent : (found : Option Element) (payload : List ℕ) → found ≡ None → Required ReadsGeneric found payload → ⊥
 unfolding Required
@@ -51,7 +51,7 @@ pub payload_found : (document payload : List ℕ) (value : RawValue) → Carries
 payload_found document payload value carries found =
     let e = found.0 in
     let is = field_first document payload_key carries.elements e carries.is_document found.1 in
-    content_read e value payload (required (field_of payload_key carries.elements) e payload is carries.payload_is) found.2
+    content_read e value payload (required_is_read (field_of payload_key carries.elements) e payload is carries.payload_is) found.2
 
 pub payload_absent : (document payload : List ℕ) → CarriesPayload payload document → LacksKey (element_bytes document) payload_key → ⊥
 payload_absent document payload carries none =

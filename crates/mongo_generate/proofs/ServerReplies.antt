@@ -126,8 +126,8 @@ size_fits = omega arith
 message_fits : FitsSigned w32 maximum_message_length
 message_fits = omega arith
 
-hello_document : (payload : List ℕ) → length payload < 2 ^ 29 → IsDocument (document_of (standalone_elements payload)) (standalone_elements payload)
-hello_document payload short =
+standalone_is_document : (payload : List ℕ) → length payload < 2 ^ 29 → IsDocument (document_of (standalone_elements payload)) (standalone_elements payload)
+standalone_is_document payload short =
     document_of-is (standalone_elements payload)
     (ok_is_element, (number_is_element max_bson_object_size_key maximum_document_length size_key size_fits, (number_is_element max_message_size_bytes_key maximum_message_length message_key message_fits, (document_is_element speculative_authenticate_key (document_of (speculative_elements payload)) speculative_key (framed_document_of (speculative_elements payload) (omega arith)), tt))))
     (omega (arith, length-document_of (speculative_elements payload)))
@@ -142,7 +142,7 @@ hello_readable : (levels : ℕ) (payload : List ℕ) → length payload < 2 ^ 29
 unfolding IsReadable
 hello_readable levels payload short = (
   standalone_elements payload,
-  hello_document payload short,
+  standalone_is_document payload short,
   ((λ d inside. absurd (ok_flat d inside)), ((λ d inside. absurd (flat (int32_element max_bson_object_size_key maximum_document_length) (fixed 4) refl (not_fixed 4) (λ is. absurd (omega arith)) d inside)), ((λ d inside. absurd (flat (int32_element max_message_size_bytes_key maximum_message_length) (fixed 4) refl (not_fixed 4) (λ is. absurd (omega arith)) d inside)), ((λ d inside. inner_readable levels payload d short inside), tt)))),
 )
 
@@ -186,7 +186,7 @@ unfolding Required Optional hello_reply
 hello_says payload short = record {
   elements = standalone_elements payload;
   well_formed = record {
-    document = hello_document payload short;
+    document = standalone_is_document payload short;
     readable = hello_readable 98 payload short;
     distinct = ((apart max_bson_object_size_key ok_key refl, (apart max_message_size_bytes_key ok_key refl, (apart speculative_authenticate_key ok_key refl, tt))), ((apart max_message_size_bytes_key max_bson_object_size_key refl, (apart speculative_authenticate_key max_bson_object_size_key refl, tt)), ((apart speculative_authenticate_key max_message_size_bytes_key refl, tt), (tt, tt))));
   };

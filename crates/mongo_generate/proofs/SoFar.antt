@@ -20,16 +20,16 @@ abbrev IsEarlier : ℕ → SaltedKey → Type 0
 IsEarlier k key = (j : ℕ) × (j < k) × (key_at j ≡ key)
 
 -- just those of the logins before
-abbrev pub Holds : SaltedCache → ℕ → Type 0
-Holds cache k = (key : SaltedKey) → HasEntry cache key ↔ IsEarlier k key
+abbrev pub HoldsEarlierKeys : SaltedCache → ℕ → Type 0
+HoldsEarlierKeys cache k = (key : SaltedKey) → HasEntry cache key ↔ IsEarlier k key
 
-holds_none : (cache : SaltedCache) → entries_of cache ≡ [] → Holds cache 0
+holds_none : (cache : SaltedCache) → entries_of cache ≡ [] → HoldsEarlierKeys cache 0
 holds_none cache none key = (
   λ has. let there : Contains [] (key, has.0) = subst (λ es. Contains es (key, has.0)) none has.1 in let lt = there.1 in absurd (omega arith),
   λ earlier. let lt = earlier.1 in absurd (omega arith),
 )
 
-holds_more : (k : ℕ) (first last : Ledgers) → TakesKey (key_at k) first last → Holds first.cache k → Holds last.cache (k + 1)
+holds_more : (k : ℕ) (first last : Ledgers) → TakesKey (key_at k) first last → HoldsEarlierKeys first.cache k → HoldsEarlierKeys last.cache (k + 1)
 holds_more k first last takes held key = (
   λ has. elim ((taken_keys (key_at k) first last takes key).0 has) [
     | inl had ↦ let e = (held key).0 had in (e.0, later e.0 e.1, e.2)
@@ -53,13 +53,13 @@ holds_more k first last takes held key = (
 -- ---- which are derived
 
 -- a login's key has an entry exactly where 210 logins are before it
-has_from : (cache : SaltedCache) (k : ℕ) → Holds cache k → key_count ≤ k → HasEntry cache (key_at k)
+has_from : (cache : SaltedCache) (k : ℕ) → HoldsEarlierKeys cache k → key_count ≤ k → HasEntry cache (key_at k)
 has_from cache k held many =
     let back : (k - 210) + 210 ≡ k = omega arith in
     let before : k - 210 < k = omega arith in
     (held (key_at k)).1 (k - 210, before, same_again (k - 210) ∙ ap key_at back)
 
-none_before : (cache : SaltedCache) (k : ℕ) → Holds cache k → k < key_count → HasEntry cache (key_at k) → ⊥
+none_before : (cache : SaltedCache) (k : ℕ) → HoldsEarlierKeys cache k → k < key_count → HasEntry cache (key_at k) → ⊥
 none_before cache k held few has =
     let e = (held (key_at k)).0 has in
     let rest = same_rest e.0 k e.2 in
@@ -74,7 +74,7 @@ abbrev pub rounds_to : ℕ → ℕ
 rounds_to k = 4096 * min k key_count
 
 -- those of the next one
-rounds_more : (first last : Ledgers) (k : ℕ) → Derives (key_at k) first last → Holds first.cache k → (rounds : ℕ) × Counts rounds first last × (rounds_to k + rounds ≡ rounds_to (k + 1))
+rounds_more : (first last : Ledgers) (k : ℕ) → Derives (key_at k) first last → HoldsEarlierKeys first.cache k → (rounds : ℕ) × Counts rounds first last × (rounds_to k + rounds ≡ rounds_to (k + 1))
 rounds_more first last k derived held =
     elim derived [
       | inl had ↦ elim (cases_lt k 210) [
@@ -98,7 +98,7 @@ rounds_more first last k derived held =
 pub record SoFar (start k accepted : ℕ) (hasher : Sha256) (now : Ledgers) : Type 0 where
   pub accepted_are : accepted ≡ k
   pub hashed : Holds256 hasher (all_messages k)
-  pub held : Holds now.cache k
+  pub held : HoldsEarlierKeys now.cache k
   pub rounds_are : rounds_of now.cache ≡ rounds_to k
   pub steps_are : now.steps ≡ start + rounds_to k + 4096 * k
 

@@ -117,8 +117,8 @@ module _ {S K : Type 0} (source : S → State) (sink : K → State) where
     pub ends : SubcommandEnds command steps run status
 
   -- how a run ends: as the subcommand that its words name, or having done nothing where they name none
-  abbrev pub RunEnds : List (List ℕ) → StepsTaken → Run S K → Status → Type 0
-  RunEnds words steps run status = UnlessUsage (NamesNone words) run (RanSubcommand words steps run) status
+  abbrev pub LoginRunEnds : List (List ℕ) → StepsTaken → Run S K → Status → Type 0
+  LoginRunEnds words steps run status = UnlessUsage (NamesNone words) run (RanSubcommand words steps run) status
 
   -- ---- what decides
 

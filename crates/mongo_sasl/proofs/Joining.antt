@@ -2,7 +2,7 @@
 use Rattle.std.proofs.Common.{ℕ, ℤ, List}
 use Rattle.mongo_wire.specs.declared.error.ErrorKind.TheVariants.{IncompatibleServer}
 use Rattle.mongo_command.specs.Conversation.{Event, Plan, HasOneTurn}
-use Rattle.mongo_command.proofs.Ends.{Ends}
+use Rattle.mongo_command.proofs.Ends.{PlanEnds}
 use Rattle.mongo_command.proofs.Leads.{Never}
 use Rattle.mongo_sasl.proofs.LoginEvents.{replies_in, documents_in, AreWithin, LoginEnd}
 
@@ -11,5 +11,5 @@ use Rattle.mongo_sasl.proofs.LoginEvents.{replies_in, documents_in, AreWithin, L
 pub record JoinsLogin {A : Type 0} (plan : Plan A) (login : List (List ℕ) → List (List ℕ) → Type 0) (maximum : ℤ) : Type 0 where
   pub one : HasOneTurn plan
   pub fits : Never IncompatibleServer plan
-  pub ended : (events : List Event) (answer : A) → Ends plan events answer → login (documents_in events) (replies_in events) × AreWithin maximum events
+  pub ended : (events : List Event) (answer : A) → PlanEnds plan events answer → login (documents_in events) (replies_in events) × AreWithin maximum events
   pub ends : (commands replies : List (List ℕ)) → login commands replies → (answer : A) × LoginEnd plan answer maximum commands replies

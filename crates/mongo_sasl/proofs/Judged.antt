@@ -10,8 +10,8 @@ use Rattle.mongo_sasl.specs.Rules.{first_broken}
 use Rattle.mongo_sasl.specs.Validation.{ByProperties, oidc_table}
 use Rattle.mongo_command.proofs.FirstOfKey.{elements_of}
 
-pub judged : (properties : List ℕ) (rules : List Element → List Rule) (result : Result (Unit {0}) ArgumentFault) → IsReadable maximum_depth properties → ((elements : List Element) → IsDocument properties elements → result ≡ first_broken (rules elements)) → ByProperties properties rules result
-judged properties rules result readable says =
+pub properties_judged_by : (properties : List ℕ) (rules : List Element → List Rule) (result : Result (Unit {0}) ArgumentFault) → IsReadable maximum_depth properties → ((elements : List Element) → IsDocument properties elements → result ≡ first_broken (rules elements)) → ByProperties properties rules result
+properties_judged_by properties rules result readable says =
     let elements = elements_of properties readable in
     inl (readable, elements.0, elements.1, says elements.0 elements.1)
 

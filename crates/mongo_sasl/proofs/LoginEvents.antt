@@ -2,7 +2,7 @@
 use Rattle.std.proofs.Common.{◌≡◌, ℕ, ℤ, pos, ◌≤ℤ◌, refl, sym, subst, List, [], ◌∷◌, length, map, append-nil}
 use Rattle.mongo_wire.specs.Bytes.{next_id, IsSentWithin, IsWholeWithin}
 use Rattle.mongo_command.specs.Conversation.{Said, Event, exchanged, asked, Plan, ends, IsSendable, said_in, given_in, IsSaid, IsHeard, Leads}
-use Rattle.mongo_command.proofs.Ends.{Ends}
+use Rattle.mongo_command.proofs.Ends.{PlanEnds}
 use Rattle.mongo_command.proofs.OneSaid.{framed_sendable}
 use Rattle.mongo_sasl.specs.Login.{HasLogin}
 
@@ -73,7 +73,7 @@ pub record LoginEnd {A : Type 0} (plan : Plan A) (answer : A) (maximum : ℤ) (c
   pub commands_are : commands ≡ documents_in events
   pub replies_are : replies ≡ replies_in events
   pub within : AreWithin maximum events
-  pub ends : AreSendable (said_in events) → Ends plan events answer
+  pub ends : AreSendable (said_in events) → PlanEnds plan events answer
 
 -- what an end tells of its events
 abbrev pub EndsBy : {A : Type 0} → (List (List ℕ) → List (List ℕ) → Type 0) → A → ℤ → List Event → A → Type 0

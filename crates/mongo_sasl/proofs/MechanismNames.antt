@@ -7,8 +7,8 @@ use Rattle.mongo_sasl.specs.declared.mechanism.AuthMechanism.TheVariants.{MongoD
 use Rattle.mongo_sasl.specs.Mechanism.{name_of, gssapi, Names}
 
 -- the names told apart, so that two that are equal are of one mechanism
-mechanism_of : List ℕ → Option AuthMechanism
-mechanism_of text =
+mechanism_by_name : List ℕ → Option AuthMechanism
+mechanism_by_name text =
     if bytes_eq text (name_of MongoDbCr) then Some MongoDbCr
     else if bytes_eq text (name_of ScramSha1) then Some ScramSha1
     else if bytes_eq text (name_of ScramSha256) then Some ScramSha256
@@ -18,25 +18,25 @@ mechanism_of text =
     else if bytes_eq text (name_of MongoDbOidc) then Some MongoDbOidc
     else None
 
-mechanism_of-name_of : (mechanism : AuthMechanism) → mechanism_of (name_of mechanism) ≡ Some mechanism
-unfolding mechanism_of
-mechanism_of-name_of MongoDbCr = refl
-mechanism_of-name_of ScramSha1 = refl
-mechanism_of-name_of ScramSha256 = refl
-mechanism_of-name_of MongoDbX509 = refl
-mechanism_of-name_of Plain = refl
-mechanism_of-name_of MongoDbAws = refl
-mechanism_of-name_of MongoDbOidc = refl
+mechanism_by_name-name_of : (mechanism : AuthMechanism) → mechanism_by_name (name_of mechanism) ≡ Some mechanism
+unfolding mechanism_by_name
+mechanism_by_name-name_of MongoDbCr = refl
+mechanism_by_name-name_of ScramSha1 = refl
+mechanism_by_name-name_of ScramSha256 = refl
+mechanism_by_name-name_of MongoDbX509 = refl
+mechanism_by_name-name_of Plain = refl
+mechanism_by_name-name_of MongoDbAws = refl
+mechanism_by_name-name_of MongoDbOidc = refl
 
-mechanism_of-gssapi : mechanism_of gssapi ≡ None
-unfolding mechanism_of
-mechanism_of-gssapi = refl
+mechanism_by_name-gssapi : mechanism_by_name gssapi ≡ None
+unfolding mechanism_by_name
+mechanism_by_name-gssapi = refl
 
 one_name : (a b : AuthMechanism) → name_of a ≡ name_of b → b ≡ a
-one_name a b same = let one : Some b ≡ Some a = sym (mechanism_of-name_of b) ∙ ap mechanism_of (sym same) ∙ mechanism_of-name_of a in cc
+one_name a b same = let one : Some b ≡ Some a = sym (mechanism_by_name-name_of b) ∙ ap mechanism_by_name (sym same) ∙ mechanism_by_name-name_of a in cc
 
 not_gssapi : (mechanism : AuthMechanism) → name_of mechanism ≡ gssapi → ⊥
-not_gssapi mechanism same = let none : Some mechanism ≡ None = sym (mechanism_of-name_of mechanism) ∙ ap mechanism_of same ∙ mechanism_of-gssapi in cc
+not_gssapi mechanism same = let none : Some mechanism ≡ None = sym (mechanism_by_name-name_of mechanism) ∙ ap mechanism_by_name same ∙ mechanism_by_name-gssapi in cc
 
 pub again : (mechanism : AuthMechanism) (read : Result AuthMechanism ArgumentFault) → Names (name_of mechanism) read → read ≡ Ok mechanism
 again mechanism (Ok other) names = ap Ok (one_name mechanism other names)

@@ -9,7 +9,7 @@ use Rattle.mongo_command.specs.Field.{field_of, Required, ReadsBoolean}
 use Rattle.mongo_command.specs.Conversation.{IsOne, HasNone}
 use Rattle.mongo_command.specs.Keys.{errmsg_key, ok_key}
 use Rattle.mongo_command.proofs.OneField.{boolean_one}
-use Rattle.mongo_command.proofs.Plans.{no_of, no_row, none_else, one_else, one_of, one_row}
+use Rattle.mongo_command.proofs.Plans.{no_of, no_row, none_else, one_else, one_row_of, one_row}
 use Rattle.mongo_sasl.specs.declared.sasl_response.SaslResponse.{SaslResponse}
 use Rattle.mongo_sasl.specs.Reply.{Succeeded, SaysFailure, failure_text, ReadsValue, ReadsGeneric, IsSaslTable, IsSaslReply, IsSaslFailure, SaslRow}
 use Rattle.mongo_sasl.specs.Keys.{conversation_id_key, done_key, payload_key}
@@ -61,7 +61,7 @@ success_no_failure reply text sasl p q =
 
 -- a reply is refused for one reason
 pub one_sasl_row : (reply : List ℕ) → IsOne (SaslRow reply)
-one_sasl_row reply = one_of Authentication _ (one_else _ _ (one_of Refused (IsSaslFailure reply) (λ a b p q. one_failure reply a b p q)) (one_row Malformed _))
+one_sasl_row reply = one_row_of Authentication _ (one_else _ _ (one_row_of Refused (IsSaslFailure reply) (λ a b p q. one_failure reply a b p q)) (one_row Malformed _))
 
 -- a reply that says something isn't refused
 pub sasl_reply_no_row : (reply : List ℕ) (sasl : SaslResponse) → IsSaslReply reply sasl → HasNone (SaslRow reply)

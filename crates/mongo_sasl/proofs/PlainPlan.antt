@@ -4,7 +4,7 @@ use Rattle.mongo_wire.specs.declared.auth_fault.AuthFault.TheVariants.{Malformed
 use Rattle.mongo_wire.specs.declared.error.ErrorKind.{ErrorKind}
 use Rattle.mongo_wire.specs.declared.error.ErrorKind.TheVariants.{Authentication}
 use Rattle.mongo_command.specs.Conversation.{Event, exchanged, ends, IsOne, HasNone, HasOneTurn, ending}
-use Rattle.mongo_command.proofs.Ends.{Ends, ends_ending, ends_unless, ends_reading, ends_saying}
+use Rattle.mongo_command.proofs.Ends.{PlanEnds, ends_ending, ends_unless, ends_reading, ends_saying}
 use Rattle.mongo_command.proofs.Plans.{one_ending, one_unless, one_reading, one_saying}
 use Rattle.mongo_sasl.specs.declared.credential.Credential.{Credential}
 use Rattle.mongo_sasl.specs.declared.sasl_response.SaslResponse.{SaslResponse}
@@ -55,13 +55,13 @@ one_plain handed = one_unless _ _ (one_no_user handed.credential) (one_reading _
 
 -- ---- an end is a login
 
-heard_ended : (reply : List ℕ) (events : List Event) (answer : Unit {0}) → Ends (plain_heard reply) events answer → (events ≡ []) × IsFinished reply
+heard_ended : (reply : List ℕ) (events : List Event) (answer : Unit {0}) → PlanEnds (plain_heard reply) events answer → (events ≡ []) × IsFinished reply
 heard_ended reply events answer e =
     let read = ends_reading (IsSaslReply reply) _ events answer (one_sasl_reply reply) (ends_unless (SaslRow reply) _ events answer e).1 in
     let passed = ends_unless (UnfinishedRow read.0) (ending tt) events answer read.2 in
     ((ends_ending tt events answer passed.1).0, record { sasl = read.0; is_reply = read.1; done = done_is read.0.done passed.0 })
 
-pub plain_ended : (handed : PlainHanded) (events : List Event) (answer : Unit {0}) → Ends (plain_plan handed) events answer → EndsBy (IsPlainLogin handed) tt handed.maximum events answer
+pub plain_ended : (handed : PlainHanded) (events : List Event) (answer : Unit {0}) → PlanEnds (plain_plan handed) events answer → EndsBy (IsPlainLogin handed) tt handed.maximum events answer
 plain_ended handed events answer e =
     let read = ends_reading (IsPlainUser handed.credential) _ events answer (one_plain_user handed.credential) (ends_unless (PlainRow handed.credential) _ events answer e).1 in
     let said = ends_saying (plain_said handed read.0) plain_heard events answer read.2 in

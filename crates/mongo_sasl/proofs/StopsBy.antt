@@ -11,7 +11,7 @@ use Rattle.mongo_command.specs.Connection.{kept_fault}
 use Rattle.mongo_command.specs.Conversation.{Plan, Stopped}
 use Rattle.mongo_command.specs.EndsExchange.{Footing, footing, EndsExchange}
 use Rattle.mongo_command.specs.Exchange.{command_message, frame_maximum, BufferRefused, Exchanges, ExchangeRefused}
-use Rattle.mongo_command.proofs.EndsExchange.{HasCause}
+use Rattle.mongo_command.proofs.EndsExchange.{HasRefusalCause}
 use Rattle.mongo_command.proofs.Rest.{keeps_all}
 use Rattle.mongo_command.proofs.Talked.{still_counts}
 use Rattle.mongo_sasl.specs.EndsByScript.{Standing, DrawsOnce, StopsBy}
@@ -81,7 +81,7 @@ module _ {L T A : Type 0} (state : L → State) (plan : Plan A) where
   -- the plan's first command wasn't sent, or no reply was received
   pub at_exchange : {U : Type 0} (command : Command) (old new : Standing L) (e : Error) → BeginsWithCommand plan → EndsExchange {T = U} state ExchangeRefused command (Err e) (footing_of old) (footing_of new)
       → ((kind : ErrorKind) → kept_fault old.connection ≡ Some kind → new.buffer ≡ old.buffer) → (kept_fault old.connection ≡ None → LeavesBuffer state command e.kind old new)
-      → (HasCause state command ExchangeRefused e.kind (footing_of old) (footing_of new) → StoppedKeeping plan e.kind (state old.link) (state new.link) old.id new.id (kept_fault new.connection)) → StopsBy {T = T} state plan (Err e) old new
+      → (HasRefusalCause state command ExchangeRefused e.kind (footing_of old) (footing_of new) → StoppedKeeping plan e.kind (state old.link) (state new.link) old.id new.id (kept_fault new.connection)) → StopsBy {T = T} state plan (Err e) old new
   at_exchange {U = U} command old new e begins ends untouched buffer stops = record {
     refused = λ faultless. stops (ends.refused faultless);
     untouched = λ kind is. let same = ends.kept kind is in (same.1, same.2, untouched kind is, same.3);

@@ -5,8 +5,8 @@ use Rattle.mongo_wire.specs.declared.auth_fault.AuthFault.TheVariants.{Malformed
 use Rattle.mongo_wire.specs.declared.error.ErrorKind.TheVariants.{Authentication}
 use Rattle.mongo_command.specs.Conversation.{Event, exchanged, ends, IsOne, HasNone, HasOneTurn}
 use Rattle.mongo_command.specs.Field.{field_of}
-use Rattle.mongo_command.proofs.Ends.{Ends, ends_ending, ends_unless, ends_reading, ends_saying}
-use Rattle.mongo_command.proofs.Plans.{no_of, no_row, none_else, one_else, one_of, one_row, one_ending, one_unless, one_reading, one_saying}
+use Rattle.mongo_command.proofs.Ends.{PlanEnds, ends_ending, ends_unless, ends_reading, ends_saying}
+use Rattle.mongo_command.proofs.Plans.{no_of, no_row, none_else, one_else, one_row_of, one_row, one_ending, one_unless, one_reading, one_saying}
 use Rattle.mongo_sasl.specs.X509.{Takes, IsCertificateTaken, IsFailed, X509Row, X509Handed, x509_said, x509_heard, x509_plan_from, x509_plan, IsAnsweredX509, IsX509LoginFrom, IsX509Login}
 use Rattle.mongo_sasl.proofs.LoginEvents.{replies_in, documents_in, AreWithin, LoginEnd, EndsBy}
 use Rattle.mongo_sasl.proofs.OneReply.{same_elements}
@@ -25,7 +25,7 @@ taken_no_row reply elements taken =
     (no_row X509Failed _ (not_failed reply elements taken)))
 
 one_x509_row : (reply : List ℕ) → IsOne (X509Row reply)
-one_x509_row reply = one_of Authentication _ (one_else _ _ (one_row Malformed _) (one_row X509Failed _))
+one_x509_row reply = one_row_of Authentication _ (one_else _ _ (one_row Malformed _) (one_row X509Failed _))
 
 one_taken : (reply : List ℕ) → IsOne (Takes reply)
 one_taken reply = λ a b p q. same_elements reply a b p.well_formed q.well_formed
@@ -44,12 +44,12 @@ one_x509 handed = one_from handed.speculated handed
 
 -- ---- an end is a login
 
-heard_ended : (reply : List ℕ) (events : List Event) (answer : Unit {0}) → Ends (x509_heard reply) events answer → (events ≡ []) × IsCertificateTaken reply
+heard_ended : (reply : List ℕ) (events : List Event) (answer : Unit {0}) → PlanEnds (x509_heard reply) events answer → (events ≡ []) × IsCertificateTaken reply
 heard_ended reply events answer e =
     let read = ends_reading (Takes reply) _ events answer (one_taken reply) (ends_unless (X509Row reply) _ events answer e).1 in
     ((ends_ending tt events answer read.2).0, (read.0, read.1))
 
-from_ended : (speculated : Bool) (handed : X509Handed) (events : List Event) (answer : Unit {0}) → Ends (x509_plan_from speculated handed) events answer → EndsBy (IsX509LoginFrom speculated handed) tt handed.maximum events answer
+from_ended : (speculated : Bool) (handed : X509Handed) (events : List Event) (answer : Unit {0}) → PlanEnds (x509_plan_from speculated handed) events answer → EndsBy (IsX509LoginFrom speculated handed) tt handed.maximum events answer
 from_ended true handed events answer e =
     let none = (ends_ending tt events answer e).0 in
     (refl, (ap documents_in none, ap replies_in none), subst (AreWithin handed.maximum) (sym none) tt)
@@ -60,7 +60,7 @@ from_ended false handed events answer e =
     let login : IsAnsweredX509 handed ((x509_said handed).document ∷ []) (said.reply ∷ []) = record { commands_are = refl; reply = said.reply; replies_are = refl; taken = heard.1 } in
     (refl, subst (λ x. IsAnsweredX509 handed (documents_in x) (replies_in x)) (sym are) login, subst (AreWithin handed.maximum) (sym are) (refl, tt))
 
-pub x509_ended : (handed : X509Handed) (events : List Event) (answer : Unit {0}) → Ends (x509_plan handed) events answer → EndsBy (IsX509Login handed) tt handed.maximum events answer
+pub x509_ended : (handed : X509Handed) (events : List Event) (answer : Unit {0}) → PlanEnds (x509_plan handed) events answer → EndsBy (IsX509Login handed) tt handed.maximum events answer
 x509_ended handed events answer e = from_ended handed.speculated handed events answer e
 
 -- ---- and a login is an end

@@ -17,8 +17,8 @@ use Rattle.mongo_sasl.specs.X509.{IsCertificateTaken, IsFailed, X509Row}
 
 module _ (reply : List ℕ) (fields : Fields) (held : HoldsWellFormed reply fields) (succeeded : Bool) (tells : IsTrue succeeded ↔ IsSuccess (field_of ok_key held.elements)) where
   -- the command succeeded
-  pub taken_by : succeeded ≡ true → IsCertificateTaken reply
-  taken_by is = (held.elements, record { well_formed = held.well_formed; ok = tells.0 is })
+  pub certificate_taken_by : succeeded ≡ true → IsCertificateTaken reply
+  certificate_taken_by is = (held.elements, record { well_formed = held.well_formed; ok = tells.0 is })
 
   -- it didn't
   pub failed_by : (kind : ErrorKind) → succeeded ≡ false → kind ≡ Authentication X509Failed → X509Row reply kind ⊎ (kind ≡ OutOfMemory)

@@ -29,11 +29,11 @@ same_version Sha1 Sha256 is = absurd (cc)
 same_version Sha256 Sha1 is = absurd (cc)
 same_version Sha256 Sha256 is = refl
 
-abbrev key_of : ScramVersion → List ℕ → List ℕ → List ℕ → ℕ → SaltedKey
-key_of version username password salt count = record { version = version; username = username; password = password; salt = salt; count = count }
+abbrev key_from_parts : ScramVersion → List ℕ → List ℕ → List ℕ → ℕ → SaltedKey
+key_from_parts version username password salt count = record { version = version; username = username; password = password; salt = salt; count = count }
 
-same_parts : (v w : ScramVersion) (u x p q s t : List ℕ) (c d : ℕ) → v ≡ w → u ≡ x → p ≡ q → s ≡ t → c ≡ d → key_of v u p s c ≡ key_of w x q t d
-same_parts v w u x p q s t c d a b e f g = λ i. key_of (a i) (b i) (e i) (f i) (g i)
+same_parts : (v w : ScramVersion) (u x p q s t : List ℕ) (c d : ℕ) → v ≡ w → u ≡ x → p ≡ q → s ≡ t → c ≡ d → key_from_parts v u p s c ≡ key_from_parts w x q t d
+same_parts v w u x p q s t c d a b e f g = λ i. key_from_parts (a i) (b i) (e i) (f i) (g i)
 
 pub key_cmp-exact : (x y : SaltedKey) → key_cmp x y ≡ Equal → x ≡ y
 key_cmp-exact x y is =

@@ -32,17 +32,17 @@ use Rattle.mongo_sasl.proofs.NotBuilt.{not_built}
 use Rattle.mongo_sasl.proofs.StoppedKeeping.{keeping_saying, refused_later}
 
 -- the command of the first message, as the plan has it
-abbrev start_command : Handed → User → Command
-start_command handed user = first_command handed.version false user.source (message_by handed user) handed.server_api
+abbrev planned_first_command : Handed → User → Command
+planned_first_command handed user = first_command handed.version false user.source (message_by handed user) handed.server_api
 
 -- a first message as the plan has it
-pub record IsStart (handed : Handed) (user : User) (first : ClientFirst) : Type 0 where
+pub record IsPlannedFirst (handed : Handed) (user : User) (first : ClientFirst) : Type 0 where
   pub db : includes_db first ≡ false
   pub source : first_source first ≡ user.source
   pub message : message_of first ≡ message_by handed user
   pub api : server_api_of first ≡ handed.server_api
 
-same_command : (handed : Handed) (user : User) (first : ClientFirst) → IsStart handed user first → first_command handed.version (includes_db first) (first_source first) (message_of first) (server_api_of first) ≡ start_command handed user
+same_command : (handed : Handed) (user : User) (first : ClientFirst) → IsPlannedFirst handed user first → first_command handed.version (includes_db first) (first_source first) (message_of first) (server_api_of first) ≡ planned_first_command handed user
 same_command handed user first is =
     let db = is.db in
     let source = is.source in
@@ -50,7 +50,7 @@ same_command handed user first is =
     let api = is.api in
     λ i. first_command handed.version (db i) (source i) (message i) (api i)
 
-same_body : (handed : Handed) (user : User) (first : ClientFirst) → IsStart handed user first → first_body handed.version (includes_db first) (first_source first) (message_of first) ≡ first_body handed.version false user.source (message_by handed user)
+same_body : (handed : Handed) (user : User) (first : ClientFirst) → IsPlannedFirst handed user first → first_body handed.version (includes_db first) (first_source first) (message_of first) ≡ first_body handed.version false user.source (message_by handed user)
 same_body handed user first is =
     let db = is.db in
     let source = is.source in
@@ -59,19 +59,19 @@ same_body handed user first is =
 
 -- ---- its command
 
-pub start_unbuilt : (handed : Handed) (user : User) (first : ClientFirst) (kind : ErrorKind) → IsStart handed user first → DocumentRefused kind (first_body handed.version (includes_db first) (first_source first) (message_of first)) → RefusedAtOnce (saying (start_said handed user) (challenged handed user)) kind
+pub start_unbuilt : (handed : Handed) (user : User) (first : ClientFirst) (kind : ErrorKind) → IsPlannedFirst handed user first → DocumentRefused kind (first_body handed.version (includes_db first) (first_source first) (message_of first)) → RefusedAtOnce (saying (start_said handed user) (challenged handed user)) kind
 start_unbuilt handed user first kind is unbuilt =
-    not_built (start_said handed user) (challenged handed user) (start_command handed user) kind refl
+    not_built (start_said handed user) (challenged handed user) (planned_first_command handed user) kind refl
     (omega (arith, length-enclosed (flat_map spell (start_elements (mechanism_of handed.version) (message_by handed user) ++ []))))
     (subst (DocumentRefused kind) (same_body handed user first is) unbuilt)
 
-pub start_unanswered : (handed : Handed) (user : User) (first : ClientFirst) (command : Command) (kind : ErrorKind) (old new : State) (before after : ℤ) (kept : Option ErrorKind) → IsStart handed user first → command ≡ first_command handed.version (includes_db first) (first_source first) (message_of first) (server_api_of first) → CountsStay old new
+pub start_unanswered : (handed : Handed) (user : User) (first : ClientFirst) (command : Command) (kind : ErrorKind) (old new : State) (before after : ℤ) (kept : Option ErrorKind) → IsPlannedFirst handed user first → command ≡ first_command handed.version (includes_db first) (first_source first) (message_of first) (server_api_of first) → CountsStay old new
     → ExchangeRefused kind handed.maximum (command_message command) old new before after kept → StoppedKeeping (saying (start_said handed user) (challenged handed user)) kind old new before after kept
 start_unanswered handed user first command kind old new before after kept start is counts refused =
     keeping_saying (start_said handed user) (challenged handed user) kind old new before after kept (subst (λ x. ExchangeRefused kind handed.maximum (command_message x) old new before after kept) (is ∙ same_command handed user first start) refused) counts
 
 -- the exchange was that of the command
-pub start_exchanged : (handed : Handed) (user : User) (first : ClientFirst) (command : Command) (old new : State) (before after : ℤ) (reply : List ℕ) → IsStart handed user first → command ≡ first_command handed.version (includes_db first) (first_source first) (message_of first) (server_api_of first)
+pub start_exchanged : (handed : Handed) (user : User) (first : ClientFirst) (command : Command) (old new : State) (before after : ℤ) (reply : List ℕ) → IsPlannedFirst handed user first → command ≡ first_command handed.version (includes_db first) (first_source first) (message_of first) (server_api_of first)
     → Exchanges handed.maximum (command_message command) old new before after reply → Exchanges handed.maximum (plain_message (start_said handed user).document) old new before after reply
 start_exchanged handed user first command old new before after reply start is e =
     subst (λ x. Exchanges handed.maximum (command_message x) old new before after reply) (is ∙ same_command handed user first start) e
@@ -88,7 +88,7 @@ start_refused handed user reply held kind old new before after same e counts row
     refused_later (start_said handed user) (challenged handed user) held kind old new before after e counts
     (reply_refused handed user held kind (subst (λ r. FirstReplyRow r kind ⊎ (kind ≡ OutOfMemory)) same row))
 
-pub start_opens : (handed : Handed) (user : User) (opened : Opened) (reply held : List ℕ) (old new : State) (before after : ℤ) → handed.speculated ≡ None → IsStart handed user opened.client_first → nonce_of opened.client_first ≡ nonce_by handed → reply ≡ held
+pub start_opens : (handed : Handed) (user : User) (opened : Opened) (reply held : List ℕ) (old new : State) (before after : ℤ) → handed.speculated ≡ None → IsPlannedFirst handed user opened.client_first → nonce_of opened.client_first ≡ nonce_by handed → reply ≡ held
     → Exchanges handed.maximum (plain_message (start_said handed user).document) old new before after held → CountsStay old new → CarriesFirst reply opened.server_first → Opens handed user opened old new before after
 start_opens handed user opened reply held old new before after none start nonce same e counts carries = record {
   message = start.message;

@@ -23,7 +23,7 @@ use Rattle.mongo_scram.specs.Plan.{Handed, Challenge, salted_by, opening, closin
 use Rattle.mongo_scram.specs.Login.{frames_opened, Opens, IsAnswered}
 use Rattle.mongo_scram.specs.User.{User, IsUser}
 use Rattle.mongo_scram.proofs.OpeningSteps.{opening_reached, opening_at_once}
-use Rattle.mongo_scram.proofs.ScramPlan.{challenge_of}
+use Rattle.mongo_scram.proofs.ScramPlan.{challenge_by_first}
 
 -- ---- between the exchanges
 
@@ -73,7 +73,7 @@ stopped_early {kept = kept} handed kind old new s nothing =
 
 module _ (handed : Handed) (user : User) (o : Opened) (key : SaltedKey) (tag : List ℕ) (old middle : Balance) (is : IsBetween handed user o key tag old middle) where
   abbrev challenge : Challenge
-  challenge = challenge_of user o.server_first
+  challenge = challenge_by_first user o.server_first
 
   pub between_tag : tag ≡ salted_by handed challenge
   between_tag = is.answered.tag_is ∙ ap salted_of is.key_is
@@ -81,8 +81,8 @@ module _ (handed : Handed) (user : User) (o : Opened) (key : SaltedKey) (tag : L
   usable : IsUsable (key_by handed challenge)
   usable = subst IsUsable is.key_is is.answered.usable
 
-  opened : Reached (opening handed) challenge old.state middle.state old.id middle.id
-  opened = opening_reached handed user o old.state middle.state old.id middle.id is.is_user is.opens is.answered.valid usable.password
+  opening_followed : Reached (opening handed) challenge old.state middle.state old.id middle.id
+  opening_followed = opening_reached handed user o old.state middle.state old.id middle.id is.is_user is.opens is.answered.valid usable.password
 
   derived : Derives (key_by handed challenge) old.ledgers middle.ledgers
   derived = subst (λ k. Derives k old.ledgers middle.ledgers) is.key_is is.answered.derived
@@ -95,12 +95,12 @@ module _ (handed : Handed) (user : User) (o : Opened) (key : SaltedKey) (tag : L
       challenge = challenge;
       middle = middle.state;
       between = middle.id;
-      opened = opened;
+      opened = opening_followed;
       stopped = stopped_of (closing handed challenge) kind middle.state new middle.id after kept s;
       derived = inl derives;
       entries = entries;
     }),
-    keeping_second (opening handed) (closing handed) challenge kind old.state middle.state new old.id middle.id after opened s,
+    keeping_second (opening handed) (closing handed) challenge kind old.state middle.state new old.id middle.id after opening_followed s,
   )
 
   -- one before anything is put in
@@ -136,7 +136,7 @@ module _ (handed : Handed) (user : User) (o : Opened) (key : SaltedKey) (tag : L
         challenge = challenge;
         middle = middle.state;
         between = middle.id;
-        opened = opened;
+        opened = opening_followed;
         taken = taken;
         closed = closed;
         ends = ends;

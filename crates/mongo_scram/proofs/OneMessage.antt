@@ -7,7 +7,7 @@ use Rattle.base64.proofs.EngineFacts.{decode_of-encode_of}
 use Rattle.mongo_bson.specs.declared.owned_value.OwnedValue.{OwnedValue}
 use Rattle.mongo_wire.specs.declared.error.ErrorKind.TheVariants.{Authentication}
 use Rattle.mongo_command.specs.Conversation.{IsOne, HasNone}
-use Rattle.mongo_command.proofs.Plans.{no_of, no_row, none_else, one_else, one_of, one_row}
+use Rattle.mongo_command.proofs.Plans.{no_of, no_row, none_else, one_else, one_row_of, one_row}
 use Rattle.mongo_sasl.specs.declared.sasl_response.SaslResponse.{SaslResponse}
 use Rattle.mongo_sasl.specs.Reply.{SaslRow}
 use Rattle.mongo_sasl.proofs.OneReply.{one_sasl_reply, one_sasl_row, sasl_reply_no_row}
@@ -69,7 +69,7 @@ one_first_text_row : (message : List ℕ) → IsOne (ServerFirstTextRow message)
 one_first_text_row message = one_else _ _ (one_row _ _) (one_row _ _)
 
 one_first_payload_row : (reply : List ℕ) → IsOne (FirstPayloadRow reply)
-one_first_payload_row reply = one_of Authentication _ (λ a b p q.
+one_first_payload_row reply = one_row_of Authentication _ (λ a b p q.
     let same = one_sasl_reply reply p.0 q.0 p.1 q.1 in
     one_first_text_row q.0.payload a b (subst (λ (sasl : SaslResponse). ServerFirstTextRow sasl.payload a) same p.2) q.2)
 

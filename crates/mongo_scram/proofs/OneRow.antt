@@ -5,7 +5,7 @@ use Rattle.mongo_bson.specs.declared.owned_value.OwnedValue.{OwnedValue}
 use Rattle.mongo_wire.specs.declared.error.ErrorKind.TheVariants.{Authentication}
 use Rattle.mongo_command.specs.Command.{admin}
 use Rattle.mongo_command.specs.Conversation.{IsOne, HasNone}
-use Rattle.mongo_command.proofs.Plans.{all_met, no_of, none_unmet, of_denied, one_else, one_of, one_row, one_unmet}
+use Rattle.mongo_command.proofs.Plans.{all_met, no_of, none_unmet, of_denied, one_else, one_row_of, one_row, one_unmet}
 use Rattle.mongo_sasl.specs.declared.credential.Credential.{Credential}
 use Rattle.mongo_sasl.proofs.NoUser.{there}
 use Rattle.mongo_scram.specs.declared.scram_version.ScramVersion.{ScramVersion}
@@ -35,7 +35,7 @@ one_user credential = λ a b p q.
     (p.source ∙ sym q.source)
 
 pub one_credential_row : (credential : Credential) → IsOne (CredentialRow credential)
-one_credential_row credential = one_of Authentication _ (one_unmet (credential_demands credential))
+one_credential_row credential = one_row_of Authentication _ (one_unmet (credential_demands credential))
 
 -- a credential with a user isn't refused
 pub no_credential_row : (credential : Credential) (user : User) → IsUser credential user → HasNone (CredentialRow credential)
@@ -92,9 +92,9 @@ one_password_row Sha256 password = one_else _ _ (one_row _ _) (one_row _ _)
 -- ---- whether the client goes on
 
 pub one_valid_first_row : (first : ServerFirst) (nonce : List ℕ) (max_iterations : ℕ) → IsOne (ServerFirstRow first nonce max_iterations)
-one_valid_first_row first nonce max_iterations = one_of Authentication _ (one_unmet (first_demands first nonce max_iterations))
+one_valid_first_row first nonce max_iterations = one_row_of Authentication _ (one_unmet (first_demands first nonce max_iterations))
 
 -- ---- whether the server has proved itself
 
 pub one_valid_final_row : (last : ServerFinal) (id : OwnedValue) (owed : List ℕ) → IsOne (ServerFinalRow last id owed)
-one_valid_final_row last id owed = one_of Authentication _ (one_unmet (final_demands last id owed))
+one_valid_final_row last id owed = one_row_of Authentication _ (one_unmet (final_demands last id owed))

@@ -1,7 +1,7 @@
 -- What an opening that was followed to its end says of its events, and the other way round.
 use Rattle.std.proofs.Common.{◌≡◌, ℕ, refl, ap, sym, ◌∙◌, subst, inr, Option, None, Some, List, [], ◌∷◌}
 use Rattle.mongo_command.specs.Conversation.{Event, exchanged, Turn, ends, Plan, HasNone, ending, IsSendable}
-use Rattle.mongo_command.proofs.Ends.{Ends, ends_ending, ends_unless, ends_reading, ends_saying}
+use Rattle.mongo_command.proofs.Ends.{PlanEnds, ends_ending, ends_unless, ends_reading, ends_saying}
 use Rattle.mongo_command.proofs.Talked.{follows_more}
 use Rattle.mongo_scram.specs.User.{User, IsUser}
 use Rattle.mongo_scram.specs.Key.{PasswordRow}
@@ -12,7 +12,7 @@ use Rattle.mongo_scram.proofs.OneMessage.{one_first, no_first_row}
 use Rattle.mongo_scram.proofs.OneRow.{one_user, no_credential_row}
 use Rattle.mongo_command.proofs.Plans.{none_first, none_second, none_else}
 use Rattle.mongo_scram.proofs.NoRows.{valid_first, valid_first_row}
-use Rattle.mongo_scram.proofs.ScramPlan.{challenge_of}
+use Rattle.mongo_scram.proofs.ScramPlan.{challenge_by_first}
 
 -- the reply asks this of a user, who goes on
 pub record IsChallenged (handed : Handed) (reply : List ℕ) (c : Challenge) : Type 0 where
@@ -22,10 +22,10 @@ pub record IsChallenged (handed : Handed) (reply : List ℕ) (c : Challenge) : T
 
 -- ---- after the reply
 
-challenged_ended : (handed : Handed) (user : User) (reply : List ℕ) (events : List Event) (c : Challenge) → Ends (challenged handed user reply) events c → (events ≡ []) × (c.user ≡ user) × IsChallenged handed reply c
+challenged_ended : (handed : Handed) (user : User) (reply : List ℕ) (events : List Event) (c : Challenge) → PlanEnds (challenged handed user reply) events c → (events ≡ []) × (c.user ≡ user) × IsChallenged handed reply c
 challenged_ended handed user reply events c e =
     let read = ends_reading (CarriesFirst reply) _ events c (one_first reply) (ends_unless _ _ events c e).1 in
-    let made = challenge_of user read.0 in
+    let made = challenge_by_first user read.0 in
     let passed = ends_unless (ChallengeRow handed made) (ending made) events c read.2 in
     let end = ends_ending made events c passed.1 in
     let asked : IsChallenged handed reply made = record {
@@ -43,18 +43,18 @@ challenged_turn handed reply c is =
 -- ---- the first command, unless it went with the hello
 
 -- the events that stand before the closing, and the reply with the server's first message
-abbrev pub OpensBy : Option Speculated → Handed → Challenge → List Event → List ℕ → Type 0
-OpensBy None handed c events reply = events ≡ exchanged (start_said handed c.user) reply ∷ []
-OpensBy (Some speculated) handed c events reply = (events ≡ []) × (reply ≡ speculated.reply)
+abbrev pub OpensByEvents : Option Speculated → Handed → Challenge → List Event → List ℕ → Type 0
+OpensByEvents None handed c events reply = events ≡ exchanged (start_said handed c.user) reply ∷ []
+OpensByEvents (Some speculated) handed c events reply = (events ≡ []) × (reply ≡ speculated.reply)
 
 -- what an opening that ended tells
 pub record IsOpened (handed : Handed) (events : List Event) (c : Challenge) : Type 0 where
   pub user : IsUser handed.credential c.user
   pub reply : List ℕ
-  pub events_are : OpensBy handed.speculated handed c events reply
+  pub events_are : OpensByEvents handed.speculated handed c events reply
   pub challenged : IsChallenged handed reply c
 
-opened_ended : (speculated : Option Speculated) (handed : Handed) (user : User) (events : List Event) (c : Challenge) → Ends (opened speculated handed user) events c → (c.user ≡ user) × ((reply : List ℕ) × OpensBy speculated handed c events reply × IsChallenged handed reply c)
+opened_ended : (speculated : Option Speculated) (handed : Handed) (user : User) (events : List Event) (c : Challenge) → PlanEnds (opened speculated handed user) events c → (c.user ≡ user) × ((reply : List ℕ) × OpensByEvents speculated handed c events reply × IsChallenged handed reply c)
 opened_ended None handed user events c e =
     let said = ends_saying (start_said handed user) (challenged handed user) events c e in
     let asked = challenged_ended handed user said.reply said.more c said.rest in
@@ -63,7 +63,7 @@ opened_ended (Some speculated) handed user events c e =
     let asked = challenged_ended handed user speculated.reply events c e in
     (asked.1, (speculated.reply, (asked.0, refl), asked.2))
 
-pub opening_ended : (handed : Handed) (events : List Event) (c : Challenge) → Ends (opening handed) events c → IsOpened handed events c
+pub opening_ended : (handed : Handed) (events : List Event) (c : Challenge) → PlanEnds (opening handed) events c → IsOpened handed events c
 opening_ended handed events c e =
     let read = ends_reading (IsUser handed.credential) _ events c (one_user handed.credential) (ends_unless _ _ events c e).1 in
     let found = opened_ended handed.speculated handed read.0 events c read.2 in
@@ -81,16 +81,16 @@ abbrev pub CanOpen : Option Speculated → Handed → User → Type 0
 CanOpen None handed user = IsSendable (start_said handed user)
 CanOpen (Some speculated) handed user = Unit {0}
 
-opened_ends : (speculated : Option Speculated) (handed : Handed) (events : List Event) (c : Challenge) (reply : List ℕ) → CanOpen speculated handed c.user → OpensBy speculated handed c events reply → IsChallenged handed reply c → Ends (opened speculated handed c.user) events c
+opened_ends : (speculated : Option Speculated) (handed : Handed) (events : List Event) (c : Challenge) (reply : List ℕ) → CanOpen speculated handed c.user → OpensByEvents speculated handed c events reply → IsChallenged handed reply c → PlanEnds (opened speculated handed c.user) events c
 opened_ends None handed events c reply sendable are is =
-    subst (λ x. Ends (opened None handed c.user) x c) (sym are) (record { follows = (refl, sendable, tt); answer_is = challenged_turn handed reply c is })
+    subst (λ x. PlanEnds (opened None handed c.user) x c) (sym are) (record { follows = (refl, sendable, tt); answer_is = challenged_turn handed reply c is })
 opened_ends (Some speculated) handed events c reply sendable are is =
-    subst (λ x. Ends (opened (Some speculated) handed c.user) x c) (sym are.0) (record { follows = tt; answer_is = subst (λ r. challenged handed c.user r [] (ends c)) are.1 (challenged_turn handed reply c is) })
+    subst (λ x. PlanEnds (opened (Some speculated) handed c.user) x c) (sym are.0) (record { follows = tt; answer_is = subst (λ r. challenged handed c.user r [] (ends c)) are.1 (challenged_turn handed reply c is) })
 
-ends_more : (plan other : Plan Challenge) (events : List Event) (c : Challenge) → ((past : List Event) (turn : Turn Challenge) → plan past turn → other past turn) → Ends plan events c → Ends other events c
+ends_more : (plan other : Plan Challenge) (events : List Event) (c : Challenge) → ((past : List Event) (turn : Turn Challenge) → plan past turn → other past turn) → PlanEnds plan events c → PlanEnds other events c
 ends_more plan other events c more e = record { follows = follows_more plan other events e.follows more; answer_is = more events (ends c) e.answer_is }
 
-pub opening_ends : (handed : Handed) (events : List Event) (c : Challenge) → CanOpen handed.speculated handed c.user → IsOpened handed events c → Ends (opening handed) events c
+pub opening_ends : (handed : Handed) (events : List Event) (c : Challenge) → CanOpen handed.speculated handed c.user → IsOpened handed events c → PlanEnds (opening handed) events c
 opening_ends handed events c sendable is =
     ends_more (opened handed.speculated handed c.user) (opening handed) events c
     (λ past turn h. inr (no_credential_row handed.credential c.user is.user, (c.user, is.user, h)))

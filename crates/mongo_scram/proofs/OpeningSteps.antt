@@ -22,7 +22,7 @@ use Rattle.mongo_command.proofs.Plans.{none_else}
 use Rattle.mongo_scram.proofs.NoRows.{valid_first_row}
 use Rattle.mongo_scram.proofs.OneMessage.{no_first_row}
 use Rattle.mongo_scram.proofs.OneRow.{no_credential_row}
-use Rattle.mongo_scram.proofs.ScramPlan.{challenge_of}
+use Rattle.mongo_scram.proofs.ScramPlan.{challenge_by_first}
 
 -- ---- the opening
 
@@ -53,12 +53,12 @@ user_stopped handed user kind old new before after is s = keeping_more (opened h
 pub user_refused : (handed : Handed) (user : User) (kind : ErrorKind) → IsUser handed.credential user → RefusedAtOnce (opened handed.speculated handed user) kind → RefusedAtOnce (opening handed) kind
 user_refused handed user kind is r = at_once_more (opened handed.speculated handed user) (opening handed) kind (after_tests handed user is []) r
 
-challenge_none : (handed : Handed) (user : User) (first : ServerFirst) → IsValidFirst first (nonce_by handed) handed.max_iterations → HasNone (PasswordRow handed.version user.password) → HasNone (ChallengeRow handed (challenge_of user first))
+challenge_none : (handed : Handed) (user : User) (first : ServerFirst) → IsValidFirst first (nonce_by handed) handed.max_iterations → HasNone (PasswordRow handed.version user.password) → HasNone (ChallengeRow handed (challenge_by_first user first))
 challenge_none handed user first valid usable = none_else (ServerFirstRow first (nonce_by handed) handed.max_iterations) (PasswordRow handed.version user.password) (valid_first_row first (nonce_by handed) handed.max_iterations valid) usable
 
-pub opening_reached : (handed : Handed) (user : User) (o : Opened) (old new : State) (before after : ℤ) → IsUser handed.credential user → Opens handed user o old new before after → IsValidFirst o.server_first (nonce_of o.client_first) handed.max_iterations → HasNone (PasswordRow handed.version user.password) → Reached (opening handed) (challenge_of user o.server_first) old new before after
+pub opening_reached : (handed : Handed) (user : User) (o : Opened) (old new : State) (before after : ℤ) → IsUser handed.credential user → Opens handed user o old new before after → IsValidFirst o.server_first (nonce_of o.client_first) handed.max_iterations → HasNone (PasswordRow handed.version user.password) → Reached (opening handed) (challenge_by_first user o.server_first) old new before after
 opening_reached handed user o old new before after is opens valid usable =
-    let c = challenge_of user o.server_first in
+    let c = challenge_by_first user o.server_first in
     let none = challenge_none handed user o.server_first (subst (λ nonce. IsValidFirst o.server_first nonce handed.max_iterations) opens.nonce valid) usable in
     reached_unless (CredentialRow handed.credential) _ c old new before after (no_credential_row handed.credential user is)
     (reached_reading (IsUser handed.credential) (opened handed.speculated handed) user c old new before after is
@@ -72,9 +72,9 @@ opened_at_once : (speculated : Option Speculated) (handed : Handed) (user : User
 opened_at_once None handed user reply c old new before after some replied turn = absurd (false≢true some)
 opened_at_once (Some speculated) handed user reply c old new before after some replied turn = subst (λ x. challenged handed user x [] (ends c)) replied.0 turn
 
-pub opening_at_once : (handed : Handed) (user : User) (o : Opened) (old new : State) (before after : ℤ) → IsSome handed.speculated → IsUser handed.credential user → Opens handed user o old new before after → IsValidFirst o.server_first (nonce_of o.client_first) handed.max_iterations → HasNone (PasswordRow handed.version user.password) → opening handed [] (ends (challenge_of user o.server_first))
+pub opening_at_once : (handed : Handed) (user : User) (o : Opened) (old new : State) (before after : ℤ) → IsSome handed.speculated → IsUser handed.credential user → Opens handed user o old new before after → IsValidFirst o.server_first (nonce_of o.client_first) handed.max_iterations → HasNone (PasswordRow handed.version user.password) → opening handed [] (ends (challenge_by_first user o.server_first))
 opening_at_once handed user o old new before after some is opens valid usable =
-    let c = challenge_of user o.server_first in
+    let c = challenge_by_first user o.server_first in
     let none = challenge_none handed user o.server_first (subst (λ nonce. IsValidFirst o.server_first nonce handed.max_iterations) opens.nonce valid) usable in
     let turn : challenged handed user opens.reply [] (ends c) = inr (no_first_row opens.reply o.server_first opens.carries, (o.server_first, opens.carries, inr (none, refl))) in
     inr (no_credential_row handed.credential user is, (user, is, opened_at_once handed.speculated handed user opens.reply c old new before after some opens.replied turn))
@@ -86,7 +86,7 @@ heard_at_once (Some speculated) handed user reply kind old new before after some
 -- it begins with a command only without one
 heard_unsaid : (handed : Handed) (user : User) (reply : List ℕ) (said : Said) → challenged handed user reply [] (says said) → ⊥
 heard_unsaid handed user reply said (inl row) = row
-heard_unsaid handed user reply said (inr heard) = elim heard.1.2 [ inl row ↦ row | inr ended ↦ let same : ◌≡◌ {A = Turn Challenge} (says said) (ends (challenge_of user heard.1.0)) = ended.1 in let no : ⊥ = cc in no ]
+heard_unsaid handed user reply said (inr heard) = elim heard.1.2 [ inl row ↦ row | inr ended ↦ let same : ◌≡◌ {A = Turn Challenge} (says said) (ends (challenge_by_first user heard.1.0)) = ended.1 in let no : ⊥ = cc in no ]
 
 opened_anew : (speculated : Option Speculated) (handed : Handed) (user : User) (said : Said) → opened speculated handed user [] (says said) → speculated ≡ None
 opened_anew None handed user said turn = refl
@@ -106,7 +106,7 @@ module _ (handed : Handed) (user : User) (o : Opened) (nonce : List ℕ) (kind :
     (row : AnswerRow o.server_first nonce handed.max_iterations handed.version user.password kind ⊎ (kind ≡ OutOfMemory)) where
   answer_heard : RefusedAtOnce (challenged handed user opens.reply) kind
   answer_heard =
-      let c = challenge_of user o.server_first in
+      let c = challenge_by_first user o.server_first in
       at_once_more (unless (ChallengeRow handed c) (ending c)) (challenged handed user opens.reply) kind (λ turn h. inr (no_first_row opens.reply o.server_first opens.carries, (o.server_first, opens.carries, h)))
       (answer_row handed c kind (subst (λ n. AnswerRow o.server_first n handed.max_iterations handed.version user.password kind ⊎ (kind ≡ OutOfMemory)) (same ∙ opens.nonce) row))
 

@@ -40,14 +40,14 @@ one_cut (c ∷ a) (d ∷ b) x y p q is =
 
 -- ---- the last part
 
-abbrev Ends : List ℕ → Type 0
-Ends rest = (rest ≡ []) ⊎ ((more : List ℕ) × (rest ≡ 0x2C ∷ more))
+abbrev EndsPart : List ℕ → Type 0
+EndsPart rest = (rest ≡ []) ⊎ ((more : List ℕ) × (rest ≡ 0x2C ∷ more))
 
-not_ended : (c : ℕ) (b rest : List ℕ) → c ≢ 0x2C → Ends rest → rest ≡ c ∷ b → ⊥
+not_ended : (c : ℕ) (b rest : List ℕ) → c ≢ 0x2C → EndsPart rest → rest ≡ c ∷ b → ⊥
 not_ended c b rest other (inl none) is = let never : [] ≡ c ∷ b = sym none ∙ is in absurd (cc)
 not_ended c b rest other (inr more) is = other (sym (heads 0x2C c more.0 b (sym more.1 ∙ is)))
 
-one_front : (a b x y : List ℕ) → HasNo 0x2C a → HasNo 0x2C b → Ends x → Ends y → a ++ x ≡ b ++ y → a ≡ b
+one_front : (a b x y : List ℕ) → HasNo 0x2C a → HasNo 0x2C b → EndsPart x → EndsPart y → a ++ x ≡ b ++ y → a ≡ b
 one_front [] [] x y p q m n is = refl
 one_front [] (c ∷ b) x y p q m n is = absurd (not_ended c (b ++ y) x q.0 m is)
 one_front (c ∷ a) [] x y p q m n is = absurd (not_ended c (a ++ x) y p.0 n (sym is))

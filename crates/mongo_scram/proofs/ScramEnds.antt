@@ -1,12 +1,12 @@
 -- A SCRAM login that was followed to its end is one command and its reply after another, and the other way round.
 use Rattle.std.proofs.Common.{◌≡◌, ℕ, refl, ap, sym, ◌∙◌, subst, Option, None, Some, List, [], ◌∷◌, ◌++◌}
 use Rattle.mongo_command.specs.Conversation.{Event, exchanged, IsSendable, said_in}
-use Rattle.mongo_command.proofs.Ends.{Ends, ends_followed, ends_both}
+use Rattle.mongo_command.proofs.Ends.{PlanEnds, ends_followed, ends_both}
 use Rattle.mongo_sasl.proofs.LoginEvents.{AreSendable}
 use Rattle.mongo_scram.specs.User.{IsUser}
 use Rattle.mongo_scram.specs.Plan.{Speculated, Handed, Challenge, start_said, close_said, opening, closing, scram_plan}
 use Rattle.mongo_scram.proofs.ScramPlan.{one_opening}
-use Rattle.mongo_scram.proofs.OpeningEnds.{IsChallenged, OpensBy, IsOpened, CanOpen, opening_ended, opening_ends}
+use Rattle.mongo_scram.proofs.OpeningEnds.{IsChallenged, OpensByEvents, IsOpened, CanOpen, opening_ended, opening_ends}
 use Rattle.mongo_scram.proofs.ClosingEnds.{IsProved, IsClosed, closing_ended, closing_ends}
 
 -- ---- events
@@ -22,7 +22,7 @@ IsFirstReply None first = Unit {0}
 IsFirstReply (Some speculated) first = first ≡ speculated.reply
 
 -- the events are a login's, by this challenge
-pub record IsLogin (handed : Handed) (events : List Event) (c : Challenge) : Type 0 where
+pub record AreLoginEvents (handed : Handed) (events : List Event) (c : Challenge) : Type 0 where
   pub user : IsUser handed.credential c.user
   pub first : List ℕ
   pub last : List ℕ
@@ -33,15 +33,15 @@ pub record IsLogin (handed : Handed) (events : List Event) (c : Challenge) : Typ
 
 -- ---- an end is a login
 
-first_reply : (speculated : Option Speculated) (handed : Handed) (c : Challenge) (front : List Event) (reply : List ℕ) → OpensBy speculated handed c front reply → IsFirstReply speculated reply
+first_reply : (speculated : Option Speculated) (handed : Handed) (c : Challenge) (front : List Event) (reply : List ℕ) → OpensByEvents speculated handed c front reply → IsFirstReply speculated reply
 first_reply None handed c front reply by = tt
 first_reply (Some speculated) handed c front reply by = by.1
 
-joined : (speculated : Option Speculated) (handed : Handed) (c : Challenge) (front back : List Event) (first last : List ℕ) → OpensBy speculated handed c front first → back ≡ exchanged (close_said handed c) last ∷ [] → front ++ back ≡ login_events speculated handed c first last
+joined : (speculated : Option Speculated) (handed : Handed) (c : Challenge) (front back : List Event) (first last : List ℕ) → OpensByEvents speculated handed c front first → back ≡ exchanged (close_said handed c) last ∷ [] → front ++ back ≡ login_events speculated handed c first last
 joined None handed c front back first last by is = ap (λ x. x ++ back) by ∙ ap (λ x. exchanged (start_said handed c.user) first ∷ x) is
 joined (Some speculated) handed c front back first last by is = ap (λ x. x ++ back) by.0 ∙ is
 
-login_of : (handed : Handed) (events front back : List Event) (c : Challenge) → events ≡ front ++ back → IsOpened handed front c → IsClosed handed c back → IsLogin handed events c
+login_of : (handed : Handed) (events front back : List Event) (c : Challenge) → events ≡ front ++ back → IsOpened handed front c → IsClosed handed c back → AreLoginEvents handed events c
 login_of handed events front back c is o e = record {
   user = o.user;
   first = o.reply;
@@ -52,11 +52,11 @@ login_of handed events front back c is o e = record {
   is_proved = e.is_proved;
 }
 
-pub scram_ended : (handed : Handed) (events : List Event) (c : Challenge) → Ends (scram_plan handed) events c → IsLogin handed events c
+pub scram_ended : (handed : Handed) (events : List Event) (c : Challenge) → PlanEnds (scram_plan handed) events c → AreLoginEvents handed events c
 scram_ended handed events c e =
     let split = ends_followed (opening handed) (closing handed) events c (one_opening handed) e in
     let back = closing_ended handed split.answer split.more c split.second in
-    subst (IsLogin handed events) (sym back.0) (login_of handed events split.front split.more split.answer split.events_are (opening_ended handed split.front split.answer split.first) back.1)
+    subst (AreLoginEvents handed events) (sym back.0) (login_of handed events split.front split.more split.answer split.events_are (opening_ended handed split.front split.answer split.first) back.1)
 
 -- ---- and a login is an end
 
@@ -70,7 +70,7 @@ unfolding front_of
 split_events None handed c first last = refl
 split_events (Some speculated) handed c first last = refl
 
-opens_by : (speculated : Option Speculated) (handed : Handed) (c : Challenge) (first : List ℕ) → IsFirstReply speculated first → OpensBy speculated handed c (front_of speculated handed c first) first
+opens_by : (speculated : Option Speculated) (handed : Handed) (c : Challenge) (first : List ℕ) → IsFirstReply speculated first → OpensByEvents speculated handed c (front_of speculated handed c first) first
 unfolding front_of
 opens_by None handed c first is = refl
 opens_by (Some speculated) handed c first is = (refl, is)
@@ -79,11 +79,11 @@ both_sendable : (speculated : Option Speculated) (handed : Handed) (c : Challeng
 both_sendable None handed c first last are = (are.0, are.1.0)
 both_sendable (Some speculated) handed c first last are = (tt, are.0)
 
-pub scram_ends : (handed : Handed) (events : List Event) (c : Challenge) → IsLogin handed events c → AreSendable (said_in events) → Ends (scram_plan handed) events c
+pub scram_ends : (handed : Handed) (events : List Event) (c : Challenge) → AreLoginEvents handed events c → AreSendable (said_in events) → PlanEnds (scram_plan handed) events c
 scram_ends handed events c is are =
     let front = front_of handed.speculated handed c is.first in
     let back : List Event = exchanged (close_said handed c) is.last ∷ [] in
     let sendable = both_sendable handed.speculated handed c is.first is.last (subst (λ x. AreSendable (said_in x)) is.events_are are) in
-    let opened : Ends (opening handed) front c = opening_ends handed front c sendable.0 (record { user = is.user; reply = is.first; events_are = opens_by handed.speculated handed c is.first is.first_is; challenged = is.challenged }) in
-    let closed : Ends (closing handed c) back c = closing_ends handed c back sendable.1 (record { reply = is.last; events_are = refl; is_proved = is.is_proved }) in
-    subst (λ x. Ends (scram_plan handed) x c) (sym (is.events_are ∙ split_events handed.speculated handed c is.first is.last)) (ends_both (opening handed) (closing handed) front back c c opened closed)
+    let opened : PlanEnds (opening handed) front c = opening_ends handed front c sendable.0 (record { user = is.user; reply = is.first; events_are = opens_by handed.speculated handed c is.first is.first_is; challenged = is.challenged }) in
+    let closed : PlanEnds (closing handed c) back c = closing_ends handed c back sendable.1 (record { reply = is.last; events_are = refl; is_proved = is.is_proved }) in
+    subst (λ x. PlanEnds (scram_plan handed) x c) (sym (is.events_are ∙ split_events handed.speculated handed c is.first is.last)) (ends_both (opening handed) (closing handed) front back c c opened closed)

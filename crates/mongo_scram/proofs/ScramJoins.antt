@@ -5,7 +5,7 @@ use Rattle.mongo_sasl.proofs.Joining.{JoinsLogin}
 use Rattle.mongo_sasl.proofs.LoginEvents.{replies_in, documents_in, AreWithin, LoginEnd}
 use Rattle.mongo_scram.specs.Plan.{Speculated, Handed, Challenge, scram_plan}
 use Rattle.mongo_scram.specs.Script.{IsScramLogin}
-use Rattle.mongo_scram.proofs.ScramEnds.{login_events, scram_ended, scram_ends, IsLogin}
+use Rattle.mongo_scram.proofs.ScramEnds.{login_events, scram_ended, scram_ends, AreLoginEvents}
 use Rattle.mongo_scram.proofs.ScramFits.{fits_scram}
 use Rattle.mongo_scram.proofs.ScramPlan.{one_scram}
 use Rattle.mongo_scram.proofs.ScramScript.{login_scram, scram_login}
@@ -14,10 +14,10 @@ events_within : (speculated : Option Speculated) (handed : Handed) (c : Challeng
 events_within None handed c first last = (refl, (refl, tt))
 events_within (Some speculated) handed c first last = (refl, tt)
 
-scram_within : (handed : Handed) (events : List Event) (c : Challenge) → IsLogin handed events c → AreWithin handed.maximum events
+scram_within : (handed : Handed) (events : List Event) (c : Challenge) → AreLoginEvents handed events c → AreWithin handed.maximum events
 scram_within handed events c is = subst (AreWithin handed.maximum) (sym is.events_are) (events_within handed.speculated handed c is.first is.last)
 
-scram_found : (handed : Handed) (events : List Event) (c : Challenge) → IsLogin handed events c → IsScramLogin handed (documents_in events) (replies_in events) × AreWithin handed.maximum events
+scram_found : (handed : Handed) (events : List Event) (c : Challenge) → AreLoginEvents handed events c → IsScramLogin handed (documents_in events) (replies_in events) × AreWithin handed.maximum events
 scram_found handed events c is = (scram_login handed events c is, scram_within handed events c is)
 
 scram_end : (handed : Handed) (commands replies : List (List ℕ)) → IsScramLogin handed commands replies → (c : Challenge) × LoginEnd (scram_plan handed) c handed.maximum commands replies

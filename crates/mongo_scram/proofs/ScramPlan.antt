@@ -12,8 +12,8 @@ use Rattle.mongo_scram.proofs.OneRow.{one_user, one_credential_row, one_valid_fi
 -- ---- the opening
 
 -- what is asked of a user by a first message of the server
-abbrev pub challenge_of : User → ServerFirst → Challenge
-challenge_of user first = record { user = user; first = first }
+abbrev pub challenge_by_first : User → ServerFirst → Challenge
+challenge_by_first user first = record { user = user; first = first }
 
 one_challenge_row : (handed : Handed) (c : Challenge) → IsOne (ChallengeRow handed c)
 one_challenge_row handed c = one_else _ _ (one_valid_first_row c.first (nonce_by handed) handed.max_iterations) (one_password_row handed.version c.user.password)
@@ -21,7 +21,7 @@ one_challenge_row handed c = one_else _ _ (one_valid_first_row c.first (nonce_by
 one_challenged : (handed : Handed) (user : User) (reply : List ℕ) → HasOneTurn (challenged handed user reply)
 one_challenged handed user reply =
     one_unless _ _ (one_first_row reply) (one_reading _ _ (one_first reply) (λ first.
-    one_unless _ _ (one_challenge_row handed (challenge_of user first)) (one_ending (challenge_of user first))))
+    one_unless _ _ (one_challenge_row handed (challenge_by_first user first)) (one_ending (challenge_by_first user first))))
 
 one_opened : (speculated : Option Speculated) (handed : Handed) (user : User) → HasOneTurn (opened speculated handed user)
 one_opened None handed user = one_saying (start_said handed user) (challenged handed user) (one_challenged handed user)

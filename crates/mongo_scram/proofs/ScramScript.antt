@@ -17,7 +17,7 @@ use Rattle.mongo_scram.proofs.Octets.{verifier_bytes, verifier_text}
 use Rattle.mongo_scram.proofs.OpeningEnds.{IsChallenged}
 use Rattle.mongo_scram.proofs.ClosingEnds.{IsProved}
 use Rattle.mongo_sasl.proofs.LoginEvents.{replies_in, documents_in}
-use Rattle.mongo_scram.proofs.ScramEnds.{login_events, IsFirstReply, IsLogin}
+use Rattle.mongo_scram.proofs.ScramEnds.{login_events, IsFirstReply, AreLoginEvents}
 
 abbrev said_by : OwnedValue → Bool → List ℕ → SaslResponse
 said_by id done payload = record { conversation_id = id; done = done; payload = payload }
@@ -49,8 +49,8 @@ last_said handed c reply is =
     let payload = last_payload handed c reply is in
     subst (IsSaslReply reply) (λ i. said_by (id i) (done i) (payload i)) carries.is_reply
 
-conversation_by : (handed : Handed) (c : Challenge) (first last : List ℕ) → IsChallenged handed first c → IsProved handed c last → IsConversation handed c.user first (close_said handed c).document last
-conversation_by handed c first last p q = record {
+conversation_of_challenge : (handed : Handed) (c : Challenge) (first last : List ℕ) → IsChallenged handed first c → IsProved handed c last → IsConversation handed c.user first (close_said handed c).document last
+conversation_of_challenge handed c first last p q = record {
   challenge = c;
   is_user = refl;
   goes_on = p.valid;
@@ -96,11 +96,11 @@ from_events None handed c first last is conversation = (first, (close_said hande
 from_events (Some speculated) handed c first last is conversation =
     ((close_said handed c).document, last, refl, refl, subst (λ reply. IsConversation handed c.user reply (close_said handed c).document last) is conversation)
 
-pub scram_login : (handed : Handed) (events : List Event) (c : Challenge) → IsLogin handed events c → IsScramLogin handed (documents_in events) (replies_in events)
+pub scram_login : (handed : Handed) (events : List Event) (c : Challenge) → AreLoginEvents handed events c → IsScramLogin handed (documents_in events) (replies_in events)
 scram_login handed events c is = record {
   user = c.user;
   is_user = is.user;
-  login = subst (λ x. IsLoginFrom handed.speculated handed c.user (documents_in x) (replies_in x)) (sym is.events_are) (from_events handed.speculated handed c is.first is.last is.first_is (conversation_by handed c is.first is.last is.challenged is.is_proved));
+  login = subst (λ x. IsLoginFrom handed.speculated handed c.user (documents_in x) (replies_in x)) (sym is.events_are) (from_events handed.speculated handed c is.first is.last is.first_is (conversation_of_challenge handed c is.first is.last is.challenged is.is_proved));
 }
 
 -- ---- the script to events
@@ -146,7 +146,7 @@ found (Some speculated) handed user commands replies is =
 pub record LoginEvents (handed : Handed) (commands replies : List (List ℕ)) : Type 0 where
   pub challenge : Challenge
   pub events : List Event
-  pub is_login : IsLogin handed events challenge
+  pub is_login : AreLoginEvents handed events challenge
   pub commands_are : commands ≡ documents_in events
   pub replies_are : replies ≡ replies_in events
 

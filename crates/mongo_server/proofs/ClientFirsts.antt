@@ -10,7 +10,7 @@ use Rattle.mongo_scram.specs.UserName.{escaped}
 use Rattle.mongo_scram.proofs.Parts.{no_cut, one_cut}
 use Rattle.mongo_server.specs.ClientMessages.{IsNonce, IsClientFirst}
 use Rattle.mongo_server.specs.SaslName.{IsSaslName}
-use Rattle.mongo_server.proofs.UserNames.{escaped_same, escaped-no_comma, escaped_text, past_ascii, name_text}
+use Rattle.mongo_server.proofs.UserNames.{escaped_same, escaped-no_comma, escaped_text, past_ascii, unescaped_text}
 
 -- ---- the texts
 
@@ -121,15 +121,15 @@ module _ (message bare attributes name attribute : List ℕ) (is : AreAttributes
       let opened : IsUtf8 (110 ∷ 44 ∷ 44 ∷ 110 ∷ 61 ∷ attributes) = subst IsUtf8 (is.opened.header ∙ ap (λ x. codes "n,," ++ x) is.opened.key) text in
       let key = past_ascii 44 _ (omega arith) (past_ascii 44 _ (omega arith) (past_ascii 110 _ (omega arith) opened)) in
       let five = past_ascii 61 attributes (omega arith) (past_ascii 110 _ (omega arith) key) in
-      name_text username (subst IsUtf8 name_is (name_front name attribute (subst IsUtf8 is.joined five)))
+      unescaped_text username (subst IsUtf8 name_is (name_front name attribute (subst IsUtf8 is.joined five)))
 
 -- ---- one reading
 
-pub record SameFirst (username nonce other more : List ℕ) : Type 0 where
+pub record SameNameAndNonce (username nonce other more : List ℕ) : Type 0 where
   pub username_is : username ≡ other
   pub nonce_is : nonce ≡ more
 
-pub one_first : (message username nonce other more : List ℕ) → IsClientFirst message username nonce → IsClientFirst message other more → SameFirst username nonce other more
+pub one_first : (message username nonce other more : List ℕ) → IsClientFirst message username nonce → IsClientFirst message other more → SameNameAndNonce username nonce other more
 one_first message username nonce other more p q =
     let bare = one_bare message (bare_message username nonce) other more (p.message_is ∙ opens username nonce) q in
     let rest = behind_two 110 61 (escaped username ++ (0x2C ∷ (codes "r=" ++ nonce))) (escaped other ++ (0x2C ∷ (codes "r=" ++ more))) (sym (bares username nonce) ∙ bare ∙ bares other more) in

@@ -46,8 +46,8 @@ module _ (core : ServerCore) (x : Exchange) (serves : Serves core x) where
   client_first message printable is = record { message_is = is; text = serves.user.text; printable = printable }
 
   -- what it answers is what the client reads
-  read_as : (text nonce : List ℕ) → nonce ≡ x.nonce → IsNonce x.nonce → IsBytes (salt_of core) → text ≡ first_by core nonce → IsReadAs text x
-  read_as text nonce same printable bytes is =
+  answer_read_as : (text nonce : List ℕ) → nonce ≡ x.nonce → IsNonce x.nonce → IsBytes (salt_of core) → text ≡ first_by core nonce → IsReadAs text x
+  answer_read_as text nonce same printable bytes is =
       let text_is : text ≡ first_of x = is ∙ first_is nonce same in
       record {
         text_is = text_is;
@@ -68,7 +68,7 @@ pub accepts_first : (core new : ServerCore) (message text nonce : List ℕ) → 
     → (x : Exchange) → Serves core x → IsNonce x.nonce → message ≡ open_of x → IsReadAs text x × HasBegun new x
 accepts_first core new message text nonce first text_is bytes same_user same_suffix begun x serves printable is =
     let same = (one_first message (username_of core) nonce x.username x.nonce first (client_first core x serves message printable is)).nonce_is in
-    (read_as core x serves text nonce same printable bytes text_is, has_begun core x serves new nonce same printable bytes same_user same_suffix begun)
+    (answer_read_as core x serves text nonce same printable bytes text_is, has_begun core x serves new nonce same printable bytes same_user same_suffix begun)
 
 -- a client of the exchange isn't refused
 pub hears_first : (core : ServerCore) (message : List ℕ) (fault : ServerFault) → ClientFirstRow core message fault → (x : Exchange) → Serves core x → IsNonce x.nonce → message ≡ open_of x → fault ≡ OutOfMemory

@@ -113,12 +113,12 @@ whole_name front code after p is named = (
 )
 
 -- a text cut at its first `=`, behind which a code stands
-pub record IsCut (text front code after : List ℕ) : Type 0 where
+pub record IsCutAtEquals (text front code after : List ℕ) : Type 0 where
   pub joined : text ≡ front ++ (0x3D ∷ code)
   pub no_equals : HasNo 0x3D front
   pub is_code : IsCode code after
 
-front_plain : (text front code after : List ℕ) → HasNo 0x2C text → IsCut text front code after → AllByRecursion IsPlain front
+front_plain : (text front code after : List ℕ) → HasNo 0x2C text → IsCutAtEquals text front code after → AllByRecursion IsPlain front
 front_plain text front code after none is = plain front is.no_equals (comma_front front (0x3D ∷ code) (subst (HasNo 0x2C) is.joined none))
 
 coded_back : (code after : List ℕ) → IsCode code after → (code ≡ codes "3D" ++ after) ⊎ (code ≡ codes "2C" ++ after) → HasNo 0x2C code → HasNo 0x2C after
@@ -128,10 +128,10 @@ coded_back code after is (inr by) none = comma_back (codes "2C") after (subst (H
 pub after_no_comma : (text front code after : List ℕ) → HasNo 0x2C text → text ≡ front ++ (0x3D ∷ code) → (code ≡ codes "3D" ++ after) ⊎ (code ≡ codes "2C" ++ after) → HasNo 0x2C after
 after_no_comma text front code after none is by = coded_back code after (code_of code after by) by (comma_back front (0x3D ∷ code) (subst (HasNo 0x2C) is none)).1
 
-pub whole_from : (text front code after : List ℕ) → HasNo 0x2C text → IsCut text front code after → IsSaslName after → IsSaslName text
+pub whole_from : (text front code after : List ℕ) → HasNo 0x2C text → IsCutAtEquals text front code after → IsSaslName after → IsSaslName text
 whole_from text front code after none is named = subst IsSaslName (sym is.joined) (whole_name front code after (front_plain text front code after none is) is.is_code named)
 
-pub after_from : (text front code after : List ℕ) → HasNo 0x2C text → IsCut text front code after → IsSaslName text → IsSaslName after
+pub after_from : (text front code after : List ℕ) → HasNo 0x2C text → IsCutAtEquals text front code after → IsSaslName text → IsSaslName after
 after_from text front code after none is named = behind_code code after is.is_code (behind_plain front (0x3D ∷ code) (front_plain text front code after none is) (subst IsSaslName is.joined named))
 
 -- with no code behind its first `=`, a text is no name's
@@ -219,17 +219,17 @@ shorter : (name : List ℕ) (n : ℕ) (b : BeginsWithCharacter name) → length 
 shorter name n b within =
     omega (arith, ap length b.joined, length-append (encode b.character) b.more, length-encode b.character, (len_utf8_bounds b.character).0)
 
-text_of : (n : ℕ) (name : List ℕ) → length name ≤ n → IsUtf8 (escaped name) → IsUtf8 name
-text_of n [] within text = IsUtf8-nil
-text_of zero (byte ∷ name) within text = absurd (omega arith)
-text_of (suc n) (byte ∷ name) within text =
+unescaped_text_within : (n : ℕ) (name : List ℕ) → length name ≤ n → IsUtf8 (escaped name) → IsUtf8 name
+unescaped_text_within n [] within text = IsUtf8-nil
+unescaped_text_within zero (byte ∷ name) within text = absurd (omega arith)
+unescaped_text_within (suc n) (byte ∷ name) within text =
     by_byte (λ b. IsUtf8 (escaped_byte b ++ escaped name) → IsUtf8 (b ∷ name))
-    (λ coded. IsUtf8-append (61 ∷ []) name (ascii_one 61 (omega arith)) (text_of n name (omega arith) (past_three 61 51 68 (escaped name) (omega arith) (omega arith) (omega arith) coded)))
-    (λ coded. IsUtf8-append (44 ∷ []) name (ascii_one 44 (omega arith)) (text_of n name (omega arith) (past_three 61 50 67 (escaped name) (omega arith) (omega arith) (omega arith) coded)))
+    (λ coded. IsUtf8-append (61 ∷ []) name (ascii_one 61 (omega arith)) (unescaped_text_within n name (omega arith) (past_three 61 51 68 (escaped name) (omega arith) (omega arith) (omega arith) coded)))
+    (λ coded. IsUtf8-append (44 ∷ []) name (ascii_one 44 (omega arith)) (unescaped_text_within n name (omega arith) (past_three 61 50 67 (escaped name) (omega arith) (omega arith) (omega arith) coded)))
     (λ b plain whole.
     let first = first_character b name whole.0 plain whole.1.0 whole.1.1 in
-    subst IsUtf8 (sym first.joined) (IsUtf8-append (encode first.character) first.more (IsUtf8-encode first.character first.is_scalar) (text_of n first.more (shorter (b ∷ name) n first within) first.text)))
+    subst IsUtf8 (sym first.joined) (IsUtf8-append (encode first.character) first.more (IsUtf8-encode first.character first.is_scalar) (unescaped_text_within n first.more (shorter (b ∷ name) n first within) first.text)))
     byte text
 
-pub name_text : (name : List ℕ) → IsUtf8 (escaped name) → IsUtf8 name
-name_text name text = text_of (length name) name (omega arith) text
+pub unescaped_text : (name : List ℕ) → IsUtf8 (escaped name) → IsUtf8 name
+unescaped_text name text = unescaped_text_within (length name) name (omega arith) text

@@ -28,12 +28,12 @@ use Rattle.mongo_session.specs.Requests.{IsGreeting}
 use Rattle.mongo_service.specs.Served.{HasCauseAfter, Lasts}
 use Rattle.mongo_service.specs.Taken.{IsQuery}
 use Rattle.mongo_service.specs.Turns.{ServerTurn}
-use Rattle.mongo_service.proofs.NoRequest.{ended_within, IsShort, no_message, unfinished, untold, untold_begins_none}
+use Rattle.mongo_service.proofs.NoRequest.{ended_within, IsShort, no_message, unfinished, untold_zeros, untold_zeros_begin_none}
 
 -- ---- reading was refused
 
 -- the bytes that were taken
-pub record Stopped (fault : ServeFault) (old mid new : State) (front : List ℕ) (wanted : ℕ) : Type 0 where
+pub record StoppedWithCause (fault : ServeFault) (old mid new : State) (front : List ℕ) (wanted : ℕ) : Type 0 where
   pub taken : List ℕ
   pub within : length taken ≤ wanted
   pub consumed : Consumes mid.left new.left taken
@@ -71,7 +71,7 @@ all_taken old mid new front wanted (Some xs) is before some r =
     record { taken = xs; within = omega (arith, r.0); consumed = subst (λ l. Consumes l new.left xs) (sym is) all; some = told_some old.left mid.left front (front ++ xs) before (some_after mid.left front xs is some); few = inl r.0 }
 
 pub stopped : (fault : FrameFault) (old mid new : State) (front : List ℕ) (wanted : ℕ) → Lasts old mid → Consumes old.left mid.left front → (kind_of_frame_fault fault ≡ EndOfInput → IfSome mid.left (λ bytes. 0 < length (front ++ bytes)))
-    → ((taken : List ℕ) → IsShort wanted taken → IsNoRequest (front ++ taken)) → is_some new.left ≡ is_some mid.left → ReadStops (kind_of_frame_fault fault) mid new wanted → Stopped (fault_of_frame fault) old mid new front wanted
+    → ((taken : List ℕ) → IsShort wanted taken → IsNoRequest (front ++ taken)) → is_some new.left ≡ is_some mid.left → ReadStops (kind_of_frame_fault fault) mid new wanted → StoppedWithCause (fault_of_frame fault) old mid new front wanted
 stopped frame.ReadFault old mid new front wanted lasts before some short tells s =
     record { taken = s.1.0; within = omega (arith, s.1.1); consumed = s.1.2; cause = (s.0.reads ∙ ap risen lasts.reads, refl, short s.1.0 (inl s.1.1)) }
 stopped frame.EndOfInput old mid new front wanted lasts before some short tells s =
@@ -127,7 +127,7 @@ message_taken xs taken (Some ys) message whole p = sym (signed_in 12 taken ys (o
 -- the bytes of an OP_MSG call for a row; where none are told, any do that begin no request
 row_refused : (kind : ErrorKind) (old new : State) (left : Option (List ℕ)) → old.left ≡ left → (kind ≡ EndOfInput → ⊥) → IfSome old.left IsOfMessage → TakesRow kind maximum_message_length old.left new.left → Refused NoFrame old new
 row_refused kind old new None is other message row =
-    record { taken = untold; part = inl (inl (omega arith)); consumed = subst (λ left. Consumes left new.left untold) (sym is) tt; cause = (refl, omega arith, untold_begins_none) }
+    record { taken = untold_zeros; part = inl (inl (omega arith)); consumed = subst (λ left. Consumes left new.left untold_zeros) (sym is) tt; cause = (refl, omega arith, untold_zeros_begin_none) }
 row_refused kind old new (Some xs) is other message row =
     let taken = row.0 in
     let whole = row_whole maximum_message_length taken kind other row.2 in

@@ -5,7 +5,7 @@ use Rattle.std.proofs.lemmas.List.Elements.{All-push}
 use Rattle.std.specs.Result.{IsErrAnd}
 use Rattle.std.specs.Io.KnownBytes.{Consumes}
 use Rattle.mongo_wire.proofs.ReadStopped.{stops_after, reads_on, unstopped_on}
-use Rattle.mongo_wire.proofs.Written.{passed_on}
+use Rattle.mongo_wire.proofs.Written.{error_passed_on}
 use Rattle.mongo_wire.specs.Outside.{State, ReadsOn, Unstopped, MeetsEnd, RanOut, ConsumesAtMost}
 use Rattle.mongo_wire.specs.declared.error.ErrorKind.TheVariants.{EndOfInput}
 use Rattle.mongo_service.specs.Line.{maximum_line_length, HasNoLineFeed, TakesLine, HasNoLine, StopsWithin}
@@ -67,8 +67,8 @@ module _ (old mid new : State) (line : List ℕ) (so_far : LineSoFar old mid lin
 
 -- the error of a `?` is handed on
 pub same_error : {T U E : Type 0} (r : Result T E) (x why : E) → IsErrAnd r (λ y. y ≡ x) → IsErrOf r why → ◌≡◌ {A = Result U E} (Err x) (Err why)
-same_error r x why same is = let passed = passed_on r x same in cc
+same_error r x why same is = let passed = error_passed_on r x same in cc
 
 -- so nothing is said of a value
 pub no_value : {T E : Type 0} (P : T → Type 0) (r : Result T E) (x : E) → IsErrAnd r (λ y. y ≡ x) → IfOk r P
-no_value P r x same = subst (λ r. IfOk r P) (sym (passed_on r x same)) tt
+no_value P r x same = subst (λ r. IfOk r P) (sym (error_passed_on r x same)) tt

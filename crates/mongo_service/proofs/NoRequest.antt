@@ -11,7 +11,7 @@ use Rattle.mongo_wire.specs.declared.header.Header.{Header}
 use Rattle.mongo_wire.specs.declared.op_code.OpCode.{OpCode}
 use Rattle.mongo_wire.specs.declared.op_code.OpCode.TheVariants.{Message, Query}
 use Rattle.mongo_wire.proofs.HeaderBack.{header_back}
-use Rattle.mongo_wire.proofs.OneFrame.{frame_code, frame_size, least_frame, row_no_frame, same_front, signed_in}
+use Rattle.mongo_wire.proofs.OneFrame.{frame_code, frame_tells_length, least_frame, row_no_frame, same_front, signed_in}
 use Rattle.mongo_service.specs.Cut.{BeginsNoRequest, IsNoRequest}
 use Rattle.mongo_server.specs.Announced.{maximum_message_length}
 use Rattle.mongo_service.specs.Taken.{command_collection, IsQuery, IsQueryBody}
@@ -89,11 +89,11 @@ no_message taken kind whole code other row frame rest document e within (inl (pa
 no_message taken kind whole code other row frame rest document e within (inr q) = two_codes (signed_at 12 taken) code (sym (begun 12 taken rest frame (omega arith) e) ∙ query_code frame document q)
 
 -- 16 zeros, which stand for bytes that nobody tells
-abbrev pub untold : List ℕ
-untold = 0 ∷ 0 ∷ 0 ∷ 0 ∷ 0 ∷ 0 ∷ 0 ∷ 0 ∷ 0 ∷ 0 ∷ 0 ∷ 0 ∷ 0 ∷ 0 ∷ 0 ∷ 0 ∷ []
+abbrev pub untold_zeros : List ℕ
+untold_zeros = 0 ∷ 0 ∷ 0 ∷ 0 ∷ 0 ∷ 0 ∷ 0 ∷ 0 ∷ 0 ∷ 0 ∷ 0 ∷ 0 ∷ 0 ∷ 0 ∷ 0 ∷ 0 ∷ []
 
-pub untold_begins_none : BeginsNoRequest untold
-untold_begins_none = other_code untold (omega arith) (λ e. omega (arith, ints, e)) (λ e. omega (arith, ints, e))
+pub untold_zeros_begin_none : BeginsNoRequest untold_zeros
+untold_zeros_begin_none = other_code untold_zeros (omega arith) (λ e. omega (arith, ints, e)) (λ e. omega (arith, ints, e))
 
 -- ---- bytes that are no whole request
 
@@ -110,7 +110,7 @@ few_bytes bytes few document (inr q) = omega (arith, few, least_query bytes docu
 
 -- fewer than the header counts
 pub cut_short : (bytes : List ℕ) → pos (length bytes) <ℤ signed_at 0 bytes → IsNoRequest bytes
-cut_short bytes short document (inl (parts, is_frame, body_is)) = omega (arith, ints, short, frame_size bytes parts is_frame)
+cut_short bytes short document (inl (parts, is_frame, body_is)) = omega (arith, ints, short, frame_tells_length bytes parts is_frame)
 cut_short bytes short document (inr q) = omega (arith, ints, short, query_size bytes document q)
 
 -- fewer bytes than were wanted, or none

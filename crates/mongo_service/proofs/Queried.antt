@@ -84,15 +84,15 @@ wraps document name (inl named) is = subst (IsCommandNamed document) is named
 wraps document name (inr (unnamed, empty)) is = absurd (omega (arith, ap length (sym empty ∙ is)))
 
 -- what a document whose first key is `$query` wraps
-pub wrapped : (document name : List ℕ) → IsCommandName document name → name ≡ query_key → (r : Option RawDocument)
+pub wrapped_command : (document name : List ℕ) → IsCommandName document name → name ≡ query_key → (r : Option RawDocument)
     → MatchOption r ((inner : List ℕ) → HasInside document query_key inner → ⊥) (λ inner. HasInside document query_key inner.bytes.now)
     → MatchOption r ((command : List ℕ) → IsCommandOf document command → ⊥) (λ command. IsCommandOf document command.bytes.now)
-wrapped document name named is None none = by
+wrapped_command document name named is None none = by
   where
     by : (command : List ℕ) → IsCommandOf document command → ⊥
     by command (inl (other, same)) = other (wraps document name named is)
     by command (inr (so, inside)) = none command inside
-wrapped document name named is (Some inner) inside = inr (wraps document name named is, inside)
+wrapped_command document name named is (Some inner) inside = inr (wraps document name named is, inside)
 
 -- the command of a body's document is the body's
 pub body_command : (body document : List ℕ) → IsFramed document → IsQueryOf body document → (r : Option RawDocument)

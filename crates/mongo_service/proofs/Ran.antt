@@ -9,7 +9,7 @@ use Rattle.mongo_service.specs.declared.fault.ServeFault.TheVariants.{OutOfMemor
 use Rattle.mongo_service.specs.declared.status.ServeStatus.{ServeStatus}
 use Rattle.mongo_service.specs.declared.status.ServeStatus.TheVariants.{Broken, BadSettings, Usage, NoMemory}
 use Rattle.mongo_service.specs.Report.{report_text, line_failed, no_settings}
-use Rattle.mongo_service.specs.Run.{ServeRun, status_of_fault, FailsWithin, HasBadLine, IsSaidWhole, Ran, ServingEnds, RunEnds}
+use Rattle.mongo_service.specs.Run.{ServeRun, status_of_fault, FailsWithin, HasBadLine, IsSaidWhole, Ran, ServingEnds, ServeRunEnds}
 
 by_fault : (run : ServeRun) (fault : Option ServeFault) → Ran run (status_of_fault fault) → ServingEnds run (status_of_fault fault)
 by_fault run None h = h
@@ -42,7 +42,7 @@ failed_within_ends run status h = failed_by run status h h.3.whole
 -- ---- words
 
 -- a run without words ends as serving does
-pub served_ends : (words : ℕ) (run : ServeRun) (status : ServeStatus) → words ≡ 0 → ServingEnds run status → RunEnds words run status
+pub served_ends : (words : ℕ) (run : ServeRun) (status : ServeStatus) → words ≡ 0 → ServingEnds run status → ServeRunEnds words run status
 served_ends words run Usage none ends = absurd ends
 served_ends words run status none ends = (none, ends)
 

@@ -85,6 +85,6 @@ abbrev pub NeitherReadsNorWrites : ServeRun → Type 0
 NeitherReadsNorWrites run = (run.new ≡ run.old) × (run.report_new ≡ run.report_old)
 
 -- how a run ends, with so many words after the program's name: it takes none
-abbrev pub RunEnds : ℕ → ServeRun → ServeStatus → Type 0
-RunEnds words run Usage = (0 < words) × NeitherReadsNorWrites run
-RunEnds words run status = (words ≡ 0) × ServingEnds run status
+abbrev pub ServeRunEnds : ℕ → ServeRun → ServeStatus → Type 0
+ServeRunEnds words run Usage = (0 < words) × NeitherReadsNorWrites run
+ServeRunEnds words run status = (words ≡ 0) × ServingEnds run status

@@ -2,7 +2,7 @@
 
 ghost use Rattle.std.specs.Prelude.{◌≡◌, ◌<◌, ◌≤◌, length};
 ghost use Rattle.mongo_service.specs.Report.{report_text};
-ghost use Rattle.mongo_service.specs.Run.{status_of_fault, ServingEnds, RunEnds, EndsTelling};
+ghost use Rattle.mongo_service.specs.Run.{status_of_fault, ServingEnds, ServeRunEnds, EndsTelling};
 
 use crate::fault::ServeFault;
 use crate::report::report_text;
@@ -26,7 +26,7 @@ pub fn run<L: Link, K: Sink, G: Ledger>(
     report: &mut K,
     steps: &mut Steps<G>,
 ) -> ServeStatus
-    ensures ends { RunEnds (length words.now) (record { old = L.state link.old; new = L.state link.new; report_old = K.state report.old; report_new = K.state report.new }) result }
+    ensures ends { ServeRunEnds (length words.now) (record { old = L.state link.old; new = L.state link.new; report_old = K.state report.old; report_new = K.state report.new }) result }
     ensures rises { steps.old ≤ steps.new }
 {
     if words.is_empty() {
@@ -47,7 +47,7 @@ pub fn run_counted<L: Link, K: Sink, G: Ledger>(
     requires name { blank.name ≡ G.name }
     requires parts { blank.parts ≡ G.parts }
     requires has_a_part { 0 < G.parts }
-    ensures { RunEnds (length words.now) (record { old = L.state link.old; new = L.state link.new; report_old = K.state report.old; report_new = K.state report.new }) result }
+    ensures { ServeRunEnds (length words.now) (record { old = L.state link.old; new = L.state link.new; report_old = K.state report.old; report_new = K.state report.new }) result }
 {
     let mut steps = Steps::<G>::new(blank);
     run(alloc, words, link, report, &mut steps)

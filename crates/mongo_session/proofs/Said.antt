@@ -4,13 +4,13 @@ use Rattle.std.proofs.lemmas.List.{append_assoc, map-append}
 use Rattle.serde_json.specs.Data.{Data}
 use Rattle.serde_json.specs.View.{view, items_view}
 use Rattle.serde_json.specs.declared.value.Value.{Value}
-use Rattle.mongo_session.specs.ServeSettings.{◌>>=◌, SaidAccount, as_said, account_in, accounts_by, accounts_of_user, accounts_of, HaveAtEnd, SaysNothing}
+use Rattle.mongo_session.specs.ServeSettings.{after_part, SaidAccount, as_said, account_in, accounts_by, accounts_of_user, accounts_of, HaveAtEnd, SaysNothing}
 use Rattle.mongo_session.specs.declared.serve_settings.Account.{Account}
 use Rattle.mongo_session.specs.declared.serve_settings.reading.ServeSettingsError.{ServeSettingsError}
 use Rattle.mongo_session.specs.declared.serve_settings.reading.ServeSettingsError.TheVariants.{BadSettings, OutOfMemory}
 
 -- where a part says nothing, the whole says nothing
-pub without_part : {A B : Type 0} (error : ServeSettingsError) (part : Option A) (rest : A → Option B) → SaysNothing error part → SaysNothing error (part >>= rest)
+pub without_part : {A B : Type 0} (error : ServeSettingsError) (part : Option A) (rest : A → Option B) → SaysNothing error part → SaysNothing error (after_part part rest)
 without_part OutOfMemory part rest nothing = tt
 without_part BadSettings part rest nothing = rw nothing refl
 
@@ -42,11 +42,11 @@ ended old new all left so_far none_left = whole all (so_far ∙ ap (with_front (
 
 -- ---- one account more
 
-joined_one : (front : List SaidAccount) (one : SaidAccount) (others : Option (List SaidAccount)) → with_front front (others >>= (λ more. Some (one ∷ more))) ≡ with_front (front ++ one ∷ []) others
+joined_one : (front : List SaidAccount) (one : SaidAccount) (others : Option (List SaidAccount)) → with_front front (after_part others (λ more. Some (one ∷ more))) ≡ with_front (front ++ one ∷ []) others
 joined_one front one (Some more) = ap Some (sym (append_assoc front (one ∷ []) more))
 joined_one front one None = refl
 
-one_more : (old new : List Account) (account : Account) (all others : Option (List SaidAccount)) → SaidTo old all new (others >>= (λ more. Some (as_said account ∷ more))) → SaidTo old all (new ++ account ∷ []) others
+one_more : (old new : List Account) (account : Account) (all others : Option (List SaidAccount)) → SaidTo old all new (after_part others (λ more. Some (as_said account ∷ more))) → SaidTo old all (new ++ account ∷ []) others
 one_more old new account all others so_far =
     so_far ∙ joined_one (map as_said new) (as_said account) others ∙ ap (λ front. with_front front others) (sym (map-append as_said new (account ∷ [])))
 
@@ -58,7 +58,7 @@ abbrev pub by_from : Data → List Value → List Value → ℕ → Option (List
 by_from user mechanisms salts i = accounts_by user (items_view (drop i mechanisms)) (items_view (drop i salts))
 
 by_next : (user : Data) (mechanisms salts : List Value) (i : ℕ) (mechanism salt : Value) → drop i mechanisms ≡ mechanism ∷ drop (i + 1) mechanisms → drop i salts ≡ salt ∷ drop (i + 1) salts
-    → by_from user mechanisms salts i ≡ (account_in user (view mechanism) (view salt) >>= (λ account. by_from user mechanisms salts (i + 1) >>= (λ others. Some (account ∷ others))))
+    → by_from user mechanisms salts i ≡ (after_part (account_in user (view mechanism) (view salt)) (λ account. after_part (by_from user mechanisms salts (i + 1)) (λ others. Some (account ∷ others))))
 unfolding accounts_by
 by_next user mechanisms salts i mechanism salt first second =
     ap (λ ms. accounts_by user (items_view ms) (items_view (drop i salts))) first ∙ ap (λ ss. accounts_by user (items_view (mechanism ∷ drop (i + 1) mechanisms)) (items_view ss)) second
@@ -69,7 +69,7 @@ pub pair_more : (user : Data) (mechanisms salts : List Value) (i : ℕ) (mechani
 pair_more user mechanisms salts i mechanism salt old new account all within within_too at at_too so_far is =
     let rest = by_from user mechanisms salts (i + 1) in
     let next = by_next user mechanisms salts i mechanism salt (next_values mechanisms i mechanism within at) (next_values salts i salt within_too at_too) in
-    one_more old new account all rest (so_far ∙ ap (with_front (map as_said new)) (next ∙ ap (λ (found : Option SaidAccount). found >>= (λ one. rest >>= (λ others. Some (one ∷ others)))) is))
+    one_more old new account all rest (so_far ∙ ap (with_front (map as_said new)) (next ∙ ap (λ (found : Option SaidAccount). after_part found (λ one. after_part rest (λ others. Some (one ∷ others)))) is))
 
 pub pair_stopped : (error : ServeSettingsError) (user : Data) (mechanisms salts : List Value) (i : ℕ) (mechanism salt : Value) (old new : List Account) (all : Option (List SaidAccount))
     → i < length mechanisms → i < length salts → mechanism ≡ get_or mechanisms i mechanism → salt ≡ get_or salts i salt
@@ -77,7 +77,7 @@ pub pair_stopped : (error : ServeSettingsError) (user : Data) (mechanisms salts 
 pair_stopped error user mechanisms salts i mechanism salt old new all within within_too at at_too so_far nothing =
     let rest = by_from user mechanisms salts (i + 1) in
     let next = by_next user mechanisms salts i mechanism salt (next_values mechanisms i mechanism within at) (next_values salts i salt within_too at_too) in
-    stopped error old new all _ (so_far ∙ ap (with_front (map as_said new)) next) (without_part error _ (λ one. rest >>= (λ others. Some (one ∷ others))) nothing)
+    stopped error old new all _ (so_far ∙ ap (with_front (map as_said new)) next) (without_part error _ (λ one. after_part rest (λ others. Some (one ∷ others))) nothing)
 
 -- all mechanisms have had their turn
 pub pairs_ended : (user : Data) (mechanisms salts : List Value) (i : ℕ) (old new : List Account) (all : Option (List SaidAccount)) → drop i mechanisms ≡ [] → drop i salts ≡ [] → SaidTo old all new (by_from user mechanisms salts i) → HaveAtEnd all old new
@@ -85,7 +85,7 @@ unfolding accounts_by
 pairs_ended user mechanisms salts i old new all first second so_far =
     ended old new all (by_from user mechanisms salts i) so_far (ap (λ ms. accounts_by user (items_view ms) (items_view (drop i salts))) first ∙ ap (λ ss. accounts_by user (items_view []) (items_view ss)) second)
 
-none_after : {A B : Type 0} (part : Option A) → (part >>= (λ x. let none : Option B = None in none)) ≡ None
+none_after : {A B : Type 0} (part : Option A) → (after_part part (λ x. let none : Option B = None in none)) ≡ None
 none_after None = refl
 none_after (Some x) = refl
 
@@ -100,16 +100,16 @@ unpaired user (mechanism ∷ mechanisms) (salt ∷ salts) other =
 
 -- ---- one user more
 
-joined : (front said : List SaidAccount) (others : Option (List SaidAccount)) → with_front front (others >>= (λ more. Some (said ++ more))) ≡ with_front (front ++ said) others
+joined : (front said : List SaidAccount) (others : Option (List SaidAccount)) → with_front front (after_part others (λ more. Some (said ++ more))) ≡ with_front (front ++ said) others
 joined front said (Some more) = ap Some (sym (append_assoc front said more))
 joined front said None = refl
 
-some_more : (old new later : List Account) (all said others : Option (List SaidAccount)) → SaidTo old all new (said >>= (λ accounts. others >>= (λ more. Some (accounts ++ more)))) → HaveAtEnd said new later → SaidTo old all later others
+some_more : (old new later : List Account) (all said others : Option (List SaidAccount)) → SaidTo old all new (after_part said (λ accounts. after_part others (λ more. Some (accounts ++ more)))) → HaveAtEnd said new later → SaidTo old all later others
 some_more old new later all None others so_far added = absurd added
 some_more old new later all (Some said) others so_far added = so_far ∙ joined (map as_said new) said others ∙ ap (λ front. with_front front others) (sym added)
 
 users_next : (users : List Value) (i : ℕ) (user : Value) → i < length users → user ≡ get_or users i user
-    → accounts_of (items_view (drop i users)) ≡ (accounts_of_user (view user) >>= (λ accounts. accounts_of (items_view (drop (i + 1) users)) >>= (λ others. Some (accounts ++ others))))
+    → accounts_of (items_view (drop i users)) ≡ (after_part (accounts_of_user (view user)) (λ accounts. after_part (accounts_of (items_view (drop (i + 1) users))) (λ others. Some (accounts ++ others))))
 unfolding accounts_of
 users_next users i user within at = ap (λ us. accounts_of (items_view us)) (next_values users i user within at)
 
@@ -124,7 +124,7 @@ pub user_stopped : (error : ServeSettingsError) (users : List Value) (i : ℕ) (
     → SaidTo [] (accounts_of (items_view users)) new (accounts_of (items_view (drop i users))) → SaysNothing error (accounts_of_user (view user)) → SaysNothing error (accounts_of (items_view users))
 user_stopped error users i user new within at so_far nothing =
     stopped error [] new (accounts_of (items_view users)) _ (so_far ∙ ap (with_front (map as_said new)) (users_next users i user within at))
-    (without_part error _ (λ accounts. accounts_of (items_view (drop (i + 1) users)) >>= (λ others. Some (accounts ++ others))) nothing)
+    (without_part error _ (λ accounts. after_part (accounts_of (items_view (drop (i + 1) users))) (λ others. Some (accounts ++ others))) nothing)
 
 at_end_of_none : (all : Option (List SaidAccount)) (new : List Account) → HaveAtEnd all [] new → all ≡ Some (map as_said new)
 at_end_of_none None new added = absurd added

@@ -20,10 +20,9 @@ use Rattle.mongo_session.specs.declared.serve_settings.reading.ServeSettingsErro
 use Rattle.mongo_session.specs.declared.serve_settings.reading.ServeSettingsError.TheVariants.{BadSettings, OutOfMemory}
 
 -- one part after another: where one has no meaning, the whole has none
-infixl 10 ◌>>=◌
-abbrev pub ◌>>=◌ : {A B : Type 0} → Option A → (A → Option B) → Option B
-None >>= f = None
-Some x >>= f = f x
+abbrev pub after_part : {A B : Type 0} → Option A → (A → Option B) → Option B
+after_part None f = None
+after_part (Some x) f = f x
 
 -- ---- what the values of keys mean
 
@@ -78,38 +77,38 @@ pub record SaidAccount : Type 0 where
 
 -- a user's account by a mechanism, with the salt that stands at the mechanism's place
 unfoldable pub account_in : Data → Data → Data → Option SaidAccount
-account_in user mechanism salt = do
-  name ← text_under (codes "name") user
-  password ← text_under (codes "password") user
-  count ← count_in user
-  version ← scram_version_in mechanism
-  bytes ← salt_in salt
-  Some (record { name = name; password = password; version = version; salt = bytes; count = count })
+account_in user mechanism salt =
+    after_part (text_under (codes "name") user) λ name.
+    after_part (text_under (codes "password") user) λ password.
+    after_part (count_in user) λ count.
+    after_part (scram_version_in mechanism) λ version.
+    after_part (salt_in salt) λ bytes.
+    Some (record { name = name; password = password; version = version; salt = bytes; count = count })
 
 -- a user's accounts by mechanisms, one each, with as many salts
 unfoldable pub accounts_by : Data → Items → Items → Option (List SaidAccount)
 accounts_by user no_items no_items = Some []
 accounts_by user no_items (item salt salts) = None
 accounts_by user (item mechanism mechanisms) no_items = None
-accounts_by user (item mechanism mechanisms) (item salt salts) = do
-  account ← account_in user mechanism salt
-  others ← accounts_by user mechanisms salts
-  Some (account ∷ others)
+accounts_by user (item mechanism mechanisms) (item salt salts) =
+    after_part (account_in user mechanism salt) λ account.
+    after_part (accounts_by user mechanisms salts) λ others.
+    Some (account ∷ others)
 
 -- a user's accounts, in the order of its mechanisms
 unfoldable pub accounts_of_user : Data → Option (List SaidAccount)
-accounts_of_user user = do
-  mechanisms ← items_in (codes "mechanisms") user
-  salts ← items_in (codes "salts") user
-  accounts_by user mechanisms salts
+accounts_of_user user =
+    after_part (items_in (codes "mechanisms") user) λ mechanisms.
+    after_part (items_in (codes "salts") user) λ salts.
+    accounts_by user mechanisms salts
 
 -- the accounts of users, in their order
 unfoldable pub accounts_of : Items → Option (List SaidAccount)
 accounts_of no_items = Some []
-accounts_of (item user users) = do
-  accounts ← accounts_of_user user
-  others ← accounts_of users
-  Some (accounts ++ others)
+accounts_of (item user users) =
+    after_part (accounts_of_user user) λ accounts.
+    after_part (accounts_of users) λ others.
+    Some (accounts ++ others)
 
 -- ---- the settings
 
@@ -119,11 +118,11 @@ pub record SaidSettings : Type 0 where
 
 -- the settings that a value says
 unfoldable pub serve_settings_in : Data → Option SaidSettings
-serve_settings_in d = do
-  suffix ← suffix_in d
-  users ← items_in (codes "users") d
-  accounts ← accounts_of users
-  Some (record { accounts = accounts; suffix = suffix })
+serve_settings_in d =
+    after_part (suffix_in d) λ suffix.
+    after_part (items_in (codes "users") d) λ users.
+    after_part (accounts_of users) λ accounts.
+    Some (record { accounts = accounts; suffix = suffix })
 
 -- the value of a text of JSON, which is UTF-8
 abbrev pub json_in : List ℕ → Option Data
@@ -131,9 +130,9 @@ json_in text = if is_utf8 text then read text else None
 
 -- The settings that a text says.
 unfoldable pub settings_said : List ℕ → Option SaidSettings
-settings_said text = do
-  d ← json_in text
-  serve_settings_in d
+settings_said text =
+    after_part (json_in text) λ d.
+    serve_settings_in d
 
 -- ---- what a reader answers
 

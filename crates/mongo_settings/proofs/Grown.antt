@@ -25,12 +25,12 @@ before element elements = do
   others ← elements
   Some (first ∷ others)
 
-nothing_done : (whole : Option (List Element)) → whole ≡ option_map (λ more. [] ++ more) whole
-nothing_done None = refl
-nothing_done (Some elements) = refl
+nothing_in_front : (whole : Option (List Element)) → whole ≡ option_map (λ more. [] ++ more) whole
+nothing_in_front None = refl
+nothing_in_front (Some elements) = refl
 
 pub started : (document : List ℕ) (whole : Option (List Element)) → document ≡ enclosed [] → Grows document whole whole
-started document whole empty = record { done = []; document_is = empty; whole_is = nothing_done whole }
+started document whole empty = record { done = []; document_is = empty; whole_is = nothing_in_front whole }
 
 one_more : (done : List Element) (e : Element) (document new : List ℕ) → document ≡ document_of done → length document ≤ maximum_length → new ≡ enclosed (element_bytes document ++ spell e) → new ≡ document_of (done ++ e ∷ [])
 one_more done e document new is short put =

@@ -4,12 +4,12 @@ use Rattle.std.specs.Prelude.{⊤}
 use Rattle.serde_json.specs.Data.{Data}
 use Rattle.mongo_settings.specs.Credential.{named_mechanism}
 use Rattle.mongo_settings.specs.Meaning.{settings_in}
-use Rattle.mongo_settings.specs.Settings.{◌>>=◌, needed, keys_judged, mechanism_judged, settings_of}
+use Rattle.mongo_settings.specs.Settings.{unless_refused, needed, keys_judged, mechanism_judged, settings_of}
 use Rattle.mongo_settings.specs.declared.settings.Settings.{Settings}
 use Rattle.mongo_settings.specs.declared.settings.SettingsError.{SettingsError}
 
 -- the steps of a judgement, each of which passed
-passed : (keys login : Result ⊤ SettingsError) (found : Option Settings) (s : Settings) → (keys >>= (λ k. login >>= (λ l. needed found))) ≡ Ok s → (login ≡ Ok tt) × (found ≡ Some s)
+passed : (keys login : Result ⊤ SettingsError) (found : Option Settings) (s : Settings) → (unless_refused keys (λ k. unless_refused login (λ l. needed found))) ≡ Ok s → (login ≡ Ok tt) × (found ≡ Some s)
 passed (Ok k) (Ok l) (Some settings) s is = (refl, cc)
 passed keys login found s is = cc
 

@@ -9,13 +9,13 @@ use Rattle.mongo_command.specs.Conversation.{Said, IsSaid}
 use Rattle.mongo_settings.specs.Report.{CountsItself}
 
 -- bytes that begin with the four that spell a number
-begins_with : (bytes more : List ℕ) (n : ℕ) → bytes ≡ uint32 n ++ more → n < 2 ^ 32 → from_le_bytes w32 bytes ≡ n
-begins_with bytes more n spelled fits = ap (from_le_bytes w32) spelled ∙ from_le_bytes-to_le_bytes_4 n fits
+begins_with_number : (bytes more : List ℕ) (n : ℕ) → bytes ≡ uint32 n ++ more → n < 2 ^ 32 → from_le_bytes w32 bytes ≡ n
+begins_with_number bytes more n spelled fits = ap (from_le_bytes w32) spelled ∙ from_le_bytes-to_le_bytes_4 n fits
 
 pub CountsItself-from_frame : (frame : List ℕ) (parts : Frame) → IsFrame frame parts → CountsItself frame
 CountsItself-from_frame frame parts is = record {
   header = omega (arith, ap length is.spelled);
-  counted = begins_with frame _ (length frame) is.spelled (omega (arith, is.length_fits));
+  counted = begins_with_number frame _ (length frame) is.spelled (omega (arith, is.length_fits));
 }
 
 -- the bytes of a list of frames

@@ -50,22 +50,22 @@ status-more (first ∷ others) login = ap (both first.status) (status-more other
 -- ---- what a cache holds
 
 -- the cache has an entry for just these keys
-abbrev pub Holds : SaltedCache → List SaltedKey → Type 0
-Holds cache keys = (key : SaltedKey) → HasEntry cache key ↔ Contains keys key
+abbrev pub HoldsJustKeys : SaltedCache → List SaltedKey → Type 0
+HoldsJustKeys cache keys = (key : SaltedKey) → HasEntry cache key ↔ Contains keys key
 
 pub nothing_in : {X : Type 0} (x : X) → Contains [] x → ⊥
 nothing_in x h = let lt = h.1 in absurd (omega arith)
 
-pub holds_none : (cache : SaltedCache) → entries_of cache ≡ [] → Holds cache []
+pub holds_none : (cache : SaltedCache) → entries_of cache ≡ [] → HoldsJustKeys cache []
 holds_none cache none key = (λ h. absurd (nothing_in (key, h.0) (subst (λ es. Contains es (key, h.0)) none h.1)), λ h. absurd (nothing_in key h))
 
-same_holds : (first last : Ledgers) (keys : List SaltedKey) → SameEntries first last → Holds first.cache keys → Holds last.cache keys
+same_holds : (first last : Ledgers) (keys : List SaltedKey) → SameEntries first last → HoldsJustKeys first.cache keys → HoldsJustKeys last.cache keys
 same_holds first last keys same held key = (
   λ h. (held key).0 (h.0, subst (λ es. Contains es (key, h.0)) same h.1),
   λ h. let e = (held key).1 h in (e.0, subst (λ es. Contains es (key, e.0)) (sym same) e.1),
 )
 
-added : (first last : Ledgers) (keys : List SaltedKey) (key : SaltedKey) → TakesKey key first last → Holds first.cache keys → Holds last.cache (keys ++ key ∷ [])
+added : (first last : Ledgers) (keys : List SaltedKey) (key : SaltedKey) → TakesKey key first last → HoldsJustKeys first.cache keys → HoldsJustKeys last.cache (keys ++ key ∷ [])
 added first last keys key t held other = (has t.others, back) where
   had : HasEntry first.cache other → Contains (keys ++ key ∷ []) other
   had h = Contains-append_left keys (key ∷ []) other ((held other).0 h)
@@ -87,7 +87,7 @@ added first last keys key t held other = (has t.others, back) where
     | inr same ↦ subst (HasEntry last.cache) same t.entry
   ]
 
-holds_after : (accepted : Bool) (key : Option SaltedKey) (first last : Ledgers) (keys : List SaltedKey) → TakesBy accepted key first last → Holds first.cache keys → Holds last.cache (keys_after accepted key keys)
+holds_after : (accepted : Bool) (key : Option SaltedKey) (first last : Ledgers) (keys : List SaltedKey) → TakesBy accepted key first last → HoldsJustKeys first.cache keys → HoldsJustKeys last.cache (keys_after accepted key keys)
 holds_after true (Some key) first last keys t held = added first last keys key t held
 holds_after true None first last keys t held = same_holds first last keys t.entries held
 holds_after false (Some key) first last keys t held = same_holds first last keys t.entries held
@@ -99,15 +99,15 @@ record Taken (keys : List SaltedKey) (key : Option SaltedKey) (first last : Ledg
   derived : DerivedKey keys key rounds
   counts : Counts rounds first last
 
-taken_key : (keys : List SaltedKey) (key : SaltedKey) (first last : Ledgers) → Derives key first last → Holds first.cache keys → Taken keys (Some key) first last
+taken_key : (keys : List SaltedKey) (key : SaltedKey) (first last : Ledgers) → Derives key first last → HoldsJustKeys first.cache keys → Taken keys (Some key) first last
 taken_key keys key first last (inl had) held = record { rounds = 0; derived = inl ((held key).0 had.0, refl); counts = had.1 }
 taken_key keys key first last (inr none) held = record { rounds = key.count; derived = inr (λ c. none.0 ((held key).1 c), refl); counts = none.1 }
 
-taken_by : (accepted : Bool) (keys : List SaltedKey) (key : Option SaltedKey) (first last : Ledgers) → TakesBy accepted key first last → Holds first.cache keys → Taken keys key first last
-taken_by true keys None first last t held = record { rounds = 0; derived = refl; counts = t.counts }
-taken_by false keys None first last t held = record { rounds = 0; derived = refl; counts = t.counts }
-taken_by true keys (Some key) first last t held = taken_key keys key first last t.derived held
-taken_by false keys (Some key) first last t held = taken_key keys key first last t.derived held
+taken_with_held : (accepted : Bool) (keys : List SaltedKey) (key : Option SaltedKey) (first last : Ledgers) → TakesBy accepted key first last → HoldsJustKeys first.cache keys → Taken keys key first last
+taken_with_held true keys None first last t held = record { rounds = 0; derived = refl; counts = t.counts }
+taken_with_held false keys None first last t held = record { rounds = 0; derived = refl; counts = t.counts }
+taken_with_held true keys (Some key) first last t held = taken_key keys key first last t.derived held
+taken_with_held false keys (Some key) first last t held = taken_key keys key first last t.derived held
 
 counted-add : (a b : ℕ) → min (min a (2 ^ 64 - 1) + b) (2 ^ 64 - 1) ≡ min (a + b) (2 ^ 64 - 1)
 counted-add a b = omega arith
@@ -131,7 +131,7 @@ pub record Shared (start : ℕ) (front : List Settings) (batch : Rehearsal) (now
   pub report_is : batch.report.items ≡ flat_map (λ login. login.text) logins
   pub steps_are : now.steps ≡ start + rounds_of_all logins
   pub rounds_are : rounds_of now.cache ≡ capped_rounds (rounds_of_all logins)
-  pub held : Holds now.cache (all_keys [] logins)
+  pub held : HoldsJustKeys now.cache (all_keys [] logins)
 
 none_are : AreLogins [] []
 unfolding AreLogins
@@ -154,7 +154,7 @@ shared_more start front settings old new now later s j =
     let t = j.taking.takes in
     let report = j.taking.rehearsal_is.report in
     let keys = all_keys [] s.logins in
-    let taken = taken_by (logs_in report.outcome) keys t.key now later t.taken s.held in
+    let taken = taken_with_held (logs_in report.outcome) keys t.key now later t.taken s.held in
     let login : BatchLogin = record { settings = settings; text = j.rehearsal.report.items; status = j.rehearsal.status; key = t.key; accepted = logs_in report.outcome; rounds = taken.rounds } in
     let is : IsBatchLogin keys login = record { report = report; status_is = j.taking.rehearsal_is.status_is; accepted_is = refl; key_is = t.key_is; derived = taken.derived } in
     let sums = sums-more s.logins login in
@@ -166,7 +166,7 @@ shared_more start front settings old new now later s j =
       report_is = j.report ∙ ap (λ r. r ++ j.rehearsal.report.items) s.report_is ∙ ap (λ r. flat_map (λ (l : BatchLogin). l.text) s.logins ++ r) (sym (append-nil j.rehearsal.report.items)) ∙ sym (flat_map-append (λ (l : BatchLogin). l.text) s.logins (login ∷ []));
       steps_are = taken.counts.steps ∙ ap (λ n. n + taken.rounds) s.steps_are ∙ steps-add start (rounds_of_all s.logins) taken.rounds ∙ ap (λ n. start + n) (sym sums);
       rounds_are = taken.counts.rounds_are ∙ ap (λ n. min (n + taken.rounds) (2 ^ 64 - 1)) s.rounds_are ∙ counted-add (rounds_of_all s.logins) taken.rounds ∙ ap capped_rounds (sym sums);
-      held = subst (Holds later.cache) (sym (all_keys-more [] s.logins login)) (holds_after (logs_in report.outcome) t.key now later keys t.taken s.held);
+      held = subst (HoldsJustKeys later.cache) (sym (all_keys-more [] s.logins login)) (holds_after (logs_in report.outcome) t.key now later keys t.taken s.held);
     }
 
 -- the batch's report, once the line of its rounds stands at its end

@@ -62,9 +62,9 @@ its_mechanism : (object : Option ⊤) (username source password : Option (Option
 its_mechanism (Some o) (Some u) (Some s) (Some p) (Some m) (Some x) credential is = ap (option_map (λ (c : Credential). c.mechanism)) is
 its_mechanism o u s p m x credential is = cc
 
-mechanism_of : (d : Data) (credential : Credential) → credential_in d ≡ Some credential → optional credential_mechanism_key mechanism_in d ≡ Some credential.mechanism
+mechanism_of_credential : (d : Data) (credential : Credential) → credential_in d ≡ Some credential → optional credential_mechanism_key mechanism_in d ≡ Some credential.mechanism
 unfolding credential_in
-mechanism_of d credential is =
+mechanism_of_credential d credential is =
     its_mechanism (object_of credential_keys d)
     (optional username_key as_str d) (optional source_key as_str d) (optional password_key as_str d) (optional credential_mechanism_key mechanism_in d) (optional properties_key properties_in d) credential is
 
@@ -73,7 +73,7 @@ credential_spoken None credential d at is judged = let no : ⊥ = cc in absurd n
 credential_spoken (Some one) None d at is judged = tt
 credential_spoken (Some one) (Some other) d at is judged =
     let same : credential_in d ≡ Some other = sym at ∙ cc in
-    given_spoken (get credential_mechanism_key d) other.mechanism (mechanism_of d other same) judged
+    given_spoken (get credential_mechanism_key d) other.mechanism (mechanism_of_credential d other same) judged
 
 optional_spoken : (given : Option Data) (credential : Option Credential) → optional_in credential_in given ≡ Some credential → mechanism_judged (given >>= (λ c. get credential_mechanism_key c >>= mechanism_in)) ≡ Ok tt → SpeaksFor credential
 optional_spoken None None is judged = tt

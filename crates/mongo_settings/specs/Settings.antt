@@ -20,10 +20,9 @@ abbrev pub maximum_settings_length : ℕ
 maximum_settings_length = 4194304
 
 -- one step after another: the first refusal is the answer
-infixl 10 ◌>>=◌
-abbrev pub ◌>>=◌ : {A B : Type 0} → Result A SettingsError → (A → Result B SettingsError) → Result B SettingsError
-Ok x >>= f = f x
-Err e >>= f = Err e
+abbrev pub unless_refused : {A B : Type 0} → Result A SettingsError → (A → Result B SettingsError) → Result B SettingsError
+unless_refused (Ok x) f = f x
+unless_refused (Err e) f = Err e
 
 -- a rule of settings, and a value that a rule of settings asks for
 abbrev pub holds_or_bad : Bool → Result ⊤ SettingsError
@@ -43,9 +42,9 @@ members_judged members =
     if each_key is_known members then (if each_key is_built_key members then Ok tt else Err NotBuilt) else Err BadSettings
 
 unfoldable pub keys_judged : Data → Result ⊤ SettingsError
-keys_judged d = do
-  members ← needed (as_object d)
-  members_judged members
+keys_judged d =
+    unless_refused (needed (as_object d)) λ members.
+    members_judged members
 
 -- a login by the mechanism is built, or there is none
 abbrev pub mechanism_judged : Option AuthMechanism → Result ⊤ SettingsError
@@ -54,24 +53,24 @@ mechanism_judged (Some mechanism) = if is_spoken mechanism then Ok tt else Err N
 
 -- The settings that a value is. What isn't built yet is found before a value of another kind.
 unfoldable pub settings_of : Data → Result Settings SettingsError
-settings_of d = do
-  keys ← keys_judged d
-  login ← mechanism_judged (named_mechanism d)
-  needed (settings_in d)
+settings_of d =
+    unless_refused (keys_judged d) λ keys.
+    unless_refused (mechanism_judged (named_mechanism d)) λ login.
+    needed (settings_in d)
 
 -- The value of a text that isn't too long and holds no float.
 unfoldable pub value_judged : List ℕ → Result Data SettingsError
-value_judged text = do
-  short ← holds_or_bad (nat_le (length text) maximum_settings_length)
-  d ← json_of text
-  whole ← holds_or_bad (not (has_float d))
-  Ok d
+value_judged text =
+    unless_refused (holds_or_bad (nat_le (length text) maximum_settings_length)) λ short.
+    unless_refused (json_of text) λ d.
+    unless_refused (holds_or_bad (not (has_float d))) λ whole.
+    Ok d
 
 -- The settings that a text is, or why it is none, judged in this order.
 unfoldable pub judged : List ℕ → Result Settings SettingsError
-judged text = do
-  d ← value_judged text
-  settings_of d
+judged text =
+    unless_refused (value_judged text) λ d.
+    settings_of d
 
 -- What is answered is what is judged. Want of memory may stand in its place.
 abbrev pub Refuses : {B : Type 0} → SettingsError → Result B SettingsError → Type 0

@@ -9,7 +9,7 @@ use Rattle.mongo_settings.specs.declared.task.Task.{Task}
 use Rattle.mongo_settings.specs.declared.task.Task.TheVariants.{Rehearse, Batch}
 use Rattle.mongo_settings.specs.declared.rehearsal.RehearsalStatus.{RehearsalStatus}
 use Rattle.mongo_settings.specs.declared.rehearsal.RehearsalStatus.TheVariants.{Accepted, Refused}
-use Rattle.mongo_settings.specs.Settings.{◌>>=◌, judged}
+use Rattle.mongo_settings.specs.Settings.{unless_refused, judged}
 use Rattle.mongo_settings.specs.Logins.{logins_judged}
 use Rattle.mongo_settings.specs.Outcome.{status_of, LeadsToAcceptance, IsRefused}
 use Rattle.mongo_settings.specs.Rehearsal.{IsReport}
@@ -27,8 +27,8 @@ asks_of (Many logins) = many logins.items
 
 -- what a text asks for as this task, or why it asks for nothing
 unfoldable pub judged_as : Task → List ℕ → Result Asks SettingsError
-judged_as Rehearse text = judged text >>= (λ settings. Ok (one settings))
-judged_as Batch text = logins_judged text >>= (λ logins. Ok (many logins))
+judged_as Rehearse text = unless_refused (judged text) (λ settings. Ok (one settings))
+judged_as Batch text = unless_refused (logins_judged text) (λ logins. Ok (many logins))
 
 -- each login is by a mechanism that is spoken
 abbrev pub AreSpoken : Asks → Type 0

@@ -83,8 +83,8 @@ body_found bytes after rest kind read front is begins = record {
   shown = refl;
 }
 
-pub sequence_section : (bytes after rest : List ℕ) (kind : ℕ) (read : SequenceRef) → bytes ≡ kind ∷ after → kind ≡ 1 → BeginsWithSequence after read rest → BeginsWithSection bytes (Sequence read) rest
-sequence_section bytes after rest kind read front is begins = record {
+pub begins_with_sequence_section : (bytes after rest : List ℕ) (kind : ℕ) (read : SequenceRef) → bytes ≡ kind ∷ after → kind ≡ 1 → BeginsWithSequence after read rest → BeginsWithSection bytes (Sequence read) rest
+begins_with_sequence_section bytes after rest kind read front is begins = record {
   section = sequence begins.sequence;
   is_section = begins.is_sequence;
   spelled = front ∙ ap (λ k. k ∷ after) is ∙ ap (λ l. 1 ∷ l) begins.spelled;
@@ -100,7 +100,7 @@ tail_of_byte k l xs ys e = cc
 pub sequence_split : (bytes after rest : List ℕ) (kind : ℕ) (read : SequenceRef) → bytes ≡ kind ∷ after → kind ≡ 1 → SplitsSequence after read rest → SplitsSequenceSection bytes read rest
 sequence_split bytes after rest kind read front is splits = record {
   shorter = omega (arith, ap length front, splits.shorter);
-  whole = λ are. sequence_section bytes after rest kind read front is (splits.whole are);
+  whole = λ are. begins_with_sequence_section bytes after rest kind read front is (splits.whole are);
   filled = filled;
 }
   where

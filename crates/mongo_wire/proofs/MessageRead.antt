@@ -13,7 +13,7 @@ use Rattle.mongo_wire.specs.Ref.{IsOwned}
 use Rattle.mongo_wire.specs.declared.message.Message.{Message}
 use Rattle.mongo_wire.specs.declared.frame_buffer.FrameBuffer.{FrameBuffer}
 use Rattle.mongo_wire.specs.declared.error.Error.{Error}
-use Rattle.mongo_wire.proofs.OneFrame.{one_frame, same_parts, frame_row, frame_size, least_frame}
+use Rattle.mongo_wire.proofs.OneFrame.{one_frame, same_parts, frame_row, frame_tells_length, least_frame}
 use Rattle.mongo_wire.proofs.FrameRead.{no_refusal}
 
 known_twice : (word : ℕ) → bit_and (bit_and word known_flags) known_flags ≡ bit_and word known_flags
@@ -45,7 +45,7 @@ read_whole maximum old new buffer m read owned = record {
 pub read_then_stopped : (maximum : ℤ) (old new : State) (buffer : FrameBuffer) → IsFrameTaken maximum old new buffer → ReadRefused OutOfMemory maximum old new
 read_then_stopped maximum old new buffer read =
     let is = read.holds.is_held.is_frame in
-    (read.unstopped, (read.frame, read.taken, inr (record { whole = omega (arith, least_frame read.frame read.parts is); good = frame_row maximum read.frame read.parts is read.within }, omega (arith, ints, frame_size read.frame read.parts is))))
+    (read.unstopped, (read.frame, read.taken, inr (record { whole = omega (arith, least_frame read.frame read.parts is); good = frame_row maximum read.frame read.parts is read.within }, omega (arith, ints, frame_tells_length read.frame read.parts is))))
 
 same_id : (p q : Frame) → p ≡ q → p.request_id ≡ q.request_id
 same_id p q e = ap (λ z. z.request_id) e

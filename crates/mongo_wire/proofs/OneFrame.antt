@@ -175,11 +175,11 @@ no_front frame more parts other is also = (one_frame frame (frame ++ more) more 
 -- ---- headers
 
 -- a number lies in its four bytes
-pub number_in : (at : ℕ) (xs ys : List ℕ) → at + 4 ≤ length xs → number_at at (xs ++ ys) ≡ number_at at xs
-number_in at xs ys p = ap (from_le_bytes w32) (drop-append-le at xs ys (omega arith)) ∙ number_at_front (drop at xs) ys (omega (arith, length-drop at xs))
+pub number_in_four_bytes : (at : ℕ) (xs ys : List ℕ) → at + 4 ≤ length xs → number_at at (xs ++ ys) ≡ number_at at xs
+number_in_four_bytes at xs ys p = ap (from_le_bytes w32) (drop-append-le at xs ys (omega arith)) ∙ number_at_front (drop at xs) ys (omega (arith, length-drop at xs))
 
 pub signed_in : (at : ℕ) (xs ys : List ℕ) → at + 4 ≤ length xs → signed_at at (xs ++ ys) ≡ signed_at at xs
-signed_in at xs ys p = ap (cast_signed w32) (number_in at xs ys p)
+signed_in at xs ys p = ap (cast_signed w32) (number_in_four_bytes at xs ys p)
 
 -- a header's row lies in its 16 bytes
 pub row_in : (maximum : ℤ) (xs ys : List ℕ) → 16 ≤ length xs → header_row maximum (xs ++ ys) ≡ header_row maximum xs
@@ -188,8 +188,8 @@ row_in maximum xs ys p =
     let code = signed_in 12 xs ys (omega arith) in
     ap (λ z. length_row maximum z (op_code_of (signed_at 12 (xs ++ ys))) (signed_at 12 (xs ++ ys))) size ∙ ap (λ z. length_row maximum (signed_at 0 xs) (op_code_of z) z) code
 
-pub frame_size : (f : List ℕ) (p : Frame) → IsFrame f p → signed_at 0 f ≡ pos (length f)
-frame_size f p is =
+pub frame_tells_length : (f : List ℕ) (p : Frame) → IsFrame f p → signed_at 0 f ≡ pos (length f)
+frame_tells_length f p is =
     let number : number_at 0 f ≡ length f = ap (number_at 0) is.spelled ∙ number_at_front (uint32 (length f)) (after_length f p is) (omega arith) ∙ from_le_bytes-to_le_bytes_4 (length f) (omega (arith, is.length_fits)) in
     ap (cast_signed w32) number ∙ to_z_pos w32 (length f) (omega (arith, is.length_fits))
 
@@ -207,7 +207,7 @@ no_row maximum size p q =
 
 pub frame_row : (maximum : ℤ) (f : List ℕ) (p : Frame) → IsFrame f p → pos (length f) ≤ℤ maximum → header_row maximum f ≡ None
 frame_row maximum f p is within =
-    ap (λ z. length_row maximum (signed_at 0 f) (op_code_of z) z) (frame_code f p is) ∙ ap (λ z. length_row maximum z (Some op_code.Message) (pos message_code)) (frame_size f p is)
+    ap (λ z. length_row maximum (signed_at 0 f) (op_code_of z) z) (frame_code f p is) ∙ ap (λ z. length_row maximum z (Some op_code.Message) (pos message_code)) (frame_tells_length f p is)
     ∙ no_row maximum (pos (length f)) (omega (arith, ints, least_frame f p is)) within
 
 -- ---- rows
@@ -224,7 +224,7 @@ header_no_frame maximum taken rest frame more kind parts row is within e =
 -- both have the frame's length in their header
 same_size : (taken rest frame more : List ℕ) (parts : Frame) → 16 ≤ length taken → IsFrame frame parts → taken ++ rest ≡ frame ++ more → signed_at 0 taken ≡ pos (length frame)
 same_size taken rest frame more parts p is e =
-    sym (signed_in 0 taken rest (omega arith)) ∙ ap (signed_at 0) e ∙ signed_in 0 frame more (omega (arith, least_frame frame parts is)) ∙ frame_size frame parts is
+    sym (signed_in 0 taken rest (omega arith)) ∙ ap (signed_at 0) e ∙ signed_in 0 frame more (omega (arith, least_frame frame parts is)) ∙ frame_tells_length frame parts is
 
 cut_no_frame : (maximum : ℤ) (taken rest frame more : List ℕ) (kind : ErrorKind) (parts : Frame) → ShortFrame maximum taken kind → (kind ≡ EndOfInput → rest ≡ []) → IsFrame frame parts → taken ++ rest ≡ frame ++ more → ⊥
 cut_no_frame maximum taken rest frame more kind parts row ends is e =

@@ -77,9 +77,9 @@ pub always : {T E : Type 0} (r : Result T E) (P : Type 0) → P → OnOk r P
 always (Ok _) P p = p
 always (Err _) P p = tt
 
-pub both : {T E : Type 0} (r : Result T E) (P Q R : Type 0) → (P → Q → R) → OnOk r P → OnOk r Q → OnOk r R
-both (Ok _) P Q R f p q = f p q
-both (Err _) P Q R f p q = tt
+pub both_on_ok : {T E : Type 0} (r : Result T E) (P Q R : Type 0) → (P → Q → R) → OnOk r P → OnOk r Q → OnOk r R
+both_on_ok (Ok _) P Q R f p q = f p q
+both_on_ok (Err _) P Q R f p q = tt
 
 -- the pieces that a sequence is written as are its section
 pub section_spelled : (s : DocumentSequence) (start name documents : List ℕ) → start ≡ 1 ∷ uint32 (4 + length (sequence_bytes s)) → name ≡ s.identifier → documents ≡ documents_bytes s.documents
@@ -159,8 +159,8 @@ written_more f xs i x within at old mid new front one =
     subst (Appends old new) (sym (joined_more f xs i x within at)) (Appends-trans old mid new (flat_map f (take i xs)) (f x) front one)
 
 -- what the exit of a `?` returns where the error stays as it is
-pub passed_on : {T E : Type 0} (r : Result T E) (x : E) → IsErrAnd r (λ y. y ≡ x) → r ≡ Err x
-passed_on r x p = let (e, is, same) = err_from_is_err_and r p in is ∙ ap Err same
+pub error_passed_on : {T E : Type 0} (r : Result T E) (x : E) → IsErrAnd r (λ y. y ≡ x) → r ≡ Err x
+error_passed_on r x p = let (e, is, same) = err_from_is_err_and r p in is ∙ ap Err same
 
 -- a sink's fault as a cause
 pub write_stopped : (fault : SinkError) (old new : State) (bytes : List ℕ)

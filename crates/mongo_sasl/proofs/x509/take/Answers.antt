@@ -1,11 +1,11 @@
 use Rattle.std.proofs.Common.{rules}
-use Rattle.mongo_sasl.proofs.X509Rows.{taken_by, failed_by, unread_by}
+use Rattle.mongo_sasl.proofs.X509Rows.{certificate_taken_by, failed_by, unread_by}
 use Rattle.mongo_sasl.proofs.x509.take.Goals as goal
 
 pub returns-in-Ok-clause-taken : goal.returns-in-Ok-clause-taken
 returns-in-Ok-clause-taken c =
     let held = c.in-Ok.ensures.found in
-    taken_by c.args.reply.bytes.now c.in-Ok.fields held c.is_success.result (c.is_success.ensures held.elements held.are) c.if-is_success.true
+    certificate_taken_by c.args.reply.bytes.now c.in-Ok.fields held c.is_success.result (c.is_success.ensures held.elements held.are) c.if-is_success.true
 
 pub returns-in-Ok-2-clause-taken : goal.returns-in-Ok-2-clause-taken
 returns-in-Ok-2-clause-taken c = tt

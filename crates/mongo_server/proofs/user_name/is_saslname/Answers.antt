@@ -1,5 +1,5 @@
 use Rattle.std.proofs.Common.{rules}
-use Rattle.mongo_server.proofs.UserNames.{IsCut, code_of, plain_name, after_no_comma, whole_from, after_from, no_name}
+use Rattle.mongo_server.proofs.UserNames.{IsCutAtEquals, code_of, plain_name, after_no_comma, whole_from, after_from, no_name}
 use Rattle.mongo_server.proofs.user_name.is_saslname.Goals as goal
 
 pub returns-in_default-after_code : goal.returns-in_default-after_code
@@ -15,7 +15,7 @@ loop-code-preserved c =
     let code = c.in-Some.code.now in
     let after = c.in-Some-after_code.after.now in
     let no_comma = c.loop-code.invariant.no_comma in
-    let cut : IsCut rest front code after = record { joined = search rules; no_equals = search rules; is_code = code_of code after (search rules) } in
+    let cut : IsCutAtEquals rest front code after = record { joined = search rules; no_equals = search rules; is_code = code_of code after (search rules) } in
     record {
       text = search rules;
       no_comma = after_no_comma rest front code after no_comma (search rules) (search rules);

@@ -1,7 +1,7 @@
 use Rattle.std.proofs.Common.{rules, ◌≡◌, ◌∙◌, ap, ℕ, sym, subst, Option, None, Some, Result, Ok, Err, List, length, OnErr}
 use Rattle.std.proofs.Math.Seq.{take-length}
 use Rattle.std.specs.Io.KnownBytes.{Appends, Keeps}
-use Rattle.mongo_wire.proofs.Written.{passed_on}
+use Rattle.mongo_wire.proofs.Written.{error_passed_on}
 use Rattle.mongo_wire.specs.Outside.{State, AppendsFront, WriteCounts, risen}
 use Rattle.mongo_wire.specs.declared.outside.SinkError.{SinkError}
 use Rattle.mongo_wire.specs.declared.outside.SinkError.TheVariants.{Failed, OutOfMemory}
@@ -25,7 +25,7 @@ counted (Err Failed) old mid new still counts = counts ∙ ap risen still
 counted (Err OutOfMemory) old mid new still counts = counts ∙ still
 
 pub returns-in_err-write_all-clause-exact : goal.returns-in_err-write_all-clause-exact
-returns-in_err-write_all-clause-exact g c = rw (passed_on c.from_residual.result c.in_err-write_all.field-0.0 c.from_residual.ensures.1) c.in_err-write_all.ensures.exact
+returns-in_err-write_all-clause-exact g c = rw (error_passed_on c.from_residual.result c.in_err-write_all.field-0.0 c.from_residual.ensures.1) c.in_err-write_all.ensures.exact
 
 pub returns-clause-exact : goal.returns-clause-exact
 returns-clause-exact g c = counted c.flush.result _ _ _ c.in_ok-write_all.ensures.exact c.flush.ensures.exact

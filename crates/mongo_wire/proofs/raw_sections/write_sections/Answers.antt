@@ -7,7 +7,7 @@ use Rattle.mongo_wire.specs.Header.{maximum_of}
 use Rattle.mongo_wire.specs.Outside.{WriteStops}
 use Rattle.mongo_wire.specs.Sending.{sections_frame}
 use Rattle.mongo_wire.proofs.SectionsSent.{sections_spelled, sections_refused, sections_are_frame}
-use Rattle.mongo_wire.proofs.Written.{always, cut_at_end, passed_on}
+use Rattle.mongo_wire.proofs.Written.{always, cut_at_end, error_passed_on}
 use Rattle.mongo_wire.proofs.raw_sections.write_sections.Goals as goal
 
 pub returns-in_err-write_pieces-clause-refused : goal.returns-in_err-write_pieces-clause-refused
@@ -15,7 +15,7 @@ returns-in_err-write_pieces-clause-refused g c =
     let a = c.args in
     let error = c.in_err-write_pieces.field-0.0 in
     let spelled = sections_spelled a.request_id a.response_to a.flags.0 c.in-Ok.length c.message_header-header.result c.unsummed_word.result a.sections.now c.ranges.request_id c.ranges.response_to c.message_header-header.ensures c.unsummed_word.ensures c.in-Ok.ensures.counted.0 in
-    rw (passed_on c.from_residual.result error c.from_residual.ensures.1)
+    rw (error_passed_on c.from_residual.result error c.from_residual.ensures.1)
     (sections_refused error.kind (maximum_of a.maximum) a.sections.now (sections_frame a.request_id a.response_to a.flags.0 a.sections.now) _ _ c.in-Ok.ensures.fits (subst (WriteStops error.kind _ _) spelled c.in_err-write_pieces.ensures.refused))
 
 pub returns-clause-written : goal.returns-clause-written

@@ -3,7 +3,7 @@ use Rattle.mongo_command.specs.Exchange.{frame_maximum}
 use Rattle.mongo_scram.specs.Client.{user_of}
 use Rattle.mongo_scram.specs.Plan.{start_said}
 use Rattle.mongo_scram.specs.Login.{handed_by}
-use Rattle.mongo_scram.proofs.FirstRounds.{IsStart, start_unbuilt, start_unanswered, start_exchanged, start_refused, start_opens}
+use Rattle.mongo_scram.proofs.FirstRounds.{IsPlannedFirst, start_unbuilt, start_unanswered, start_exchanged, start_refused, start_opens}
 use Rattle.mongo_sasl.proofs.Handed.{no_answer_on, no_answer_by}
 use Rattle.mongo_sasl.proofs.StopsBy.{was_faultless, draws_refused, draws_exchanged, draws_none, no_exchange, at_exchange, after_exchange, handed_stops}
 use Rattle.mongo_scram.proofs.login.ScramLogin.say_first.Goals as goal
@@ -38,7 +38,7 @@ returns-in_err-command-clause-stops g c =
     let handed = handed_by c.args.self None (frame_maximum c.args.connection.now.stream_description) in
     let user = user_of c.args.user.now in
     let first = c.in_ok-client_first.client_first in
-    let start : IsStart handed user first = record { db = made.db; source = made.source; message = made.message; api = made.api ∙ c.copied.ensures } in
+    let start : IsPlannedFirst handed user first = record { db = made.db; source = made.source; message = made.message; api = made.api ∙ c.copied.ensures } in
     let e = c.in_err-command.field-0.0 in
     handed_stops _ _ _ _ c.from_residual-in_err-command.result e c.from_residual-in_err-command.ensures.1
     (no_exchange _ _ _ (Err e) (start_unbuilt handed user first e.kind start c.in_err-command.ensures.refused))
@@ -60,7 +60,7 @@ returns-in_err-exchange_into-clause-stops g c =
     let handed = handed_by c.args.self None (frame_maximum c.args.connection.now.stream_description) in
     let user = user_of c.args.user.now in
     let first = c.in_ok-client_first.client_first in
-    let start : IsStart handed user first = record { db = made.db; source = made.source; message = made.message; api = made.api ∙ c.copied.ensures } in
+    let start : IsPlannedFirst handed user first = record { db = made.db; source = made.source; message = made.message; api = made.api ∙ c.copied.ensures } in
     let e = c.in_err-exchange_into.field-0.0 in
     let exchange = c.in_err-exchange_into.ensures in
     handed_stops _ _ _ _ c.from_residual-in_err-exchange_into.result e c.from_residual-in_err-exchange_into.ensures.1
@@ -85,7 +85,7 @@ returns-in_err-server_first-clause-stops g c =
     let handed = handed_by c.args.self None (frame_maximum c.args.connection.now.stream_description) in
     let user = user_of c.args.user.now in
     let first = c.in_ok-client_first.client_first in
-    let start : IsStart handed user first = record { db = made.db; source = made.source; message = made.message; api = made.api ∙ c.copied.ensures } in
+    let start : IsPlannedFirst handed user first = record { db = made.db; source = made.source; message = made.message; api = made.api ∙ c.copied.ensures } in
     let e = c.in_err-server_first.field-0.0 in
     let exchange = c.in_ok-exchange_into.ensures in
     handed_stops _ _ _ _ c.from_residual-in_err-server_first.result e c.from_residual-in_err-server_first.ensures.1
@@ -106,7 +106,7 @@ returns-clause-opened g c =
     let handed = handed_by c.args.self None (frame_maximum c.args.connection.now.stream_description) in
     let user = user_of c.args.user.now in
     let first = c.in_ok-client_first.client_first in
-    let start : IsStart handed user first = record { db = made.db; source = made.source; message = made.message; api = made.api ∙ c.copied.ensures } in
+    let start : IsPlannedFirst handed user first = record { db = made.db; source = made.source; message = made.message; api = made.api ∙ c.copied.ensures } in
     let exchange = c.in_ok-exchange_into.ensures in
     start_opens handed user _ _ _ _ _ _ _ refl start made.nonce c.held_reply.ensures (start_exchanged handed user first c.in_ok-command.command _ _ _ _ _ start c.in_ok-command.ensures.command exchange.exchanged) exchange.ends.counts c.in_ok-server_first.ensures.read
 

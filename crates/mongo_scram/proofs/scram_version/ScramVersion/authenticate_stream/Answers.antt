@@ -10,7 +10,7 @@ use Rattle.mongo_sasl.proofs.Handed.{no_answer_on, on_answer, rest_on}
 use Rattle.mongo_sasl.proofs.DrawnIds.{twice_buffer}
 use Rattle.mongo_sasl.proofs.StoppedKeeping.{at_once_keeping}
 use Rattle.mongo_sasl.proofs.StopsBy.{faultless_before}
-use Rattle.mongo_scram.proofs.ScramPlan.{challenge_of}
+use Rattle.mongo_scram.proofs.ScramPlan.{challenge_by_first}
 use Rattle.mongo_scram.proofs.Derived.{costs_nothing}
 use Rattle.mongo_scram.proofs.EndsByScram.{refused_scram, stopped_scram, accepted_scram}
 use Rattle.mongo_scram.proofs.OpeningSteps.{credential_refused, user_stopped, user_refused, start_unsaid, answer_stopped, answer_refused}
@@ -81,7 +81,7 @@ returns-in_err-client_final-clause-login g c =
     let between = between_by handed user o derived.key derived.salted c.nonce.result.now (balance _ _ (ledgers c.args.steps.now c.args.salted.now)) (balance _ _ (ledgers c.answer.new.steps c.answer.new.cache)) c.in_ok-user.ensures.user opening.opened c.nonce.ensures c.in_ok-derived.ensures.key c.in_ok-derived.ensures.answered in
     let e = c.in_err-client_final.field-0.0 in
     stopped_scram _ handed _ _ _ _ c.from_residual-in_err-client_final.result e c.from_residual-in_err-client_final.ensures.1
-    (stopped_between handed user o derived.key derived.salted _ _ between e.kind _ _ (at_once_keeping (closing handed (challenge_of user o.server_first)) e.kind _ _ (inr (inl c.in_err-client_final.ensures.refused))))
+    (stopped_between handed user o derived.key derived.salted _ _ between e.kind _ _ (at_once_keeping (closing handed (challenge_by_first user o.server_first)) e.kind _ _ (inr (inl c.in_err-client_final.ensures.refused))))
     (λ kind is. close_refused handed user o derived.key derived.salted _ _ between e.kind (opening.alone kind is) (inr (inl c.in_err-client_final.ensures.refused)))
     opening.faultless c.in_ok-derived.ensures.answered.entries opening.stops.untouched opening.stops.buffer opening.stops.rest opening.stops.counts
 
@@ -98,7 +98,7 @@ returns-in_err-close-clause-login g c =
     let opening = c.in_ok-opened.ensures in
     let derived = c.in_ok-derived.derived in
     let between = between_by handed user o derived.key derived.salted c.nonce.result.now (balance _ _ (ledgers c.args.steps.now c.args.salted.now)) (balance _ _ (ledgers c.answer.new.steps c.answer.new.cache)) c.in_ok-user.ensures.user opening.opened c.nonce.ensures c.in_ok-derived.ensures.key c.in_ok-derived.ensures.answered in
-    let challenge = challenge_of user o.server_first in
+    let challenge = challenge_by_first user o.server_first in
     let made = c.in_ok-client_final.ensures in
     let final = c.in_ok-client_final.client_final in
     let is = final_by handed challenge derived.salted o.client_first final (between_tag handed user o derived.key derived.salted _ _ between) opening.opened.message made.auth_message made.message made.conversation made.source (made.api ∙ c.copied.ensures) in
@@ -134,7 +134,7 @@ returns-clause-login g c =
     let opening = c.in_ok-opened.ensures in
     let derived = c.in_ok-derived.derived in
     let between = between_by handed user o derived.key derived.salted c.nonce.result.now (balance _ _ (ledgers c.args.steps.now c.args.salted.now)) (balance _ _ (ledgers c.answer.new.steps c.answer.new.cache)) c.in_ok-user.ensures.user opening.opened c.nonce.ensures c.in_ok-derived.ensures.key c.in_ok-derived.ensures.answered in
-    let challenge = challenge_of user o.server_first in
+    let challenge = challenge_by_first user o.server_first in
     let made = c.in_ok-client_final.ensures in
     let final = c.in_ok-client_final.client_final in
     let is = final_by handed challenge derived.salted o.client_first final (between_tag handed user o derived.key derived.salted _ _ between) opening.opened.message made.auth_message made.message made.conversation made.source (made.api ∙ c.copied.ensures) in

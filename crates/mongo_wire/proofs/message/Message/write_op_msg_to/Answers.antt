@@ -9,7 +9,7 @@ use Rattle.mongo_wire.specs.Header.{maximum_of}
 use Rattle.mongo_wire.specs.Message.{id_of, before_checksum, written_frame}
 use Rattle.mongo_wire.specs.Outside.{WriteStops}
 use Rattle.mongo_wire.proofs.IsFrame.{written_is_frame}
-use Rattle.mongo_wire.proofs.Written.{always, both, checksum_cut, cut_at_end, frame_cut, frame_written, passed_on, write_refused}
+use Rattle.mongo_wire.proofs.Written.{always, both_on_ok, checksum_cut, cut_at_end, frame_cut, frame_written, error_passed_on, write_refused}
 use Rattle.mongo_wire.proofs.message.Message.write_op_msg_to.Goals as goal
 
 pub returns-in-Err-clause-refused : goal.returns-in-Err-clause-refused
@@ -23,7 +23,7 @@ returns-in_err-write_before_checksum-clause-refused g c =
     let id = c.drawn_id-id.result in
     let fits : FitsSigned w32 id = search rules in
     let same = ap (λ i. before_checksum i m) (to_z-of_z w32 id fits ∙ c.drawn_id-id.ensures.id) in
-    rw (passed_on c.from_residual.result error c.from_residual.ensures.1)
+    rw (error_passed_on c.from_residual.result error c.from_residual.ensures.1)
     (write_refused error.kind (maximum_of c.args.maximum) m _ _ c.args.ids.now _ c.in-Ok.ensures.fits c.drawn_id-id.ensures.drawn
     (frame_cut error.kind (id_of m c.args.ids.now) m _ _ (subst (WriteStops error.kind _ _) same c.in_err-write_before_checksum.ensures.refused)))
 
@@ -36,7 +36,7 @@ returns-in_err-write_checksum-clause-refused g c =
     let fits : FitsSigned w32 id = search rules in
     let same = ap (λ i. before_checksum i m) (to_z-of_z w32 id fits ∙ c.drawn_id-id.ensures.id) in
     let front = c.in_ok-write_before_checksum.ensures in
-    rw (passed_on c.from_residual-in_err-write_checksum.result error c.from_residual-in_err-write_checksum.ensures.1)
+    rw (error_passed_on c.from_residual-in_err-write_checksum.result error c.from_residual-in_err-write_checksum.ensures.1)
     (write_refused error.kind (maximum_of c.args.maximum) m _ _ c.args.ids.now _ c.in-Ok.ensures.fits c.drawn_id-id.ensures.drawn
     (checksum_cut error.kind (id_of m c.args.ids.now) m _ _ _ _ (subst (Appends _ _) same front.written) front.writes c.in_err-write_checksum.ensures.refused (search rules)))
 
@@ -48,7 +48,7 @@ returns-clause-written g c =
     let same = ap (λ i. before_checksum i m) (to_z-of_z w32 id fits ∙ c.drawn_id-id.ensures.id) in
     let next = id_of m c.args.ids.now in
     let all = frame_written next m _ _ _ _ (subst (Appends _ _) same c.in_ok-write_before_checksum.ensures.written) c.in_ok-write_checksum.ensures.written (search rules) in
-    both c.flush_out.result _ _ _
+    both_on_ok c.flush_out.result _ _ _
     (λ flushed writes. record {
       fits = c.in-Ok.ensures.fits;
       appended = Appends-kept _ _ _ (written_frame next m) all c.flush_out.ensures.kept;
