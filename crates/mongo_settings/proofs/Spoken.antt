@@ -11,7 +11,7 @@ use Rattle.mongo_establish.specs.declared.establisher.PendingConnection.{Pending
 use Rattle.mongo_establish.specs.Options.{default_max_iterations}
 use Rattle.mongo_establish.specs.Speculation.{mechanism_before, SpeaksFor}
 use Rattle.mongo_establish.specs.Spoken.{is_spoken, IsSpoken}
-use Rattle.mongo_settings.specs.Keys.{credential_keys, replies_key, credential_key, nonces_key, first_id_key, max_iterations_key, username_key, source_key, password_key, credential_mechanism_key, properties_key}
+use Rattle.mongo_settings.specs.Keys.{credential_keys, replies_key, credential_key, nonces_key, first_id_key, max_iterations_key, username_setting_key, source_key, password_key, credential_mechanism_key, properties_key}
 use Rattle.mongo_settings.specs.Kinds.{◌>>=◌, optional, optional_in, object_of, joined_hex_in, nonces_in, int32_in, iterations_in}
 use Rattle.mongo_settings.specs.Credential.{mechanism_in, credential_in}
 use Rattle.mongo_settings.specs.Meaning.{default_nonces, default_first_id, settings_in}
@@ -66,7 +66,7 @@ mechanism_of_credential : (d : Data) (credential : Credential) → credential_in
 unfolding credential_in
 mechanism_of_credential d credential is =
     its_mechanism (object_of credential_keys d)
-    (optional username_key as_str d) (optional source_key as_str d) (optional password_key as_str d) (optional credential_mechanism_key mechanism_in d) (optional properties_key properties_in d) credential is
+    (optional username_setting_key as_str d) (optional source_key as_str d) (optional password_key as_str d) (optional credential_mechanism_key mechanism_in d) (optional properties_key properties_in d) credential is
 
 credential_spoken : (found credential : Option Credential) (d : Data) → found ≡ credential_in d → option_map Some found ≡ Some credential → mechanism_judged (get credential_mechanism_key d >>= mechanism_in) ≡ Ok tt → SpeaksFor credential
 credential_spoken None credential d at is judged = let no : ⊥ = cc in absurd no

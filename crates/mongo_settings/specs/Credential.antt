@@ -7,7 +7,7 @@ use Rattle.mongo_sasl.specs.declared.credential.Credential.{Credential}
 use Rattle.mongo_sasl.specs.declared.mechanism.AuthMechanism.{AuthMechanism}
 use Rattle.mongo_sasl.specs.declared.mechanism.AuthMechanism.TheVariants.{MongoDbCr, ScramSha1, ScramSha256, MongoDbX509, Plain, MongoDbAws, MongoDbOidc}
 use Rattle.mongo_sasl.specs.Mechanism.{name_of}
-use Rattle.mongo_settings.specs.Keys.{credential_keys, credential_key, username_key, source_key, password_key, credential_mechanism_key, properties_key}
+use Rattle.mongo_settings.specs.Keys.{credential_keys, credential_key, username_setting_key, source_key, password_key, credential_mechanism_key, properties_key}
 use Rattle.mongo_settings.specs.Kinds.{◌>>=◌, optional, object_of}
 use Rattle.mongo_settings.specs.Properties.{properties_in}
 
@@ -31,7 +31,7 @@ named_mechanism d = do
 unfoldable pub credential_in : Data → Option Credential
 credential_in d = do
   object ← object_of credential_keys d
-  username ← optional username_key as_str d
+  username ← optional username_setting_key as_str d
   source ← optional source_key as_str d
   password ← optional password_key as_str d
   mechanism ← optional credential_mechanism_key mechanism_in d

@@ -38,11 +38,11 @@ driver_info_key = codes "driver_info"
 abbrev pub server_api_key : List ℕ
 server_api_key = codes "server_api"
 
-abbrev pub os_key : List ℕ
-os_key = codes "os"
+abbrev pub os_setting_key : List ℕ
+os_setting_key = codes "os"
 
-abbrev pub platform_key : List ℕ
-platform_key = codes "platform"
+abbrev pub platform_setting_key : List ℕ
+platform_setting_key = codes "platform"
 
 abbrev pub platform_short_key : List ℕ
 platform_short_key = codes "platform_short"
@@ -94,8 +94,8 @@ read_later name = key_row name Later
 abbrev pub keys : List Key
 keys =
     built host_key ∷ built replies_key ∷ built port_key ∷ built unix_key ∷ built pool_id_key ∷ built generation_key
-    ∷ built load_balanced_key ∷ built generations_key ∷ built app_name_key ∷ built driver_info_key ∷ built server_api_key ∷ built os_key
-    ∷ built platform_key ∷ built platform_short_key ∷ built environment_key ∷ built dockerenv_key ∷ built credential_key ∷ built nonces_key
+    ∷ built load_balanced_key ∷ built generations_key ∷ built app_name_key ∷ built driver_info_key ∷ built server_api_key ∷ built os_setting_key
+    ∷ built platform_setting_key ∷ built platform_short_key ∷ built environment_key ∷ built dockerenv_key ∷ built credential_key ∷ built nonces_key
     ∷ read_later moment_key ∷ built first_id_key ∷ built max_iterations_key ∷ read_later callback_key ∷ read_later tokens_key ∷ read_later aws_key ∷ []
 
 -- whether a key of these names is read; none where it isn't among them
@@ -127,8 +127,8 @@ batch_keys = logins_key ∷ []
 
 -- ---- keys of `credential`
 
-abbrev pub username_key : List ℕ
-username_key = codes "username"
+abbrev pub username_setting_key : List ℕ
+username_setting_key = codes "username"
 
 abbrev pub source_key : List ℕ
 source_key = codes "source"
@@ -143,18 +143,18 @@ abbrev pub properties_key : List ℕ
 properties_key = codes "properties"
 
 abbrev pub credential_keys : List (List ℕ)
-credential_keys = username_key ∷ source_key ∷ password_key ∷ credential_mechanism_key ∷ properties_key ∷ []
+credential_keys = username_setting_key ∷ source_key ∷ password_key ∷ credential_mechanism_key ∷ properties_key ∷ []
 
 -- ---- keys of `driver_info`, `os` and `server_api`, of which `platform` is one of settings too
 
-abbrev pub name_key : List ℕ
-name_key = codes "name"
+abbrev pub name_setting_key : List ℕ
+name_setting_key = codes "name"
 
-abbrev pub version_key : List ℕ
-version_key = codes "version"
+abbrev pub version_setting_key : List ℕ
+version_setting_key = codes "version"
 
-abbrev pub type_key : List ℕ
-type_key = codes "type"
+abbrev pub type_setting_key : List ℕ
+type_setting_key = codes "type"
 
 abbrev pub architecture_key : List ℕ
 architecture_key = codes "architecture"
@@ -166,10 +166,10 @@ abbrev pub deprecation_errors_key : List ℕ
 deprecation_errors_key = codes "deprecation_errors"
 
 abbrev pub driver_info_keys : List (List ℕ)
-driver_info_keys = name_key ∷ version_key ∷ platform_key ∷ []
+driver_info_keys = name_setting_key ∷ version_setting_key ∷ platform_setting_key ∷ []
 
 abbrev pub os_keys : List (List ℕ)
-os_keys = type_key ∷ name_key ∷ architecture_key ∷ version_key ∷ []
+os_keys = type_setting_key ∷ name_setting_key ∷ architecture_key ∷ version_setting_key ∷ []
 
 abbrev pub server_api_keys : List (List ℕ)
-server_api_keys = version_key ∷ strict_key ∷ deprecation_errors_key ∷ []
+server_api_keys = version_setting_key ∷ strict_key ∷ deprecation_errors_key ∷ []

@@ -11,7 +11,7 @@ use Rattle.mongo_meta.specs.declared.driver_info.DriverInfo.{DriverInfo}
 use Rattle.mongo_meta.specs.declared.environment.Environment.{Environment}
 use Rattle.mongo_meta.specs.declared.environment.Variable.{Variable}
 use Rattle.mongo_meta.specs.declared.os_metadata.OsMetadata.{OsMetadata}
-use Rattle.mongo_settings.specs.Keys.{driver_info_keys, os_keys, server_api_keys, load_balanced_key, app_name_key, driver_info_key, server_api_key, os_key, platform_key, platform_short_key, environment_key, dockerenv_key, name_key, version_key, type_key, architecture_key, strict_key, deprecation_errors_key}
+use Rattle.mongo_settings.specs.Keys.{driver_info_keys, os_keys, server_api_keys, load_balanced_key, app_name_key, driver_info_key, server_api_key, os_setting_key, platform_setting_key, platform_short_key, environment_key, dockerenv_key, name_setting_key, version_setting_key, type_setting_key, architecture_key, strict_key, deprecation_errors_key}
 use Rattle.mongo_settings.specs.Kinds.{◌>>=◌, optional, required, or_absent, object_of, two_in}
 
 -- ---- what holds where a key is absent
@@ -30,18 +30,18 @@ default_platform_short = codes "rattle"
 unfoldable pub driver_info_in : Data → Option DriverInfo
 driver_info_in d = do
   object ← object_of driver_info_keys d
-  name ← required name_key as_str d
-  version ← optional version_key as_str d
-  platform ← optional platform_key as_str d
+  name ← required name_setting_key as_str d
+  version ← optional version_setting_key as_str d
+  platform ← optional platform_setting_key as_str d
   Some (record { name = name; version = version; platform = platform })
 
 unfoldable pub os_in : Data → Option OsMetadata
 os_in d = do
   object ← object_of os_keys d
-  os_type ← required type_key as_str d
-  name ← optional name_key as_str d
+  os_type ← required type_setting_key as_str d
+  name ← optional name_setting_key as_str d
   architecture ← optional architecture_key as_str d
-  version ← optional version_key as_str d
+  version ← optional version_setting_key as_str d
   Some (record { os_type = os_type; name = name; architecture = architecture; version = version })
 
 -- the one version that there is
@@ -51,7 +51,7 @@ version_in d = option_and_then (λ text. if bytes_eq text (version_text V1) then
 unfoldable pub server_api_in : Data → Option ServerApi
 server_api_in d = do
   object ← object_of server_api_keys d
-  version ← required version_key version_in d
+  version ← required version_setting_key version_in d
   strict ← optional strict_key as_bool d
   deprecation_errors ← optional deprecation_errors_key as_bool d
   Some (record { version = version; strict = strict; deprecation_errors = deprecation_errors })
@@ -86,12 +86,12 @@ unfoldable pub client_options_in : Data → Option ClientOptions
 client_options_in d = do
   server_api ← optional server_api_key server_api_in d
   load_balanced ← optional load_balanced_key as_bool d
-  platform ← or_absent default_platform (optional platform_key as_str d)
+  platform ← or_absent default_platform (optional platform_setting_key as_str d)
   platform_short ← or_absent default_platform_short (optional platform_short_key as_str d)
   environment ← environment_in d
   app_name ← optional app_name_key as_str d
   driver_info ← optional driver_info_key driver_info_in d
-  os ← or_absent default_os (optional os_key os_in d)
+  os ← or_absent default_os (optional os_setting_key os_in d)
   Some (record {
     app_name = app_name;
     driver_info = driver_info;

@@ -2,7 +2,7 @@
 ghost use Rattle.std.specs.Prelude.{Some};
 ghost use Rattle.serde_json.specs.View.{view};
 ghost use Rattle.serde_json.specs.Find.{as_str};
-ghost use Rattle.mongo_settings.specs.Keys.{os_key};
+ghost use Rattle.mongo_settings.specs.Keys.{os_setting_key};
 ghost use Rattle.mongo_settings.specs.Kinds.{optional, or_absent, Means};
 ghost use Rattle.mongo_settings.specs.Options.{default_os, os_in};
 
@@ -54,7 +54,7 @@ fn text_or(alloc: Global, object: &Value, key: &str, default: &str) -> Result<Te
 }
 
 fn os_or_default(alloc: Global, object: &Value) -> Result<OsMetadata, SettingsError>
-    ensures { Means (λ os. os) result (or_absent default_os (optional os_key os_in (view object.now))) }
+    ensures { Means (λ os. os) result (or_absent default_os (optional os_setting_key os_in (view object.now))) }
 {
     match optional::<OsMetadata>(alloc, object, keys::OS)? {
         Some(os) => Ok(os),
