@@ -1,5 +1,5 @@
 -- The values that can stand in a document.
-use Rattle.std.specs.Prelude.{◌≡◌, ℕ, ◌-◌, ◌^◌, ◌<◌, ◌≤◌, false, ⊤, FitsSigned, List, [], ◌∷◌, ◌++◌, length}
+use Rattle.std.specs.Prelude.{◌≡◌, ℕ, ◌^◌, ◌<◌, ◌≤◌, false, ⊤, FitsSigned, List, [], ◌∷◌, ◌++◌, length}
 use Rattle.std.specs.Int.{w32, w64}
 use Rattle.std.specs.Str.{IsUtf8}
 use Rattle.mongo_bson.specs.Framed.{IsFramed, maximum_length}

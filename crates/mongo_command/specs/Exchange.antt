@@ -1,5 +1,5 @@
 -- One exchange: a command's frame is written and flushed, and one frame is taken.
-use Rattle.std.specs.Prelude.{◌≡◌, ℕ, ℤ, pos, ◌-◌, ◌<◌, ◌≤◌, ◌≤ℤ◌, ◌⊎◌, Bool, Option, None, Some, List, length, if◌then◌else◌, option_map, is_some, ⊤}
+use Rattle.std.specs.Prelude.{◌≡◌, ℕ, ℤ, pos, ◌<◌, ◌≤◌, ◌≤ℤ◌, ◌⊎◌, Bool, Option, None, Some, List, length, if◌then◌else◌, option_map, is_some, ⊤}
 use Rattle.std.specs.Io.KnownBytes.{Appends, Consumes}
 use Rattle.mongo_bson.specs.Framed.{maximum_length}
 use Rattle.mongo_wire.specs.declared.error.ErrorKind.{ErrorKind}

@@ -3,7 +3,7 @@ use Rattle.std.proofs.Common.{◌≡◌, ◌∙◌, ℕ, ℤ, refl, sym, ap, sub
 use Rattle.mongo_wire.specs.declared.error.Error.{Error}
 use Rattle.mongo_wire.specs.declared.error.ErrorKind.{ErrorKind}
 use Rattle.mongo_wire.specs.Outside.{State}
-use Rattle.mongo_command.specs.Conversation.{Said, Event, exchanged, asked, Turn, says, asks, refuses, ends, Plan, HasNone, unless, reading, saying, later, passed_on, followed_by, plain_message, Follows, given_in, Talked, Reached, Stopped}
+use Rattle.mongo_command.specs.Conversation.{Said, Event, exchanged, Turn, says, refuses, ends, Plan, HasNone, unless, reading, saying, followed_by, plain_message, given_in, Reached, Stopped}
 use Rattle.mongo_command.specs.Exchange.{CountsStay, Exchanges, ExchangeRefused}
 use Rattle.mongo_command.proofs.FollowedBy.{turn_first, turn_second, follows_first, follows_both}
 use Rattle.mongo_command.proofs.Talked.{follows_more, given_both, talked_append, talked_by, talked_once, nothing_said, still_counts}

@@ -75,13 +75,13 @@ pub fn read_client_final(alloc: Global, message: &[u8]) -> Result<ClientFinalPar
     ensures read { IfOk result (HoldsClientFinal message.now) }
     ensures refused { IfErr result (ClientFinalUnread message.now) }
 {
-    let Some(attributes) = after(message, BOUND_NONCE.as_bytes()) else {
+    let Some(attributes) = after(message, BOUND_NONCE) else {
         return Err(ServerFault::Malformed);
     };
     let Some((nonce, attribute)) = cut_last(attributes) else {
         return Err(ServerFault::Malformed);
     };
-    let Some(text) = after(attribute, PROOF.as_bytes()) else {
+    let Some(text) = after(attribute, PROOF) else {
         return Err(ServerFault::Malformed);
     };
     match decoded(alloc, text)? {
@@ -91,11 +91,11 @@ pub fn read_client_final(alloc: Global, message: &[u8]) -> Result<ClientFinalPar
 }
 
 // What follows the bytes of `front` at the front.
-fn after<'a>(bytes: &'a [u8], front: &[u8]) -> Option<&'a [u8]>
+fn after<'a>(bytes: &'a [u8], front: &str) -> Option<&'a [u8]>
     ensures { MatchOption result ((rest : List ℕ) → bytes.now ≢ front.now ++ rest)
         (λ rest. bytes.now ≡ front.now ++ rest.now) }
 {
-    bytes.strip_prefix(front)
+    bytes.strip_prefix(front.as_bytes())
 }
 
 // What stands before the last comma, and behind it.

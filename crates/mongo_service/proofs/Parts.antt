@@ -1,5 +1,5 @@
 -- What a turn comes to, by what its parts answer.
-use Rattle.std.proofs.Common.{◌≡◌, ℕ, ℤ, pos, ◌+◌, ◌<◌, Option, None, Some, IfSome, Result, Ok, Err, OnOk, OnErr, IfErr, List, [], ◌∷◌, ◌++◌, length, take, refl, sym, ap, ◌∙◌, subst, inl, inr, arith, length-append}
+use Rattle.std.proofs.Common.{◌≡◌, ℕ, ℤ, pos, ◌+◌, ◌≤◌, ◌<◌, Option, None, Some, IfSome, Result, Ok, Err, OnOk, OnErr, IfErr, List, [], ◌∷◌, ◌++◌, length, take, refl, sym, ap, ◌∙◌, subst, inl, inr, arith, length-append}
 use Rattle.std.proofs.lemmas.List.{take_at}
 use Rattle.std.proofs.KnownBytes.{Appends-nil, Consumes-trans}
 use Rattle.std.specs.Prelude.{⊤}
@@ -27,7 +27,7 @@ use Rattle.mongo_service.proofs.Causes.{long_cause}
 use Rattle.mongo_service.proofs.Turns.{turn_taken, turn_cut, none_taken}
 
 -- how much of a reply was sent: nothing of one that is too long
-part_of : ServeFault → ℕ → ℕ
+abbrev part_of : ServeFault → ℕ → ℕ
 part_of ReplyTooLong n = 0
 part_of fault n = n
 

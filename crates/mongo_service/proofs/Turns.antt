@@ -1,5 +1,5 @@
 -- Turns, one after another.
-use Rattle.std.proofs.Common.{◌≡◌, ℕ, ℤ, Option, Some, IfSome, List, [], ◌∷◌, ◌++◌, refl, sym, ◌∙◌, subst, append-nil, flat_map, inl, arith}
+use Rattle.std.proofs.Common.{◌≡◌, ℕ, ℤ, ◌≤◌, Option, Some, IfSome, List, [], ◌∷◌, ◌++◌, refl, sym, ◌∙◌, subst, append-nil, flat_map, inl, arith}
 use Rattle.std.proofs.lemmas.List.{map-append}
 use Rattle.std.proofs.lemmas.List.Concat.{flat_map-append}
 use Rattle.std.proofs.KnownBytes.{Appends-nil}

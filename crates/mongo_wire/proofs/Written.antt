@@ -1,5 +1,5 @@
 -- What a write that was cut short has appended.
-use Rattle.std.proofs.Common.{◌≡◌, ℕ, ℤ, FitsSigned, to_z, of_z, bit_and, ◌∷◌, ◌+◌, ◌<◌, ◌≤◌, get_or, flat_map, Option, Result, Ok, Err, OnOk, IsErrAnd, List, [], append-nil, ◌++◌, length, take, drop, refl, sym, ap, ◌∙◌, subst, arith, append_assoc, take-append-drop}
+use Rattle.std.proofs.Common.{◌≡◌, ℕ, ℤ, FitsSigned, to_z, of_z, bit_and, ◌∷◌, ◌+◌, ◌<◌, get_or, flat_map, Option, Result, Ok, Err, OnOk, IsErrAnd, List, [], append-nil, ◌++◌, length, take, drop, sym, ap, ◌∙◌, subst, append_assoc, take-append-drop}
 use Rattle.std.proofs.Math.Seq.{take-append_seam, take-append-add}
 use Rattle.std.proofs.lemmas.Result.{err_from_is_err_and}
 use Rattle.std.proofs.lemmas.Int.{to_z-of_z}

@@ -1,5 +1,5 @@
 -- A message as one document: its body, and each of its sequences as an array under its identifier.
-use Rattle.std.specs.Prelude.{ℕ, ◌-◌, ◌<◌, List, ◌++◌, length, flat_map}
+use Rattle.std.specs.Prelude.{ℕ, ◌<◌, List, ◌++◌, length, flat_map}
 use Rattle.mongo_bson.specs.Framed.{element_bytes, enclosed, maximum_length}
 use Rattle.mongo_bson.specs.Document.{Element, spell}
 use Rattle.mongo_bson.specs.Array.{array_of, document_entries}

@@ -1,4 +1,4 @@
-use Rattle.std.proofs.Common.{◌≡◌, ℕ, List, ◌-◌, ◌<◌, length, Err, ap, subst}
+use Rattle.std.proofs.Common.{◌≡◌, ℕ, List, ◌<◌, length, Err, ap, subst}
 use Rattle.mongo_bson.specs.Framed.{maximum_length}
 use Rattle.mongo_bson.specs.declared.fault.BsonFault.TheVariants.{TooLong}
 use Rattle.mongo_bson.specs.Array.{array_of, document_entries}
