@@ -42,15 +42,15 @@ send_refused (InvalidArgument (Bson TooLong)) maximum message old new before aft
 send_refused (InvalidArgument fault) maximum message old new before after kept is = unsent is.2
 send_refused WriteFault maximum message old new before after kept is = cut is.1
 send_refused OutOfMemory maximum message old new before after kept (inl is) = unsent is
-send_refused OutOfMemory maximum message old new before after kept (inr is) = cut is
+send_refused OutOfMemory maximum message old new before after kept (inr is) = cut is.1
 send_refused kind maximum message old new before after kept is = absurd is
 
 read_refused : (kind : ErrorKind) (maximum : ℤ) (old new : State) → ReadRefused kind maximum old new → TakesSome old.left new.left
 read_refused ReadFault maximum old new is = (is.1.0, is.1.1)
-read_refused OutOfMemory maximum old new is = (is.0, is.1)
+read_refused OutOfMemory maximum old new is = (is.1.0, is.1.1)
 read_refused EndOfInput maximum old new is = (is.1.0, is.1.1)
-read_refused (InvalidResponse fault) maximum old new is = (is.0, is.1)
-read_refused (InvalidArgument fault) maximum old new is = (is.0, is.1)
+read_refused (InvalidResponse fault) maximum old new is = (is.1.0, is.1.1)
+read_refused (InvalidArgument fault) maximum old new is = (is.1.0, is.1.1)
 read_refused kind maximum old new is = absurd is
 
 exchange_refused : (kind : ErrorKind) (maximum : ℤ) (message : Message) (old new : State) (before after : ℤ) (kept : Option ErrorKind) → ExchangeRefused kind maximum message old new before after kept → TakesSome old.left new.left

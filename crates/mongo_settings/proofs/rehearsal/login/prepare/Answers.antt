@@ -12,6 +12,6 @@ returns-clause-login c =
     let settings = c.args.settings in
     let fits : FitsSigned w32 settings.first_id = search rules in
     record {
-      asked = asked_for-settings settings (options_of_establisher c.in-Ok.establisher) c.of_nonces.result.nonces c.new.result c.in-Ok.ensures.options c.of_nonces.ensures (c.new.ensures ∙ to_z-of_z w32 settings.first_id fits);
+      asked = asked_for-settings settings (options_of_establisher c.in-Ok.establisher) c.of_nonces.result.nonces c.new.result c.in-Ok.ensures.options c.of_nonces.ensures.nonces (c.new.ensures ∙ to_z-of_z w32 settings.first_id fits);
       credential = refl;
     }
