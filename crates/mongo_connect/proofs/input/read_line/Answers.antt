@@ -65,7 +65,7 @@ pub reading-preserved : goal.reading-preserved
 reading-preserved g c =
     let state = g.S.Outside.state in
     one_pushed (state c.args.source.now) (state c.reading.source) (state c.read_byte.new.source) c.reading.held.items c.reading.invariant c.in-Ok-Some.field-0 c.in-Ok-Some.byte _ c.push.new.self.items c.in-Ok-Some.field-0-is c.in-Ok-Some.byte-test.1 c.push.ensures.items c.if-is_err.ensures.negation
-    (omega (arith, c.reading-test.true, c.len.ensures)) c.in-Ok-Some.ensures.byte c.in-Ok-Some.ensures.on
+    (omega (arith, c.reading-test.true, c.len.ensures)) c.in-Ok-Some.ensures.byte c.in-Ok-Some.ensures.unfailed c.in-Ok-Some.ensures.on
 
 pub returns-in-Ok-None-clause-within : goal.returns-in-Ok-None-clause-within
 returns-in-Ok-None-clause-within g c =
