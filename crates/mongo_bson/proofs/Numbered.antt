@@ -99,8 +99,8 @@ pub document_all : (document : List ℕ) (count i : ℕ) (items documents : List
 document_all document count i items documents passed are is = subst (λ ds. IsArrayOf document count (document_entries ds)) (take_all i items passed ∙ are) is
 
 -- where the next document has no room, the whole array has none
-pub whole_too_long : (document value item : List ℕ) (count i : ℕ) (documents : List (List ℕ)) → i < length documents → IsFramed document → IsArrayOf document count (document_entries (take i documents)) → value ≡ item → item ≡ get_or documents i item → maximum_length < length document + length (spell (made_of 0x03 (decimal count) value)) → maximum_length < length (array_of (document_entries documents))
-whole_too_long document value item count i documents within framed is read at long =
+pub array_too_long : (document value item : List ℕ) (count i : ℕ) (documents : List (List ℕ)) → i < length documents → IsFramed document → IsArrayOf document count (document_entries (take i documents)) → value ≡ item → item ≡ get_or documents i item → maximum_length < length document + length (spell (made_of 0x03 (decimal count) value)) → maximum_length < length (array_of (document_entries documents))
+array_too_long document value item count i documents within framed is read at long =
     let element = made_of 0x03 (decimal count) value in
     let next = document_pushed document (enclosed (element_bytes document ++ spell element)) value item count (count + 1) i documents within framed is read at refl refl in
     let all : document_entries (take (i + 1) documents) ++ document_entries (drop (i + 1) documents) ≡ document_entries documents = sym (map-append (λ x. record { kind = 0x03; value = x }) (take (i + 1) documents) (drop (i + 1) documents)) ∙ ap document_entries (take-append-drop (i + 1) documents) in

@@ -61,8 +61,8 @@ pub written_element : (key : List ℕ) (value : RawValue) → IsCstring key → 
 written_element key value name is = let held = written_holds value is in record { shape = held.0; known = held.1; key = name; value = held.2 }
 
 -- a document that an element was appended to has it as its last
-pub one_more : (old new : List ℕ) (element : Element) → IsFramed new → new ≡ enclosed (element_bytes old ++ spell element) → AddsElement old new element
-one_more old new element framed grown elements is e =
+pub one_element_more : (old new : List ℕ) (element : Element) → IsFramed new → new ≡ enclosed (element_bytes old ++ spell element) → AddsElement old new element
+one_element_more old new element framed grown elements is e =
     let body = element_bytes old ++ spell element in
     let short : length body + 5 < 2 ^ 32 = omega (arith, ap length grown, length-append body (0 ∷ []), framed.most) in
     let one : flat_map spell (element ∷ []) ≡ spell element = append-nil (spell element) in
@@ -73,7 +73,7 @@ one_more old new element framed grown elements is e =
     }
 
 pub one_more_on_ok : (r : Result (Unit {0}) BsonFault) (old new : List ℕ) (element : Element) → IsFramed new → OnOk r (new ≡ enclosed (element_bytes old ++ spell element)) → OnOk r (AddsElement old new element)
-one_more_on_ok (Ok done) old new element framed grown = one_more old new element framed grown
+one_more_on_ok (Ok done) old new element framed grown = one_element_more old new element framed grown
 one_more_on_ok (Err fault) old new element framed grown = tt
 
 -- bytes that don't hold a zero have none

@@ -32,8 +32,8 @@ pub found_text : (texts : List (Bor (List ℕ))) (i : ℕ) (text : Bor (List ℕ
 found_text texts i text within tied =
     (i, (let w : i < length (bytes_of_texts texts) = omega (arith, length-map texts (λ t. t.now)) in w), at_place texts i text within ∙ tied_same (get_or texts i text) text (tied text))
 
-pub no_text : (texts : List (Bor (List ℕ))) (i : ℕ) (text : Bor (List ℕ)) → IsSorted text_order texts → IsBinarySearchResult (λ y. text_order y text) texts (let r : Result ℕ ℕ = Err i in r) → Contains (bytes_of_texts texts) text.now → ⊥
-no_text texts i text sorted says (k, within, same) =
+pub text_absent : (texts : List (Bor (List ℕ))) (i : ℕ) (text : Bor (List ℕ)) → IsSorted text_order texts → IsBinarySearchResult (λ y. text_order y text) texts (let r : Result ℕ ℕ = Err i in r) → Contains (bytes_of_texts texts) text.now → ⊥
+text_absent texts i text sorted says (k, within, same) =
     let parts = says (searchable_from_sorted text_order_total (λ x. x) texts text sorted) in
     let inside : k < length texts = omega (arith, within, length-map texts (λ t. t.now)) in
     let tied = same_tied (get_or texts k text) text (sym (at_place texts k text inside) ∙ same) in

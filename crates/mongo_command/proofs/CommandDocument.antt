@@ -41,8 +41,8 @@ whole_too_long document total here more all fault framed split whole long = absu
 pub all_written : (document body : List ℕ) → document ≡ enclosed (element_bytes document) → element_bytes document ++ [] ≡ body → document ≡ enclosed body
 all_written document body sealed whole = sealed ∙ ap enclosed (sym (append-nil (element_bytes document)) ∙ whole)
 
-pub joined : {T : Type 0} (a b x y : List T) → a ≡ x → b ≡ y → a ++ b ≡ x ++ y
-joined a b x y p q = ap (λ l. l ++ b) p ∙ ap (λ l. x ++ l) q
+pub both_joined : {T : Type 0} (a b x y : List T) → a ≡ x → b ≡ y → a ++ b ≡ x ++ y
+both_joined a b x y p q = ap (λ l. l ++ b) p ∙ ap (λ l. x ++ l) q
 
 -- a document that has an element more, and then those of a list
 pub then_carried : (old new : List ℕ) (e : Element) (elements carried : List Element) → IsFramed new → new ≡ enclosed (element_bytes old ++ spell e) → elements ≡ carried → enclosed (element_bytes new ++ flat_map spell elements) ≡ enclosed (element_bytes old ++ flat_map spell (e ∷ carried))

@@ -12,16 +12,16 @@ use Rattle.mongo_command.specs.declared.inner_documents.TopologyVersion.{Topolog
 use Rattle.mongo_command.specs.declared.hello.AwaitableHelloOptions.{AwaitableHelloOptions}
 
 -- how many bytes elements take: a kind byte and a zero each, the key and the value
-abbrev spelled_length : List Element → ℕ
+abbrev pub spelled_length : List Element → ℕ
 spelled_length [] = 0
 spelled_length (e ∷ es) = 2 + length e.key + length e.value + spelled_length es
 
-length-flat_map-spell : (es : List Element) → length (flat_map spell es) ≡ spelled_length es
-length-flat_map-spell [] = refl
-length-flat_map-spell (e ∷ es) = omega (arith, length-append (spell e) (flat_map spell es), length-append e.key (0 ∷ e.value), length-flat_map-spell es)
+pub length-spelled : (es : List Element) → length (flat_map spell es) ≡ spelled_length es
+length-spelled [] = refl
+length-spelled (e ∷ es) = omega (arith, length-append (spell e) (flat_map spell es), length-append e.key (0 ∷ e.value), length-spelled es)
 
-length-document_of : (es : List Element) → length (document_of es) ≡ spelled_length es + 5
-length-document_of es = omega (arith, length-enclosed (flat_map spell es), length-flat_map-spell es)
+pub length-document_of : (es : List Element) → length (document_of es) ≡ spelled_length es + 5
+length-document_of es = omega (arith, length-enclosed (flat_map spell es), length-spelled es)
 
 pub short_version : (version : TopologyVersion) → length version.process_id.0 ≡ 12 → length (document_of (topology_version_elements version)) < 2 ^ 8
 short_version version twelve = omega (arith, twelve, length-document_of (topology_version_elements version))
@@ -40,9 +40,9 @@ short_fault OutOfMemory document long short = refl
 short_fault fault document long short = absurd long
 
 -- where a document is short, only memory can be wanting for it
-pub only_memory : {T : Type 0} (answer : Result T BsonFault) (fields elements : List Element) → fields ≡ elements → length (document_of elements) ≤ maximum_length → IfErr answer (λ fault. TooLongFor fault (document_of fields)) → IfErr answer (λ fault. fault ≡ OutOfMemory)
-only_memory (Ok value) fields elements same short refused = tt
-only_memory (Err fault) fields elements same short refused = short_fault fault (document_of elements) (subst (λ es. TooLongFor fault (document_of es)) same refused) short
+pub hello_only_memory : {T : Type 0} (answer : Result T BsonFault) (fields elements : List Element) → fields ≡ elements → length (document_of elements) ≤ maximum_length → IfErr answer (λ fault. TooLongFor fault (document_of fields)) → IfErr answer (λ fault. fault ≡ OutOfMemory)
+hello_only_memory (Ok value) fields elements same short refused = tt
+hello_only_memory (Err fault) fields elements same short refused = short_fault fault (document_of elements) (subst (λ es. TooLongFor fault (document_of es)) same refused) short
 
 -- and what is made is as short
 pub short_document : (answer : Result (List ℕ) BsonFault) (fields elements : List Element) → fields ≡ elements → length (document_of elements) < 2 ^ 8 → IfOk answer (λ document. document ≡ document_of fields) → IfOk answer (λ document. length document < 2 ^ 8)

@@ -13,7 +13,7 @@ use Rattle.mongo_wire.specs.declared.write_error.WriteFailure.{WriteFailure}
 use Rattle.mongo_wire.specs.declared.write_error.InsertManyError.{InsertManyError}
 use Rattle.mongo_command.specs.WriteReply.{EachReads, ReadsUnsigned32, IsWriteErrorTable, ReadsWriteError, HoldsWriteErrors, ReadsWriteErrors, IsConcernErrorTable, ReadsConcernError, IsWriteReplyTable, IsWriteReply, write_failure, insert_failure, SaysOfWrite, SingleWriteRefused, InsertManyRefused, IsKindFor, Validates}
 use Rattle.mongo_command.proofs.OneField.{ReadsOne, optional_one, required_one, or_empty_one, optional_or_empty_one, text_one, texts_one, int32_one, minutes_one, document_one}
-use Rattle.mongo_command.proofs.OneReply.{◌·◌, one_held}
+use Rattle.mongo_command.proofs.OneReply.{◌·◌, one_held_table}
 
 -- ---- one value of each kind
 
@@ -35,7 +35,7 @@ one_write_error elements a b p q =
     · optional_one _ document_one _ _ _ p.details q.details
 
 write_error_one : ReadsOne ReadsWriteError
-write_error_one = record { one = λ e a b p q. one_held IsWriteErrorTable one_write_error e.value a b p.1 q.1 }
+write_error_one = record { one = λ e a b p q. one_held_table IsWriteErrorTable one_write_error e.value a b p.1 q.1 }
 
 one_each : {A : Type 0} (Reads : Element → A → Type 0) → ReadsOne Reads → (es : List Element) (xs ys : List A) → EachReads Reads es xs → EachReads Reads es ys → xs ≡ ys
 one_each Reads only [] [] [] p q = refl
@@ -67,7 +67,7 @@ one_concern_error elements a b p q =
     · or_empty_one _ texts_one _ _ _ p.labels q.labels
 
 concern_error_one : ReadsOne ReadsConcernError
-concern_error_one = record { one = λ e a b p q. one_held IsConcernErrorTable one_concern_error e.value a b p.1 q.1 }
+concern_error_one = record { one = λ e a b p q. one_held_table IsConcernErrorTable one_concern_error e.value a b p.1 q.1 }
 
 -- ---- one reply
 
@@ -85,7 +85,7 @@ one_reply elements a b p q =
 
 one_said : {F : Type 0} (failure_of : InsertManyError → Option F) (document : List ℕ) (a b : Option F) → SaysOfWrite failure_of document a → SaysOfWrite failure_of document b → a ≡ b
 one_said failure_of document a b p q =
-    sym p.2 ∙ ap failure_of (one_held IsWriteReplyTable one_reply document p.0 q.0 p.1 q.1) ∙ q.2
+    sym p.2 ∙ ap failure_of (one_held_table IsWriteReplyTable one_reply document p.0 q.0 p.1 q.1) ∙ q.2
 
 -- ---- one answer
 

@@ -12,7 +12,7 @@ use Rattle.mongo_command.specs.declared.field.FieldFault.TheVariants.{Unreadable
 use Rattle.mongo_command.specs.Fields.{Answers, IsNotWellFormed}
 use Rattle.mongo_command.specs.Field.{HoldsTable}
 use Rattle.mongo_command.specs.WriteReply.{EachReads, ReadsWriteError, HoldsWriteErrors}
-use Rattle.mongo_command.proofs.Elements.{PassesElements, passes_none, passes_more, passes_all, no_element, document_begins_with}
+use Rattle.mongo_command.proofs.Elements.{PassesElements, passes_no_element, passes_more, passes_each_element, no_element, document_begins_with}
 use Rattle.mongo_command.proofs.FieldAnswers.{AnswersOfValue, part_fault}
 
 -- ---- a table
@@ -35,7 +35,7 @@ pub record ReadsEachSoFar {A : Type 0} (Reads : Element → A → Type 0) (bytes
   pub each : EachReads Reads elements values
 
 pub none_each : {A : Type 0} (Reads : Element → A → Type 0) (bytes rest : List ℕ) → rest ≡ bytes → ReadsEachSoFar Reads bytes rest []
-none_each Reads bytes rest same = record { elements = []; passes = passes_none bytes rest same; each = tt }
+none_each Reads bytes rest same = record { elements = []; passes = passes_no_element bytes rest same; each = tt }
 
 each_more : {A : Type 0} (Reads : Element → A → Type 0) (es : List Element) (values : List A) (e : Element) (value : A) → EachReads Reads es values → Reads e value → EachReads Reads (es ++ e ∷ []) (values ++ value ∷ [])
 each_more Reads [] [] e value each reads = (reads, tt)
@@ -61,7 +61,7 @@ value_at Reads (x ∷ xs) more e (v ∷ vs) each = value_at Reads xs more e vs e
 
 pub all_errors : (document rest : List ℕ) (errors : List IndexedWriteError) → IsFramed document → ReadsEachSoFar ReadsWriteError (element_bytes document) rest errors → rest ≡ [] → HoldsWriteErrors document errors
 all_errors document rest errors framed so_far over =
-    record { items = so_far.elements; filled = passes_all document rest so_far.elements framed so_far.passes over; each = so_far.each }
+    record { items = so_far.elements; filled = passes_each_element document rest so_far.elements framed so_far.passes over; each = so_far.each }
 
 -- none fill a document of which an element can't be read
 pub errors_broken_off : (document rest : List ℕ) (read : List IndexedWriteError) → ReadsEachSoFar ReadsWriteError (element_bytes document) rest read → IsBroken rest → (errors : List IndexedWriteError) → HoldsWriteErrors document errors → ⊥

@@ -110,7 +110,7 @@ gave_end old mid new held next front last end is unbroken short =
 -- ---- what was taken
 
 -- what is held is what the source gave so far, and no line feed
-pub record LineSoFar (old new : State) (held : List ℕ) : Type 0 where
+pub record HeldSoFar (old new : State) (held : List ℕ) : Type 0 where
   pub within : length held ≤ maximum_settings_length + 1
   pub unbroken : IsUnbroken held
   pub front : Consumes old.left new.left held
@@ -125,10 +125,10 @@ pub takes_stopped : (old new : Option (List ℕ)) → TakesNoLineFeed old new �
 takes_stopped old new s = record { taken = s.taken; one_line = let e = s.unended in omega arith; short = s.short; consumed = s.consumed }
 
 -- so far there was no line feed
-pub stops_held : (old new : State) (held : List ℕ) → LineSoFar old new held → TakesNoLineFeed old.left new.left
+pub stops_held : (old new : State) (held : List ℕ) → HeldSoFar old new held → TakesNoLineFeed old.left new.left
 stops_held old new held so_far = stops old.left new.left held so_far.unbroken so_far.within so_far.front
 
-module _ (old mid new : State) (held : List ℕ) (so_far : LineSoFar old mid held) where
+module _ (old mid new : State) (held : List ℕ) (so_far : HeldSoFar old mid held) where
   -- nothing else was taken
   pub stops_kept : Keeps mid.left new.left → TakesNoLineFeed old.left new.left
   stops_kept kept = stops old.left new.left held so_far.unbroken so_far.within (Consumes-kept old.left mid.left new.left held so_far.front kept)
@@ -146,7 +146,7 @@ module _ (old mid new : State) (held : List ℕ) (so_far : LineSoFar old mid hel
       }
 
   -- it is no line feed
-  pub one_more : (next : Option ℕ) (byte : ℕ) → next ≡ Some byte → (byte ≡ 10 → ⊥) → length held ≤ maximum_settings_length → Consumes mid.left new.left (option_to_list next) → new.read_faults ≡ mid.read_faults → ReadsOn mid new → LineSoFar old new (held ++ byte ∷ [])
+  pub one_more : (next : Option ℕ) (byte : ℕ) → next ≡ Some byte → (byte ≡ 10 → ⊥) → length held ≤ maximum_settings_length → Consumes mid.left new.left (option_to_list next) → new.read_faults ≡ mid.read_faults → ReadsOn mid new → HeldSoFar old new (held ++ byte ∷ [])
   one_more next byte is other short taken unfailed on = record {
     within = omega (arith, short, length-append held (byte ∷ []));
     unbroken = unbroken_push held byte so_far.unbroken (no_line_feed byte other);
@@ -157,6 +157,6 @@ module _ (old mid new : State) (held : List ℕ) (so_far : LineSoFar old mid hel
 
   -- and was pushed
   pub one_pushed : (next : Option ℕ) (byte : ℕ) (pushed : Bool) (longer : List ℕ) → next ≡ Some byte → (byte ≡ 10 → ⊥) → longer ≡ (if pushed then held ++ byte ∷ [] else held) → pushed ≡ true → length held ≤ maximum_settings_length
-      → Consumes mid.left new.left (option_to_list next) → new.read_faults ≡ mid.read_faults → ReadsOn mid new → LineSoFar old new longer
+      → Consumes mid.left new.left (option_to_list next) → new.read_faults ≡ mid.read_faults → ReadsOn mid new → HeldSoFar old new longer
   one_pushed next byte false longer is other grown ok short taken unfailed on = absurd cc
-  one_pushed next byte true longer is other grown ok short taken unfailed on = subst (LineSoFar old new) (sym grown) (one_more next byte is other short taken unfailed on)
+  one_pushed next byte true longer is other grown ok short taken unfailed on = subst (HeldSoFar old new) (sym grown) (one_more next byte is other short taken unfailed on)

@@ -10,7 +10,7 @@ use Rattle.mongo_establish.specs.Asked.{Asked}
 use Rattle.mongo_establish.specs.Costs.{EstablishmentCosts}
 use Rattle.mongo_establish.specs.Derivation.{LeadsToKey}
 use Rattle.mongo_establish.specs.KeyCosts.{TakesKey, AcceptedTakes, RefusedTakes, TakesAsLed}
-use Rattle.mongo_establish.proofs.DerivationPlan.{one_key}
+use Rattle.mongo_establish.proofs.DerivationPlan.{one_led_key}
 use Rattle.mongo_establish.proofs.DerivationSteps.{KeyTaken, KeySpent}
 use Rattle.mongo_establish.proofs.KeyTaken.{handshake_taken, handshake_spent}
 
@@ -74,8 +74,8 @@ rounds_rise first last some =
 -- ---- the keys that have an entry
 
 -- those that had one, and nothing else
-pub same_keys : (first last : Ledgers) → SameEntries first last → (other : SaltedKey) → HasEntry last.cache other ↔ HasEntry first.cache other
-same_keys first last same other =
+pub same_entry_keys : (first last : Ledgers) → SameEntries first last → (other : SaltedKey) → HasEntry last.cache other ↔ HasEntry first.cache other
+same_entry_keys first last same other =
     (λ has. (has.0, subst (λ entries. Contains entries (other, has.0)) same has.1), λ had. (had.0, subst (λ entries. Contains entries (other, had.0)) (sym same) had.1))
 
 key_of_entry : (key other : SaltedKey) (tag another : List ℕ) → ◌≡◌ {A = SaltedKey × List ℕ} (key, tag) (other, another) → key ≡ other
@@ -86,7 +86,7 @@ pub taken_keys : (key : SaltedKey) (first last : Ledgers) → TakesKey key first
 taken_keys key first last takes other =
     elim takes.others [
       | inl same ↦
-          let keys = same_keys first last same other in
+          let keys = same_entry_keys first last same other in
           (λ has. inl (keys.0 has), λ has. elim has [ inl had ↦ keys.1 had | inr is ↦ subst (HasEntry last.cache) is takes.entry ])
       | inr adds ↦ (
         λ has. elim ((adds (other, has.0)).0 has.1) [ inl there ↦ inl (has.0, there) | inr is ↦ inr (key_of_entry key other _ has.0 is) ],
@@ -98,4 +98,4 @@ taken_keys key first last takes other =
 
 -- a key that the bytes lead to is the one that was taken
 pub taken_as_led : (asked : Asked) (bytes : List ℕ) (takes : Option SaltedKey → Type 0) (key : Option SaltedKey) → TakesAsLed asked bytes takes → LeadsToKey asked bytes key → takes key
-taken_as_led asked bytes takes key t led = subst takes (one_key asked bytes t.key key t.leads led) t.taken
+taken_as_led asked bytes takes key t led = subst takes (one_led_key asked bytes t.key key t.leads led) t.taken

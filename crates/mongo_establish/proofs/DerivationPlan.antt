@@ -44,7 +44,7 @@ unfolding derivation_plan login_derivation
 one_derivation asked = one_followed (hello_plan asked) (login_derivation asked) (one_hello asked) (λ greeting. one_derivation_of (logging_in asked greeting) asked greeting)
 
 -- reply bytes lead to one key
-pub one_key : (asked : Asked) (bytes : List ℕ) (key other : Option SaltedKey) → LeadsToKey asked bytes key → LeadsToKey asked bytes other → key ≡ other
-one_key asked bytes key other p q =
+pub one_led_key : (asked : Asked) (bytes : List ℕ) (key other : Option SaltedKey) → LeadsToKey asked bytes key → LeadsToKey asked bytes other → key ≡ other
+one_led_key asked bytes key other p q =
     let same = one_way (derivation_plan asked) bytes p.outcome q.outcome p.commands q.commands p.taken p.unread q.taken q.unread (one_derivation asked) p.leads q.leads in
     p.key_is ∙ ap key_in same.outcome_same ∙ sym q.key_is

@@ -7,7 +7,7 @@ use Rattle.mongo_command.proofs.Ends.{PlanEnds}
 use Rattle.mongo_command.proofs.FollowedBy.{reached_both}
 use Rattle.mongo_command.proofs.Leads.{told_taken}
 use Rattle.mongo_command.proofs.OneSaid.{framed_sendable}
-use Rattle.mongo_sasl.proofs.LoginEvents.{replies_in, documents_in, within_sent, sent_within, within_heard, heard_within, within_given, said_sendable}
+use Rattle.mongo_sasl.proofs.LoginEvents.{replies_in, documents_in, within_sent, events_sent_within, within_heard, heard_within, within_given, said_sendable}
 use Rattle.mongo_establish.specs.Asked.{Asked}
 use Rattle.mongo_establish.specs.Client.{hello_document}
 use Rattle.mongo_establish.specs.Established.{Scripted}
@@ -113,7 +113,7 @@ script_leads asked bytes h =
     let e = script_ends asked script s in
     let sent : IsSent (hello_document asked ∷ documents_in e.more) asked.first_id (greeted_maximum greeting) h.sent = subst (λ x. IsSent x asked.first_id (greeted_maximum greeting) h.sent) (s.commands_are ∙ ap (λ x. hello_document asked ∷ x) e.commands_are) h.is_written in
     let taken : IsWhole (s.first_reply ∷ replies_in e.more) (greeted_maximum greeting) h.taken = subst (λ x. IsWhole x (greeted_maximum greeting) h.taken) (s.replies_are ∙ ap (λ x. s.first_reply ∷ x) e.replies_are) h.is_taken in
-    let later_said = sent_within (greeted_maximum greeting) e.more (next_id asked.first_id) sent.1 e.within sent.5 in
+    let later_said = events_sent_within (greeted_maximum greeting) e.more (next_id asked.first_id) sent.1 e.within sent.5 in
     let later_heard = heard_within (greeted_maximum greeting) e.more taken.1 e.within taken.7 in
     let sendable = framed_sendable (hello_said asked) sent.0 asked.first_id sent.3 sent.4 in
     let heard_first : IsHeard (exchanged (hello_said asked) s.first_reply ∷ []) taken.0 = (taken.0, [], taken.2, sym (append-nil taken.0), taken.4, taken.5, taken.6, refl) in

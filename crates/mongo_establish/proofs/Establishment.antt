@@ -68,10 +68,10 @@ stopped_whole (PostHello generation) asked kind old new after r =
 -- ---- what an answer says, where the link doesn't fail
 
 -- over bytes left that begin with a script's replies, only memory is wanted
-pub only_memory : {T E : Type 0} (answer : Result T E) (kind_of : E → ErrorKind) (asked : Asked) (old new : State) (after : ℤ) → IfErr answer (λ e. Stopped (establishment_plan asked) (kind_of e) old new asked.first_id after)
+pub establishment_only_memory : {T E : Type 0} (answer : Result T E) (kind_of : E → ErrorKind) (asked : Asked) (old new : State) (after : ℤ) → IfErr answer (λ e. Stopped (establishment_plan asked) (kind_of e) old new asked.first_id after)
     → (bytes : List ℕ) → old.left ≡ Some bytes → HasScript asked bytes → (Rose old.read_faults new.read_faults → ⊥) → (Rose old.write_faults new.write_faults → ⊥) → IfErr answer (λ e. kind_of e ≡ OutOfMemory)
-only_memory (Ok x) kind_of asked old new after stops bytes is script unfailed unwritten = tt
-only_memory (Err e) kind_of asked old new after stops bytes is script unfailed unwritten =
+establishment_only_memory (Ok x) kind_of asked old new after stops bytes is script unfailed unwritten = tt
+establishment_only_memory (Err e) kind_of asked old new after stops bytes is script unfailed unwritten =
     let l = script_leads asked bytes script in
     elim (only_refusal (establishment_plan asked) (kind_of e) (ends script.script.greeting) old new asked.first_id after bytes l.commands script.taken script.rest (one_establishment asked) stops is l.whole unfailed unwritten) [
       | inl memory ↦ memory

@@ -59,10 +59,10 @@ pub first_made : (r : Result (Option ClientFirst) Error) (mechanism : AuthMechan
 first_made (Ok first) mechanism found credential other is made = λ kind row. made kind (subst (λ o. ConversationRow o credential kind) (sym is) (row_in mechanism credential kind other row))
 first_made (Err e) mechanism found credential other is made = tt
 
-pub first_refused : (r : Result (Option ClientFirst) Error) (mechanism : AuthMechanism) (found : Option Conversation) (credential : Credential) (nonce : List ℕ) → (mechanism ≡ MongoDbCr → ⊥) → found ≡ conversation_of mechanism
+pub first_round_refused : (r : Result (Option ClientFirst) Error) (mechanism : AuthMechanism) (found : Option Conversation) (credential : Credential) (nonce : List ℕ) → (mechanism ≡ MongoDbCr → ⊥) → found ≡ conversation_of mechanism
     → IfErr r (λ e. or_else (ConversationRow found credential) (IsUnmade (speculation_in found credential nonce)) e.kind) → IfErr r (λ e. or_else (MechanismRow mechanism credential) (IsUnmade (speculation_by mechanism credential nonce)) e.kind)
-first_refused (Ok first) mechanism found credential nonce other is refused = tt
-first_refused (Err e) mechanism found credential nonce other is refused =
+first_round_refused (Ok first) mechanism found credential nonce other is refused = tt
+first_round_refused (Err e) mechanism found credential nonce other is refused =
     elim (subst (λ o. or_else (ConversationRow o credential) (IsUnmade (speculation_in o credential nonce)) e.kind) is refused) [
       | inl row ↦ inl (row_by mechanism credential e.kind other row)
       | inr none ↦ inr ((λ kind row. none.0 kind (row_in mechanism credential kind other row)), none.1)

@@ -80,8 +80,8 @@ client_refused (Err e) metadata body count is h =
     let client = client_of metadata (length body) in
     document_refused e.kind client (introducing metadata body) (holds_document metadata_key client body) (subst (λ n. DocumentRefused e.kind (client_of metadata n)) is h)
 
-pub first_refused : {T : Type 0} (r : Result T Error) (key document body : List ℕ) → IfErr r (λ e. DocumentRefused e.kind document) → IfErr r (λ e. DocumentRefused e.kind (with_document key document body))
-first_refused r key document body h = longer_refused r document (with_document key document body) (holds_document key document body) h
+pub first_document_refused : {T : Type 0} (r : Result T Error) (key document body : List ℕ) → IfErr r (λ e. DocumentRefused e.kind document) → IfErr r (λ e. DocumentRefused e.kind (with_document key document body))
+first_document_refused r key document body h = longer_refused r document (with_document key document body) (holds_document key document body) h
 
 -- a hello is no shorter than its parts
 pub asking_refused : {T : Type 0} (r : Result T Error) (options : HandshakerOptions) (credential : Option Credential) (login : Option (List ℕ)) (body : List ℕ) → body ≡ (common_hello options).body → IfErr r (λ e. DocumentRefused e.kind (asking_mechanisms credential body)) → IfErr r (λ e. DocumentRefused e.kind (hello_with options credential login).body)

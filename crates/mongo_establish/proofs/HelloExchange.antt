@@ -29,7 +29,7 @@ use Rattle.mongo_establish.specs.Greeting.{Greeting, Greets, greeting_in}
 use Rattle.mongo_establish.specs.Plan.{hello_said_with, after_hello, hello_exchange}
 use Rattle.mongo_establish.specs.Reply.{IsDescribedBy}
 use Rattle.mongo_establish.proofs.HelloBody.{least_body}
-use Rattle.mongo_establish.proofs.HelloPlan.{no_row}
+use Rattle.mongo_establish.proofs.HelloPlan.{no_row_of_reply}
 
 -- ---- the reply
 
@@ -52,7 +52,7 @@ describes address reply new after reads taken =
     let response = reply.command_response in
     let greeting : Greeting = greeting_in address reply in
     let greets : Greets address document greeting = (refl, record { response = response; time = reply.cluster_time; reads = reads; taken = taken; description_is = refl; speculative_is = refl; connection_id_is = refl }) in
-    reached_unless _ _ greeting new new after after (λ kind. no_row document kind response reply.cluster_time reads taken) (reached_reading _ _ greeting greeting new new after after greets (reached_ending greeting new after))
+    reached_unless _ _ greeting new new after after (λ kind. no_row_of_reply document kind response reply.cluster_time reads taken) (reached_reading _ _ greeting greeting new new after after greets (reached_ending greeting new after))
 
 -- before a description the first maximum holds
 maximum_before : (description : Option StreamDescription) → description ≡ None → frame_maximum description ≡ first_maximum

@@ -26,9 +26,9 @@ use Rattle.mongo_establish.specs.Spoken.{conversation_of}
 -- ---- the reply
 
 -- a hello reply's document calls for no refusal
-pub no_row : (document : List ℕ) (kind : ErrorKind) (response : HelloCommandResponse) (time : Option (List ℕ)) → IsHelloResponse document response time → AreMet (description_demands response) → DocumentRow document kind → ⊥
-no_row document kind response time reads taken (inl row) = row.0 response time reads
-no_row document kind response time reads taken (inr (hello, said)) =
+pub no_row_of_reply : (document : List ℕ) (kind : ErrorKind) (response : HelloCommandResponse) (time : Option (List ℕ)) → IsHelloResponse document response time → AreMet (description_demands response) → DocumentRow document kind → ⊥
+no_row_of_reply document kind response time reads taken (inl row) = row.0 response time reads
+no_row_of_reply document kind response time reads taken (inr (hello, said)) =
     let met : AreMet (description_demands said.response) = subst (λ r. AreMet (description_demands r)) (one_hello_response document response said.response time said.time reads said.reads).0 taken in
     no_of InvalidResponse _ (none_unmet (description_demands said.response) met) kind said.row
 
@@ -103,5 +103,5 @@ pub greeting_ends : (asked : Asked) (reply : List ℕ) (greeting : Greeting) →
 unfolding hello_plan
 greeting_ends asked reply greeting made sendable greets = record {
   follows = (inr (made, refl), sendable, tt);
-  answer_is = inr (made, inr (λ kind. no_row reply kind greets.1.response greets.1.time greets.1.reads greets.1.taken, (greeting, greets, refl)));
+  answer_is = inr (made, inr (λ kind. no_row_of_reply reply kind greets.1.response greets.1.time greets.1.reads greets.1.taken, (greeting, greets, refl)));
 }

@@ -26,7 +26,7 @@ use Rattle.mongo_establish.specs.Login.{holds_users, logging_in, speculative_rep
 use Rattle.mongo_establish.specs.Plan.{conversation_plan, validated, mechanism_plan, login_by, login_plan}
 use Rattle.mongo_establish.specs.Speculation.{mechanism_before, MechanismRow, SpeaksFor, HelloRow}
 use Rattle.mongo_establish.specs.Spoken.{conversation_of, HasConversation, scram_in, IsScram, IsSpoken}
-use Rattle.mongo_establish.proofs.Validated.{taken_no_row}
+use Rattle.mongo_establish.proofs.Validated.{credential_no_row}
 
 -- ---- who logs in
 
@@ -142,7 +142,7 @@ module _ (asked : Asked) (greeting : Greeting) (credential : Credential) (round 
 
   module _ (taken : IsCredentialTaken (is_some round) mechanism credential) where
     no_row : HasNone (InvalidRow (speculative_reply asked greeting) mechanism credential)
-    no_row = taken_no_row (speculative_reply asked greeting) mechanism credential (takes_it (speculative_reply asked greeting) (is_some round) mechanism credential went.there taken)
+    no_row = credential_no_row (speculative_reply asked greeting) mechanism credential (takes_it (speculative_reply asked greeting) (is_some round) mechanism credential went.there taken)
 
     pub conversed_reached : (old new : Balance) → Conversed conversation asked credential greeting old new → Reached (login_plan asked greeting) greeting old.state new.state old.id new.id
     conversed_reached old new h = login_reached old.state new.state old.id new.id (validated_reached mechanism conversation asked credential greeting old.state new.state old.id new.id has no_row h.reached)

@@ -15,7 +15,7 @@ use Rattle.mongo_establish.specs.Script.{IsLoginBy, IsLoginOf, IsLogin}
 use Rattle.mongo_establish.specs.Spoken.{HasConversation}
 use Rattle.mongo_establish.proofs.Conversations.{greeted_maximum, joins}
 use Rattle.mongo_establish.proofs.LoginPlan.{one_mechanism, one_conversation}
-use Rattle.mongo_establish.proofs.Validated.{taken_no_row, no_row_taken}
+use Rattle.mongo_establish.proofs.Validated.{credential_no_row, no_row_taken}
 
 -- ---- parts of a plan
 
@@ -59,7 +59,7 @@ mechanism_ends : (mechanism : AuthMechanism) (asked : Asked) (credential : Crede
 unfolding mechanism_plan
 mechanism_ends mechanism asked credential greeting commands replies is =
     reading_end (HasConversation mechanism) (validated mechanism asked credential greeting) is.conversation greeting commands replies is.has_conversation
-    (unless_end _ _ greeting commands replies (taken_no_row (speculative_reply asked greeting) mechanism credential is.taken) ((joins is.conversation asked credential greeting).ends commands replies is.holds))
+    (unless_end _ _ greeting commands replies (credential_no_row (speculative_reply asked greeting) mechanism credential is.taken) ((joins is.conversation asked credential greeting).ends commands replies is.holds))
 
 -- ---- a login
 

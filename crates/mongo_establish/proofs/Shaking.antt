@@ -48,8 +48,8 @@ handed (Ok y) x P same h = tt
 handed (Err e) x P same h = subst P (sym same) h
 
 -- and so does what a call promises of it
-pub handed_on : {T U : Type 0} (out : Result U Error) (inner : Result T Error) (x : Error) (P : Error → Type 0) → IsErrAnd out (λ e. e ≡ x) → inner ≡ Err x → IfErr inner P → IfErr out P
-handed_on out inner x P same was h = handed out x P same (if_err_of inner x P was h)
+pub refusal_handed_on : {T U : Type 0} (out : Result U Error) (inner : Result T Error) (x : Error) (P : Error → Type 0) → IsErrAnd out (λ e. e ≡ x) → inner ≡ Err x → IfErr inner P → IfErr out P
+refusal_handed_on out inner x P same was h = handed out x P same (if_err_of inner x P was h)
 
 -- what a refusal costs
 costs_of_err : {T : Type 0} (r : Result T Error) (e : Error) (asked : Asked) (old new : Balance) → IsErrAnd r (λ x. x ≡ e) → StoppedHandshakeCosts asked e.kind old new → CostsOf r asked old new

@@ -32,10 +32,10 @@ one_invalid_row None mechanism credential kind other p q = absurd p
 one_invalid_row (Some reply) mechanism credential kind other p q = absurd p
 
 -- a credential that is taken has no row
-pub taken_no_row : (reply : Option (List ℕ)) (mechanism : AuthMechanism) (credential : Credential) → TakesCredential reply mechanism credential → HasNone (InvalidRow reply mechanism credential)
-taken_no_row None mechanism credential taken (InvalidArgument fault) row = not_both fault (one_answer mechanism credential false (Err fault) (Ok tt) row taken)
-taken_no_row None mechanism credential taken kind row = row
-taken_no_row (Some reply) mechanism credential taken kind row = row
+pub credential_no_row : (reply : Option (List ℕ)) (mechanism : AuthMechanism) (credential : Credential) → TakesCredential reply mechanism credential → HasNone (InvalidRow reply mechanism credential)
+credential_no_row None mechanism credential taken (InvalidArgument fault) row = not_both fault (one_answer mechanism credential false (Err fault) (Ok tt) row taken)
+credential_no_row None mechanism credential taken kind row = row
+credential_no_row (Some reply) mechanism credential taken kind row = row
 
 -- no conversation is by a mechanism whose rules are on the credential's properties
 reads_no_properties : (mechanism : AuthMechanism) (conversation : Conversation) → HasConversation mechanism conversation → ReadsNoProperties mechanism
@@ -70,4 +70,4 @@ user_taken None mechanism version credential user has is = user_validated mechan
 user_taken (Some reply) mechanism version credential user has is = tt
 
 pub user_no_row : (reply : Option (List ℕ)) (mechanism : AuthMechanism) (version : ScramVersion) (credential : Credential) (user : User) → HasConversation mechanism (Scram version) → IsUser credential user → HasNone (InvalidRow reply mechanism credential)
-user_no_row reply mechanism version credential user has is = taken_no_row reply mechanism credential (user_taken reply mechanism version credential user has is)
+user_no_row reply mechanism version credential user has is = credential_no_row reply mechanism credential (user_taken reply mechanism version credential user has is)

@@ -12,14 +12,15 @@ use Rattle.mongo_bson.specs.Framed.{IsFramed, maximum_length}
 use Rattle.mongo_bson.specs.declared.raw_value.RawValue.TheVariants.{Str, Binary, Bool as Boolean, Int32}
 use Rattle.mongo_bson.proofs.Enclosed.{length-enclosed, element_bytes-enclosed, framed-enclosed}
 use Rattle.mongo_bson.proofs.ReadBack.{written_element}
+use Rattle.mongo_command.proofs.HelloShort.{spelled_length, length-spelled}
 use Rattle.mongo_command.specs.Literal.{text_element, document_element, boolean_element, int32_element, document_of, generic_element}
 
 -- ---- keys
 
 -- no byte is zero
-abbrev pub plain : List ℕ → Bool
-plain [] = true
-plain (b ∷ bs) = not (b == 0) && plain bs
+abbrev pub plain_bytes : List ℕ → Bool
+plain_bytes [] = true
+plain_bytes (b ∷ bs) = not (b == 0) && plain_bytes bs
 
 both_true : (a b : Bool) → (a && b) ≡ true → (a ≡ true) × (b ≡ true)
 both_true true b is = (refl, is)
@@ -29,9 +30,9 @@ not_true : (a : Bool) → not a ≡ true → false ≡ a
 not_true false is = refl
 not_true true is = absurd (false≢true is)
 
-without_zero : (bytes : List ℕ) → plain bytes ≡ true → AllByRecursion (λ b. b ≢ 0) bytes
+without_zero : (bytes : List ℕ) → plain_bytes bytes ≡ true → AllByRecursion (λ b. b ≢ 0) bytes
 without_zero [] is = tt
-without_zero (b ∷ bs) is = let parts = both_true (not (b == 0)) (plain bs) is in (false-eqb b 0 (not_true (b == 0) parts.0), without_zero bs parts.1)
+without_zero (b ∷ bs) is = let parts = both_true (not (b == 0)) (plain_bytes bs) is in (false-eqb b 0 (not_true (b == 0) parts.0), without_zero bs parts.1)
 
 -- each byte is ASCII
 abbrev pub low : List ℕ → Bool
@@ -46,7 +47,7 @@ ascii (b ∷ bs) is (suc i) = ascii bs (both_true (nat_lt b 128) (low bs) is).1 
 pub ascii_text : (bytes : List ℕ) → low bytes ≡ true → IsUtf8 bytes
 ascii_text bytes is = IsUtf8-from_ascii bytes (ascii bytes is)
 
-pub cstring : (key : List ℕ) → low key ≡ true → plain key ≡ true → IsCstring key
+pub cstring : (key : List ℕ) → low key ≡ true → plain_bytes key ≡ true → IsCstring key
 cstring key is also = record { utf8 = ascii_text key is; without_zero = without_zero key also }
 
 -- two keys that a test tells apart
@@ -71,18 +72,6 @@ pub document_is_element : (key inner : List ℕ) → IsCstring key → IsFramed 
 document_is_element key inner name framed = record { shape = document; known = refl; key = name; value = framed }
 
 -- ---- documents
-
--- how many bytes elements take: a kind byte and a zero each, the key and the value
-abbrev pub spelled_length : List Element → ℕ
-spelled_length [] = 0
-spelled_length (e ∷ es) = 2 + length e.key + length e.value + spelled_length es
-
-pub length-spelled : (es : List Element) → length (flat_map spell es) ≡ spelled_length es
-length-spelled [] = refl
-length-spelled (e ∷ es) = omega (arith, length-append (spell e) (flat_map spell es), length-append e.key (0 ∷ e.value), length-spelled es)
-
-pub length-document_of : (es : List Element) → length (document_of es) ≡ spelled_length es + 5
-length-document_of es = omega (arith, length-enclosed (flat_map spell es), length-spelled es)
 
 pub document_of-is : (es : List Element) → AllByRecursion IsElement es → spelled_length es + 5 ≤ maximum_length → IsDocument (document_of es) es
 document_of-is es each short = record {

@@ -3,6 +3,7 @@
 use Rattle.std.proofs.Common.{◌≡◌, ℕ, ℤ, pos, ◌^◌, ◌<◌, ◌≤ℤ◌, Option, None, Some, option_map, inr, false, FitsSigned, List, [], ◌∷◌, ◌++◌, length, decimal, append-nil, refl, sym, ap, ◌∙◌, subst, arith}
 use Rattle.std.specs.Int.{w32}
 use Rattle.std.proofs.lemmas.Int.{ints}
+use Rattle.mongo_command.proofs.HelloShort.{length-document_of}
 use Rattle.mongo_wire.specs.Bytes.{first_maximum, next_id, IsCommandFrame}
 use Rattle.mongo_wire.specs.Message.{written_frame}
 use Rattle.mongo_wire.specs.declared.error.ErrorKind.{ErrorKind}
@@ -52,9 +53,8 @@ use Rattle.mongo_generate.specs.Options.{handshaker_options}
 use Rattle.mongo_generate.specs.Replies.{speculative_elements, standalone_elements, final_elements, hello_reply, final_reply}
 use Rattle.mongo_command.specs.Literal.{document_of}
 use Rattle.mongo_generate.specs.Written.{CarriesPayloadLast}
-use Rattle.mongo_generate.proofs.Documents.{length-document_of}
 use Rattle.mongo_generate.proofs.ServerReplies.{conversation, standalone, speculative_says, hello_says, final_says}
-use Rattle.mongo_generate.proofs.Sizes.{asked_by_exchange, speculation_is, length_hello, framed_hello, close_document, length_close_document, close_carries, framed_close, frame_of, frame_within, body_within}
+use Rattle.mongo_generate.proofs.Sizes.{asked_by_exchange, speculation_is, length_hello, framed_hello, close_document, length_close_document, close_carries, framed_close, command_frame_of, frame_within, body_within}
 use Rattle.mongo_generate.proofs.Texts.{length_close}
 
 -- ---- by the version
@@ -196,7 +196,7 @@ module _ (pending : PendingConnection) (x : Exchange) (nonces : Nonces) (bytes :
   unfolding first_frame
   first_is_frame =
       let fits : FitsSigned w32 (pos 0) = omega arith in
-      frame_of (pos 0) (hello_document asked) fits (framed_hello pending x nonces possible nonce_is) (omega (arith, length_hello pending x nonces possible nonce_is))
+      command_frame_of (pos 0) (hello_document asked) fits (framed_hello pending x nonces possible nonce_is) (omega (arith, length_hello pending x nonces possible nonce_is))
 
   first_within : pos (length first_frame) ≤ℤ first_maximum
   unfolding first_frame
@@ -206,7 +206,7 @@ module _ (pending : PendingConnection) (x : Exchange) (nonces : Nonces) (bytes :
   unfolding last_frame
   last_is_frame =
       let fits : FitsSigned w32 (next_id (pos 0)) = omega arith in
-      frame_of (next_id (pos 0)) (close_document (close_of x)) fits (framed_close (close_of x) (omega (arith, short_close))) (omega (arith, short_close, length_close_document (close_of x) (omega (arith, short_close))))
+      command_frame_of (next_id (pos 0)) (close_document (close_of x)) fits (framed_close (close_of x) (omega (arith, short_close))) (omega (arith, short_close, length_close_document (close_of x) (omega (arith, short_close))))
 
   last_within : (limit : ℤ) → pos (2 ^ 23) ≤ℤ limit → pos (length last_frame) ≤ℤ limit
   unfolding last_frame

@@ -40,10 +40,10 @@ usable : (version : ScramVersion) (d : ℕ) → d < 10 → (kind : ErrorKind) �
 usable version d few kind row = none_applies version d few kind (subst (λ digits. PasswordRow version (112 ∷ digits) kind) (decimal_digit d few) row)
 
 -- a user of its password is refused for want of memory alone
-pub only_memory : (k : ℕ) (version : ScramVersion) (password : List ℕ) (kind : ErrorKind) → version ≡ version_at k → password ≡ codes "p" ++ decimal (k % 3) → PasswordRow version password kind ⊎ (kind ≡ OutOfMemory) → kind ≡ OutOfMemory
-only_memory k version password kind v p (inl row) =
+pub password_only_memory : (k : ℕ) (version : ScramVersion) (password : List ℕ) (kind : ErrorKind) → version ≡ version_at k → password ≡ codes "p" ++ decimal (k % 3) → PasswordRow version password kind ⊎ (kind ≡ OutOfMemory) → kind ≡ OutOfMemory
+password_only_memory k version password kind v p (inl row) =
     absurd (usable (version_at k) (k % 3) (omega arith) kind (subst (λ w. PasswordRow w (codes "p" ++ decimal (k % 3)) kind) v (subst (λ s. PasswordRow version s kind) p row)))
-only_memory k version password kind v p (inr memory) = memory
+password_only_memory k version password kind v p (inr memory) = memory
 
 -- ---- its exchange
 

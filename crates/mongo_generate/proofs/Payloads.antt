@@ -63,9 +63,9 @@ payload_broken document payload carries broken = broken_no_document document pay
 -- ---- reading
 
 -- a frame of a link that doesn't fail is taken again, or memory runs out
-pub only_memory : (fault : FrameFault) (maximum : ℤ) (old new : State) → IsUnreadable (kind_of_frame_fault fault) → ReadRefused (kind_of_frame_fault fault) maximum old new → new.read_faults ≡ 0 → fault ≡ frame_fault.OutOfMemory
-only_memory frame_fault.ReadFault maximum old new again refused none = let rose = refused.0 in absurd (omega (arith, rose, none))
-only_memory frame_fault.EndOfInput maximum old new again refused none = absurd again
-only_memory frame_fault.OutOfMemory maximum old new again refused none = refl
-only_memory (frame_fault.InvalidArgument fault) maximum old new again refused none = absurd again
-only_memory (frame_fault.InvalidResponse fault) maximum old new again refused none = absurd again
+pub reading_only_memory : (fault : FrameFault) (maximum : ℤ) (old new : State) → IsUnreadable (kind_of_frame_fault fault) → ReadRefused (kind_of_frame_fault fault) maximum old new → new.read_faults ≡ 0 → fault ≡ frame_fault.OutOfMemory
+reading_only_memory frame_fault.ReadFault maximum old new again refused none = let rose = refused.0 in absurd (omega (arith, rose, none))
+reading_only_memory frame_fault.EndOfInput maximum old new again refused none = absurd again
+reading_only_memory frame_fault.OutOfMemory maximum old new again refused none = refl
+reading_only_memory (frame_fault.InvalidArgument fault) maximum old new again refused none = absurd again
+reading_only_memory (frame_fault.InvalidResponse fault) maximum old new again refused none = absurd again

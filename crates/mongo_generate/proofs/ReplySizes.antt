@@ -1,8 +1,9 @@
 -- The messages of a possible exchange fit into replies, so that only memory can be wanting where these are made.
-use Rattle.std.proofs.Common.{◌≡◌, ℕ, ℤ, ◌+◌, ◌^◌, ◌<◌, ◌≤◌, None, Result, Ok, Err, IfErr, List, [], ◌∷◌, ◌++◌, length, length-append, map, codes, decimal, refl, sym, subst, arith}
+use Rattle.std.proofs.Common.{◌≡◌, ℕ, ℤ, ◌+◌, ◌^◌, ◌<◌, ◌≤◌, None, Result, Ok, Err, IfErr, List, [], ◌∷◌, ◌++◌, length, length-append, map, decimal, refl, sym, subst, arith}
 use Rattle.std.specs.List.{AllByRecursion, flat_map}
 use Rattle.std.proofs.lemmas.Fmt.{length-decimal-le}
 use Rattle.std.proofs.lemmas.Int.{ints}
+use Rattle.mongo_command.proofs.HelloShort.{length-document_of}
 use Rattle.mongo_wire.specs.declared.document_sequence.DocumentSequence.{DocumentSequence}
 use Rattle.mongo_wire.specs.declared.error.Error.{Error}
 use Rattle.mongo_wire.specs.declared.error.ErrorKind.{ErrorKind}
@@ -12,6 +13,7 @@ use Rattle.mongo_wire.specs.declared.message.Message.{Message}
 use Rattle.mongo_wire.specs.Frame.{body, sequence, section_bytes}
 use Rattle.mongo_wire.specs.Outside.{State}
 use Rattle.mongo_wire.specs.Message.{WriteRefused, checksum_bytes, frame_length}
+use Rattle.mongo_scram.specs.Attributes.{after_comma, iteration_count_attribute, salt_attribute}
 use Rattle.mongo_scram.specs.Base64.{base64_of}
 use Rattle.mongo_scram.specs.Messages.{verifier}
 use Rattle.mongo_scram.specs.Version.{digest_of}
@@ -21,7 +23,6 @@ use Rattle.mongo_server.specs.Announced.{maximum_message_length}
 use Rattle.mongo_server.specs.Exchange.{Exchange, joined_of, salted_between, auth_message_between, first_of, server_final_of}
 use Rattle.mongo_generate.specs.Login.{IsPossible}
 use Rattle.mongo_generate.specs.Replies.{speculative_elements, standalone_elements, final_elements, hello_reply, final_reply}
-use Rattle.mongo_generate.proofs.Documents.{length-document_of}
 use Rattle.mongo_generate.proofs.Texts.{length_base64, length_digest}
 
 -- ---- the server's messages
@@ -30,12 +31,12 @@ pub short_first : (x : Exchange) → IsPossible x → length (first_of x) < 2 ^ 
 short_first x possible =
     let within = possible.within in
     let short = possible.short in
-    let rest = codes ",s=" ++ (base64_of x.salt ++ (codes ",i=" ++ decimal x.count)) in
+    let rest = after_comma salt_attribute ++ (base64_of x.salt ++ (after_comma iteration_count_attribute ++ decimal x.count)) in
     omega (
       arith,
       length-append (joined_of x) rest,
       length-append x.nonce x.suffix,
-      length-append (base64_of x.salt) (codes ",i=" ++ decimal x.count),
+      length-append (base64_of x.salt) (after_comma iteration_count_attribute ++ decimal x.count),
       length_base64 x.salt,
       length-decimal-le 8 x.count (omega arith) (omega arith) (omega arith),
     )

@@ -2,6 +2,7 @@
 use Rattle.std.proofs.Common.{◌≡◌, ℕ, suc, ◌^◌, ◌<◌, ◌≤◌, Bool, true, false, None, Some, inl, inr, FitsSigned, List, length, refl, sym, ◌∙◌, subst, arith}
 use Rattle.std.specs.Int.{to_le_bytes, cast_unsigned, w32}
 use Rattle.std.specs.List.{AllByRecursion}
+use Rattle.mongo_command.proofs.HelloShort.{length-document_of}
 use Rattle.mongo_bson.specs.Framed.{maximum_length}
 use Rattle.mongo_bson.specs.Document.{Element, Shape, fixed, boolean, binary, document, shape_of, IsCstring, IsElement, IsDocument, IsReadable, IsInside, HasDistinctKeys}
 use Rattle.mongo_bson.specs.declared.owned_value.OwnedValue.{OwnedValue}
@@ -16,7 +17,7 @@ use Rattle.mongo_sasl.specs.Reply.{IsSaslReply}
 use Rattle.mongo_sasl.specs.Keys.{conversation_id_key, done_key, payload_key}
 use Rattle.mongo_server.specs.Announced.{conversation_id, maximum_document_length, maximum_message_length}
 use Rattle.mongo_generate.specs.Replies.{round_elements, speculative_elements, standalone_elements, final_elements, hello_reply, final_reply}
-use Rattle.mongo_generate.proofs.Documents.{cstring, apart, number_is_element, boolean_is_element, binary_is_element, document_is_element, length-document_of, document_of-is, framed_document_of, IsFlat, flat_readable}
+use Rattle.mongo_generate.proofs.Documents.{cstring, apart, number_is_element, boolean_is_element, binary_is_element, document_is_element, document_of-is, framed_document_of, IsFlat, flat_readable}
 
 -- ---- what no document is inside of
 

@@ -5,6 +5,7 @@ use Rattle.std.specs.List.{AllByRecursion, flat_map, find}
 use Rattle.std.proofs.lemmas.Grind.{flat_map-append}
 use Rattle.std.proofs.lemmas.Int.{ints}
 use Rattle.std.proofs.lemmas.List.{length-take-le}
+use Rattle.mongo_command.proofs.HelloShort.{length-document_of}
 use Rattle.mongo_bson.specs.Document.{Element, IsElement, IsDocument, spell}
 use Rattle.mongo_bson.specs.Framed.{IsFramed, element_bytes, enclosed, maximum_length}
 use Rattle.mongo_bson.proofs.Enclosed.{length-enclosed, element_bytes-enclosed, framed-enclosed}
@@ -40,7 +41,7 @@ use Rattle.mongo_server.specs.Exchange.{Exchange}
 use Rattle.mongo_generate.specs.Login.{IsPossible, credential_by}
 use Rattle.mongo_generate.specs.Options.{handshaker_options}
 use Rattle.mongo_generate.specs.Written.{CarriesPayload}
-use Rattle.mongo_generate.proofs.Documents.{cstring, ascii_text, text_is_element, number_is_element, binary_is_element, length-document_of, document_of-is}
+use Rattle.mongo_generate.proofs.Documents.{cstring, ascii_text, text_is_element, number_is_element, binary_is_element, document_of-is}
 use Rattle.mongo_generate.proofs.ServerReplies.{conversation, one_fits, conversation_is_cstring, payload_is_cstring}
 use Rattle.mongo_generate.proofs.Texts.{length_open}
 
@@ -161,8 +162,8 @@ framed_close close short = (close_carries close short).is_document.framed
 pub length_frame : (id : ℤ) (document : List ℕ) → length (written_frame id (plain_message document)) ≡ 21 + length document
 length_frame id document = omega (arith, length-append document [], length-append (document ++ []) [])
 
-pub frame_of : (id : ℤ) (document : List ℕ) → FitsSigned w32 id → IsFramed document → length document < 2 ^ 30 → IsCommandFrame (written_frame id (plain_message document)) id document
-frame_of id document fits framed short =
+pub command_frame_of : (id : ℤ) (document : List ℕ) → FitsSigned w32 id → IsFramed document → length document < 2 ^ 30 → IsCommandFrame (written_frame id (plain_message document)) id document
+command_frame_of id document fits framed short =
     let none : FitsSigned w32 (pos 0) = omega arith in
     written_is_frame id (plain_message document) fits none (omega (arith, length-append document [], length-append (document ++ []) [])) (framed, tt) tt tt
 

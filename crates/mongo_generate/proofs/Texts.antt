@@ -1,5 +1,5 @@
 -- How long the texts of a login are at most, and that a base64 text is a nonce.
-use Rattle.std.proofs.Common.{ℕ, zero, suc, ◌+◌, ◌*◌, ◌/◌, ◌%◌, ◌<◌, ◌≤◌, ◌==◌, Bool, true, false, List, [], ◌∷◌, ◌++◌, length, length-append, replicate, slice_index, codes, if◌then◌else◌, refl, arith}
+use Rattle.std.proofs.Common.{ℕ, zero, suc, ◌+◌, ◌*◌, ◌/◌, ◌%◌, ◌<◌, ◌≤◌, ◌==◌, Bool, true, false, List, [], ◌∷◌, ◌++◌, length, length-append, replicate, slice_index, if◌then◌else◌, refl, arith}
 use Rattle.std.specs.List.{AllByRecursion}
 use Rattle.std.proofs.lemmas.List.{length-replicate}
 use Rattle.std.proofs.lemmas.List.Elements.{All-from_recursion}
@@ -9,11 +9,12 @@ use Rattle.base64.proofs.Tables.{is_alphabet_symbol}
 use Rattle.mongo_mac.specs.Bytes.{xor_bytes}
 use Rattle.mongo_mac.specs.Digests.{length-sha1, length-sha256}
 use Rattle.mongo_mac.specs.Hmac.{hmac_of}
+use Rattle.mongo_scram.specs.Attributes.{after_comma, nonce_attribute, proof_attribute}
 use Rattle.mongo_scram.specs.declared.scram_version.ScramVersion.{ScramVersion}
 use Rattle.mongo_scram.specs.declared.scram_version.ScramVersion.TheVariants.{Sha1, Sha256}
 use Rattle.mongo_scram.specs.Base64.{base64_of}
 use Rattle.mongo_scram.specs.Messages.{bare_message, open_message, no_proof, client_key, proof, close_message}
-use Rattle.mongo_scram.specs.UserName.{escaped_byte, escaped}
+use Rattle.mongo_scram.specs.UserName.{escaped_byte, escaped, comma_code, equals_code}
 use Rattle.mongo_scram.specs.Version.{digest_of}
 use Rattle.mongo_server.specs.ClientMessages.{IsNonceByte, IsNonce}
 use Rattle.mongo_server.specs.Exchange.{Exchange, salted_between, auth_message_between, close_of}
@@ -69,7 +70,7 @@ alike_nonce n b small = All-from_recursion IsNonceByte (base64_of (replicate n b
 
 -- ---- the client's first message
 
-three : (s t : Bool) (b : ℕ) → length (if s then codes "=3D" else (if t then codes "=2C" else b ∷ [])) ≤ 3
+three : (s t : Bool) (b : ℕ) → length (if s then 0x3D ∷ equals_code else (if t then 0x3D ∷ comma_code else b ∷ [])) ≤ 3
 three true t b = omega arith
 three false true b = omega arith
 three false false b = omega arith
@@ -80,7 +81,7 @@ length_escaped (b ∷ bs) = omega (arith, length-append (escaped_byte b) (escape
 
 pub length_open : (username nonce : List ℕ) → length (open_message username nonce) ≤ 3 * length username + length nonce + 10
 unfolding open_message bare_message
-length_open username nonce = omega (arith, length-append (escaped username) (codes ",r=" ++ nonce), length_escaped username)
+length_open username nonce = omega (arith, length-append (escaped username) (after_comma nonce_attribute ++ nonce), length_escaped username)
 
 -- ---- the client's last message
 
@@ -108,7 +109,7 @@ length_closing : (version : ScramVersion) (salted auth_message nonce : List ℕ)
 unfolding close_message no_proof
 length_closing version salted auth_message nonce =
     let owed = proof (digest_of version) salted auth_message in
-    omega (arith, length-append nonce (codes ",p=" ++ base64_of owed), length_base64 owed, length_proof version salted auth_message)
+    omega (arith, length-append nonce (after_comma proof_attribute ++ base64_of owed), length_base64 owed, length_proof version salted auth_message)
 
 pub length_close : (x : Exchange) → length (close_of x) ≤ length x.nonce + length x.suffix + 100
 length_close x = omega (arith, length_closing x.version (salted_between x) (auth_message_between x) (x.nonce ++ x.suffix), length-append x.nonce x.suffix)

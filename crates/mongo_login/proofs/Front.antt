@@ -51,9 +51,9 @@ nothing_more old mid new held buf count front given none =
     subst (Consumes old new) e (Consumes-trans old mid new held (take count buf) front given)
 
 -- a refusal says nothing of a value, and all that it says of an error
-pub no_value : {T E : Type 0} (P : T → Type 0) (r : Result T E) → IsErr r → IfOk r P
-no_value P (Ok x) refused = absurd cc
-no_value P (Err e) refused = tt
+pub no_ok : {T E : Type 0} (P : T → Type 0) (r : Result T E) → IsErr r → IfOk r P
+no_ok P (Ok x) refused = absurd cc
+no_ok P (Err e) refused = tt
 
 pub of_error : {T E : Type 0} (P : Type 0) (r : Result T E) → P → OnErr r P
 of_error P (Ok x) p = tt

@@ -10,22 +10,22 @@ use Rattle.mongo_login.specs.Words.{task_name, IsCountWord, NamesSubcommand}
 two_names : ◌≡◌ {A = List (List ℕ)} (codes "rehearse" ∷ []) (codes "batch" ∷ []) → ⊥
 two_names e = cc
 
-pub one_task : (words : List (List ℕ)) (task other : Task) → NamesSubcommand words (Rehearse task) → NamesSubcommand words (Rehearse other) → other ≡ task
-one_task words task.Rehearse task.Rehearse p q = refl
-one_task words task.Batch task.Batch p q = refl
-one_task words task.Rehearse task.Batch p q = absurd (two_names (sym p ∙ q))
-one_task words task.Batch task.Rehearse p q = absurd (two_names (sym q ∙ p))
+pub one_rehearsal : (words : List (List ℕ)) (task other : Task) → NamesSubcommand words (Rehearse task) → NamesSubcommand words (Rehearse other) → other ≡ task
+one_rehearsal words task.Rehearse task.Rehearse p q = refl
+one_rehearsal words task.Batch task.Batch p q = refl
+one_rehearsal words task.Rehearse task.Batch p q = absurd (two_names (sym p ∙ q))
+one_rehearsal words task.Batch task.Rehearse p q = absurd (two_names (sym q ∙ p))
 
 one_or_two : (a b c : List ℕ) (words : List (List ℕ)) → words ≡ a ∷ [] → words ≡ b ∷ c ∷ [] → ⊥
 one_or_two a b c words p q = cc
 
 -- one word is no pair of them
-pub not_both : (words : List (List ℕ)) (task : Task) (count : ℕ) → NamesSubcommand words (Rehearse task) → NamesSubcommand words (Generate count) → ⊥
-not_both words task count p q = one_or_two (task_name task) (codes "generate") q.0 words p q.1
+pub not_both_tasks : (words : List (List ℕ)) (task : Task) (count : ℕ) → NamesSubcommand words (Rehearse task) → NamesSubcommand words (Generate count) → ⊥
+not_both_tasks words task count p q = one_or_two (task_name task) (codes "generate") q.0 words p q.1
 
 -- a word that is a count is read as it
-pub count_read : {E : Type 0} (word : List ℕ) (count : ℕ) (r : Result ℕ E) → IsCountWord word count → ParsesUnsigned 32 10 word r → r ≡ Ok count
-count_read word count r is parses =
+pub count_word_read : {E : Type 0} (word : List ℕ) (count : ℕ) (r : Result ℕ E) → IsCountWord word count → ParsesUnsigned 32 10 word r → r ≡ Ok count
+count_word_read word count r is parses =
     let fits = is.within in parse-decimal 32 count word r (omega (arith, fits)) (omega (arith, fits)) is.digits parses
 
 one_number : {E : Type 0} (r : Result ℕ E) (n count : ℕ) → r ≡ Ok n → r ≡ Ok count → count ≡ n
@@ -40,8 +40,8 @@ untrue b t f = cc
 -- a word that is read as a number which it doesn't spell is no count
 pub no_other : {E : Type 0} (word : List ℕ) (r : Result ℕ E) (n : ℕ) (b : Bool) → r ≡ Ok n → ParsesUnsigned 32 10 word r → (IsTrue b ↔ IsCountWord word n) → b ≡ false → (count : ℕ) → IsCountWord word count → ⊥
 no_other word r n b is parses judged other count counts =
-    let same = one_number r n count is (count_read word count r counts parses) in untrue b (judged.1 (subst (IsCountWord word) same counts)) other
+    let same = one_number r n count is (count_word_read word count r counts parses) in untrue b (judged.1 (subst (IsCountWord word) same counts)) other
 
 -- nor is one that is read as none
 pub unread : {E : Type 0} (word : List ℕ) (r : Result ℕ E) (e : E) → r ≡ Err e → ParsesUnsigned 32 10 word r → (count : ℕ) → IsCountWord word count → ⊥
-unread word r e is parses count counts = no_number r e count is (count_read word count r counts parses)
+unread word r e is parses count counts = no_number r e count is (count_word_read word count r counts parses)

@@ -10,7 +10,7 @@ use Rattle.mongo_bson.proofs.Enclosed.{length-enclosed}
 use Rattle.mongo_command.specs.Literal.{document_element, text_element, document_of}
 use Rattle.mongo_command.specs.Command.{present}
 use Rattle.mongo_command.specs.Arguments.{TooLongFor}
-use Rattle.mongo_command.proofs.CommandDocument.{joined}
+use Rattle.mongo_command.proofs.CommandDocument.{both_joined}
 use Rattle.mongo_meta.specs.declared.client_metadata.ClientMetadata.{ClientMetadata}
 use Rattle.mongo_meta.specs.declared.client_metadata.DriverMetadata.{DriverMetadata}
 use Rattle.mongo_meta.specs.declared.form.Form.{Form}
@@ -121,4 +121,4 @@ whole_of_parts form m application driver os platform env a d o p e =
 
 -- five fields that are the same, one after another
 pub same_fields : (a b c d e v w x y z : List Element) → a ≡ v → b ≡ w → c ≡ x → d ≡ y → e ≡ z → document_of (a ++ (b ++ (c ++ (d ++ (e ++ []))))) ≡ document_of (v ++ (w ++ (x ++ (y ++ (z ++ [])))))
-same_fields a b c d e v w x y z p q r s t = ap document_of (joined _ _ _ _ p (joined _ _ _ _ q (joined _ _ _ _ r (joined _ _ _ _ s (joined _ _ _ _ t refl)))))
+same_fields a b c d e v w x y z p q r s t = ap document_of (both_joined _ _ _ _ p (both_joined _ _ _ _ q (both_joined _ _ _ _ r (both_joined _ _ _ _ s (both_joined _ _ _ _ t refl)))))

@@ -15,7 +15,7 @@ use Rattle.mongo_sasl.proofs.Handed.{handed_on, on_answer}
 use Rattle.mongo_sasl.proofs.Joining.{JoinsLogin}
 use Rattle.mongo_sasl.proofs.LastReply.{ends_reached}
 use Rattle.mongo_sasl.proofs.LoginEvents.{login_leads}
-use Rattle.mongo_sasl.proofs.StopsBy.{not_both, stopped_by}
+use Rattle.mongo_sasl.proofs.StopsBy.{not_both_faults, stopped_by}
 
 module _ {A : Type 0} (plan : Plan A) (login : List (List ℕ) → List (List ℕ) → Type 0) (maximum : ℤ) (joins : JoinsLogin plan login maximum) (old new : State) (before after : ℤ) where
   -- over told bytes an answer is what they call for
@@ -60,7 +60,7 @@ module _ {L A : Type 0} (state : L → State) (plan : Plan A) (login : List (Lis
 
   -- one that its one exchange ended, or that the reply refused
   pub once_by_script : (answer : A) (document : List ℕ) (r : Result (Unit {0}) Error) → OnOk r (EndsByReply plan answer document (state old.link) (state new.link) old.id new.id) → kept_fault old.connection ≡ None → kept_fault new.connection ≡ None → StopsBy state plan r old new → EndsByScript state plan login maximum r old new
-  once_by_script answer document r reply was none stops = ends_by_script r (reached_by answer document r reply) (λ faultless. on_answer r _ none) (λ kind is. absurd (not_both (kept_fault old.connection) kind was is)) stops
+  once_by_script answer document r reply was none stops = ends_by_script r (reached_by answer document r reply) (λ faultless. on_answer r _ none) (λ kind is. absurd (not_both_faults (kept_fault old.connection) kind was is)) stops
 
 -- what an exchange took into a buffer, where its reply ended the login
 pub holds_its_reply : {L A : Type 0} (state : L → State) (plan : Plan A) (answer : A) (maximum : ℤ) (old new : Standing L) (r : Result (Unit {0}) Error)

@@ -36,11 +36,11 @@ within_sent maximum (exchanged s reply ∷ events) id bytes within said =
     (said.0, said.1, said.2, said.3, subst (λ most. pos (length said.0) ≤ℤ most) within.0 said.4, within_sent maximum events (next_id id) said.1 within.1 said.5)
 within_sent maximum (asked question answer ∷ events) id bytes within said = absurd within
 
-pub sent_within : (maximum : ℤ) (events : List Event) (id : ℤ) (bytes : List ℕ) → AreWithin maximum events → IsSentWithin maximum maximum (documents_in events) id bytes → IsSaid (said_in events) id bytes
-sent_within maximum [] id bytes within sent = sent
-sent_within maximum (exchanged s reply ∷ events) id bytes within sent =
-    (sent.0, sent.1, sent.2, sent.3, subst (λ most. pos (length sent.0) ≤ℤ most) (sym within.0) sent.4, sent_within maximum events (next_id id) sent.1 within.1 sent.5)
-sent_within maximum (asked question answer ∷ events) id bytes within sent = absurd within
+pub events_sent_within : (maximum : ℤ) (events : List Event) (id : ℤ) (bytes : List ℕ) → AreWithin maximum events → IsSentWithin maximum maximum (documents_in events) id bytes → IsSaid (said_in events) id bytes
+events_sent_within maximum [] id bytes within sent = sent
+events_sent_within maximum (exchanged s reply ∷ events) id bytes within sent =
+    (sent.0, sent.1, sent.2, sent.3, subst (λ most. pos (length sent.0) ≤ℤ most) (sym within.0) sent.4, events_sent_within maximum events (next_id id) sent.1 within.1 sent.5)
+events_sent_within maximum (asked question answer ∷ events) id bytes within sent = absurd within
 
 pub within_heard : (maximum : ℤ) (events : List Event) (bytes : List ℕ) → AreWithin maximum events → IsHeard events bytes → IsWholeWithin maximum maximum (replies_in events) bytes
 within_heard maximum [] bytes within heard = heard
@@ -86,7 +86,7 @@ pub record EndLeads {A : Type 0} (plan : Plan A) (answer : A) (bytes taken rest 
 
 pub login_leads : {A : Type 0} (plan : Plan A) (IsLogin : List (List ℕ) → List (List ℕ) → Type 0) (answer : A) (maximum id : ℤ) (bytes : List ℕ) (has : HasLogin IsLogin maximum id bytes) → LoginEnd plan answer maximum has.commands has.replies → EndLeads plan answer bytes has.taken has.rest
 login_leads plan IsLogin answer maximum id bytes has l =
-    let said : IsSaid (said_in l.events) id has.sent = sent_within maximum l.events id has.sent l.within (subst (λ c. IsSentWithin maximum maximum c id has.sent) l.commands_are has.is_sent) in
+    let said : IsSaid (said_in l.events) id has.sent = events_sent_within maximum l.events id has.sent l.within (subst (λ c. IsSentWithin maximum maximum c id has.sent) l.commands_are has.is_sent) in
     let heard : IsHeard l.events has.taken = heard_within maximum l.events has.taken l.within (subst (λ r. IsWholeWithin maximum maximum r has.taken) l.replies_are has.is_taken) in
     let e = l.ends (said_sendable (said_in l.events) id has.sent said) in
     record {

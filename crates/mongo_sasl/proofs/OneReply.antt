@@ -51,13 +51,13 @@ one_failure : (reply a b : List ℕ) → IsSaslFailure reply a → IsSaslFailure
 one_failure reply a b p q = p.text_is ∙ ap (λ es. failure_text (field_of errmsg_key es)) (same_elements reply p.elements q.elements p.well_formed q.well_formed) ∙ sym q.text_is
 
 -- what succeeded didn't fail
-pub not_both : (ok : Option Element) → Succeeded ok → SaysFailure ok → ⊥
-not_both None succeeded failed = absurd failed
-not_both (Some e) succeeded failed = let same : Some (pos 1) ≡ Some failed.0 = sym succeeded ∙ failed.1 in failed.2 cc
+pub not_both_replies : (ok : Option Element) → Succeeded ok → SaysFailure ok → ⊥
+not_both_replies None succeeded failed = absurd failed
+not_both_replies (Some e) succeeded failed = let same : Some (pos 1) ≡ Some failed.0 = sym succeeded ∙ failed.1 in failed.2 cc
 
 success_no_failure : (reply text : List ℕ) (sasl : SaslResponse) → IsSaslReply reply sasl → IsSaslFailure reply text → ⊥
 success_no_failure reply text sasl p q =
-    not_both (field_of ok_key q.elements) (subst (λ es. Succeeded (field_of ok_key es)) (same_elements reply p.elements q.elements p.well_formed q.well_formed) p.succeeded) q.failed
+    not_both_replies (field_of ok_key q.elements) (subst (λ es. Succeeded (field_of ok_key es)) (same_elements reply p.elements q.elements p.well_formed q.well_formed) p.succeeded) q.failed
 
 -- a reply is refused for one reason
 pub one_sasl_row : (reply : List ℕ) → IsOne (SaslRow reply)

@@ -62,12 +62,12 @@ module _ (handed : PlainHanded) (user : PlainUser) (is_user : IsPlainUser handed
       user_stopped x.kind old new before after (refused_later (plain_said handed user) plain_heard reply x.kind old new before after e counts (heard_refused reply x.kind h))
 
 -- the credential has no login
-pub credential_refused : (handed : PlainHanded) (kind : ErrorKind) → PlainRow handed.credential kind → RefusedAtOnce (plain_plan handed) kind
-credential_refused handed kind row = inl (inl row)
+pub plain_user_refused : (handed : PlainHanded) (kind : ErrorKind) → PlainRow handed.credential kind → RefusedAtOnce (plain_plan handed) kind
+plain_user_refused handed kind row = inl (inl row)
 
 -- ---- the reply's row
 
 -- it is read, and doesn't end the conversation
-pub read_refused : (reply : List ℕ) (kind : ErrorKind) → SaslRow reply kind ⊎ (kind ≡ OutOfMemory) → FinishedRow reply kind ⊎ (kind ≡ OutOfMemory)
-read_refused reply kind (inl row) = inl (inl row)
-read_refused reply kind (inr memory) = inr memory
+pub finished_refused : (reply : List ℕ) (kind : ErrorKind) → SaslRow reply kind ⊎ (kind ≡ OutOfMemory) → FinishedRow reply kind ⊎ (kind ≡ OutOfMemory)
+finished_refused reply kind (inl row) = inl (inl row)
+finished_refused reply kind (inr memory) = inr memory

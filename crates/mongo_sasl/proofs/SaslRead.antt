@@ -21,7 +21,7 @@ use Rattle.mongo_sasl.specs.Reply.{Succeeded, SaysFailure, ReadsValue, IsSaslTab
 use Rattle.mongo_sasl.specs.View.{owned_value_of, read_as, kind_of_field_fault}
 use Rattle.mongo_command.proofs.FirstOfKey.{bytes_found, bytes_none}
 use Rattle.mongo_command.proofs.Plans.{no_of}
-use Rattle.mongo_sasl.proofs.OneReply.{same_elements, not_both}
+use Rattle.mongo_sasl.proofs.OneReply.{same_elements, not_both_replies}
 
 -- ---- the whole reply
 
@@ -47,12 +47,12 @@ unsuccessful reply elements (Authentication fault) well is = absurd is
 unsuccessful reply elements kind well is = absurd is
 
 -- nor is a success without its table
-pub no_table : (reply : List ℕ) (elements : List Element) (fault : FieldFault) → IsWellFormed reply elements → Succeeded (field_of ok_key elements) → Answers IsSaslTable elements (Err fault) → SaslRefused reply (kind_of_field_fault fault)
-no_table reply elements Unreadable well succeeded none =
+pub no_sasl_table : (reply : List ℕ) (elements : List Element) (fault : FieldFault) → IsWellFormed reply elements → Succeeded (field_of ok_key elements) → Answers IsSaslTable elements (Err fault) → SaslRefused reply (kind_of_field_fault fault)
+no_sasl_table reply elements Unreadable well succeeded none =
     inl
     (malformed reply (λ sasl is. none sasl (subst (λ es. IsSaslTable es sasl) (same_elements reply is.elements elements is.well_formed well) is.table))
-    (λ text is. not_both (field_of ok_key elements) succeeded (failed_here reply text elements well is)))
-no_table reply elements NoMemory well succeeded none = inr refl
+    (λ text is. not_both_replies (field_of ok_key elements) succeeded (failed_here reply text elements well is)))
+no_sasl_table reply elements NoMemory well succeeded none = inr refl
 
 -- ---- the fields of the table
 
@@ -61,14 +61,14 @@ unfolding Required
 id_read None e value is kind bytes = let none : None ≡ Some e = is in absurd cc
 id_read (Some f) e value is kind bytes = let same : Some f ≡ Some e = is in let here : f ≡ e = cc in (kind ∙ ap (λ x. x.kind) (sym here), bytes ∙ ap (λ x. x.value) (sym here))
 
-pub no_id : (found : Option Element) → found ≡ None → (value : OwnedValue) → Required ReadsValue found value → ⊥
+pub no_conversation_id : (found : Option Element) → found ≡ None → (value : OwnedValue) → Required ReadsValue found value → ⊥
 unfolding Required
-no_id None is value reads = reads
-no_id (Some e) is value reads = let some : Some e ≡ None = is in absurd cc
+no_conversation_id None is value reads = reads
+no_conversation_id (Some e) is value reads = let some : Some e ≡ None = is in absurd cc
 
 -- the id that is found, or that there is none
 pub id_answer : (b key : List ℕ) (elements : List Element) (found : Option (ℕ × Bor (List ℕ))) → IsDocument b elements → FindsBytes (element_bytes b) key found → Answers (Required ReadsValue) (field_of key elements) (read_as owned_value_of (ok_or found Unreadable))
-id_answer b key elements None is none = no_id (field_of key elements) (bytes_none b key elements is none)
+id_answer b key elements None is none = no_conversation_id (field_of key elements) (bytes_none b key elements is none)
 id_answer b key elements (Some value) is first = id_read (field_of key elements) (record { kind = value.0; key = key; value = value.1.now }) value (bytes_found b key elements value is first) refl refl
 
 -- a fault of a borrowed value is a fault of what it says

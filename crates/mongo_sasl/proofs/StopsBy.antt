@@ -25,8 +25,8 @@ use Rattle.mongo_sasl.proofs.Unsent.{answered_fault, not_replied}
 abbrev pub footing_of : {L : Type 0} → Standing L → Footing L
 footing_of standing = footing standing.connection standing.link standing.id
 
-pub not_both : (fault : Option ErrorKind) (kind : ErrorKind) → fault ≡ None → fault ≡ Some kind → ⊥
-not_both fault kind none some = cc
+pub not_both_faults : (fault : Option ErrorKind) (kind : ErrorKind) → fault ≡ None → fault ≡ Some kind → ⊥
+not_both_faults fault kind none some = cc
 
 none_kept : (fault : Option ErrorKind) → ((kind : ErrorKind) → fault ≡ Some kind → ⊥) → fault ≡ None
 none_kept None never = refl
@@ -105,7 +105,7 @@ module _ {L T A : Type 0} (state : L → State) (plan : Plan A) where
 
   -- a connection that keeps none after it kept none before it
   pub faultless_before : (r : Result T Error) (old new : Standing L) → StopsBy state plan r old new → kept_fault new.connection ≡ None → kept_fault old.connection ≡ None
-  faultless_before r old new stops none = none_kept (kept_fault old.connection) (λ kind is. not_both (kept_fault new.connection) kind none (stops.untouched kind is).3)
+  faultless_before r old new stops none = none_kept (kept_fault old.connection) (λ kind is. not_both_faults (kept_fault new.connection) kind none (stops.untouched kind is).3)
 
   -- a refusal that is handed on leaves what it left
   pub handed_stops : (old new : Standing L) (r : Result T Error) (e : Error) → IsErrAnd r (λ x. x ≡ e) → StopsBy {T = T} state plan (Err e) old new → StopsBy state plan r old new

@@ -18,8 +18,8 @@ use Rattle.mongo_command.specs.Keys.{ok_key}
 not_failed : (reply : List ℕ) (elements : List Element) → Takes reply elements → IsFailed reply → ⊥
 not_failed reply elements taken failed = failed.failed (subst (λ es. IsSuccess (field_of ok_key es)) (same_elements reply elements failed.elements taken.well_formed failed.well_formed) taken.ok)
 
-pub taken_no_row : (reply : List ℕ) (elements : List Element) → Takes reply elements → HasNone (X509Row reply)
-taken_no_row reply elements taken =
+pub certificate_no_row : (reply : List ℕ) (elements : List Element) → Takes reply elements → HasNone (X509Row reply)
+certificate_no_row reply elements taken =
     no_of Authentication _
     (none_else _ _ (no_row Malformed _ (λ none. none elements taken.well_formed))
     (no_row X509Failed _ (not_failed reply elements taken)))
@@ -66,7 +66,7 @@ x509_ended handed events answer e = from_ended handed.speculated handed events a
 -- ---- and a login is an end
 
 heard_turn : (reply : List ℕ) → IsCertificateTaken reply → x509_heard reply [] (ends tt)
-heard_turn reply taken = inr (taken_no_row reply taken.0 taken.1, (taken.0, taken.1, refl))
+heard_turn reply taken = inr (certificate_no_row reply taken.0 taken.1, (taken.0, taken.1, refl))
 
 from_ends : (speculated : Bool) (handed : X509Handed) (commands replies : List (List ℕ)) → IsX509LoginFrom speculated handed commands replies → LoginEnd (x509_plan_from speculated handed) tt handed.maximum commands replies
 from_ends true handed commands replies is = record { events = []; commands_are = is.0; replies_are = is.1; within = tt; ends = λ sendable. record { follows = tt; answer_is = refl } }

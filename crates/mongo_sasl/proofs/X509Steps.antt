@@ -21,7 +21,7 @@ use Rattle.mongo_sasl.specs.Mechanism.{name_of}
 use Rattle.mongo_sasl.proofs.LastReply.{ends_by_reply}
 use Rattle.mongo_sasl.proofs.NotBuilt.{not_built}
 use Rattle.mongo_sasl.proofs.StoppedKeeping.{refused_later}
-use Rattle.mongo_sasl.proofs.X509Plan.{taken_no_row}
+use Rattle.mongo_sasl.proofs.X509Plan.{certificate_no_row}
 
 module _ (handed : X509Handed) (later : handed.speculated ≡ false) where
   -- what is said
@@ -45,7 +45,7 @@ module _ (handed : X509Handed) (later : handed.speculated ≡ false) where
       subst (λ s. EndsByReply (x509_plan_from s handed) tt held old new before after) (sym later)
       (subst (λ document. EndsByReply (saying (x509_said handed) x509_heard) tt document old new before after) same
       (ends_by_reply (saying (x509_said handed) x509_heard) tt (x509_said handed) reply old new before after refl
-      (inr (taken_no_row reply is.0 is.1, (is.0, is.1, refl))) e counts))
+      (inr (certificate_no_row reply is.0 is.1, (is.0, is.1, refl))) e counts))
   x509_replied (Err x) reply held old new before after same e counts is = tt
 
   heard_refused : (reply : List ℕ) (kind : ErrorKind) → X509Row reply kind ⊎ (kind ≡ OutOfMemory) → RefusedAtOnce (x509_heard reply) kind

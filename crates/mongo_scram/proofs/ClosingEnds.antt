@@ -6,7 +6,7 @@ use Rattle.mongo_scram.specs.declared.server_final.ServerFinal.{ServerFinal}
 use Rattle.mongo_scram.specs.Replies.{CarriesFinal}
 use Rattle.mongo_scram.specs.Validity.{IsValidFinal, ServerFinalRow}
 use Rattle.mongo_scram.specs.Plan.{Handed, Challenge, verifier_by, close_said, NotCompletedRow, LastRow, closed, closing}
-use Rattle.mongo_scram.proofs.OneMessage.{one_final, no_final_row}
+use Rattle.mongo_scram.proofs.OneMessage.{one_carried_final, no_final_row}
 use Rattle.mongo_command.proofs.Plans.{none_first, none_second, none_else}
 use Rattle.mongo_scram.proofs.NoRows.{valid_final, valid_final_row, completed, not_completed}
 
@@ -41,7 +41,7 @@ proved_row handed c last valid done =
 pub closing_ended : (handed : Handed) (c : Challenge) (events : List Event) (result : Challenge) → PlanEnds (closing handed c) events result → (result ≡ c) × IsClosed handed c events
 closing_ended handed c events result e =
     let said = ends_saying (close_said handed c) (closed handed c) events result e in
-    let read = ends_reading (CarriesFinal said.reply) _ said.more result (one_final said.reply) (ends_unless _ _ said.more result said.rest).1 in
+    let read = ends_reading (CarriesFinal said.reply) _ said.more result (one_carried_final said.reply) (ends_unless _ _ said.more result said.rest).1 in
     let passed = ends_unless (LastRow handed c read.0) (ending c) said.more result read.2 in
     let end = ends_ending c said.more result passed.1 in
     let proved = proved_by handed c said.reply read.0 read.1 passed.0 in

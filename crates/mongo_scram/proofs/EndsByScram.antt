@@ -12,7 +12,7 @@ use Rattle.mongo_sasl.specs.EndsByScript.{Standing, StopsBy}
 use Rattle.mongo_sasl.proofs.EndsByScript.{ends_by_script}
 use Rattle.mongo_sasl.proofs.Handed.{handed_on, on_answer}
 use Rattle.mongo_sasl.proofs.StoppedKeeping.{keeping_none}
-use Rattle.mongo_sasl.proofs.StopsBy.{not_both}
+use Rattle.mongo_sasl.proofs.StopsBy.{not_both_faults}
 use Rattle.mongo_scram.specs.Costs.{Ledgers, Balance, SameEntries, Accepted, FaultCosts, ScramRefused}
 use Rattle.mongo_scram.specs.EndsByScram.{balance_at, EndsByScram}
 use Rattle.mongo_scram.specs.Plan.{Handed, Challenge, scram_plan}
@@ -75,16 +75,16 @@ module _ {L : Type 0} (state : L → State) (handed : Handed) (old new : Standin
   accepted_scram r accepted stopped entries was none buffer rest counts =
       let stops : StopsBy state (scram_plan handed) r old new = record {
         refused = λ faultless. keeping_none r (scram_plan handed) (state old.link) (state new.link) old.id new.id (kept_fault new.connection) none (IfErr-weaker r _ _ (λ (e : Error). λ (s : StopsScram handed e.kind None before after). s.1) stopped);
-        untouched = λ kind is. absurd (not_both (kept_fault old.connection) kind was is);
-        answers = λ kind is. absurd (not_both (kept_fault old.connection) kind was is);
+        untouched = λ kind is. absurd (not_both_faults (kept_fault old.connection) kind was is);
+        answers = λ kind is. absurd (not_both_faults (kept_fault old.connection) kind was is);
         buffer = buffer;
         rest = rest;
         counts = counts;
       } in
       record {
-        script = ends_by_script state (scram_plan handed) (IsScramLogin handed) handed.maximum (scram_joins handed) old new r (reached r accepted) (λ faultless. on_answer r _ none) (λ kind is. absurd (not_both (kept_fault old.connection) kind was is)) stops;
+        script = ends_by_script state (scram_plan handed) (IsScramLogin handed) handed.maximum (scram_joins handed) old new r (reached r accepted) (λ faultless. on_answer r _ none) (λ kind is. absurd (not_both_faults (kept_fault old.connection) kind was is)) stops;
         accepted = accepted;
         refused = λ faultless. IfErr-weaker r _ _ (λ (e : Error). λ (s : StopsScram handed e.kind None before after). s.0) stopped;
-        answers = λ kind is. absurd (not_both (kept_fault old.connection) kind was is);
+        answers = λ kind is. absurd (not_both_faults (kept_fault old.connection) kind was is);
         entries = entries;
       }

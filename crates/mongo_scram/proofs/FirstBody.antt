@@ -93,8 +93,8 @@ db_sent version source text message include_db api start command named new said 
     ∙ ap (λ db. first_command version db source message api) (sym named_db)
 
 -- what was put had no fault
-pub no_fault : {T E : Type 0} (t : T) (e : E) → Ok t ≡ Err e → ⊥
-no_fault t e is = absurd (cc)
+pub ok_is_no_error : {T E : Type 0} (t : T) (e : E) → Ok t ≡ Err e → ⊥
+ok_is_no_error t e is = absurd (cc)
 
 -- why the database isn't put behind it
 pub db_refused : (version : ScramVersion) (source text message : List ℕ) (include_db : Bool) (api : Option ServerApi) (start : SaslStart) (command : Command) → text ≡ source → start ≡ step version source message api → command ≡ start_command start → include_db ≡ true

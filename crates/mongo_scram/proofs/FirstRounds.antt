@@ -17,7 +17,7 @@ use Rattle.mongo_sasl.specs.Commands.{start_elements}
 use Rattle.mongo_sasl.specs.EndsByScript.{Standing, StopsBy}
 use Rattle.mongo_sasl.specs.Stops.{StoppedKeeping, RefusedAtOnce}
 use Rattle.mongo_sasl.proofs.Handed.{on_answer}
-use Rattle.mongo_sasl.proofs.StopsBy.{not_both, no_exchange}
+use Rattle.mongo_sasl.proofs.StopsBy.{not_both_faults, no_exchange}
 use Rattle.mongo_scram.specs.declared.messages.ClientFirst.{ClientFirst}
 use Rattle.mongo_scram.specs.declared.conversation.FirstRound.{FirstRound}
 use Rattle.mongo_scram.specs.declared.login.ScramLogin.{ScramLogin}
@@ -121,7 +121,7 @@ module _ {T : Type 0} (login : ScramLogin) (found : Option FirstRound) (maximum 
   round_alone r round is = on_answer r _ (ap (λ f. is_some (speculated_of f)) is)
 
   pub start_alone : (r : Result T Error) (old new : Connection) (before after : FrameBuffer) (kind : ErrorKind) → kept_fault old ≡ Some kind → OnOk r (LeavesOneExchange old new before after) → OnOk r (IsSome (speculated_of found))
-  start_alone (Ok x) old new before after kind is once = absurd (not_both (kept_fault old) kind once.was is)
+  start_alone (Ok x) old new before after kind is once = absurd (not_both_faults (kept_fault old) kind once.was is)
   start_alone (Err e) old new before after kind is once = tt
 
   -- what its one exchange leaves

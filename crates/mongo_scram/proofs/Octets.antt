@@ -1,5 +1,5 @@
 -- A verifier is a list of bytes, and the server's message that carries it is a text.
-use Rattle.std.proofs.Common.{ℕ, zero, suc, ◌<◌, List, [], ◌∷◌, ◌++◌, get_or, codes, arith}
+use Rattle.std.proofs.Common.{ℕ, zero, suc, ◌<◌, List, [], ◌∷◌, ◌++◌, get_or, arith}
 use Rattle.std.specs.Int.{w32, to_be_bytes}
 use Rattle.std.specs.Str.{IsUtf8, IsAscii}
 use Rattle.std.proofs.lemmas.Str.{IsUtf8-from_ascii}
@@ -11,6 +11,7 @@ use Rattle.sha1.specs.Sha1 as S1
 use Rattle.sha2.specs.Sha256 as S256
 use Rattle.sha2.specs.Sha256.{sha256}
 use Rattle.mongo_mac.specs.Hmac.{hmac_of}
+use Rattle.mongo_scram.specs.Attributes.{verifier_attribute}
 use Rattle.mongo_scram.specs.declared.scram_version.ScramVersion.{ScramVersion}
 use Rattle.mongo_scram.specs.declared.scram_version.ScramVersion.TheVariants.{Sha1, Sha256}
 use Rattle.mongo_scram.specs.Base64.{base64_of}
@@ -52,11 +53,11 @@ verifier_bytes version salted auth_message = digest_octets version _
 
 -- ---- the text of the server's last message
 
-verifier_ascii : (bytes : List ℕ) → IsAscii (codes "v=" ++ base64_of bytes)
+verifier_ascii : (bytes : List ℕ) → IsAscii (verifier_attribute ++ base64_of bytes)
 unfolding base64_of
 verifier_ascii bytes zero = omega arith
 verifier_ascii bytes (suc zero) = omega arith
 verifier_ascii bytes (suc (suc i)) = IsAscii-encode_of standard bytes i
 
-pub verifier_text : (bytes : List ℕ) → IsUtf8 (codes "v=" ++ base64_of bytes)
-verifier_text bytes = IsUtf8-from_ascii (codes "v=" ++ base64_of bytes) (verifier_ascii bytes)
+pub verifier_text : (bytes : List ℕ) → IsUtf8 (verifier_attribute ++ base64_of bytes)
+verifier_text bytes = IsUtf8-from_ascii (verifier_attribute ++ base64_of bytes) (verifier_ascii bytes)

@@ -52,8 +52,8 @@ first_made id done message nonce salt i = record { conversation_id = id; done = 
 same_first : (c d : OwnedValue) (e f : Bool) (m n o p s t : List ℕ) (i j : ℕ) → c ≡ d → e ≡ f → m ≡ n → o ≡ p → s ≡ t → i ≡ j → first_made c e m o s i ≡ first_made d f n p t j
 same_first c d e f m n o p s t i j a b g h k l = λ x. first_made (a x) (b x) (g x) (h x) (k x) (l x)
 
-pub one_first : (reply : List ℕ) → IsOne (CarriesFirst reply)
-one_first reply = λ a b p q.
+pub one_carried_first : (reply : List ℕ) → IsOne (CarriesFirst reply)
+one_carried_first reply = λ a b p q.
     let same = one_sasl_reply reply p.sasl q.sasl p.is_reply q.is_reply in
     let here : IsServerFirst q.sasl.payload a.nonce a.salt p.count = subst (λ (sasl : SaslResponse). IsServerFirst sasl.payload a.nonce a.salt p.count) same p.is_first in
     let parts = one_server_first q.sasl.payload a.nonce a.salt p.count b.nonce b.salt q.count here q.is_first in
@@ -111,8 +111,8 @@ final_made id done body = record { conversation_id = id; done = done; body = bod
 same_final : (c d : OwnedValue) (e f : Bool) (m n : ServerFinalBody) → c ≡ d → e ≡ f → m ≡ n → final_made c e m ≡ final_made d f n
 same_final c d e f m n a b g = λ x. final_made (a x) (b x) (g x)
 
-pub one_final : (reply : List ℕ) → IsOne (CarriesFinal reply)
-one_final reply = λ a b p q.
+pub one_carried_final : (reply : List ℕ) → IsOne (CarriesFinal reply)
+one_carried_final reply = λ a b p q.
     let same = one_sasl_reply reply p.sasl q.sasl p.is_reply q.is_reply in
     let here : SaysFinal q.sasl.payload a.body = subst (λ (sasl : SaslResponse). SaysFinal sasl.payload a.body) same p.says in
     same_final a.conversation_id b.conversation_id a.done b.done a.body b.body

@@ -8,7 +8,7 @@ use Rattle.mongo_scram.specs.Key.{PasswordRow}
 use Rattle.mongo_scram.specs.Replies.{CarriesFirst}
 use Rattle.mongo_scram.specs.Validity.{IsValidFirst, ServerFirstRow}
 use Rattle.mongo_scram.specs.Plan.{Speculated, Handed, Challenge, nonce_by, start_said, ChallengeRow, challenged, opened, opening}
-use Rattle.mongo_scram.proofs.OneMessage.{one_first, no_first_row}
+use Rattle.mongo_scram.proofs.OneMessage.{one_carried_first, no_first_row}
 use Rattle.mongo_scram.proofs.OneRow.{one_user, no_credential_row}
 use Rattle.mongo_command.proofs.Plans.{none_first, none_second, none_else}
 use Rattle.mongo_scram.proofs.NoRows.{valid_first, valid_first_row}
@@ -24,7 +24,7 @@ pub record IsChallenged (handed : Handed) (reply : List ℕ) (c : Challenge) : T
 
 challenged_ended : (handed : Handed) (user : User) (reply : List ℕ) (events : List Event) (c : Challenge) → PlanEnds (challenged handed user reply) events c → (events ≡ []) × (c.user ≡ user) × IsChallenged handed reply c
 challenged_ended handed user reply events c e =
-    let read = ends_reading (CarriesFirst reply) _ events c (one_first reply) (ends_unless _ _ events c e).1 in
+    let read = ends_reading (CarriesFirst reply) _ events c (one_carried_first reply) (ends_unless _ _ events c e).1 in
     let made = challenge_by_first user read.0 in
     let passed = ends_unless (ChallengeRow handed made) (ending made) events c read.2 in
     let end = ends_ending made events c passed.1 in

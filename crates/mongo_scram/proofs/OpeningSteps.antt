@@ -41,8 +41,8 @@ opened_refused (Some speculated) handed user reply kind old new before after rep
     (at_once_keeping (challenged handed user speculated.reply) kind new after (subst (λ x. RefusedAtOnce (challenged handed user x) kind) replied.0 r)))
 
 -- a refusal by the credential's tests, and a stop after them
-pub credential_refused : (handed : Handed) (kind : ErrorKind) → CredentialRow handed.credential kind → RefusedAtOnce (opening handed) kind
-credential_refused handed kind row = inl (inl row)
+pub opening_refused : (handed : Handed) (kind : ErrorKind) → CredentialRow handed.credential kind → RefusedAtOnce (opening handed) kind
+opening_refused handed kind row = inl (inl row)
 
 after_tests : (handed : Handed) (user : User) → IsUser handed.credential user → (past : List Event) (turn : Turn Challenge) → opened handed.speculated handed user past turn → opening handed past turn
 after_tests handed user is past turn h = inr (no_credential_row handed.credential user is, (user, is, h))

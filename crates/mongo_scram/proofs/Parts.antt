@@ -1,8 +1,9 @@
 -- A message cut at its commas has one first part, one second and one third.
-use Rattle.std.proofs.Common.{◌≡◌, ◌≢◌, ◌⊎◌, ◌<◌, ℕ, suc, List, [], ◌∷◌, ◌++◌, Option, Some, None, length, get_or, refl, ap, sym, subst, ◌∙◌, inl, inr, arith, MatchOption, Bor, codes}
+use Rattle.std.proofs.Common.{◌≡◌, ◌≢◌, ◌⊎◌, ◌<◌, ℕ, suc, List, [], ◌∷◌, ◌++◌, Option, Some, None, length, get_or, refl, ap, sym, subst, ◌∙◌, inl, inr, arith, MatchOption, Bor}
 use Rattle.std.proofs.lemmas.Str.Pattern.{IsSplitOnceResult, split_parts}
 use Rattle.base64.specs.GeneralPurpose.{IsBytes}
 use Rattle.mongo_wire.specs.declared.auth_fault.AuthFault.TheVariants.{Malformed}
+use Rattle.mongo_scram.specs.Attributes.{iteration_count_attribute, nonce_attribute, salt_attribute}
 use Rattle.mongo_scram.specs.Base64.{base64_of}
 use Rattle.mongo_scram.specs.ServerMessages.{HasNo, BeginsWithParts, IsBeforeComma, ServerFirstTextRow}
 
@@ -72,11 +73,11 @@ one_parts message a b c x y z p q =
       third = one_front c z p.extensions q.extensions p.third_ends q.third_ends p.extensions_are q.extensions_are second.1;
     }
 
-pub none_first : (message a b c : List ℕ) → HasNo 0x2C message → BeginsWithParts message a b c → ⊥
-none_first message a b c none p = no_cut message a _ none p.joined
+pub no_first_comma : (message a b c : List ℕ) → HasNo 0x2C message → BeginsWithParts message a b c → ⊥
+no_first_comma message a b c none p = no_cut message a _ none p.joined
 
-pub none_second : (message front rest a b c : List ℕ) → HasNo 0x2C front → message ≡ front ++ (0x2C ∷ rest) → HasNo 0x2C rest → BeginsWithParts message a b c → ⊥
-none_second message front rest a b c ends is none p =
+pub no_second_comma : (message front rest a b c : List ℕ) → HasNo 0x2C front → message ≡ front ++ (0x2C ∷ rest) → HasNo 0x2C rest → BeginsWithParts message a b c → ⊥
+no_second_comma message front rest a b c ends is none p =
     let first = one_cut front a rest _ ends p.first_ends (sym is ∙ p.joined) in
     no_cut rest b _ none first.1
 
@@ -93,19 +94,19 @@ three message first rest second more third first_ends is second_ends rest_is las
 -- ---- the rows of a server first message
 
 module _ (message a b c : List ℕ) (parts : BeginsWithParts message a b c) where
-  pub no_nonce : ((value : List ℕ) → a ≢ codes "r=" ++ value) → ServerFirstTextRow message Malformed
+  pub no_nonce : ((value : List ℕ) → a ≢ nonce_attribute ++ value) → ServerFirstTextRow message Malformed
   no_nonce none = inl (refl, λ nonce salt count f. none nonce (one_parts message a b c _ _ _ parts f.parts).first)
 
-  pub no_salt : ((value : List ℕ) → b ≢ codes "s=" ++ value) → ServerFirstTextRow message Malformed
+  pub no_salt : ((value : List ℕ) → b ≢ salt_attribute ++ value) → ServerFirstTextRow message Malformed
   no_salt none = inl (refl, λ nonce salt count f. none (base64_of salt) (one_parts message a b c _ _ _ parts f.parts).second)
 
-  pub no_base64 : (text : List ℕ) → b ≡ codes "s=" ++ text → ((bytes : List ℕ) → IsBytes bytes → text ≢ base64_of bytes) → ServerFirstTextRow message Malformed
+  pub no_base64 : (text : List ℕ) → b ≡ salt_attribute ++ text → ((bytes : List ℕ) → IsBytes bytes → text ≢ base64_of bytes) → ServerFirstTextRow message Malformed
   no_base64 text is none = inl (refl, λ nonce salt count f. none salt f.bytes (same_rest text (base64_of salt) (sym is ∙ (one_parts message a b c _ _ _ parts f.parts).second)))
     where
-      same_rest : (x y : List ℕ) → codes "s=" ++ x ≡ codes "s=" ++ y → x ≡ y
+      same_rest : (x y : List ℕ) → salt_attribute ++ x ≡ salt_attribute ++ y → x ≡ y
       same_rest x y is = tails 61 61 x y (tails 115 115 (61 ∷ x) (61 ∷ y) is)
 
-  pub no_count : ((value : List ℕ) → c ≢ codes "i=" ++ value) → ServerFirstTextRow message Malformed
+  pub no_count : ((value : List ℕ) → c ≢ iteration_count_attribute ++ value) → ServerFirstTextRow message Malformed
   no_count none = inl (refl, λ nonce salt count f. none count (one_parts message a b c _ _ _ parts f.parts).third)
 
 pub no_parts : (message : List ℕ) → ((a b c : List ℕ) → BeginsWithParts message a b c → ⊥) → ServerFirstTextRow message Malformed

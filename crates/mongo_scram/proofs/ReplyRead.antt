@@ -16,9 +16,9 @@ use Rattle.mongo_scram.specs.ServerMessages.{ServerFirstTextRow, SaysFinal}
 use Rattle.mongo_scram.specs.Replies.{FirstReplyRow, FinalReplyRow}
 
 -- an error that is handed on
-pub handed_on : {T : Type 0} (r : Result T Error) (e : Error) (Row : ErrorKind → Type 0) → IsErrAnd r (λ x. x ≡ e) → Row e.kind → IfErr r (λ x. Row x.kind)
-handed_on (Ok t) e Row is row = tt
-handed_on (Err x) e Row is row = subst (λ (y : Error). Row y.kind) (sym is) row
+pub row_handed_on : {T : Type 0} (r : Result T Error) (e : Error) (Row : ErrorKind → Type 0) → IsErrAnd r (λ x. x ≡ e) → Row e.kind → IfErr r (λ x. Row x.kind)
+row_handed_on (Ok t) e Row is row = tt
+row_handed_on (Err x) e Row is row = subst (λ (y : Error). Row y.kind) (sym is) row
 
 pub fault_handed_on : {T : Type 0} (r : Result T Error) (kind : ErrorKind) (Row : ErrorKind → Type 0) → IsErrAnd r (λ x. x.kind ≡ kind) → Row kind → IfErr r (λ x. Row x.kind)
 fault_handed_on (Ok t) kind Row is row = tt
@@ -29,10 +29,10 @@ pub reply_refused : (reply : List ℕ) (later : ErrorKind → Type 0) (kind : Er
 reply_refused reply later kind (inl row) = inl (inl row)
 reply_refused reply later kind (inr is) = inr is
 
-pub first_refused : (reply : List ℕ) (sasl : SaslResponse) (kind : ErrorKind) → IsSaslReply reply sasl → FirstRefused sasl.payload kind → FirstReplyRow reply kind ⊎ (kind ≡ OutOfMemory)
-first_refused reply sasl (Authentication fault) is row = inl (inr (sasl_reply_no_row reply sasl is, (fault, refl, (sasl, is, row))))
-first_refused reply sasl OutOfMemory is row = inr refl
-first_refused reply sasl kind is row = absurd row
+pub first_reply_refused : (reply : List ℕ) (sasl : SaslResponse) (kind : ErrorKind) → IsSaslReply reply sasl → FirstRefused sasl.payload kind → FirstReplyRow reply kind ⊎ (kind ≡ OutOfMemory)
+first_reply_refused reply sasl (Authentication fault) is row = inl (inr (sasl_reply_no_row reply sasl is, (fault, refl, (sasl, is, row))))
+first_reply_refused reply sasl OutOfMemory is row = inr refl
+first_reply_refused reply sasl kind is row = absurd row
 
 -- bytes that are no text are no message
 pub first_without_text : (payload : List ℕ) → (IsUtf8 payload → ⊥) → ServerFirstTextRow payload Malformed

@@ -6,7 +6,7 @@ use Rattle.mongo_scram.specs.declared.server_first.ServerFirst.{ServerFirst}
 use Rattle.mongo_scram.specs.declared.server_final.ServerFinal.{ServerFinal}
 use Rattle.mongo_scram.specs.User.{User}
 use Rattle.mongo_scram.specs.Plan.{Speculated, Handed, Challenge, nonce_by, verifier_by, start_said, close_said, ChallengeRow, challenged, opened, opening, NotCompletedRow, LastRow, closed, closing, scram_plan}
-use Rattle.mongo_scram.proofs.OneMessage.{one_first, one_final, one_first_row, one_final_row}
+use Rattle.mongo_scram.proofs.OneMessage.{one_carried_first, one_carried_final, one_first_row, one_final_row}
 use Rattle.mongo_scram.proofs.OneRow.{one_user, one_credential_row, one_valid_first_row, one_password_row, one_valid_final_row}
 
 -- ---- the opening
@@ -20,7 +20,7 @@ one_challenge_row handed c = one_else _ _ (one_valid_first_row c.first (nonce_by
 
 one_challenged : (handed : Handed) (user : User) (reply : List ℕ) → HasOneTurn (challenged handed user reply)
 one_challenged handed user reply =
-    one_unless _ _ (one_first_row reply) (one_reading _ _ (one_first reply) (λ first.
+    one_unless _ _ (one_first_row reply) (one_reading _ _ (one_carried_first reply) (λ first.
     one_unless _ _ (one_challenge_row handed (challenge_by_first user first)) (one_ending (challenge_by_first user first))))
 
 one_opened : (speculated : Option Speculated) (handed : Handed) (user : User) → HasOneTurn (opened speculated handed user)
@@ -40,7 +40,7 @@ one_refusal handed c last = one_else _ _ (one_valid_final_row last c.first.conve
 
 one_closed : (handed : Handed) (c : Challenge) (reply : List ℕ) → HasOneTurn (closed handed c reply)
 one_closed handed c reply =
-    one_unless _ _ (one_final_row reply) (one_reading _ _ (one_final reply) (λ last. one_unless _ _ (one_refusal handed c last) (one_ending c)))
+    one_unless _ _ (one_final_row reply) (one_reading _ _ (one_carried_final reply) (λ last. one_unless _ _ (one_refusal handed c last) (one_ending c)))
 
 pub one_closing : (handed : Handed) (c : Challenge) → HasOneTurn (closing handed c)
 one_closing handed c = one_saying (close_said handed c) (closed handed c) (one_closed handed c)

@@ -1,9 +1,10 @@
 -- A SCRAM login's events are a login by the script, and a login by the script has such events.
-use Rattle.std.proofs.Common.{◌≡◌, ℕ, Bool, false, true, refl, ap, sym, ◌∙◌, subst, Option, None, Some, List, [], ◌∷◌, ◌++◌, codes}
+use Rattle.std.proofs.Common.{◌≡◌, ℕ, Bool, false, true, refl, ap, sym, ◌∙◌, subst, Option, None, Some, List, [], ◌∷◌, ◌++◌}
 use Rattle.mongo_bson.specs.declared.owned_value.OwnedValue.{OwnedValue}
 use Rattle.mongo_sasl.specs.declared.sasl_response.SaslResponse.{SaslResponse}
 use Rattle.mongo_sasl.specs.Reply.{IsSaslReply}
 use Rattle.mongo_command.specs.Conversation.{Event}
+use Rattle.mongo_scram.specs.Attributes.{verifier_attribute}
 use Rattle.mongo_scram.specs.declared.server_final.ServerFinal.{ServerFinal}
 use Rattle.mongo_scram.specs.declared.server_final.ServerFinalBody.TheVariants.{Verifier}
 use Rattle.mongo_scram.specs.Base64.{base64_of}
@@ -24,7 +25,7 @@ said_by id done payload = record { conversation_id = id; done = done; payload = 
 
 -- the message that the server owes last
 abbrev owed_by : Handed → Challenge → List ℕ
-owed_by handed c = codes "v=" ++ base64_of (verifier_by handed c)
+owed_by handed c = verifier_attribute ++ base64_of (verifier_by handed c)
 
 -- ---- the conversation
 
@@ -39,7 +40,7 @@ first_said handed c reply is =
 last_payload : (handed : Handed) (c : Challenge) (reply : List ℕ) (is : IsProved handed c reply) → is.carries.sasl.payload ≡ owed_by handed c
 last_payload handed c reply is =
     let says : SaysFinal is.carries.sasl.payload (Verifier (Some (verifier_by handed c))) = subst (SaysFinal is.carries.sasl.payload) (verifier_in is.last c.first.conversation_id (verifier_by handed c) is.valid) is.carries.says in
-    says.1.1 ∙ ap (λ text. codes "v=" ++ text) says.1.2.1
+    says.1.1 ∙ ap (λ text. verifier_attribute ++ text) says.1.2.1
 
 last_said : (handed : Handed) (c : Challenge) (reply : List ℕ) → IsProved handed c reply → IsSaslReply reply (said_by c.first.conversation_id true (owed_by handed c))
 last_said handed c reply is =

@@ -1,3 +1,4 @@
+pub mod Attributes
 pub mod Base64
 pub mod Cache
 pub mod Client

@@ -3,20 +3,21 @@
 use Rattle.std.specs.Prelude.{ℕ, List, ◌++◌, codes}
 use Rattle.mongo_mac.specs.Bytes.{xor_bytes}
 use Rattle.mongo_mac.specs.Hmac.{hmac_of}
+use Rattle.mongo_scram.specs.Attributes.{after_comma, bound_nonce_attribute, gs2_header, nonce_attribute, proof_attribute, user_name_attribute}
 use Rattle.mongo_scram.specs.Base64.{base64_of}
 use Rattle.mongo_scram.specs.UserName.{escaped}
 
 -- client-first-message-bare: the user name and the client's nonce
 unfoldable pub bare_message : List ℕ → List ℕ → List ℕ
-bare_message user nonce = codes "n=" ++ (escaped user ++ (codes ",r=" ++ nonce))
+bare_message user nonce = user_name_attribute ++ (escaped user ++ (after_comma nonce_attribute ++ nonce))
 
 -- client-first-message
 unfoldable pub open_message : List ℕ → List ℕ → List ℕ
-open_message user nonce = codes "n,," ++ bare_message user nonce
+open_message user nonce = gs2_header ++ bare_message user nonce
 
 -- client-final-message-without-proof, of the server's nonce
 unfoldable pub no_proof : List ℕ → List ℕ
-no_proof nonce = codes "c=biws,r=" ++ nonce
+no_proof nonce = bound_nonce_attribute ++ nonce
 
 -- AuthMessage, of client-first-message-bare, server-first-message and the server's nonce
 unfoldable pub transcript : List ℕ → List ℕ → List ℕ → List ℕ
@@ -34,7 +35,7 @@ proof h salted auth_message = xor_bytes (client_key h salted) (hmac_of h (h (cli
 
 -- client-final-message
 unfoldable pub close_message : (List ℕ → List ℕ) → List ℕ → List ℕ → List ℕ → List ℕ
-close_message h salted auth_message nonce = no_proof nonce ++ (codes ",p=" ++ base64_of (proof h salted auth_message))
+close_message h salted auth_message nonce = no_proof nonce ++ (after_comma proof_attribute ++ base64_of (proof h salted auth_message))
 
 -- ServerSignature, which the server's verifier is
 unfoldable pub verifier : (List ℕ → List ℕ) → List ℕ → List ℕ → List ℕ

@@ -1,8 +1,9 @@
 -- The script of a SCRAM login, as whole lists: which commands are written and which replies are taken. It knows no buffer,
 -- no cache and no order of steps.
-use Rattle.std.specs.Prelude.{◌≡◌, ℕ, true, false, Option, None, Some, List, [], ◌∷◌, ◌++◌, codes}
+use Rattle.std.specs.Prelude.{◌≡◌, ℕ, true, false, Option, None, Some, List, [], ◌∷◌, ◌++◌}
 use Rattle.mongo_wire.specs.declared.error.ErrorKind.{ErrorKind}
 use Rattle.mongo_sasl.specs.Reply.{IsSaslReply}
+use Rattle.mongo_scram.specs.Attributes.{verifier_attribute}
 use Rattle.mongo_scram.specs.Base64.{base64_of}
 use Rattle.mongo_scram.specs.Key.{PasswordRow}
 use Rattle.mongo_scram.specs.ServerMessages.{IsServerFirst, IsIterationCount}
@@ -25,7 +26,7 @@ pub record IsConversation (handed : Handed) (user : User) (first_reply command l
   pub usable : (kind : ErrorKind) → PasswordRow handed.version user.password kind → ⊥
   -- the client proves the key, and the server does
   pub command_is : command ≡ (close_said handed challenge).document
-  pub ended : IsSaslReply last_reply (record { conversation_id = challenge.first.conversation_id; done = true; payload = codes "v=" ++ base64_of (verifier_by handed challenge) })
+  pub ended : IsSaslReply last_reply (record { conversation_id = challenge.first.conversation_id; done = true; payload = verifier_attribute ++ base64_of (verifier_by handed challenge) })
 
 -- with a first round that went with the hello, one command and its reply are left; without one, there are two
 abbrev pub IsLoginFrom : Option Speculated → Handed → User → List (List ℕ) → List (List ℕ) → Type 0

@@ -1,6 +1,6 @@
 -- What the server says in a SCRAM conversation (RFC 5802, sections 5.1 and 7): lists of attributes, each a letter, `=`
 -- and a value, parted by commas.
-use Rattle.std.specs.Prelude.{◌≡◌, ◌≢◌, ℕ, ◌^◌, ◌<◌, ◌⊎◌, List, [], ◌∷◌, ◌++◌, codes}
+use Rattle.std.specs.Prelude.{◌≡◌, ◌≢◌, ℕ, ◌^◌, ◌<◌, ◌⊎◌, List, [], ◌∷◌, ◌++◌}
 use Rattle.std.specs.List.{AllByRecursion}
 use Rattle.std.specs.Str.{IsUtf8}
 use Rattle.std.specs.Str.Parse.{IsNumeral, digits_value, without_leading_plus}
@@ -8,6 +8,7 @@ use Rattle.base64.specs.GeneralPurpose.{IsBytes}
 use Rattle.mongo_wire.specs.declared.auth_fault.AuthFault.{AuthFault}
 use Rattle.mongo_wire.specs.declared.auth_fault.AuthFault.TheVariants.{Malformed, CountUnreadable}
 use Rattle.mongo_command.specs.Conversation.{or_else, row_for}
+use Rattle.mongo_scram.specs.Attributes.{error_attribute, iteration_count_attribute, nonce_attribute, salt_attribute, verifier_attribute}
 use Rattle.mongo_scram.specs.Base64.{base64_of, Decodes}
 use Rattle.mongo_scram.specs.declared.server_final.ServerFinalBody.{ServerFinalBody}
 use Rattle.mongo_scram.specs.declared.server_final.ServerFinalBody.TheVariants.{Error, Verifier}
@@ -28,7 +29,7 @@ pub record BeginsWithParts (message first second third : List ℕ) : Type 0 wher
 -- `server-first-message`: `r=` and the nonce, `s=` and the salt in base64, `i=` and the text of the iteration count
 pub record IsServerFirst (message nonce salt count : List ℕ) : Type 0 where
   pub text : IsUtf8 message
-  pub parts : BeginsWithParts message (codes "r=" ++ nonce) (codes "s=" ++ base64_of salt) (codes "i=" ++ count)
+  pub parts : BeginsWithParts message (nonce_attribute ++ nonce) (salt_attribute ++ base64_of salt) (iteration_count_attribute ++ count)
   pub bytes : IsBytes salt
 
 -- the text is this number in decimal digits, where a `+` may stand first
@@ -50,8 +51,8 @@ pub record IsBeforeComma (text part : List ℕ) : Type 0 where
 
 -- what the attribute says: `e=` and an error's text, or `v=` and the verifier in base64
 abbrev pub SaysAttribute : List ℕ → ServerFinalBody → Type 0
-SaysAttribute message (Error text) = message ≡ codes "e=" ++ text
-SaysAttribute message (Verifier bytes) = (text : List ℕ) × (message ≡ codes "v=" ++ text) × Decodes text bytes
+SaysAttribute message (Error text) = message ≡ error_attribute ++ text
+SaysAttribute message (Verifier bytes) = (text : List ℕ) × (message ≡ verifier_attribute ++ text) × Decodes text bytes
 
 -- `server-final-message`
 abbrev pub SaysFinal : List ℕ → ServerFinalBody → Type 0

@@ -1,18 +1,16 @@
 // The texts of a client's messages (RFC 5802, sections 3 and 7), each with room for it taken first; the name as a message has it,
 // and a proof's base64, have memory of their own. Each is refused for want of memory alone.
 
-ghost use Rattle.std.specs.Prelude.{◌≡◌, ◌+◌, ◌-◌, ◌^◌, min, ◌++◌, codes, IfOk, OnOk, string_bytes};
+ghost use Rattle.std.specs.Prelude.{◌≡◌, ◌+◌, ◌-◌, ◌^◌, min, ◌++◌, IfOk, OnOk, string_bytes};
+ghost use Rattle.mongo_scram.specs.Attributes.{after_comma, proof_attribute};
 ghost use Rattle.mongo_scram.specs.Base64.{base64_of};
 ghost use Rattle.mongo_scram.specs.Messages.{open_message, no_proof, transcript};
 
-use crate::attributes::{BOUND_NONCE, NEXT_NONCE, USER_NAME};
+use crate::attributes::{BOUND_NONCE, GS2_HEADER, NEXT_NONCE, NEXT_PROOF, USER_NAME};
 use crate::base64_text::encoded;
 use crate::user_name::saslname;
 use mongo_mac::Tag;
 use std::alloc::{AllocError, Global};
-
-/// What the client says of channel binding: it has none, and names no other user (RFC 5802, section 7, `gs2-header`).
-pub const GS2_HEADER: &str = "n,,";
 
 // How many bytes stand in a message beside the texts that it is made of, at most: letters, commas, equals signs and a count.
 const MARKS: usize = 24;
@@ -55,12 +53,12 @@ pub fn transcript_text(
 
 /// `c=biws,r=` the nonce `,p=` the proof in base64.
 pub fn close_text(alloc: Global, nonce: &str, proof: &Tag) -> Result<String, AllocError>
-    ensures { IfOk result (λ text. string_bytes text ≡ no_proof nonce.now ++ (codes ",p=" ++ base64_of proof.now)) }
+    ensures { IfOk result (λ text. string_bytes text ≡ no_proof nonce.now ++ (after_comma proof_attribute ++ base64_of proof.now)) }
 {
     let proof = encoded(alloc, proof.as_bytes())?;
     let mut text = String::with_capacity(alloc, room(nonce.len(), proof.len()))?;
     push_no_proof(&mut text, nonce)?;
-    text.push_str(",p=")?;
+    text.push_str(NEXT_PROOF)?;
     text.push_str(proof.as_str())?;
     Ok(text)
 }

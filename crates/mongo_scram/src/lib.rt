@@ -47,7 +47,7 @@ mod user_name;
 pub use auth_info::ClientAuthInfo;
 pub use base64_text::{decoded, encoded};
 pub use cache::{SaltedCache, SaltedKey};
-pub use client_texts::{GS2_HEADER, room, transcript_text};
+pub use client_texts::{room, transcript_text};
 pub use conversation::FirstRound;
 pub use keys::Keys;
 pub use messages::{ClientFinal, ClientFirst, nonce_text};

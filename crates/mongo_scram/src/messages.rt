@@ -1,10 +1,12 @@
 ghost use Rattle.std.specs.Prelude.{◌≡◌, codes, take, IfOk, IfErr, string_bytes};
+ghost use Rattle.mongo_scram.specs.Attributes.{gs2_header};
 ghost use Rattle.mongo_scram.specs.Base64.{base64_of};
 ghost use Rattle.mongo_wire.specs.declared.error.ErrorKind.TheVariants.{OutOfMemory};
 
 use crate::ScramVersion;
+use crate::attributes::GS2_HEADER;
 use crate::base64_text::encoded;
-use crate::client_texts::{GS2_HEADER, close_text, open_text, transcript_text};
+use crate::client_texts::{close_text, open_text, transcript_text};
 use crate::salted_password::SaltedPassword;
 use crate::server_first::ServerFirst;
 use mongo_bson::{Bytes, OwnedValue, RawValue, Text};
@@ -31,7 +33,7 @@ pub struct ClientFirst {
     nonce: Text,
     include_db: bool,
     server_api: Option<ServerApi>,
-    pub ghost opens: { take 3 (string_bytes message) ≡ codes "n,," },
+    pub ghost opens: { take 3 (string_bytes message) ≡ gs2_header },
 }
 
 // Dropped by a call, so that the proofs of its owners don't walk through its parts.
@@ -141,7 +143,7 @@ impl ClientFirst {
 
     /// The GS2 header, `n,,`.
     pub fn gs2_header(&self) -> &str
-        ensures { result.now ≡ codes "n,," }
+        ensures { result.now ≡ gs2_header }
     {
         GS2_HEADER
     }

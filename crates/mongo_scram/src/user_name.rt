@@ -1,8 +1,9 @@
 // The user name in a message (RFC 5802, section 5.1, `saslname`).
 
-ghost use Rattle.std.specs.Prelude.{◌≡◌, ◌++◌, IfOk, OnOk, string_bytes, encode_utf8};
+ghost use Rattle.std.specs.Prelude.{◌≡◌, ◌∷◌, ◌++◌, IfOk, OnOk, string_bytes, encode_utf8};
 ghost use Rattle.mongo_scram.specs.UserName.{escaped};
 
+use crate::attributes::{COMMA_CODE, EQUALS_CODE};
 use mongo_bson::Text;
 use std::alloc::{AllocError, Global};
 
@@ -23,10 +24,17 @@ fn push_character(text: &mut String, character: char) -> Result<(), AllocError>
     ensures { OnOk result (string_bytes text.new ≡ string_bytes text.old ++ escaped (encode_utf8 character)) }
 {
     if character == '=' {
-        text.push_str("=3D")
+        push_code(text, EQUALS_CODE)
     } else if character == ',' {
-        text.push_str("=2C")
+        push_code(text, COMMA_CODE)
     } else {
         text.push(character)
     }
+}
+
+fn push_code(text: &mut String, code: &str) -> Result<(), AllocError>
+    ensures { OnOk result (string_bytes text.new ≡ string_bytes text.old ++ (0x3D ∷ code.now)) }
+{
+    text.push('=')?;
+    text.push_str(code)
 }

@@ -1,5 +1,5 @@
 -- The server's first message is one that a client reads.
-use Rattle.std.proofs.Common.{◌≡◌, ◌≢◌, ◌<◌, ◌^◌, ℕ, List, [], ◌∷◌, ◌++◌, get_or, codes, decimal, refl, ap, sym, subst, ◌∙◌, inl, arith, append-nil}
+use Rattle.std.proofs.Common.{◌≡◌, ◌≢◌, ◌<◌, ◌^◌, ℕ, List, [], ◌∷◌, ◌++◌, get_or, decimal, refl, ap, sym, subst, ◌∙◌, inl, arith, append-nil}
 use Rattle.std.specs.Int.{IsInRange}
 use Rattle.std.specs.List.{AllByRecursion}
 use Rattle.std.specs.Str.{IsUtf8}
@@ -12,6 +12,7 @@ use Rattle.std.proofs.lemmas.Str.Parse.{digit_at, without_leading_plus_none}
 use Rattle.base64.specs.Engines.{standard}
 use Rattle.base64.specs.GeneralPurpose.{IsBytes}
 use Rattle.base64.proofs.EngineFacts.{IsAscii-encode_of}
+use Rattle.mongo_scram.specs.Attributes.{after_comma, iteration_count_attribute, nonce_attribute, salt_attribute}
 use Rattle.mongo_scram.specs.Base64.{base64_of}
 use Rattle.mongo_scram.specs.ServerMessages.{HasNo, IsServerFirst, IsIterationCount}
 use Rattle.mongo_server.specs.ClientMessages.{IsNonce}
@@ -32,8 +33,8 @@ digits_no_comma (digit ∷ digits) all =
     let range : IsInRange 48 57 digit = digit_at (digit ∷ digits) 0 all (omega arith) in
     (λ is. absurd (omega (arith, is, range.0)), digits_no_comma digits all.1)
 
-parts_joined : (nonce salt : List ℕ) (count : ℕ) → server_first nonce salt count ≡ (codes "r=" ++ nonce) ++ (0x2C ∷ ((codes "s=" ++ base64_of salt) ++ (0x2C ∷ ((codes "i=" ++ decimal count) ++ []))))
-parts_joined nonce salt count = ap (λ digits. codes "r=" ++ (nonce ++ (codes ",s=" ++ (base64_of salt ++ (codes ",i=" ++ digits))))) (sym (append-nil (decimal count)))
+parts_joined : (nonce salt : List ℕ) (count : ℕ) → server_first nonce salt count ≡ (nonce_attribute ++ nonce) ++ (0x2C ∷ ((salt_attribute ++ base64_of salt) ++ (0x2C ∷ ((iteration_count_attribute ++ decimal count) ++ []))))
+parts_joined nonce salt count = ap (λ digits. nonce_attribute ++ (nonce ++ (after_comma salt_attribute ++ (base64_of salt ++ (after_comma iteration_count_attribute ++ digits))))) (sym (append-nil (decimal count)))
 
 base64_text : (bytes : List ℕ) → IsUtf8 (base64_of bytes)
 unfolding base64_of
@@ -44,11 +45,11 @@ read_first nonce salt count is_nonce bytes within =
     let numeral = (decimal_is_IsNumeral count (omega (arith, within))).0 in
     record {
       text =
-          IsUtf8-append (codes "r=") (nonce ++ (codes ",s=" ++ (base64_of salt ++ (codes ",i=" ++ decimal count)))) (ascii_text (codes "r=") (omega arith, (omega arith, tt)))
-          (IsUtf8-append nonce (codes ",s=" ++ (base64_of salt ++ (codes ",i=" ++ decimal count))) (nonce_text nonce is_nonce)
-          (IsUtf8-append (codes ",s=") (base64_of salt ++ (codes ",i=" ++ decimal count)) (ascii_text (codes ",s=") (omega arith, (omega arith, (omega arith, tt))))
-          (IsUtf8-append (base64_of salt) (codes ",i=" ++ decimal count) (base64_text salt)
-          (IsUtf8-append (codes ",i=") (decimal count) (ascii_text (codes ",i=") (omega arith, (omega arith, (omega arith, tt))))
+          IsUtf8-append nonce_attribute (nonce ++ (after_comma salt_attribute ++ (base64_of salt ++ (after_comma iteration_count_attribute ++ decimal count)))) (ascii_text nonce_attribute (omega arith, (omega arith, tt)))
+          (IsUtf8-append nonce (after_comma salt_attribute ++ (base64_of salt ++ (after_comma iteration_count_attribute ++ decimal count))) (nonce_text nonce is_nonce)
+          (IsUtf8-append (after_comma salt_attribute) (base64_of salt ++ (after_comma iteration_count_attribute ++ decimal count)) (ascii_text (after_comma salt_attribute) (omega arith, (omega arith, (omega arith, tt))))
+          (IsUtf8-append (base64_of salt) (after_comma iteration_count_attribute ++ decimal count) (base64_text salt)
+          (IsUtf8-append (after_comma iteration_count_attribute) (decimal count) (ascii_text (after_comma iteration_count_attribute) (omega arith, (omega arith, (omega arith, tt))))
           (IsUtf8-from_ascii (decimal count) (IsAscii-decimal count (omega (arith, within))))))));
       parts = record {
         extensions = [];

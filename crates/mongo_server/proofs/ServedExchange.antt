@@ -1,7 +1,8 @@
 -- The server of an exchange says its messages: the first, the verifier, and the proof that it takes.
-use Rattle.std.proofs.Common.{◌≡◌, ℕ, Some, Result, Ok, Err, List, ◌++◌, codes, decimal, IfOk, IfErr, MatchResult, OnOk, refl, ap, sym, subst, ◌∙◌, inl, inr}
+use Rattle.std.proofs.Common.{◌≡◌, ℕ, Some, Result, Ok, Err, List, ◌++◌, decimal, IfOk, IfErr, MatchResult, OnOk, refl, ap, sym, subst, ◌∙◌, inl, inr}
 use Rattle.std.proofs.lemmas.List.Elements.{All-append}
 use Rattle.base64.specs.GeneralPurpose.{IsBytes}
+use Rattle.mongo_scram.specs.Attributes.{after_comma, proof_attribute}
 use Rattle.mongo_scram.specs.Base64.{base64_of}
 use Rattle.mongo_scram.specs.Keys.{proof_under, verifier_under}
 use Rattle.mongo_scram.specs.Messages.{bare_message, no_proof, transcript, proof, close_message}
@@ -16,12 +17,12 @@ use Rattle.mongo_server.specs.ClientMessages.{IsNonceByte, IsNonce, IsClientFirs
 use Rattle.mongo_server.specs.Exchange.{Exchange, joined_of, salted_between, open_of, first_of, auth_message_between, close_of, server_final_of, IsReadAs}
 use Rattle.mongo_server.specs.Server.{server_user, salt_of, suffix_of, username_of, held_conversation, first_by, conversation_by, ClientFirstRow, IsClientFinalTaken, ClientFinalRefused, Serves, HasBegun}
 use Rattle.mongo_server.specs.ServerTexts.{server_first, server_final}
-use Rattle.mongo_server.proofs.ClientFirsts.{one_first}
+use Rattle.mongo_server.proofs.ClientFirsts.{one_client_first}
 use Rattle.mongo_server.specs.Acceptance.{Accepts}
 use Rattle.mongo_server.specs.User.{IsUserOf}
 use Rattle.mongo_server.proofs.Accepted.{accepts}
 use Rattle.mongo_server.proofs.ReadFirst.{read_first, read_count}
-use Rattle.mongo_server.proofs.ServerRows.{first_no_row, taken_no_row}
+use Rattle.mongo_server.proofs.ServerRows.{first_no_row, final_no_row}
 use Rattle.mongo_server.proofs.ProofBytes.{proof_bytes}
 
 -- ---- the first message
@@ -67,7 +68,7 @@ module _ (core : ServerCore) (x : Exchange) (serves : Serves core x) where
 pub accepts_first : (core new : ServerCore) (message text nonce : List ℕ) → IsClientFirst message (username_of core) nonce → text ≡ first_by core nonce → IsBytes (salt_of core) → server_user new ≡ server_user core → suffix_of new ≡ suffix_of core → held_conversation new ≡ Some (conversation_by core nonce)
     → (x : Exchange) → Serves core x → IsNonce x.nonce → message ≡ open_of x → IsReadAs text x × HasBegun new x
 accepts_first core new message text nonce first text_is bytes same_user same_suffix begun x serves printable is =
-    let same = (one_first message (username_of core) nonce x.username x.nonce first (client_first core x serves message printable is)).nonce_is in
+    let same = (one_client_first message (username_of core) nonce x.username x.nonce first (client_first core x serves message printable is)).nonce_is in
     (answer_read_as core x serves text nonce same printable bytes text_is, has_begun core x serves new nonce same printable bytes same_user same_suffix begun)
 
 -- a client of the exchange isn't refused
@@ -101,7 +102,7 @@ module _ (core : ServerCore) (x : Exchange) (begun : HasBegun core x) where
   -- what it takes is the client's last message
   taken_is : (message : List ℕ) → IsClientFinalTaken core message → message ≡ close_of x
   unfolding close_message
-  taken_is message is = is.2.message_is ∙ (λ i. no_proof ((held_is is.0 is.1 i).nonce) ++ (codes ",p=" ++ base64_of (owed_is is.0 is.1 i)))
+  taken_is message is = is.2.message_is ∙ (λ i. no_proof ((held_is is.0 is.1 i).nonce) ++ (after_comma proof_attribute ++ base64_of (owed_is is.0 is.1 i)))
 
   accepted_text : (text : List ℕ) (held : ServerConversation) → held_conversation core ≡ Some held → text ≡ server_final (verifier_under core.user.keys held.auth_message) → (text ≡ server_final_of x) × Accepts x text
   accepted_text text held is text_is =
@@ -118,7 +119,7 @@ pub takes_final : (core : ServerCore) (message : List ℕ) (fault : ServerFault)
 takes_final core message fault (inl row) x begun is =
     let held = exchange_held core x begun in
     let last = subst (λ bytes. IsClientFinal message held.nonce bytes) (sym (owed_is core x begun held begun.held)) (client_final core x begun message is) in
-    absurd (taken_no_row core message (held, begun.held, last) fault row)
+    absurd (final_no_row core message (held, begun.held, last) fault row)
 takes_final core message fault (inr memory) x begun is = memory.0
 
 -- and no other message is taken

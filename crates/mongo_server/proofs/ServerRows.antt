@@ -10,9 +10,9 @@ use Rattle.mongo_server.specs.declared.server_core.ServerCore.{ServerCore}
 use Rattle.mongo_server.specs.ClientMessages.{IsClientFirst, IsClientFinal}
 use Rattle.mongo_scram.specs.Keys.{proof_under}
 use Rattle.mongo_server.specs.Server.{username_of, held_conversation, ClientFirstRow, ClientFinalRow, ClientFinalRefused, IsClientFinalTaken}
-use Rattle.mongo_server.proofs.ClientFirsts.{one_first}
+use Rattle.mongo_server.proofs.ClientFirsts.{one_client_first}
 use Rattle.mongo_server.proofs.UserNames.{escaped_same}
-use Rattle.mongo_server.proofs.ClientFinals.{one_final}
+use Rattle.mongo_server.proofs.ClientFinals.{one_client_final}
 
 -- ---- the first message
 
@@ -25,7 +25,7 @@ one_first_errors core message a is fault row = ap Err (one_first_row core messag
 pub first_no_row : (core : ServerCore) (message nonce : List ℕ) → IsClientFirst message (username_of core) nonce → HasNone (ClientFirstRow core message)
 first_no_row core message nonce is =
     none_else _ _ (no_row _ _ (λ none. none (username_of core) nonce is))
-    (no_row _ _ (λ row. row.3 (one_first message row.0 row.1 (username_of core) nonce row.2 is).username_is))
+    (no_row _ _ (λ row. row.3 (one_client_first message row.0 row.1 (username_of core) nonce row.2 is).username_is))
 
 -- the name that it says is the user's where their texts are one
 pub heard_of : (core : ServerCore) (message username nonce text : List ℕ) → IsClientFirst message username nonce → text ≡ escaped username → text ≡ core.user.saslname → username ≡ username_of core
@@ -45,7 +45,7 @@ one_final_row core message = one_else _ _ (one_row _ _) (one_else _ _ (one_row _
 -- a message of the nonce that is held has no other
 nonce_held : (core : ServerCore) (message : List ℕ) (c : ServerConversation) (proof : List ℕ) → held_conversation core ≡ Some c → IsClientFinal message c.nonce proof → (d : ServerConversation) (nonce other : List ℕ) → held_conversation core ≡ Some d → IsClientFinal message nonce other → nonce ≡ d.nonce
 nonce_held core message c proof is final d nonce other also last =
-    (one_final message nonce other c.nonce proof last final).nonce_is ∙ ap (λ (x : ServerConversation). x.nonce) (one_held (held_conversation core) c d is also)
+    (one_client_final message nonce other c.nonce proof last final).nonce_is ∙ ap (λ (x : ServerConversation). x.nonce) (one_held (held_conversation core) c d is also)
 
 pub proof_row : (core : ServerCore) (message : List ℕ) (held : ServerConversation) (proof : List ℕ) → held_conversation core ≡ Some held → IsClientFinal message held.nonce proof → proof ≢ proof_under core.user.keys held.auth_message → ClientFinalRow core message Proof
 proof_row core message held proof is final other =
@@ -60,16 +60,16 @@ proof_row core message held proof is final other =
       ),
     )
 
-pub taken_no_row : (core : ServerCore) (message : List ℕ) → IsClientFinalTaken core message → HasNone (ClientFinalRow core message)
-taken_no_row core message is =
+pub final_no_row : (core : ServerCore) (message : List ℕ) → IsClientFinalTaken core message → HasNone (ClientFinalRow core message)
+final_no_row core message is =
     let proof = proof_under core.user.keys is.0.auth_message in
     none_else _ _ (no_row _ _ (λ none. not_started (held_conversation core) is.0 none is.1))
     (none_else _ _ (no_row _ _ (λ none. none is.0.nonce proof is.2))
     (none_else _ _ (no_row _ _ (λ row. row.2.3 (nonce_held core message is.0 proof is.1 is.2 row.0 row.2.0 row.2.1 row.1 row.2.2)))
-    (no_row _ _ (λ row. row.2.2 ((one_final message row.0.nonce row.2.0 is.0.nonce proof row.2.1 is.2).proof_is ∙ ap (λ (c : ServerConversation). proof_under core.user.keys c.auth_message) (one_held (held_conversation core) is.0 row.0 is.1 row.1))))))
+    (no_row _ _ (λ row. row.2.2 ((one_client_final message row.0.nonce row.2.0 is.0.nonce proof row.2.1 is.2).proof_is ∙ ap (λ (c : ServerConversation). proof_under core.user.keys c.auth_message) (one_held (held_conversation core) is.0 row.0 is.1 row.1))))))
 
 pub exact_taken : {T : Type 0} (core : ServerCore) (message : List ℕ) (r : Result T ServerFault) → IsClientFinalTaken core message → (fault : ServerFault) → ClientFinalRow core message fault → (r ≡ Err fault) ⊎ (r ≡ Err OutOfMemory)
-exact_taken core message r is fault row = absurd (taken_no_row core message is fault row)
+exact_taken core message r is fault row = absurd (final_no_row core message is fault row)
 
 pub exact_refused : {T : Type 0} (core : ServerCore) (message : List ℕ) (a : ServerFault) → ClientFinalRefused core message a → (fault : ServerFault) → ClientFinalRow core message fault → (◌≡◌ {A = Result T ServerFault} (Err a) (Err fault)) ⊎ (◌≡◌ {A = Result T ServerFault} (Err a) (Err OutOfMemory))
 exact_refused core message a (inl is) fault row = inl (ap Err (one_final_row core message a fault is row))

@@ -1,5 +1,5 @@
 -- User names as messages carry them: each has one name, and is a text exactly where the name is.
-use Rattle.std.proofs.Common.{◌≡◌, ◌≢◌, ◌⊎◌, ◌<◌, ◌≤◌, ◌==◌, ℕ, zero, suc, true, List, [], ◌∷◌, ◌++◌, length, get_or, drop, if◌then◌else◌, codes, refl, ap, sym, subst, ◌∙◌, inl, inr, arith, length-append}
+use Rattle.std.proofs.Common.{◌≡◌, ◌≢◌, ◌⊎◌, ◌<◌, ◌≤◌, ◌==◌, ℕ, zero, suc, true, List, [], ◌∷◌, ◌++◌, length, get_or, drop, if◌then◌else◌, refl, ap, sym, subst, ◌∙◌, inl, inr, arith, length-append}
 use Rattle.std.specs.List.{AllByRecursion}
 use Rattle.std.specs.Str.{IsUtf8}
 use Rattle.std.proofs.lemmas.Bool.{cases_eq, ne_eqb, lt-ltb, and_parts}
@@ -9,7 +9,7 @@ use Rattle.std.proofs.lemmas.Str.Ascii.{IsAscii-nil, IsAscii-cons}
 use lib.Utf8.{encode, encodes, scalars, scalar}
 use Rattle.std.specs.Char.{IsScalar}
 use Rattle.mongo_scram.specs.ServerMessages.{HasNo}
-use Rattle.mongo_scram.specs.UserName.{escaped, escaped_byte}
+use Rattle.mongo_scram.specs.UserName.{escaped, escaped_byte, comma_code, equals_code}
 use Rattle.mongo_server.specs.SaslName.{IsSaslName}
 use Rattle.mongo_scram.proofs.Parts.{heads, tails}
 use Rattle.mongo_scram.proofs.Escaped.{IsPlain, escaped_byte-plain, escaped-plain, encode-plain, other_character}
@@ -90,7 +90,7 @@ pub record IsCode (code after : List ℕ) : Type 0 where
   pub byte : ℕ
   pub coded : 0x3D ∷ code ≡ escaped_byte byte ++ after
 
-pub code_of : (code after : List ℕ) → (code ≡ codes "3D" ++ after) ⊎ (code ≡ codes "2C" ++ after) → IsCode code after
+pub code_of : (code after : List ℕ) → (code ≡ equals_code ++ after) ⊎ (code ≡ comma_code ++ after) → IsCode code after
 code_of code after (inl is) = record { byte = 0x3D; coded = ap (λ x. 0x3D ∷ x) is }
 code_of code after (inr is) = record { byte = 0x2C; coded = ap (λ x. 0x3D ∷ x) is }
 
@@ -121,11 +121,11 @@ pub record IsCutAtEquals (text front code after : List ℕ) : Type 0 where
 front_plain : (text front code after : List ℕ) → HasNo 0x2C text → IsCutAtEquals text front code after → AllByRecursion IsPlain front
 front_plain text front code after none is = plain front is.no_equals (comma_front front (0x3D ∷ code) (subst (HasNo 0x2C) is.joined none))
 
-coded_back : (code after : List ℕ) → IsCode code after → (code ≡ codes "3D" ++ after) ⊎ (code ≡ codes "2C" ++ after) → HasNo 0x2C code → HasNo 0x2C after
-coded_back code after is (inl by) none = comma_back (codes "3D") after (subst (HasNo 0x2C) by none)
-coded_back code after is (inr by) none = comma_back (codes "2C") after (subst (HasNo 0x2C) by none)
+coded_back : (code after : List ℕ) → IsCode code after → (code ≡ equals_code ++ after) ⊎ (code ≡ comma_code ++ after) → HasNo 0x2C code → HasNo 0x2C after
+coded_back code after is (inl by) none = comma_back equals_code after (subst (HasNo 0x2C) by none)
+coded_back code after is (inr by) none = comma_back comma_code after (subst (HasNo 0x2C) by none)
 
-pub after_no_comma : (text front code after : List ℕ) → HasNo 0x2C text → text ≡ front ++ (0x3D ∷ code) → (code ≡ codes "3D" ++ after) ⊎ (code ≡ codes "2C" ++ after) → HasNo 0x2C after
+pub after_no_comma : (text front code after : List ℕ) → HasNo 0x2C text → text ≡ front ++ (0x3D ∷ code) → (code ≡ equals_code ++ after) ⊎ (code ≡ comma_code ++ after) → HasNo 0x2C after
 after_no_comma text front code after none is by = coded_back code after (code_of code after by) by (comma_back front (0x3D ∷ code) (subst (HasNo 0x2C) is none)).1
 
 pub whole_from : (text front code after : List ℕ) → HasNo 0x2C text → IsCutAtEquals text front code after → IsSaslName after → IsSaslName text
@@ -135,20 +135,20 @@ pub after_from : (text front code after : List ℕ) → HasNo 0x2C text → IsCu
 after_from text front code after none is named = behind_code code after is.is_code (behind_plain front (0x3D ∷ code) (front_plain text front code after none is) (subst IsSaslName is.joined named))
 
 -- with no code behind its first `=`, a text is no name's
-no_code_here : (code rest : List ℕ) (byte : ℕ) → 0x3D ∷ code ≡ escaped_byte byte ++ rest → ((more : List ℕ) → (code ≢ codes "3D" ++ more) × (code ≢ codes "2C" ++ more)) → ⊥
+no_code_here : (code rest : List ℕ) (byte : ℕ) → 0x3D ∷ code ≡ escaped_byte byte ++ rest → ((more : List ℕ) → (code ≢ equals_code ++ more) × (code ≢ comma_code ++ more)) → ⊥
 no_code_here code rest byte same none =
     by_byte (λ b. 0x3D ∷ code ≡ escaped_byte b ++ rest → ⊥)
-    (λ here. (none rest).0 (tails 0x3D 0x3D code (codes "3D" ++ rest) here))
-    (λ here. (none rest).1 (tails 0x3D 0x3D code (codes "2C" ++ rest) here))
+    (λ here. (none rest).0 (tails 0x3D 0x3D code (equals_code ++ rest) here))
+    (λ here. (none rest).1 (tails 0x3D 0x3D code (comma_code ++ rest) here))
     (λ b plain here. plain.0 (sym (heads 0x3D b code rest (here ∙ ap (λ x. x ++ rest) (escaped_byte-plain b plain)))))
     byte same
 
-no_name_here : (code : List ℕ) → ((more : List ℕ) → (code ≢ codes "3D" ++ more) × (code ≢ codes "2C" ++ more)) → IsSaslName (0x3D ∷ code) → ⊥
+no_name_here : (code : List ℕ) → ((more : List ℕ) → (code ≢ equals_code ++ more) × (code ≢ comma_code ++ more)) → IsSaslName (0x3D ∷ code) → ⊥
 no_name_here code none ([], same) = absurd (cc same)
 no_name_here code none (b ∷ name, same) = no_code_here code (escaped name) b same none
 
-pub no_name : (text front code : List ℕ) → HasNo 0x2C text → text ≡ front ++ (0x3D ∷ code) → HasNo 0x3D front → ((more : List ℕ) → (code ≢ codes "3D" ++ more) × (code ≢ codes "2C" ++ more)) → IsSaslName text → ⊥
-no_name text front code no_comma is no_equals none named =
+pub no_escaped_name : (text front code : List ℕ) → HasNo 0x2C text → text ≡ front ++ (0x3D ∷ code) → HasNo 0x3D front → ((more : List ℕ) → (code ≢ equals_code ++ more) × (code ≢ comma_code ++ more)) → IsSaslName text → ⊥
+no_escaped_name text front code no_comma is no_equals none named =
     no_name_here code none (behind_plain front (0x3D ∷ code) (plain front no_equals (comma_front front (0x3D ∷ code) (subst (HasNo 0x2C) is no_comma))) (subst IsSaslName is named))
 
 -- ---- texts

@@ -1,7 +1,8 @@
 -- What a client says in a SCRAM conversation (RFC 5802, sections 5.1 and 7), as a server reads it.
-use Rattle.std.specs.Prelude.{◌≡◌, ◌≢◌, ℕ, ◌≤◌, List, ◌++◌, codes, All}
+use Rattle.std.specs.Prelude.{◌≡◌, ◌≢◌, ℕ, ◌≤◌, List, ◌++◌, All}
 use Rattle.std.specs.Str.{IsUtf8}
 use Rattle.base64.specs.GeneralPurpose.{IsBytes}
+use Rattle.mongo_scram.specs.Attributes.{after_comma, proof_attribute}
 use Rattle.mongo_scram.specs.Base64.{base64_of}
 use Rattle.mongo_scram.specs.Messages.{open_message, no_proof}
 
@@ -21,5 +22,5 @@ pub record IsClientFirst (message username nonce : List ℕ) : Type 0 where
 
 -- `client-final-message`: a nonce and a proof in base64
 pub record IsClientFinal (message nonce proof : List ℕ) : Type 0 where
-  pub message_is : message ≡ no_proof nonce ++ (codes ",p=" ++ base64_of proof)
+  pub message_is : message ≡ no_proof nonce ++ (after_comma proof_attribute ++ base64_of proof)
   pub bytes : IsBytes proof

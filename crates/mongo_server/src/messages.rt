@@ -9,7 +9,7 @@ use crate::fault::ServerFault;
 use itoa::Buffer;
 use mongo_bson::Text;
 use mongo_mac::Tag;
-use mongo_scram::attributes::{NONCE, VERIFIER};
+use mongo_scram::attributes::{NEXT_ITERATION_COUNT, NEXT_SALT, NONCE, VERIFIER};
 use mongo_scram::{encoded, room};
 use std::alloc::Global;
 
@@ -39,9 +39,9 @@ pub fn server_first_text(
     let mut text = String::with_capacity(alloc, room(nonce.len(), salt.len()))?;
     text.push_str(NONCE)?;
     text.push_str(nonce)?;
-    text.push_str(",s=")?;
+    text.push_str(NEXT_SALT)?;
     text.push_str(salt.as_str())?;
-    text.push_str(",i=")?;
+    text.push_str(NEXT_ITERATION_COUNT)?;
     let mut digits = Buffer::new();
     text.push_str(digits.format(count))?;
     Ok(Text::from_string(text))

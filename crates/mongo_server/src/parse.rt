@@ -9,8 +9,8 @@ use crate::fault::ServerFault;
 use crate::user_name::is_saslname;
 use memchr::memrchr;
 use mongo_bson::Bytes;
-use mongo_scram::attributes::{BOUND_NONCE, NONCE, PROOF, USER_NAME};
-use mongo_scram::{GS2_HEADER, cut, decoded};
+use mongo_scram::attributes::{BOUND_NONCE, GS2_HEADER, NONCE, PROOF, USER_NAME};
+use mongo_scram::{cut, decoded};
 use std::alloc::Global;
 use std::str;
 

@@ -1,9 +1,11 @@
 // The user name in a message (RFC 5802, section 5.1, `saslname`), read from the other side.
 
-ghost use Rattle.std.specs.Prelude.{◌≡◌, ◌≢◌, ℕ, List, ◌++◌, ◌⊎◌, ◌↔◌, IsTrue, MatchOption, codes};
+ghost use Rattle.std.specs.Prelude.{◌≡◌, ◌≢◌, ℕ, List, ◌++◌, ◌⊎◌, ◌↔◌, IsTrue, MatchOption};
 ghost use Rattle.mongo_scram.specs.ServerMessages.{HasNo};
+ghost use Rattle.mongo_scram.specs.UserName.{comma_code, equals_code};
 ghost use Rattle.mongo_server.specs.SaslName.{IsSaslName};
 
+use mongo_scram::attributes::{COMMA_CODE, EQUALS_CODE};
 use mongo_scram::cut;
 
 /// Whether the text, which holds no comma, is a user name as a message carries it: each `=` in it is that of a `=3D` or a
@@ -25,11 +27,11 @@ pub fn is_saslname(text: &str) -> bool
 // What follows `3D` or `2C` at the front.
 fn after_code(text: &str) -> Option<&str>
     ensures { MatchOption result
-        ((rest : List ℕ) → (text.now ≢ codes "3D" ++ rest) × (text.now ≢ codes "2C" ++ rest))
-        (λ rest. (text.now ≡ codes "3D" ++ rest.now) ⊎ (text.now ≡ codes "2C" ++ rest.now)) }
+        ((rest : List ℕ) → (text.now ≢ equals_code ++ rest) × (text.now ≢ comma_code ++ rest))
+        (λ rest. (text.now ≡ equals_code ++ rest.now) ⊎ (text.now ≡ comma_code ++ rest.now)) }
 {
-    match text.strip_prefix("3D") {
+    match text.strip_prefix(EQUALS_CODE) {
         Some(rest) => Some(rest),
-        None => text.strip_prefix("2C"),
+        None => text.strip_prefix(COMMA_CODE),
     }
 }

@@ -70,16 +70,16 @@ all_taken old mid new front wanted (Some xs) is before some r =
     let all : Consumes (Some xs) new.left xs = rw r.1 (sym (append-nil xs)) in
     record { taken = xs; within = omega (arith, r.0); consumed = subst (λ l. Consumes l new.left xs) (sym is) all; some = told_some old.left mid.left front (front ++ xs) before (some_after mid.left front xs is some); few = inl r.0 }
 
-pub stopped : (fault : FrameFault) (old mid new : State) (front : List ℕ) (wanted : ℕ) → Lasts old mid → Consumes old.left mid.left front → (kind_of_frame_fault fault ≡ EndOfInput → IfSome mid.left (λ bytes. 0 < length (front ++ bytes)))
+pub cause_of_stop : (fault : FrameFault) (old mid new : State) (front : List ℕ) (wanted : ℕ) → Lasts old mid → Consumes old.left mid.left front → (kind_of_frame_fault fault ≡ EndOfInput → IfSome mid.left (λ bytes. 0 < length (front ++ bytes)))
     → ((taken : List ℕ) → IsShort wanted taken → IsNoRequest (front ++ taken)) → is_some new.left ≡ is_some mid.left → ReadStops (kind_of_frame_fault fault) mid new wanted → StoppedWithCause (fault_of_frame fault) old mid new front wanted
-stopped frame.ReadFault old mid new front wanted lasts before some short tells s =
+cause_of_stop frame.ReadFault old mid new front wanted lasts before some short tells s =
     record { taken = s.1.0; within = omega (arith, s.1.1); consumed = s.1.2; cause = (s.0.reads ∙ ap risen lasts.reads, refl, short s.1.0 (inl s.1.1)) }
-stopped frame.EndOfInput old mid new front wanted lasts before some short tells s =
+cause_of_stop frame.EndOfInput old mid new front wanted lasts before some short tells s =
     let all = all_taken old mid new front wanted mid.left refl before (some refl) s.1 in
     record { taken = all.taken; within = all.within; consumed = all.consumed; cause = (s.0.ends ∙ ap risen lasts.ends, ran_empty mid.left new.left wanted tells s.1, refl, all.some, short all.taken all.few) }
-stopped frame.OutOfMemory old mid new front wanted lasts before some short tells s = record { taken = s.1.0; within = s.1.1; consumed = s.1.2; cause = inl refl }
-stopped (frame.InvalidArgument _) old mid new front wanted lasts before some short tells s = absurd s
-stopped (frame.InvalidResponse _) old mid new front wanted lasts before some short tells s = absurd s
+cause_of_stop frame.OutOfMemory old mid new front wanted lasts before some short tells s = record { taken = s.1.0; within = s.1.1; consumed = s.1.2; cause = inl refl }
+cause_of_stop (frame.InvalidArgument _) old mid new front wanted lasts before some short tells s = absurd s
+cause_of_stop (frame.InvalidResponse _) old mid new front wanted lasts before some short tells s = absurd s
 
 -- after some bytes
 pub some_before : (left : Option (List ℕ)) (front : List ℕ) → 0 < length front → IfSome left (λ bytes. 0 < length (front ++ bytes))
@@ -134,14 +134,14 @@ row_refused kind old new (Some xs) is other message row =
     let code = message_taken xs taken new.left (subst (λ left. IfSome left IsOfMessage) is message) whole (subst (λ left. Consumes left new.left taken) is row.1) in
     record { taken = taken; part = inl (row_started maximum_message_length taken kind row.2); consumed = row.1; cause = (refl, whole, no_message taken kind whole code other row.2) }
 
-pub refused : (fault : FrameFault) (old new : State) → IfSome old.left (λ bytes. 0 < length bytes) → IfSome old.left IsOfMessage → ReadRefused (kind_of_frame_fault fault) maximum_message_length old new → Refused (fault_of_frame fault) old new
-refused frame.ReadFault old new some message h =
+pub cause_of_refusal : (fault : FrameFault) (old new : State) → IfSome old.left (λ bytes. 0 < length bytes) → IfSome old.left IsOfMessage → ReadRefused (kind_of_frame_fault fault) maximum_message_length old new → Refused (fault_of_frame fault) old new
+cause_of_refusal frame.ReadFault old new some message h =
     record { taken = h.1.0; part = inl (started maximum_message_length h.1.0 h.1.2); consumed = h.1.1; cause = (h.0.reads, refl, unfinished maximum_message_length h.1.0 h.1.2) }
-refused frame.EndOfInput old new some message h =
+cause_of_refusal frame.EndOfInput old new some message h =
     record { taken = h.1.0; part = inl (row_started maximum_message_length h.1.0 EndOfInput h.1.2); consumed = h.1.1; cause = (h.0.ends, h.2, refl, emptied_some old.left new.left h.1.0 some h.1.1 h.2, ended_within maximum_message_length h.1.0 h.1.2) }
-refused frame.OutOfMemory old new some message h = record { taken = h.1.0; part = inl h.1.2; consumed = h.1.1; cause = inl refl }
-refused (frame.InvalidArgument f) old new some message h = row_refused (InvalidArgument f) old new old.left refl (λ e. cc) message h.1
-refused (frame.InvalidResponse f) old new some message h = row_refused (InvalidResponse f) old new old.left refl (λ e. cc) message h.1
+cause_of_refusal frame.OutOfMemory old new some message h = record { taken = h.1.0; part = inl h.1.2; consumed = h.1.1; cause = inl refl }
+cause_of_refusal (frame.InvalidArgument f) old new some message h = row_refused (InvalidArgument f) old new old.left refl (λ e. cc) message h.1
+cause_of_refusal (frame.InvalidResponse f) old new some message h = row_refused (InvalidResponse f) old new old.left refl (λ e. cc) message h.1
 
 -- ---- fronts
 

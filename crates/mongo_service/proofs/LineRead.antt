@@ -70,5 +70,5 @@ pub same_error : {T U E : Type 0} (r : Result T E) (x why : E) → IsErrAnd r (�
 same_error r x why same is = let passed = error_passed_on r x same in cc
 
 -- so nothing is said of a value
-pub no_value : {T E : Type 0} (P : T → Type 0) (r : Result T E) (x : E) → IsErrAnd r (λ y. y ≡ x) → IfOk r P
-no_value P r x same = subst (λ r. IfOk r P) (sym (error_passed_on r x same)) tt
+pub no_ok_behind : {T E : Type 0} (P : T → Type 0) (r : Result T E) (x : E) → IsErrAnd r (λ y. y ≡ x) → IfOk r P
+no_ok_behind P r x same = subst (λ r. IfOk r P) (sym (error_passed_on r x same)) tt

@@ -39,8 +39,8 @@ no_code : (a : OpCode) → None ≡ Some a → ⊥
 no_code a e = cc
 
 -- a number that has another op code, or none
-pub unlike : (z : ℤ) (code other : OpCode) → op_code_of z ≡ Some other → op_code_of (code_number code) ≡ Some code → (other ≡ code → ⊥) → z ≡ code_number code → ⊥
-unlike z code other is of differs same = differs (same_code other code (sym is ∙ ap op_code_of same ∙ of))
+pub unlike_code : (z : ℤ) (code other : OpCode) → op_code_of z ≡ Some other → op_code_of (code_number code) ≡ Some code → (other ≡ code → ⊥) → z ≡ code_number code → ⊥
+unlike_code z code other is of differs same = differs (same_code other code (sym is ∙ ap op_code_of same ∙ of))
 
 pub unknown : (z : ℤ) (code : OpCode) → op_code_of z ≡ None → op_code_of (code_number code) ≡ Some code → z ≡ code_number code → ⊥
 unknown z code is of same = no_code code (sym is ∙ ap op_code_of same ∙ of)
@@ -69,12 +69,12 @@ bad_length head sixteen code (inr long) frame rest document e within (inr q) =
     omega (arith, ints, long, within, begun 0 head rest frame (omega (arith, sixteen)) e, query_size frame document q)
 
 -- a whole OP_QUERY whose body asks for no command
-pub no_body : (head body : List ℕ) (size : ℕ) → length head ≡ 16 → signed_at 12 head ≡ code_number Query → pos (16 + size) ≡ signed_at 0 head → length body ≡ size → ((command : List ℕ) → IsQueryBody body command → ⊥)
+pub no_query_body : (head body : List ℕ) (size : ℕ) → length head ≡ 16 → signed_at 12 head ≡ code_number Query → pos (16 + size) ≡ signed_at 0 head → length body ≡ size → ((command : List ℕ) → IsQueryBody body command → ⊥)
     → BeginsNoRequest (head ++ body)
-no_body head body size sixteen code counted whole none frame rest document e within (inl (parts, is_frame, body_is)) =
+no_query_body head body size sixteen code counted whole none frame rest document e within (inl (parts, is_frame, body_is)) =
     let spelled : frame ≡ head ++ (body ++ rest) = e ∙ append_assoc head body rest in
     two_codes (signed_at 12 head) (sym (begun 12 head (body ++ rest) frame (omega (arith, sixteen)) spelled) ∙ frame_code frame parts is_frame) code
-no_body head body size sixteen code counted whole none frame rest document e within (inr q) =
+no_query_body head body size sixteen code counted whole none frame rest document e within (inr q) =
     let spelled : frame ≡ head ++ (body ++ rest) = e ∙ append_assoc head body rest in
     let apart = same_front q.header head q.body (body ++ rest) (sym q.spelled ∙ spelled) (q.sixteen ∙ sym sixteen) in
     let frame_size : pos (16 + size) ≡ pos (length frame) = counted ∙ sym (begun 0 head (body ++ rest) frame (omega (arith, sixteen)) spelled) ∙ query_size frame document q in
@@ -123,10 +123,10 @@ within_header taken (inl fewer) = few_bytes taken (omega (arith, fewer))
 within_header taken (inr none) = few_bytes taken (omega (arith, ap length none))
 
 -- after a header
-pub cut_after : (head taken : List ℕ) (wanted : ℕ) → length head ≡ 16 → pos (16 + wanted) ≡ signed_at 0 head → IsShort wanted taken → IsNoRequest (head ++ taken)
-cut_after head taken wanted sixteen counted (inl fewer) =
+pub request_cut : (head taken : List ℕ) (wanted : ℕ) → length head ≡ 16 → pos (16 + wanted) ≡ signed_at 0 head → IsShort wanted taken → IsNoRequest (head ++ taken)
+request_cut head taken wanted sixteen counted (inl fewer) =
     cut_short (head ++ taken) (omega (arith, ints, length-append head taken, sixteen, fewer, counted, signed_in 0 head taken (omega (arith, sixteen))))
-cut_after head taken wanted sixteen counted (inr none) = few_bytes (head ++ taken) (omega (arith, length-append head taken, sixteen, ap length none))
+request_cut head taken wanted sixteen counted (inr none) = few_bytes (head ++ taken) (omega (arith, length-append head taken, sixteen, ap length none))
 
 pub unfinished : (maximum : ℤ) (taken : List ℕ) → IsUnfinished maximum taken → IsNoRequest taken
 unfinished maximum taken (inl short) = few_bytes taken (omega (arith, short))

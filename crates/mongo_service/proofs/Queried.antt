@@ -27,8 +27,8 @@ pub no_flags : (body : List ℕ) → length body < 4 → HasNoQuery body
 no_flags body short document framed q = omega (arith, short, ap length q.spelled, q.flags_four, length-append q.flags (command_collection ++ (0 ∷ (q.numbers ++ (document ++ q.more)))))
 
 -- no name after them
-pub no_name : (body flags rest : List ℕ) → length flags ≡ 4 → body ≡ flags ++ rest → HasNoCstring rest → HasNoQuery body
-no_name body flags rest four p none document framed q = none command_collection (q.numbers ++ (document ++ q.more)) named_utf8 (after_flags body flags rest document four p q)
+pub no_collection_name : (body flags rest : List ℕ) → length flags ≡ 4 → body ≡ flags ++ rest → HasNoCstring rest → HasNoQuery body
+no_collection_name body flags rest four p none document framed q = none command_collection (q.numbers ++ (document ++ q.more)) named_utf8 (after_flags body flags rest document four p q)
 
 -- what follows the name of a query, where a name is there
 after_name_of : (body flags rest name after_name document : List ℕ) → length flags ≡ 4 → body ≡ flags ++ rest → IsCstring name → rest ≡ name ++ (0 ∷ after_name) → (q : IsQueryOf body document)

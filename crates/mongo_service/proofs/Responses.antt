@@ -54,8 +54,8 @@ message_spelled document sequences id to flags none clear =
 -- ---- a write that was refused
 
 -- all of the bytes are a front of them
-pub all_written : (old mid new : Option (List ℕ)) (bytes : List ℕ) → Appends old mid bytes → Keeps mid new → AppendsFront old new bytes
-all_written old mid new bytes appended kept = (length bytes, subst (Appends old new) (sym (take-length bytes)) (Appends-kept old mid new bytes appended kept))
+pub front_written : (old mid new : Option (List ℕ)) (bytes : List ℕ) → Appends old mid bytes → Keeps mid new → AppendsFront old new bytes
+front_written old mid new bytes appended kept = (length bytes, subst (Appends old new) (sym (take-length bytes)) (Appends-kept old mid new bytes appended kept))
 
 pub nothing_written : (old : Option (List ℕ)) (bytes : List ℕ) → AppendsFront old old bytes
 nothing_written old bytes = (0, Appends-nil old)

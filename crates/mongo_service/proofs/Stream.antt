@@ -15,7 +15,7 @@ use Rattle.mongo_service.specs.Turns.{joined_frames, documents, sent_for}
 use Rattle.mongo_session.specs.Login.{fresh}
 use Rattle.mongo_service.proofs.Causes.{cause_after}
 use Rattle.mongo_service.proofs.Lasts.{flushed_on, flushed_still, lasts_all, lasts_on}
-use Rattle.mongo_service.proofs.Turns.{each_joined, joined_append, documents_append, sent_append, turns_more}
+use Rattle.mongo_service.proofs.Turns.{turns_joined, joined_append, documents_append, sent_append, turns_more}
 
 is_fresh : (session : Session) → session.user ≡ None → session.login ≡ None → fresh ≡ session
 is_fresh session nobody none = ap (λ u. record { user = u; login = None }) (sym nobody) ∙ ap (λ l. record { user = session.user; login = l }) (sym none)
@@ -37,16 +37,16 @@ pub begun : (settings : ServeSettings) (old : State) (session : Session) (id : �
 begun settings old session id nobody none first =
     subst (λ i. HasServed settings old old session i 0) (sym first) (subst (λ s. HasServed settings old old s (pos 1) 0) (is_fresh session nobody none) (none_served settings old))
 
-pub one_more : (settings : ServeSettings) (old mid new : State) (before : Session) (id : ℤ) (after : Session) (later : ℤ) (count : ℕ) (h : HasServed settings old mid before id count) → TakesTurn settings (documents h.turns) mid new before id after later
+pub one_turn_more : (settings : ServeSettings) (old mid new : State) (before : Session) (id : ℤ) (after : Session) (later : ℤ) (count : ℕ) (h : HasServed settings old mid before id count) → TakesTurn settings (documents h.turns) mid new before id after later
     → HasServed settings old new after later (count + 1)
-one_more settings old mid new before id after later count h t =
+one_turn_more settings old mid new before id after later count h t =
     let last = t.turn ∷ [] in
     let sent = sent_append h.turns last ∙ ap (λ l. sent_for h.turns ++ l) (append-nil t.turn.sent) in
     record {
       turns = h.turns ++ last;
       counted = length-append h.turns last ∙ ap (λ n. n + 1) h.counted;
       answered = turns_more settings fresh (pos 1) before id after later h.turns t.turn h.answered t.is_turn;
-      each = each_joined h.turns last h.each (t.is_taken, tt);
+      each = turns_joined h.turns last h.each (t.is_taken, tt);
       consumed =
           subst (Consumes old.left new.left) (sym (joined_append h.turns last ∙ ap (λ l. joined_frames h.turns ++ l) (append-nil t.turn.frame))) (Consumes-trans old.left mid.left new.left (joined_frames h.turns) t.turn.frame h.consumed t.consumed);
       appended = subst (Appends old.written new.written) (sym sent) (Appends-trans old.written mid.written new.written (sent_for h.turns) t.turn.sent h.appended t.appended);

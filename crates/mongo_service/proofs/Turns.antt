@@ -17,9 +17,9 @@ use Rattle.mongo_service.specs.Turns.{ServerTurn, IsTurnTaken, IsTurn, AreTurns,
 use Rattle.mongo_service.proofs.Causes.{write_cause}
 use Rattle.mongo_service.proofs.Lasts.{flushed_from, lasts_on, lasts_write}
 
-pub each_joined : (xs ys : List ServerTurn) → AllByRecursion IsTurnTaken xs → AllByRecursion IsTurnTaken ys → AllByRecursion IsTurnTaken (xs ++ ys)
-each_joined [] ys all others = others
-each_joined (x ∷ xs) ys all others = (all.0, each_joined xs ys all.1 others)
+pub turns_joined : (xs ys : List ServerTurn) → AllByRecursion IsTurnTaken xs → AllByRecursion IsTurnTaken ys → AllByRecursion IsTurnTaken (xs ++ ys)
+turns_joined [] ys all others = others
+turns_joined (x ∷ xs) ys all others = (all.0, turns_joined xs ys all.1 others)
 
 pub joined_append : (xs ys : List ServerTurn) → joined_frames (xs ++ ys) ≡ joined_frames xs ++ joined_frames ys
 joined_append xs ys = flat_map-append (λ t. t.frame) xs ys

@@ -1,7 +1,8 @@
 -- How a login begins: at an account, and by the settings.
-use Rattle.std.proofs.Common.{◌≡◌, ◌≢◌, ◌⊎◌, ◌↔◌, ℕ, Bool, true, false, Option, None, Some, Result, Ok, Err, IfOk, List, ◌∷◌, ◌++◌, codes, option_copied, IsTrue, inl, inr, refl, sym, ap, ◌∙◌, subst, append_assoc}
+use Rattle.std.proofs.Common.{◌≡◌, ◌≢◌, ◌⊎◌, ◌↔◌, ℕ, Bool, true, false, Option, None, Some, Result, Ok, Err, IfOk, List, ◌∷◌, ◌++◌, option_copied, IsTrue, inl, inr, refl, sym, ap, ◌∙◌, subst, append_assoc}
 use Rattle.std.specs.Borrow.{Bor}
 use Rattle.std.specs.List.{AllByRecursion}
+use Rattle.mongo_scram.specs.Attributes.{after_comma, gs2_header, nonce_attribute, user_name_attribute}
 use Rattle.mongo_scram.specs.Key.{PasswordRow}
 use Rattle.mongo_scram.specs.Messages.{open_message}
 use Rattle.mongo_scram.specs.UserName.{escaped}
@@ -34,22 +35,22 @@ use Rattle.mongo_session.proofs.Accounts.{all_weaker, all_split, one_first_accou
 
 -- a first message behind its user's name
 abbrev front_of : List ℕ → List ℕ
-front_of name = (codes "n,,n=" ++ escaped name) ++ codes ",r="
+front_of name = ((gs2_header ++ user_name_attribute) ++ escaped name) ++ after_comma nonce_attribute
 
 first_message : (name nonce : List ℕ) → front_of name ++ nonce ≡ open_message name nonce
 first_message name nonce =
-    append_assoc (codes "n,,n=" ++ escaped name) (codes ",r=") nonce
-    ∙ append_assoc (codes "n,,n=") (escaped name) (codes ",r=" ++ nonce)
-    ∙ sym (opens name nonce ∙ ap (λ x. codes "n,," ++ x) (bares name nonce))
+    append_assoc ((gs2_header ++ user_name_attribute) ++ escaped name) (after_comma nonce_attribute) nonce
+    ∙ append_assoc (gs2_header ++ user_name_attribute) (escaped name) (after_comma nonce_attribute ++ nonce)
+    ∙ sym (opens name nonce ∙ ap (λ x. gs2_header ++ x) (bares name nonce))
 
-behind_five : (x y : List ℕ) → codes "n,,n=" ++ x ≡ codes "n,,n=" ++ y → x ≡ y
+behind_five : (x y : List ℕ) → (gs2_header ++ user_name_attribute) ++ x ≡ (gs2_header ++ user_name_attribute) ++ y → x ≡ y
 behind_five x y same = cc
 
 one_name : (name other nonce more : List ℕ) → open_message name nonce ≡ open_message other more → name ≡ other
 one_name name other nonce more same =
-    let spelled : (n k : List ℕ) → open_message n k ≡ codes "n,,n=" ++ (escaped n ++ (0x2C ∷ (codes "r=" ++ k))) = λ n k. opens n k ∙ ap (λ x. codes "n,," ++ x) (bares n k) in
-    let rest = behind_five (escaped name ++ (0x2C ∷ (codes "r=" ++ nonce))) (escaped other ++ (0x2C ∷ (codes "r=" ++ more))) (sym (spelled name nonce) ∙ same ∙ spelled other more) in
-    escaped_same name other (one_cut (escaped name) (escaped other) (codes "r=" ++ nonce) (codes "r=" ++ more) (escaped-no_comma name) (escaped-no_comma other) rest).0
+    let spelled : (n k : List ℕ) → open_message n k ≡ (gs2_header ++ user_name_attribute) ++ (escaped n ++ (0x2C ∷ (nonce_attribute ++ k))) = λ n k. opens n k ∙ ap (λ x. gs2_header ++ x) (bares n k) in
+    let rest = behind_five (escaped name ++ (0x2C ∷ (nonce_attribute ++ nonce))) (escaped other ++ (0x2C ∷ (nonce_attribute ++ more))) (sym (spelled name nonce) ∙ same ∙ spelled other more) in
+    escaped_same name other (one_cut (escaped name) (escaped other) (nonce_attribute ++ nonce) (nonce_attribute ++ more) (escaped-no_comma name) (escaped-no_comma other) rest).0
 
 -- the front that is compared
 pub names_front : (message front name : List ℕ) (rest : List ℕ) (is : Bool) → front ≡ front_of name → (is ≡ true → message ≡ front ++ rest) × ((more : List ℕ) → message ≡ front ++ more → is ≡ true) → IsTrue is ↔ NamesUser message name
@@ -99,8 +100,8 @@ same_version v w o p q = let same : Some v ≡ Some w = sym p ∙ q in cc
 pub no_version : (settings : ServeSettings) (start : StartRequest) → start.version ≡ None → (x : Exchange) → AsksFor settings start x → ⊥
 no_version settings start none x asked = let never : None ≡ Some x.version = sym none ∙ asked.version_is in cc
 
-pub no_message : (settings : ServeSettings) (start : StartRequest) → start.payload ≡ None → (x : Exchange) → AsksFor settings start x → ⊥
-no_message settings start none x asked = let never : None ≡ Some (open_of x) = sym (ap option_copied none) ∙ asked.said in cc
+pub no_payload : (settings : ServeSettings) (start : StartRequest) → start.payload ≡ None → (x : Exchange) → AsksFor settings start x → ⊥
+no_payload settings start none x asked = let never : None ≡ Some (open_of x) = sym (ap option_copied none) ∙ asked.said in cc
 
 module _ (settings : ServeSettings) (start : StartRequest) (version : ScramVersion) (message : Bor (List ℕ)) (version_is : start.version ≡ Some version) (message_is : start.payload ≡ Some message) where
   -- the account of what is asked for suits

@@ -10,9 +10,9 @@ use Rattle.mongo_sasl.specs.Keys.{sasl_continue_key, sasl_start_key}
 -- What a request begins, or goes on with.
 
 -- a greeting, by whichever name
-pub greeted : (document : List ℕ) (is_legacy : Bool) → IsGreetingBy document is_legacy → IsGreeting document
-greeted document false named = inl named
-greeted document true named = inr named
+pub greeting_carried : (document : List ℕ) (is_legacy : Bool) → IsGreetingBy document is_legacy → IsGreeting document
+greeting_carried document false named = inl named
+greeting_carried document true named = inr named
 
 greets_with : (document inner : List ℕ) (payload : Option (Bor (List ℕ))) → IsGreeting document → HasInside document speculative_authenticate_key inner → IsCommandNamed inner sasl_start_key
     → HoldsIfAny (HasPayload inner) payload → IfSome payload (λ p. OpensLogin document p.now)
@@ -26,8 +26,8 @@ starts_with : (document : List ℕ) (payload : Option (Bor (List ℕ))) → IsCo
 starts_with document None named message = tt
 starts_with document (Some p) named message = inl (record { named = named; message = message })
 
-pub start_opens : (document : List ℕ) (start : StartRequest) → SaysStart document start → IfSome start.payload (λ p. OpensLogin document p.now)
-start_opens document start says = starts_with document start.payload says.named says.message
+pub start_carries : (document : List ℕ) (start : StartRequest) → SaysStart document start → IfSome start.payload (λ p. OpensLogin document p.now)
+start_carries document start says = starts_with document start.payload says.named says.message
 
 goes_on_with : (document : List ℕ) (payload : Option (Bor (List ℕ))) → IsCommandNamed document sasl_continue_key → HoldsIfAny (HasPayload document) payload → IfSome payload (λ p. SaysSaslContinue document p.now)
 goes_on_with document None named message = tt

@@ -5,7 +5,7 @@ use Rattle.mongo_bson.specs.Framed.{maximum_length}
 use Rattle.mongo_command.specs.Command.{present}
 use Rattle.mongo_command.specs.Literal.{array_element, boolean_element, document_element, ok_element}
 use Rattle.mongo_command.specs.Keys.{sasl_supported_mechs_key, speculative_authenticate_key}
-use Rattle.mongo_command.proofs.CommandDocument.{joined}
+use Rattle.mongo_command.proofs.CommandDocument.{both_joined}
 use Rattle.mongo_session.specs.declared.reply.HelloAnswer.{HelloAnswer}
 use Rattle.mongo_session.specs.declared.reply.Mechanisms.{Mechanisms}
 use Rattle.mongo_session.specs.declared.reply.Mechanisms.TheVariants.{Sha1, Sha256, Both}
@@ -30,7 +30,7 @@ pub around : (hello : HelloAnswer) (key : List ℕ) (mechanisms speculation : Op
 around hello key mechanisms speculation m s o named listed names_are said speculation_is succeeded =
     let those = listed ∙ ap (present (array_element sasl_supported_mechs_key)) names_are ∙ mechanisms_said hello.mechanisms in
     let answer = said ∙ ap (present (document_element speculative_authenticate_key)) speculation_is ∙ speculation_said hello.speculation in
-    ap (λ es. description ++ es) (joined (boolean_element key true ∷ []) _ _ _ (ap (λ k. boolean_element k true ∷ []) named) (joined m _ _ _ those (joined s _ _ _ answer (joined o _ _ _ succeeded refl))))
+    ap (λ es. description ++ es) (both_joined (boolean_element key true ∷ []) _ _ _ (ap (λ k. boolean_element k true ∷ []) named) (both_joined m _ _ _ those (both_joined s _ _ _ answer (both_joined o _ _ _ succeeded refl))))
 
 -- the array of their names is short
 pub short_names : (mechanisms : Mechanisms) → length (names_document mechanisms) ≤ maximum_length

@@ -11,7 +11,7 @@ use crate::serve_settings::{Account, ServeSettings};
 use crate::session::OpenLogin;
 use mongo_bson::{BsonFault, Text};
 use mongo_mac::Steps;
-use mongo_scram::attributes::NEXT_NONCE;
+use mongo_scram::attributes::{GS2_HEADER, NEXT_NONCE, USER_NAME};
 use mongo_scram::{ScramVersion, saslname};
 use mongo_server::{ServerCore, ServerFault, ServerUser};
 use mongo_wire::{Error, ErrorKind};
@@ -92,7 +92,8 @@ fn names(alloc: Global, name: &str, payload: &[u8]) -> Result<bool, AllocError>
     ensures { IfOk result (λ is. IsTrue is ↔ NamesUser payload.now name.now) }
 {
     let carried = saslname(alloc, name)?;
-    let mut front = String::from_str(alloc, "n,,n=")?;
+    let mut front = String::from_str(alloc, GS2_HEADER)?;
+    front.push_str(USER_NAME)?;
     front.push_str(carried.as_str())?;
     front.push_str(NEXT_NONCE)?;
     Ok(payload.starts_with(front.as_bytes()))

@@ -15,7 +15,7 @@ use Rattle.mongo_settings.specs.Login.{asked_by}
 abbrev pub asked_with : Login → Option Credential → Asked
 asked_with login credential = asked_for login.pending (options_of_establisher login.establisher) credential login.inputs.nonces login.ids
 
-pub ended : (login : Login) (credential : Option Credential) (old new : State) (after : ℤ) (first last : Ledgers) (r : Result PooledConnection EstablishError) → credential ≡ login.credential
+pub connect_ended : (login : Login) (credential : Option Credential) (old new : State) (after : ℤ) (first last : Ledgers) (r : Result PooledConnection EstablishError) → credential ≡ login.credential
     → EndsEstablishment (asked_with login credential) old new after first last r → EndsEstablishment (asked_by login) old new after first last r
 unfolding asked_by
-ended login credential old new after first last r same ends = subst (λ x. EndsEstablishment (asked_with login x) old new after first last r) same ends
+connect_ended login credential old new after first last r same ends = subst (λ x. EndsEstablishment (asked_with login x) old new after first last r) same ends

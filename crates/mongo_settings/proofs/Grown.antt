@@ -75,7 +75,7 @@ nothing document whole rest None grows cannot = ap (option_and_then document_wit
 nothing document whole rest (Some e) grows cannot =
     ap (option_and_then document_within) grows.whole_is ∙ too_long grows.done e rest (omega (arith, ap length grows.document_is, cannot))
 
-pub refused : (document : List ℕ) (whole rest : Option (List Element)) (element : Option Element) (error : SettingsError) → Grows document whole (before element rest) → CannotPut error element document → MeansNothing error (option_and_then document_within whole)
-refused document whole rest element OutOfMemory grows cannot = tt
-refused document whole rest element NotBuilt grows cannot = absurd cannot
-refused document whole rest element BadSettings grows cannot = nothing document whole rest element grows cannot
+pub growing_refused : (document : List ℕ) (whole rest : Option (List Element)) (element : Option Element) (error : SettingsError) → Grows document whole (before element rest) → CannotPut error element document → MeansNothing error (option_and_then document_within whole)
+growing_refused document whole rest element OutOfMemory grows cannot = tt
+growing_refused document whole rest element NotBuilt grows cannot = absurd cannot
+growing_refused document whole rest element BadSettings grows cannot = nothing document whole rest element grows cannot

@@ -40,16 +40,16 @@ read_more values i front x settings within at so_far is =
     ∙ ap (with_front front) (rest_of values i x within at ∙ ap (λ r. unless_refused r (λ s. unless_refused (each_settings (items_view (drop (i + 1) values))) (λ more. Ok (s ∷ more)))) is)
     ∙ joined front settings (each_settings (items_view (drop (i + 1) values)))
 
-pub read_refused : (values : List Value) (i : ℕ) (front : List Settings) (x : Value) (e : SettingsError) → i < length values → x ≡ get_or values i x → ReadTo values i front → settings_of (view x) ≡ Err e → each_settings (items_view values) ≡ Err e
-read_refused values i front x e within at so_far is =
+pub one_refused : (values : List Value) (i : ℕ) (front : List Settings) (x : Value) (e : SettingsError) → i < length values → x ≡ get_or values i x → ReadTo values i front → settings_of (view x) ≡ Err e → each_settings (items_view values) ≡ Err e
+one_refused values i front x e within at so_far is =
     so_far ∙ ap (with_front front) (rest_of values i x within at ∙ ap (λ r. unless_refused r (λ s. unless_refused (each_settings (items_view (drop (i + 1) values))) (λ more. Ok (s ∷ more)))) is)
 
-pub read_all : (values : List Value) (i : ℕ) (front : List Settings) → drop i values ≡ [] → ReadTo values i front → each_settings (items_view values) ≡ Ok front
+pub each_read : (values : List Value) (i : ℕ) (front : List Settings) → drop i values ≡ [] → ReadTo values i front → each_settings (items_view values) ≡ Ok front
 unfolding each_settings
-read_all values i front none so_far = so_far ∙ ap (λ l. with_front front (each_settings (items_view l))) none ∙ ap Ok (append-nil front)
+each_read values i front none so_far = so_far ∙ ap (λ l. with_front front (each_settings (items_view l))) none ∙ ap Ok (append-nil front)
 
 -- what is refused is refused so
 pub read_stopped : (values : List Value) (i : ℕ) (front : List Settings) (x : Value) (e : SettingsError) → i < length values → x ≡ get_or values i x → ReadTo values i front → Refuses e (settings_of (view x)) → Refuses e (each_settings (items_view values))
 read_stopped values i front x OutOfMemory within at so_far r = tt
-read_stopped values i front x BadSettings within at so_far r = read_refused values i front x BadSettings within at so_far r
-read_stopped values i front x NotBuilt within at so_far r = read_refused values i front x NotBuilt within at so_far r
+read_stopped values i front x BadSettings within at so_far r = one_refused values i front x BadSettings within at so_far r
+read_stopped values i front x NotBuilt within at so_far r = one_refused values i front x NotBuilt within at so_far r

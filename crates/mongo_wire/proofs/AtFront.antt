@@ -15,7 +15,7 @@ use Rattle.mongo_bson.specs.declared.raw_document.RawDocument.{RawDocument}
 use Rattle.mongo_wire.specs.declared.sections.SectionRef.TheVariants.{Body, Sequence}
 use Rattle.mongo_wire.specs.declared.sections.SequenceRef.{SequenceRef}
 use Rattle.mongo_wire.proofs.Fields.{IsBytes, field}
-use Rattle.mongo_wire.proofs.OneFrame.{one_framed, made_of}
+use Rattle.mongo_wire.proofs.OneFrame.{one_framed, sequence_made_of}
 
 -- ---- documents
 
@@ -61,7 +61,7 @@ sequence_filled bytes content identifier documents size size_is cut name s rest 
 pub sequence_found : (bytes content rest : List ℕ) (size : ℕ) (read : SequenceRef) → IsBytes bytes → 4 ≤ size → size ≤ maximum_length → size ≤ length bytes → size ≡ from_le_bytes w32 bytes
     → content ≡ drop 4 (take size bytes) → rest ≡ drop size bytes → BeginsWithCstring content read.identifier.now read.documents.now → AreDocuments read.documents.now → BeginsWithSequence bytes read rest
 sequence_found bytes content rest size read small least fits within size_is cut left name (documents, each, spelled) =
-    let s = made_of read.identifier.now documents in
+    let s = sequence_made_of read.identifier.now documents in
     let whole : content ≡ sequence_bytes s = name.spelled ∙ ap (λ l. read.identifier.now ++ 0 ∷ l) spelled in
     let counted : length content ≡ size - 4 = ap length cut ∙ omega (arith, length-drop 4 (take size bytes), length-take-le size bytes within) in
     let size_of : size ≡ 4 + length (sequence_bytes s) = omega (arith, counted, ap length whole) in

@@ -43,8 +43,8 @@ bodies_joined (body d ∷ ss) ts = ap (λ l. d ∷ l) (bodies_joined ss ts)
 bodies_joined (sequence s ∷ ss) ts = bodies_joined ss ts
 
 -- one more section was taken
-pub one_more : (bytes rest after : List ℕ) (ss : List Section) (s : Section) → bytes ≡ flat_map section_bytes ss ++ rest → rest ≡ section_bytes s ++ after → bytes ≡ flat_map section_bytes (ss ++ s ∷ []) ++ after
-one_more bytes rest after ss s p q =
+pub one_section_more : (bytes rest after : List ℕ) (ss : List Section) (s : Section) → bytes ≡ flat_map section_bytes ss ++ rest → rest ≡ section_bytes s ++ after → bytes ≡ flat_map section_bytes (ss ++ s ∷ []) ++ after
+one_section_more bytes rest after ss s p q =
     let alone : flat_map section_bytes (s ∷ []) ≡ section_bytes s = append-nil (section_bytes s) in
     p ∙ ap (λ l. flat_map section_bytes ss ++ l) q ∙ sym (append_assoc (flat_map section_bytes ss) (section_bytes s) after)
     ∙ ap (λ l. (flat_map section_bytes ss ++ l) ++ after) (sym alone) ∙ ap (λ l. l ++ after) (sym (flat_joined ss (s ∷ [])))
@@ -91,7 +91,7 @@ took_sequence bytes rest after place read took begins =
       sections = took.sections ++ s ∷ [];
       each = each_joined took.sections (s ∷ []) took.each (begins.is_section, tt);
       long = took.long;
-      spelled = one_more (drop 4 bytes) rest after took.sections s took.spelled begins.spelled;
+      spelled = one_section_more (drop 4 bytes) rest after took.sections s took.spelled begins.spelled;
       found = subst (λ d. Finds bytes d place) (sym (bodies_joined took.sections (s ∷ []) ∙ ap (λ l. bodies took.sections ++ l) none ∙ append-nil (bodies took.sections))) took.found;
     }
 
@@ -116,7 +116,7 @@ took_body bytes rest after None read now took none begins start end =
       sections = took.sections ++ s ∷ [];
       each = each_joined took.sections (s ∷ []) took.each (begins.is_section, tt);
       long = took.long;
-      spelled = one_more (drop 4 bytes) rest after took.sections s took.spelled begins.spelled;
+      spelled = one_section_more (drop 4 bytes) rest after took.sections s took.spelled begins.spelled;
       found = (
         d,
         bodies_joined took.sections (s ∷ []) ∙ ap (λ l. l ++ bodies (s ∷ [])) took.found ∙ ap (λ z. bodies (z ∷ [])) s_is,

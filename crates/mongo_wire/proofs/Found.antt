@@ -20,8 +20,8 @@ use Rattle.mongo_wire.specs.declared.held_frame.HeldFrame.{HeldFrame}
 use Rattle.mongo_wire.specs.declared.held_frame.Offsets.{Offsets}
 use Rattle.mongo_wire.proofs.HeaderBack.{sixteen_bytes}
 
-pub one_held : (a b : HeldFrame) → Some a ≡ Some b → a ≡ b
-one_held a b e = cc
+pub one_held_frame : (a b : HeldFrame) → Some a ≡ Some b → a ≡ b
+one_held_frame a b e = cc
 
 same_first : (b c : List ℕ) (bs cs : List (List ℕ)) → b ∷ bs ≡ c ∷ cs → b ≡ c
 same_first b c bs cs e = cc
@@ -134,7 +134,7 @@ body_lies buffer frame parts held holds is within =
     let e = held.offsets.body_end in
     let h = buffer.size in
     let xs = buffer.store.items in
-    let at : IsAt (drop 16 frame) parts.body s e = subst (λ f. IsAt (drop 16 frame) parts.body f.offsets.body_start f.offsets.body_end) (one_held holds.held held (sym holds.last_is ∙ is)) holds.is_held.body_at in
+    let at : IsAt (drop 16 frame) parts.body s e = subst (λ f. IsAt (drop 16 frame) parts.body f.offsets.body_start f.offsets.body_end) (one_held_frame holds.held held (sym holds.last_is ∙ is)) holds.is_held.body_at in
     let size : length (take h xs) ≡ h = length-take-le h xs within in
     let inside : e ≤ h = omega (arith, at.within, ap length holds.bytes_are, size) in
     let count : s + (h - s) ≡ h = omega (arith, at.ordered, inside) in

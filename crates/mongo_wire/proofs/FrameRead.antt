@@ -148,9 +148,9 @@ sections_refused maximum old mid new head bytes p q still sixteen row size none 
 -- ---- a frame stood there
 
 -- where one stands, no row is called for
-pub no_refusal : (kind : ErrorKind) (maximum : ℤ) (old new : State) (frame rest : List ℕ) (parts : Frame) → old.left ≡ Some (frame ++ rest) → IsFrame frame parts
+pub no_refused_frame : (kind : ErrorKind) (maximum : ℤ) (old new : State) (frame rest : List ℕ) (parts : Frame) → old.left ≡ Some (frame ++ rest) → IsFrame frame parts
     → pos (length frame) ≤ℤ maximum → ReadRefused kind maximum old new → IsUnreadable kind
-no_refusal kind maximum old new frame rest parts is frame_is within r = by kind r
+no_refused_frame kind maximum old new frame rest parts is frame_is within r = by kind r
   where
     stop : (kind : ErrorKind) → TakesRow kind maximum old.left new.left → (kind ≡ EndOfInput → IsEmptied new.left) → ⊥
     stop kind (taken, consumes, row) ends = at new.left (rw is at consumes) ends

@@ -10,7 +10,7 @@ use Rattle.mongo_wire.specs.Message.{IsFrameOf, TellsChecksum, parts_of, section
 use Rattle.mongo_wire.specs.declared.document_sequence.DocumentSequence.{DocumentSequence}
 use Rattle.mongo_wire.specs.declared.message.Message.{Message}
 
-known_twice : (word : ℕ) → bit_and (bit_and word known_flags) known_flags ≡ bit_and word known_flags
+pub known_twice : (word : ℕ) → bit_and (bit_and word known_flags) known_flags ≡ bit_and word known_flags
 known_twice word = and_assoc known_flags word known_flags ∙ ap (bit_and word) (and_self known_flags)
 
 no_bodies : (sequences : List DocumentSequence) → bodies (map sequence sequences) ≡ []

@@ -13,11 +13,9 @@ use Rattle.mongo_wire.specs.Ref.{IsOwned}
 use Rattle.mongo_wire.specs.declared.message.Message.{Message}
 use Rattle.mongo_wire.specs.declared.frame_buffer.FrameBuffer.{FrameBuffer}
 use Rattle.mongo_wire.specs.declared.error.Error.{Error}
+use Rattle.mongo_wire.proofs.IsFrame.{known_twice}
 use Rattle.mongo_wire.proofs.OneFrame.{one_frame, same_parts, frame_row, frame_tells_length, least_frame}
-use Rattle.mongo_wire.proofs.FrameRead.{no_refusal}
-
-known_twice : (word : ℕ) → bit_and (bit_and word known_flags) known_flags ≡ bit_and word known_flags
-known_twice word = and_assoc known_flags word known_flags ∙ ap (bit_and word) (and_self known_flags)
+use Rattle.mongo_wire.proofs.FrameRead.{no_refused_frame}
 
 copied_flags : (frame : List ℕ) (parts : Frame) (m : Message) → IsFrame frame parts → IsOwned parts m → parts.flags ≡ bit_and m.flags.0 known_flags
 copied_flags frame parts m is owned = is.flags_are ∙ sym (known_twice is.word) ∙ ap (λ w. bit_and w known_flags) (sym is.flags_are ∙ sym owned.flags_are)
@@ -53,7 +51,7 @@ same_id p q e = ap (λ z. z.request_id) e
 pub reads_again : (result : Result Message Error) (maximum : ℤ) (old new : State)
     → IfOk result (IsRead maximum old new) → IfErr result (λ e. ReadRefused e.kind maximum old new)
     → (frame rest : List ℕ) (parts : Frame) → old.left ≡ Some (frame ++ rest) → IsFrame frame parts → pos (length frame) ≤ℤ maximum → ReadsAgain parts rest new.left result
-reads_again (Err e) maximum old new p q frame rest parts is frame_is within = no_refusal e.kind maximum old new frame rest parts is frame_is within q
+reads_again (Err e) maximum old new p q frame rest parts is frame_is within = no_refused_frame e.kind maximum old new frame rest parts is frame_is within q
 reads_again (Ok m) maximum old new p q frame rest parts is frame_is within = at new.left (rw is at p.taken)
   where
     at : (new : Option (List ℕ)) → Consumes (Some (frame ++ rest)) new p.frame → (parts_of parts.request_id m ≡ parts) × (new ≡ Some rest)

@@ -52,11 +52,11 @@ counted n m a b x y p q e =
     let apart = same_front (uint32 n) (uint32 m) (a ++ x) (b ++ y) (sym (append_assoc (uint32 n) a x) ∙ e ∙ append_assoc (uint32 m) b y) refl in
     (same_number n m p q apart.0, apart.1)
 
-abbrev pub made_of : List ℕ → List (List ℕ) → DocumentSequence
-made_of identifier documents = record { identifier = identifier; documents = documents }
+abbrev pub sequence_made_of : List ℕ → List (List ℕ) → DocumentSequence
+sequence_made_of identifier documents = record { identifier = identifier; documents = documents }
 
-same_made : (a b : List ℕ) (c d : List (List ℕ)) → a ≡ b → c ≡ d → made_of a c ≡ made_of b d
-same_made a b c d p q = ap (λ z. made_of z c) p ∙ ap (λ z. made_of b z) q
+same_made : (a b : List ℕ) (c d : List (List ℕ)) → a ≡ b → c ≡ d → sequence_made_of a c ≡ sequence_made_of b d
+same_made a b c d p q = ap (λ z. sequence_made_of z c) p ∙ ap (λ z. sequence_made_of b z) q
 
 -- at most one sequence stands at the front
 pub one_sequence : (s t : DocumentSequence) (x y : List ℕ) → IsSequence s → IsSequence t
@@ -145,8 +145,8 @@ abbrev after_length : (f : List ℕ) (parts : Frame) → IsFrame f parts → Lis
 after_length f parts p = int32 parts.request_id ++ (int32 parts.response_to ++ (uint32 message_code ++ (uint32 p.word ++ (flat_map section_bytes p.sections ++ p.tail))))
 
 -- one frame has one list of parts
-pub one_parts : (f : List ℕ) (p q : Frame) → IsFrame f p → IsFrame f q → p ≡ q
-one_parts f p q is also =
+pub one_frame_parts : (f : List ℕ) (p q : Frame) → IsFrame f p → IsFrame f q → p ≡ q
+one_frame_parts f p q is also =
     let apart = fields (uint32 (length f)) (int32 p.request_id) (int32 p.response_to) (uint32 message_code) (uint32 is.word) (flat_map section_bytes is.sections ++ is.tail)
     (uint32 (length f)) (int32 q.request_id) (int32 q.response_to) (uint32 message_code) (uint32 also.word) (flat_map section_bytes also.sections ++ also.tail)
     refl refl refl refl refl (sym is.spelled ∙ also.spelled) in
@@ -166,7 +166,7 @@ one_frame f g rest more p q is also e =
     let sizes = counted (length f) (length g) (after_length f p is) (after_length g q also) rest more (omega (arith, is.length_fits)) (omega (arith, also.length_fits))
     (sym (ap (λ l. l ++ rest) is.spelled) ∙ e ∙ ap (λ l. l ++ more) also.spelled) in
     let apart = same_front f g rest more e sizes.0 in
-    (apart.0, one_parts g p q (subst (λ l. IsFrame l p) apart.0 is) also, apart.1)
+    (apart.0, one_frame_parts g p q (subst (λ l. IsFrame l p) apart.0 is) also, apart.1)
 
 -- no frame is a front of another
 pub no_front : (frame more : List ℕ) (parts other : Frame) → IsFrame frame parts → IsFrame (frame ++ more) other → more ≡ []
@@ -355,7 +355,7 @@ one_on maximum b t u k l p q =
     ]
 
 -- bytes call for at most one row, and it takes the same of them
-pub one_row : (maximum : ℤ) (taken rest other more : List ℕ) (kind also : ErrorKind) → FrameRow maximum taken kind → FrameRow maximum other also → (kind ≡ EndOfInput → rest ≡ [])
+pub one_frame_row : (maximum : ℤ) (taken rest other more : List ℕ) (kind also : ErrorKind) → FrameRow maximum taken kind → FrameRow maximum other also → (kind ≡ EndOfInput → rest ≡ [])
     → (also ≡ EndOfInput → more ≡ []) → taken ++ rest ≡ other ++ more → (kind ≡ also) × (taken ≡ other)
-one_row maximum taken rest other more kind also p q ends stops e =
+one_frame_row maximum taken rest other more kind also p q ends stops e =
     one_on maximum (other ++ more) taken other kind also (subst (λ b. On maximum b taken kind) e (on_all maximum taken rest kind p ends)) (on_all maximum other more also q stops)

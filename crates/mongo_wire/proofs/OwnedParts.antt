@@ -9,7 +9,7 @@ use Rattle.mongo_wire.specs.declared.sections.SectionRef.TheVariants.{Body, Sequ
 use Rattle.mongo_wire.specs.declared.sections.SequenceRef.{SequenceRef}
 use Rattle.mongo_wire.proofs.OneFrame.{one_documents, one_sections}
 use Rattle.mongo_wire.proofs.AtFront.{documents_back, documents_stop}
-use Rattle.mongo_wire.proofs.Contents.{each_joined, one_more, goes_on}
+use Rattle.mongo_wire.proofs.Contents.{each_joined, one_section_more, goes_on}
 use Rattle.mongo_wire.specs.declared.document_sequence.DocumentSequence.{DocumentSequence}
 
 -- sections that were taken, and their sequences
@@ -37,7 +37,7 @@ owned_body bytes rest after read sequences so begins =
     record {
       sections = so.sections ++ s ∷ [];
       each = each_joined so.sections (s ∷ []) so.each (begins.is_section, tt);
-      spelled = one_more bytes rest after so.sections s so.spelled begins.spelled;
+      spelled = one_section_more bytes rest after so.sections s so.spelled begins.spelled;
       same = so.same ∙ sym (sequences_joined so.sections (s ∷ []) ∙ ap (λ l. sequences_of so.sections ++ l) (shown_body s read begins.shown) ∙ append-nil (sequences_of so.sections));
     }
 
@@ -49,7 +49,7 @@ owned_sequence_more bytes rest after read sequences copy so begins copied =
     record {
       sections = so.sections ++ s ∷ [];
       each = each_joined so.sections (s ∷ []) so.each (begins.is_section, tt);
-      spelled = one_more bytes rest after so.sections s so.spelled begins.spelled;
+      spelled = one_section_more bytes rest after so.sections s so.spelled begins.spelled;
       same = ap (λ l. l ++ copy ∷ []) so.same ∙ ap (λ l. sequences_of so.sections ++ l) (of s begins.is_section begins.shown) ∙ sym (sequences_joined so.sections (s ∷ []));
     }
   where

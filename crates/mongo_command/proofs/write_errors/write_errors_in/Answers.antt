@@ -1,12 +1,12 @@
 use Rattle.mongo_bson.specs.Framed.{element_bytes}
 use Rattle.mongo_command.specs.WriteReply.{ReadsWriteError}
-use Rattle.mongo_command.proofs.Elements.{taken, stopped}
+use Rattle.mongo_command.proofs.Elements.{taken, iteration_stopped}
 use Rattle.mongo_command.proofs.Tables.{errors_broken_off, no_write_error, more_each}
 use Rattle.mongo_command.proofs.write_errors.write_errors_in.Goals as goal
 
 pub returns-in_default : goal.returns-in_default
 returns-in_default c =
-    errors_broken_off c.args.array.bytes.now c.loop-item.item-iterator.rest.now c.loop-item.errors c.loop-item.invariant (stopped c.loop-item.item-iterator c.next.new.self c.in-Some.item c.in_default.field-0 c.in-Some.ensures.steps c.in_default.is)
+    errors_broken_off c.args.array.bytes.now c.loop-item.item-iterator.rest.now c.loop-item.errors c.loop-item.invariant (iteration_stopped c.loop-item.item-iterator c.next.new.self c.in-Some.item c.in_default.field-0 c.in-Some.ensures.steps c.in_default.is)
 
 pub returns-in_err-error : goal.returns-in_err-error
 returns-in_err-error c =

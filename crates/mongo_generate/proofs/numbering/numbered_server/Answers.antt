@@ -3,7 +3,7 @@ use Rattle.mongo_scram.specs.declared.scram_version.ScramVersion.{ScramVersion}
 use Rattle.mongo_server.specs.declared.user.ServerUser.{ServerUser}
 use Rattle.mongo_server.specs.User.{IsUserOf}
 use Rattle.mongo_generate.specs.Generated.{exchange_at}
-use Rattle.mongo_generate.proofs.Numbered.{only_memory}
+use Rattle.mongo_generate.proofs.Numbered.{password_only_memory}
 use Rattle.mongo_generate.proofs.numbering.numbered_server.Goals as goal
 
 renamed : (version other : ScramVersion) (username name password secret salt grains : List ℕ) (count : ℕ) (user : ServerUser) → version ≡ other → username ≡ name → password ≡ secret → salt ≡ grains → IsUserOf version username password salt count user → IsUserOf other name secret grains count user
@@ -21,5 +21,5 @@ returns-clause-serves g c =
 
 pub returns-in_err-user-clause-refused : goal.returns-in_err-user-clause-refused
 returns-in_err-user-clause-refused g c =
-    let memory = only_memory c.args.number _ _ _ c.version_at.ensures (c.as_str-2.ensures ∙ c.in_ok-password.ensures.text) c.in_err-user.ensures.refused in
+    let memory = password_only_memory c.args.number _ _ _ c.version_at.ensures (c.as_str-2.ensures ∙ c.in_ok-password.ensures.text) c.in_err-user.ensures.refused in
     search rules

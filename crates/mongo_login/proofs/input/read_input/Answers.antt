@@ -4,7 +4,7 @@ use Rattle.std.proofs.KnownBytes.{Consumes-trans, Consumes-kept}
 use Rattle.mongo_wire.specs.Outside.{risen}
 use Rattle.mongo_wire.proofs.ReadStopped.{reads_on}
 use Rattle.mongo_settings.specs.Settings.{maximum_settings_length}
-use Rattle.mongo_login.proofs.Front.{reads_whole, reads_front, nothing_more, no_value, of_error, judged-front}
+use Rattle.mongo_login.proofs.Front.{reads_whole, reads_front, nothing_more, no_ok, of_error, judged-front}
 use Rattle.mongo_login.proofs.input.read_input.Goals as goal
 
 pub returns-in-Ok-eq0-clause-read : goal.returns-in-Ok-eq0-clause-read
@@ -70,16 +70,16 @@ returns-in-Ok-eq0-clause-on g c = reads_on _ _ _ c.reading.invariant.on c.in-Ok-
 -- ---- memory ran out for its piece
 
 pub returns-in_err-extend_from_slice-in-Ok-clause-read : goal.returns-in_err-extend_from_slice-in-Ok-clause-read
-returns-in_err-extend_from_slice-in-Ok-clause-read g c = λ input told. no_value _ c.from_residual.result c.from_residual.ensures.0
+returns-in_err-extend_from_slice-in-Ok-clause-read g c = λ input told. no_ok _ c.from_residual.result c.from_residual.ensures.0
 
 pub returns-in_err-extend_from_slice-in-Ok-clause-judged_alike : goal.returns-in_err-extend_from_slice-in-Ok-clause-judged_alike
-returns-in_err-extend_from_slice-in-Ok-clause-judged_alike g c = λ task input told. no_value _ c.from_residual.result c.from_residual.ensures.0
+returns-in_err-extend_from_slice-in-Ok-clause-judged_alike g c = λ task input told. no_ok _ c.from_residual.result c.from_residual.ensures.0
 
 pub returns-in_err-extend_from_slice-in-Ok-clause-consumed : goal.returns-in_err-extend_from_slice-in-Ok-clause-consumed
-returns-in_err-extend_from_slice-in-Ok-clause-consumed g c = no_value _ c.from_residual.result c.from_residual.ensures.0
+returns-in_err-extend_from_slice-in-Ok-clause-consumed g c = no_ok _ c.from_residual.result c.from_residual.ensures.0
 
 pub returns-in_err-extend_from_slice-in-Ok-clause-ended : goal.returns-in_err-extend_from_slice-in-Ok-clause-ended
-returns-in_err-extend_from_slice-in-Ok-clause-ended g c = no_value _ c.from_residual.result c.from_residual.ensures.0
+returns-in_err-extend_from_slice-in-Ok-clause-ended g c = no_ok _ c.from_residual.result c.from_residual.ensures.0
 
 pub returns-in_err-extend_from_slice-in-Ok-clause-unended : goal.returns-in_err-extend_from_slice-in-Ok-clause-unended
 returns-in_err-extend_from_slice-in-Ok-clause-unended g c =

@@ -6,7 +6,7 @@ use Rattle.mongo_sasl.proofs.EndsByScript.{refused_by_script, once_by_script, ho
 use Rattle.mongo_sasl.proofs.Handed.{no_answer_on}
 use Rattle.mongo_sasl.proofs.OneExchange.{exchanged_as, unanswered_as}
 use Rattle.mongo_sasl.proofs.PlainJoins.{plain_joins}
-use Rattle.mongo_sasl.proofs.PlainSteps.{credential_refused, plain_begins, user_stopped, plain_unbuilt, plain_replied, plain_refused}
+use Rattle.mongo_sasl.proofs.PlainSteps.{plain_user_refused, plain_begins, user_stopped, plain_unbuilt, plain_replied, plain_refused}
 use Rattle.mongo_sasl.proofs.StopsBy.{was_faultless, no_exchange, at_exchange, after_exchange}
 use Rattle.mongo_sasl.proofs.plain.authenticate_stream.Goals as goal
 
@@ -19,7 +19,7 @@ returns-in_err-login-clause-login g c =
     let r = c.from_residual.result in
     let passed = c.from_residual.ensures.1 in
     refused_by_script _ (plain_plan handed) (IsPlainLogin handed) handed.maximum (plain_joins handed) _ _ r e passed
-    (no_exchange _ (plain_plan handed) _ (Err e) (credential_refused handed e.kind c.in_err-login.ensures.refused))
+    (no_exchange _ (plain_plan handed) _ (Err e) (plain_user_refused handed e.kind c.in_err-login.ensures.refused))
 
 pub returns-in_err-login-clause-buffer : goal.returns-in_err-login-clause-buffer
 returns-in_err-login-clause-buffer g c = no_answer_on c.from_residual.result c.in_err-login.field-0.0 _ c.from_residual.ensures.1

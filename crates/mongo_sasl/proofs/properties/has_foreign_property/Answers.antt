@@ -1,5 +1,5 @@
 use Rattle.std.proofs.Common.{◌≡◌, true, false, sym, ◌∙◌}
-use Rattle.mongo_command.proofs.Elements.{taken, stopped}
+use Rattle.mongo_command.proofs.Elements.{taken, iteration_stopped}
 use Rattle.mongo_sasl.specs.Validation.{is_oidc_property}
 use Rattle.mongo_command.proofs.FirstOfKey.{elements_of}
 use Rattle.mongo_sasl.proofs.Foreign.{left_known, left_foreign, left_none, left_unbroken}
@@ -20,7 +20,7 @@ loop-item-preserved c = λ all is.
 pub unreachable-requires : goal.unreachable-requires
 unreachable-requires c =
     let elements = elements_of c.args.properties.bytes.now c.requires in
-    left_unbroken c.loop-item.item-iterator.rest.now elements.0 (stopped c.loop-item.item-iterator c.next.new.self c.in-Some.item c.in-Err.field-0 c.in-Some.ensures.steps c.in-Err.is) (c.loop-item.invariant elements.0 elements.1)
+    left_unbroken c.loop-item.item-iterator.rest.now elements.0 (iteration_stopped c.loop-item.item-iterator c.next.new.self c.in-Some.item c.in-Err.field-0 c.in-Some.ensures.steps c.in-Err.is) (c.loop-item.invariant elements.0 elements.1)
 
 pub returns : goal.returns
 returns c = λ all is. sym (left_none c.loop-item.item-iterator.rest.now all c.in-None.ensures.steps.0 (c.loop-item.invariant all is))

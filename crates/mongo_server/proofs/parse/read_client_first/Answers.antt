@@ -1,16 +1,17 @@
-use Rattle.std.proofs.Common.{◌≡◌, ◌++◌, codes, rules}
+use Rattle.std.proofs.Common.{◌≡◌, ◌++◌, rules}
 use Rattle.mongo_server.specs.SaslName.{IsSaslName}
-use Rattle.mongo_server.proofs.ClientFirsts.{AreAttributes, no_text, no_header, no_name, no_comma, no_nonce, no_saslname, not_printable, is_message, is_bare, username_text}
+use Rattle.mongo_server.proofs.ClientFirsts.{AreAttributes, no_utf8_message, no_header, no_user_name, no_comma, no_nonce, no_saslname, not_printable, is_message, is_bare, username_text}
 use Rattle.mongo_server.proofs.parse.read_client_first.Goals as goal
+use Rattle.mongo_scram.specs.Attributes.{nonce_attribute}
 
 pub returns-in_default : goal.returns-in_default
-returns-in_default c = no_text c.args.message.now (search rules)
+returns-in_default c = no_utf8_message c.args.message.now (search rules)
 
 pub returns-in_default-strip_prefix : goal.returns-in_default-strip_prefix
 returns-in_default-strip_prefix c = no_header c.args.message.now (search rules)
 
 pub returns-in_default-strip_prefix-2 : goal.returns-in_default-strip_prefix-2
-returns-in_default-strip_prefix-2 c = no_name c.args.message.now c.in-Some.bare.now (search rules) (search rules)
+returns-in_default-strip_prefix-2 c = no_user_name c.args.message.now c.in-Some.bare.now (search rules) (search rules)
 
 pub returns-in_default-cut : goal.returns-in_default-cut
 returns-in_default-cut c =
@@ -41,7 +42,7 @@ returns c =
     let nonce = c.in-Some-strip_prefix-2.nonce.now in
     let parts : AreAttributes message bare attributes name attribute = record { opened = record { header = search rules; key = search rules }; ends = search rules; joined = search rules } in
     let named : IsSaslName name = search rules in
-    let value : attribute ≡ codes "r=" ++ nonce = search rules in
+    let value : attribute ≡ nonce_attribute ++ nonce = search rules in
     record {
       username = named.0;
       is_first = record {

@@ -1,11 +1,11 @@
 use Rattle.std.proofs.Common.{rules}
-use Rattle.mongo_server.proofs.UserNames.{IsCutAtEquals, code_of, plain_name, after_no_comma, whole_from, after_from, no_name}
+use Rattle.mongo_server.proofs.UserNames.{IsCutAtEquals, code_of, plain_name, after_no_comma, whole_from, after_from, no_escaped_name}
 use Rattle.mongo_server.proofs.user_name.is_saslname.Goals as goal
 
 pub returns-in_default-after_code : goal.returns-in_default-after_code
 returns-in_default-after_code c = (
   λ is. absurd (cc is),
-  λ named. absurd (no_name c.loop-code.rest.now c.in-Some.field-0-0.now c.in-Some.code.now c.loop-code.invariant.no_comma (search rules) (search rules) (search rules) (c.loop-code.invariant.part named)),
+  λ named. absurd (no_escaped_name c.loop-code.rest.now c.in-Some.field-0-0.now c.in-Some.code.now c.loop-code.invariant.no_comma (search rules) (search rules) (search rules) (c.loop-code.invariant.part named)),
 )
 
 pub loop-code-preserved : goal.loop-code-preserved

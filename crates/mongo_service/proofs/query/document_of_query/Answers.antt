@@ -1,10 +1,10 @@
-use Rattle.mongo_service.proofs.Queried.{no_name, no_numbers, other_name, query_found}
+use Rattle.mongo_service.proofs.Queried.{no_collection_name, no_numbers, other_name, query_found}
 use Rattle.mongo_service.proofs.query.document_of_query.Goals as goal
 
 pub returns-in_err-collection : goal.returns-in_err-collection
 returns-in_err-collection c =
     let flags = c.in_ok-after_flags.ensures in
-    rw c.from_residual-in_err-collection.ensures (no_name c.args.body.now flags.0 c.in_ok-after_flags.after_flags.now flags.1 flags.2 c.in_err-collection.ensures)
+    rw c.from_residual-in_err-collection.ensures (no_collection_name c.args.body.now flags.0 c.in_ok-after_flags.after_flags.now flags.1 flags.2 c.in_err-collection.ensures)
 
 pub returns-in_default : goal.returns-in_default
 returns-in_default c =

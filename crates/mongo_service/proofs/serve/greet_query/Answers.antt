@@ -1,5 +1,5 @@
 use Rattle.std.proofs.Common.{inr, refl, arith}
-use Rattle.mongo_session.proofs.Carried.{greeted}
+use Rattle.mongo_session.proofs.Carried.{greeting_carried}
 use Rattle.mongo_service.proofs.Greeted.{no_greeting}
 use Rattle.mongo_service.proofs.serve.greet_query.Goals as goal
 
@@ -7,7 +7,7 @@ pub returns-in-Ok-clause-remembers : goal.returns-in-Ok-clause-remembers
 returns-in-Ok-clause-remembers g c = λ requests h. c.greet.ensures.remembers requests c.args.document.bytes.now h c.in-Hello.ensures
 
 pub returns-in-Ok-clause-greeting : goal.returns-in-Ok-clause-greeting
-returns-in-Ok-clause-greeting g c = greeted c.args.document.bytes.now c.in-Hello.hello.is_legacy c.in-Hello.ensures.name
+returns-in-Ok-clause-greeting g c = greeting_carried c.args.document.bytes.now c.in-Hello.hello.is_legacy c.in-Hello.ensures.name
 
 pub returns-in_default : goal.returns-in_default
 returns-in_default g c = record {

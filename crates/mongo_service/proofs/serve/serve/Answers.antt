@@ -1,7 +1,7 @@
 use Rattle.std.proofs.Common.{◌≡◌, true, false, Ok, ap, ◌∙◌, subst, ◌-◌, ◌^◌, arith}
 use Rattle.mongo_service.specs.Served.{TurnEnds}
 use Rattle.mongo_service.specs.Turns.{documents}
-use Rattle.mongo_service.proofs.Stream.{begun, one_more, has_ended, was_cut, went_on}
+use Rattle.mongo_service.proofs.Stream.{begun, one_turn_more, has_ended, was_cut, went_on}
 use Rattle.mongo_service.proofs.serve.serve.Goals as goal
 
 pub returns-in-Ok-false-clause-served : goal.returns-in-Ok-false-clause-served
@@ -43,7 +43,7 @@ serving-preserved g c =
     let count = c.serving._turn in
     let h = c.serving.invariant.served in
     let result : c.take_turn.result ≡ Ok true = c.in-Ok-true.is ∙ ap Ok c.in-Ok-true.field-0-test in
-    record { served = one_more c.args.settings.now old mid new before id after later count h (subst (TurnEnds c.args.settings.now (documents h.turns) mid new before id after later) result (c.take_turn.ensures.turn (documents h.turns) h.remembers)); rises = omega (arith, c.serving.invariant.rises, c.take_turn.ensures.rises) }
+    record { served = one_turn_more c.args.settings.now old mid new before id after later count h (subst (TurnEnds c.args.settings.now (documents h.turns) mid new before id after later) result (c.take_turn.ensures.turn (documents h.turns) h.remembers)); rises = omega (arith, c.serving.invariant.rises, c.take_turn.ensures.rises) }
 
 pub returns-clause-served : goal.returns-clause-served
 returns-clause-served g c =

@@ -4,7 +4,7 @@ use Rattle.mongo_wire.specs.declared.op_code.OpCode.TheVariants.{Message, Query}
 use Rattle.mongo_service.specs.Served.{FollowsHead}
 use Rattle.mongo_service.proofs.Causes.{header_part}
 use Rattle.mongo_service.proofs.Lasts.{flushed_read}
-use Rattle.mongo_service.proofs.NoRequest.{other_code, unknown, unlike}
+use Rattle.mongo_service.proofs.NoRequest.{other_code, unknown, unlike_code}
 use Rattle.mongo_service.proofs.Turns.{none_taken}
 use Rattle.mongo_service.specs.declared.fault.ServeFault.TheVariants.{NoFrame}
 use Rattle.mongo_service.proofs.serve.take_after.Goals as goal
@@ -23,7 +23,7 @@ returns-in_default-clause-turn g c = λ requests before h f.
     let session = c.args.serving.now.session in
     let sixteen : length head ≡ 16 = search rules in
     let known = c.in-Ok.ensures.header.0 in
-    let other = other_code head (omega (arith, sixteen)) (unlike (signed_at 12 head) Message c.in-Ok.header.op_code known refl c.in_default.not-Message) (unlike (signed_at 12 head) Query c.in-Ok.header.op_code known refl c.in_default.not-Query) in
+    let other = other_code head (omega (arith, sixteen)) (unlike_code (signed_at 12 head) Message c.in-Ok.header.op_code known refl c.in_default.not-Message) (unlike_code (signed_at 12 head) Query c.in-Ok.header.op_code known refl c.in_default.not-Query) in
     none_taken c.args.settings.now requests before (g.L.Outside.state c.args.link.now) session c.args.serving.now.ids session.user NoFrame head refl (header_part head (omega (arith, sixteen))) f.taken f.on.unwritten.written h.user
     (refl, omega (arith, sixteen), other) (flushed_read before _ f.on)
 

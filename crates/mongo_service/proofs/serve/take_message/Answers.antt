@@ -6,7 +6,7 @@ use Rattle.std.proofs.lemmas.Int.{to_z-of_z}
 use Rattle.mongo_wire.specs.Header.{header_bytes}
 use Rattle.mongo_wire.specs.declared.op_code.OpCode.TheVariants.{Message}
 use Rattle.mongo_service.specs.Cut.{HasCause, IsCut}
-use Rattle.mongo_service.proofs.Causes.{refused}
+use Rattle.mongo_service.proofs.Causes.{cause_of_refusal}
 use Rattle.mongo_service.proofs.Lasts.{flushed_after, lasts_after}
 use Rattle.mongo_service.proofs.NoRequest.{code_spelled}
 use Rattle.mongo_service.proofs.Turns.{none_taken}
@@ -22,7 +22,7 @@ returns-in-Err-clause-turn g c = λ requests before h f.
     let head = header_bytes c.args.header in
     let code = code_spelled c.args.header Message (search rules) (search rules) (search rules) c.requires in
     let on = c.in-Err.ensures.on in
-    let some = refused c.in-Err.fault before t (has_some before.left s.left head refl f.taken) (code_before before.left s.left head refl code f.taken) (c.in-Err.ensures.refused before f.taken f.unstopped f.on) in
+    let some = cause_of_refusal c.in-Err.fault before t (has_some before.left s.left head refl f.taken) (code_before before.left s.left head refl code f.taken) (c.in-Err.ensures.refused before f.taken f.unstopped f.on) in
     subst (IsCut c.args.settings.now requests before t session id session.user) (sym c.into.ensures)
     (none_taken c.args.settings.now requests before t session id session.user _ some.taken refl some.part some.consumed (on.unwritten.written ∙ f.on.unwritten.written) h.user some.cause (flushed_after before s t f.on on))
 

@@ -9,8 +9,8 @@ use Rattle.mongo_service.specs.Cut.{IsCut}
 use Rattle.mongo_service.specs.Taken.{IsQueryBody}
 use Rattle.mongo_service.specs.declared.fault.ServeFault.TheVariants.{NoFrame}
 use Rattle.mongo_server.specs.Announced.{maximum_message_length}
-use Rattle.mongo_service.proofs.NoRequest.{bad_length, code_spelled, cut_after, no_body}
-use Rattle.mongo_service.proofs.Causes.{header_part, query_front, some_before, stopped, unasked}
+use Rattle.mongo_service.proofs.NoRequest.{bad_length, code_spelled, request_cut, no_query_body}
+use Rattle.mongo_service.proofs.Causes.{header_part, query_front, some_before, cause_of_stop, unasked}
 use Rattle.mongo_wire.proofs.ReadStopped.{unstopped_on}
 use Rattle.mongo_service.proofs.Lasts.{flushed_after, flushed_read, lasts_after, lasts_read}
 use Rattle.mongo_service.proofs.Turns.{none_taken}
@@ -40,7 +40,7 @@ returns-in-Err-clause-turn g c = λ requests before h f.
     let length_fits : FitsSigned w32 c.args.header.length = search rules in
     let code = code_spelled c.args.header Query length_fits (search rules) (search rules) c.requires in
     let counted : pos (16 + c.in-Some.rest) ≡ signed_at 0 head = c.in-Some.ensures.counted ∙ to_z-of_z w32 c.args.header.length length_fits ∙ sym (length_back c.args.header length_fits) in
-    let some = stopped c.in-Err.fault before s t head c.in-Some.rest (lasts_read before s f.unstopped f.on) f.taken (λ _. some_before s.left head (omega (arith, sixteen))) (λ taken few. cut_after head taken c.in-Some.rest sixteen counted few) on.tells c.in-Err.ensures.refused in
+    let some = cause_of_stop c.in-Err.fault before s t head c.in-Some.rest (lasts_read before s f.unstopped f.on) f.taken (λ _. some_before s.left head (omega (arith, sixteen))) (λ taken few. request_cut head taken c.in-Some.rest sixteen counted few) on.tells c.in-Err.ensures.refused in
     subst (IsCut c.args.settings.now requests before t session id session.user) (sym c.into.ensures)
     (none_after c.args.settings.now requests before s t session id session.user _ head some.taken refl (query_front head some.taken c.in-Some.rest sixteen code counted c.in-Some.ensures.within some.within) f some.consumed
     on.unwritten.written h.user some.cause (flushed_after before s t f.on on))
@@ -59,7 +59,7 @@ returns-in_default-command_of_query-clause-turn g c = λ requests before h f.
     let counted : pos (16 + c.in-Some.rest) ≡ signed_at 0 head = c.in-Some.ensures.counted ∙ to_z-of_z w32 c.args.header.length length_fits ∙ sym (length_back c.args.header length_fits) in
     let none = subst (λ b. (command : List ℕ) → IsQueryBody b command → ⊥) c.as_slice.ensures.value c.in_default-command_of_query.ensures in
     none_after c.args.settings.now requests before s t session c.args.serving.now.ids session.user NoFrame head body refl (query_front head body c.in-Some.rest sixteen code counted c.in-Some.ensures.within (omega (arith, c.in-Ok.ensures.whole))) f
-    c.in-Ok.ensures.taken on.unwritten.written h.user (refl, omega (arith, sixteen, length-append head body), no_body head body c.in-Some.rest sixteen code counted c.in-Ok.ensures.whole none) (flushed_after before s t f.on on)
+    c.in-Ok.ensures.taken on.unwritten.written h.user (refl, omega (arith, sixteen, length-append head body), no_query_body head body c.in-Some.rest sixteen code counted c.in-Ok.ensures.whole none) (flushed_after before s t f.on on)
 
 pub returns-in-Ok-greet_query-clause-turn : goal.returns-in-Ok-greet_query-clause-turn
 returns-in-Ok-greet_query-clause-turn g c = λ requests before h f.

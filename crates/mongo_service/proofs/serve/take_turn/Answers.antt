@@ -1,7 +1,7 @@
 use Rattle.std.proofs.Common.{[], refl, sym, subst}
 use Rattle.std.proofs.KnownBytes.{Consumes-nil}
 use Rattle.mongo_service.specs.Cut.{IsCut}
-use Rattle.mongo_service.proofs.Causes.{header_part, stopped}
+use Rattle.mongo_service.proofs.Causes.{header_part, cause_of_stop}
 use Rattle.mongo_service.proofs.NoRequest.{within_header}
 use Rattle.mongo_service.proofs.Lasts.{flushed_read, lasts_all}
 use Rattle.mongo_service.proofs.Turns.{none_taken}
@@ -14,6 +14,6 @@ returns-in-Err-clause-turn g c = λ requests h.
     let session = c.args.serving.now.session in
     let id = c.args.serving.now.ids in
     let on = c.in-Err.ensures.on in
-    let some = stopped c.in-Err.fault s s t [] 16 (lasts_all s) (Consumes-nil s.left) c.in-Err.ensures.more within_header on.tells c.in-Err.ensures.refused in
+    let some = cause_of_stop c.in-Err.fault s s t [] 16 (lasts_all s) (Consumes-nil s.left) c.in-Err.ensures.more within_header on.tells c.in-Err.ensures.refused in
     subst (IsCut c.args.settings.now requests s t session id session.user) (sym c.into.ensures)
     (none_taken c.args.settings.now requests s t session id session.user _ some.taken refl (header_part some.taken some.within) some.consumed on.unwritten.written h.user some.cause (flushed_read s t on))

@@ -2,13 +2,13 @@ use Rattle.std.proofs.Common.{[], ◌∷◌, ◌≤◌, length, inl, ap, ◌∙�
 use Rattle.mongo_wire.proofs.ReadStopped.{reads_on}
 use Rattle.mongo_wire.specs.Outside.{risen}
 use Rattle.mongo_service.specs.declared.settings_line.LineError.TheVariants.{BadSettings, Fault, OutOfMemory}
-use Rattle.mongo_service.proofs.LineRead.{takes_line, one_more, has_no_line, stops_within, same_error, no_value}
+use Rattle.mongo_service.proofs.LineRead.{takes_line, one_more, has_no_line, stops_within, same_error, no_ok_behind}
 use Rattle.mongo_service.proofs.settings_line.read_settings_line.Goals as goal
 
 -- ---- no next byte
 
 pub returns-in_err-byte-clause-line : goal.returns-in_err-byte-clause-line
-returns-in_err-byte-clause-line g c = no_value _ c.from_residual.result c.in_err-byte.field-0.0 c.from_residual.ensures.1
+returns-in_err-byte-clause-line g c = no_ok_behind _ c.from_residual.result c.in_err-byte.field-0.0 c.from_residual.ensures.1
 
 pub returns-in_err-byte-clause-none : goal.returns-in_err-byte-clause-none
 returns-in_err-byte-clause-none g c = λ is.

@@ -1,5 +1,5 @@
 use Rattle.std.proofs.Common.{rules}
-use Rattle.mongo_session.proofs.Carried.{start_opens, next_continues}
+use Rattle.mongo_session.proofs.Carried.{start_carries, next_continues}
 use Rattle.mongo_session.proofs.Remembered.{remembers_later}
 use Rattle.mongo_session.proofs.answer.answer_request.Goals as goal
 
@@ -13,7 +13,7 @@ pub returns-in_ok-start-in-SaslStart-clause-remembers :
     goal.returns-in_ok-start-in-SaslStart-clause-remembers
 returns-in_ok-start-in-SaslStart-clause-remembers g c = λ requests document h says.
     let start = rw c.in-SaslStart.is at says in
-    c.start.ensures.remembers requests document h (start_opens document c.in-SaslStart.start start)
+    c.start.ensures.remembers requests document h (start_carries document c.in-SaslStart.start start)
 
 pub returns-in-Ping-clause-remembers : goal.returns-in-Ping-clause-remembers
 returns-in-Ping-clause-remembers g c = λ requests document h says. remembers_later c.args.settings.now requests document c.args.session.now h

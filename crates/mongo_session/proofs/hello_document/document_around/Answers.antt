@@ -4,32 +4,32 @@ use Rattle.mongo_command.specs.Keys.{connection_id_key, hello_ok_key, logical_se
 use Rattle.mongo_command.specs.Literal.{document_of}
 use Rattle.mongo_session.specs.Replies.{local_time_key, read_only_key}
 use Rattle.mongo_session.proofs.Described.{around}
-use Rattle.mongo_session.proofs.PlainKeys.{plain, writable_plain}
+use Rattle.mongo_session.proofs.PlainKeys.{key_without_zero, writable_plain}
 use Rattle.mongo_session.proofs.hello_document.document_around.Goals as goal
 
 -- no key has a zero
 pub document_of-requires : goal.document_of-requires
 document_of-requires c = record {
   named = (
-    plain hello_ok_key (search rules),
+    key_without_zero hello_ok_key (search rules),
     (
-      plain max_bson_object_size_key (search rules),
+      key_without_zero max_bson_object_size_key (search rules),
       (
-        plain max_message_size_bytes_key (search rules),
+        key_without_zero max_message_size_bytes_key (search rules),
         (
-          plain max_write_batch_size_key (search rules),
+          key_without_zero max_write_batch_size_key (search rules),
           (
-            plain local_time_key (search rules),
+            key_without_zero local_time_key (search rules),
             (
-              plain logical_session_timeout_minutes_key (search rules),
+              key_without_zero logical_session_timeout_minutes_key (search rules),
               (
-                plain connection_id_key (search rules),
+                key_without_zero connection_id_key (search rules),
                 (
-                  plain min_wire_version_key (search rules),
+                  key_without_zero min_wire_version_key (search rules),
                   (
-                    plain max_wire_version_key (search rules),
+                    key_without_zero max_wire_version_key (search rules),
                     (
-                      plain read_only_key (search rules),
+                      key_without_zero read_only_key (search rules),
                       (writable_plain c.args.hello.now.is_legacy c.writable_key.result.now c.writable_key.ensures, (c.mechanisms_field.ensures.named, (c.optional_document_field.ensures.named, (c.ok_field.ensures.named, tt)))),
                     ),
                   ),

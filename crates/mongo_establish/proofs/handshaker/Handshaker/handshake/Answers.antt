@@ -2,9 +2,9 @@ use Rattle.std.proofs.Common.{rules, option_copied}
 use Rattle.mongo_scram.proofs.Derived.{costs_nothing, on_refused}
 use Rattle.mongo_establish.specs.Options.{options_in}
 use Rattle.mongo_establish.proofs.Answered.{shaking_stopped, handshake_stopped}
-use Rattle.mongo_establish.proofs.Establishment.{only_memory, only_refused}
+use Rattle.mongo_establish.proofs.Establishment.{establishment_only_memory, only_refused}
 use Rattle.mongo_establish.proofs.EstablishmentPlan.{one_handshake}
-use Rattle.mongo_establish.proofs.Shaking.{unmade_stopped, unmade_costs, ungreeted_stopped, ungreeted_costs, login_stopped, login_stopped_costs, shook, shook_costs, handed_on, ok_of, if_err_of}
+use Rattle.mongo_establish.proofs.Shaking.{unmade_stopped, unmade_costs, ungreeted_stopped, ungreeted_costs, login_stopped, login_stopped_costs, shook, shook_costs, refusal_handed_on, ok_of, if_err_of}
 use Rattle.mongo_establish.proofs.handshaker.Handshaker.handshake.Goals as goal
 
 pub returns-in_err-first-clause-refused : goal.returns-in_err-first-clause-refused
@@ -19,7 +19,7 @@ returns-in_err-first-clause-costs g c =
 pub returns-in_err-reply-clause-refused : goal.returns-in_err-reply-clause-refused
 returns-in_err-reply-clause-refused g c =
     ungreeted_stopped c.args.connection.now (options_in c.args.self.now) (option_copied c.args.credential) c.args.inputs.now.nonces c.args.state.now.ids
-    c.in_ok-first.ensures.made c.in_ok-first.first c.in_ok-first.ensures.first _ c.say_hello.new.connection _ _ _ (handed_on _ c.say_hello.result c.in_err-reply.field-0.0 _ c.from_residual-in_err-reply.ensures.1 c.in_err-reply.was c.say_hello.ensures.refused)
+    c.in_ok-first.ensures.made c.in_ok-first.first c.in_ok-first.ensures.first _ c.say_hello.new.connection _ _ _ (refusal_handed_on _ c.say_hello.result c.in_err-reply.field-0.0 _ c.from_residual-in_err-reply.ensures.1 c.in_err-reply.was c.say_hello.ensures.refused)
 
 pub returns-in_err-reply-clause-costs : goal.returns-in_err-reply-clause-costs
 returns-in_err-reply-clause-costs g c =
@@ -31,7 +31,7 @@ returns-in_err-log_in-clause-refused g c =
     login_stopped c.args.connection.now (options_in c.args.self.now) (option_copied c.args.credential) c.args.inputs.now.nonces c.args.state.now.ids
     c.in_ok-first.ensures.made c.in_ok-first.first c.in_ok-first.ensures.first _ _ _ c.in_ok-reply.reply c.say_hello.new.connection c.in_ok-reply.ensures.greeted
     c.answered_round-round.result c.answered_round-round.ensures.there c.answered_round-round.ensures.scram
-    _ c.log_in.new.connection _ _ c.log_in.ensures.connection (handed_on _ c.log_in.result c.in_err-log_in.field-0.0 _ c.from_residual-in_err-log_in.ensures.1 c.in_err-log_in.was c.log_in.ensures.refused)
+    _ c.log_in.new.connection _ _ c.log_in.ensures.connection (refusal_handed_on _ c.log_in.result c.in_err-log_in.field-0.0 _ c.from_residual-in_err-log_in.ensures.1 c.in_err-log_in.was c.log_in.ensures.refused)
 
 pub returns-in_err-log_in-clause-costs : goal.returns-in_err-log_in-clause-costs
 returns-in_err-log_in-clause-costs g c =
@@ -64,7 +64,7 @@ returns-clause-costs g c = record {
 
 pub returns-in_err-first-clause-complete : goal.returns-in_err-first-clause-complete
 returns-in_err-first-clause-complete g c =
-    only_memory c.from_residual.result (λ e. e.kind) _ _ _ _ (handshake_stopped c.from_residual.result _ _ _ _ (shaking_stopped c.from_residual.result _ _ _ _ _ _ (returns-in_err-first-clause-refused g c)))
+    establishment_only_memory c.from_residual.result (λ e. e.kind) _ _ _ _ (handshake_stopped c.from_residual.result _ _ _ _ (shaking_stopped c.from_residual.result _ _ _ _ _ _ (returns-in_err-first-clause-refused g c)))
 
 pub returns-in_err-first-clause-exact : goal.returns-in_err-first-clause-exact
 returns-in_err-first-clause-exact g c =
@@ -72,7 +72,7 @@ returns-in_err-first-clause-exact g c =
 
 pub returns-in_err-reply-clause-complete : goal.returns-in_err-reply-clause-complete
 returns-in_err-reply-clause-complete g c =
-    only_memory c.from_residual-in_err-reply.result (λ e. e.kind) _ _ _ _ (handshake_stopped c.from_residual-in_err-reply.result _ _ _ _ (shaking_stopped c.from_residual-in_err-reply.result _ _ _ _ _ _ (returns-in_err-reply-clause-refused g c)))
+    establishment_only_memory c.from_residual-in_err-reply.result (λ e. e.kind) _ _ _ _ (handshake_stopped c.from_residual-in_err-reply.result _ _ _ _ (shaking_stopped c.from_residual-in_err-reply.result _ _ _ _ _ _ (returns-in_err-reply-clause-refused g c)))
 
 pub returns-in_err-reply-clause-exact : goal.returns-in_err-reply-clause-exact
 returns-in_err-reply-clause-exact g c =
@@ -80,7 +80,7 @@ returns-in_err-reply-clause-exact g c =
 
 pub returns-in_err-log_in-clause-complete : goal.returns-in_err-log_in-clause-complete
 returns-in_err-log_in-clause-complete g c =
-    only_memory c.from_residual-in_err-log_in.result (λ e. e.kind) _ _ _ _ (handshake_stopped c.from_residual-in_err-log_in.result _ _ _ _ (shaking_stopped c.from_residual-in_err-log_in.result _ _ _ _ _ _ (returns-in_err-log_in-clause-refused g c)))
+    establishment_only_memory c.from_residual-in_err-log_in.result (λ e. e.kind) _ _ _ _ (handshake_stopped c.from_residual-in_err-log_in.result _ _ _ _ (shaking_stopped c.from_residual-in_err-log_in.result _ _ _ _ _ _ (returns-in_err-log_in-clause-refused g c)))
 
 pub returns-in_err-log_in-clause-exact : goal.returns-in_err-log_in-clause-exact
 returns-in_err-log_in-clause-exact g c =

@@ -3,7 +3,7 @@ use Rattle.mongo_wire.specs.Error.{kind_of_fault}
 use Rattle.mongo_command.specs.Exchange.{DocumentRefused}
 use Rattle.mongo_scram.specs.Client.{message_of, first_source, includes_db, server_api_of}
 use Rattle.mongo_scram.specs.Commands.{first_body}
-use Rattle.mongo_scram.proofs.FirstBody.{same_step, start_sent, db_sent, db_refused, no_fault}
+use Rattle.mongo_scram.proofs.FirstBody.{same_step, start_sent, db_sent, db_refused, ok_is_no_error}
 use Rattle.mongo_scram.proofs.ReplyRead.{fault_handed_on}
 use Rattle.mongo_scram.proofs.messages.ClientFirst.to_command.Goals.{then-self+in_ok-append, else-self}
 use Rattle.mongo_scram.proofs.messages.ClientFirst.to_command.Goals as goal
@@ -18,7 +18,7 @@ returns-clause-command c =
     elim c.if-self.branch [
       | then-self+in_ok-append w ↦
           db_sent version (first_source message) w.as_str.result.now (message_of message) (includes_db message) (server_api_of message) c.new-start.result c.in_ok-command.command c.if-self.command w.append.new.self w.as_str.ensures start_is c.in_ok-command.ensures.command w.if-self.true
-          (λ long. no_fault _ _ (w.in_ok-append.ensures.too_long.1 long)) w.in_ok-append.ensures.added w.command-is
+          (λ long. ok_is_no_error _ _ (w.in_ok-append.ensures.too_long.1 long)) w.in_ok-append.ensures.added w.command-is
       | else-self w ↦
           start_sent version (first_source message) (message_of message) (includes_db message) (server_api_of message) c.new-start.result c.if-self.command start_is (w.command-is ∙ c.in_ok-command.ensures.command) w.if-self.false
     ]

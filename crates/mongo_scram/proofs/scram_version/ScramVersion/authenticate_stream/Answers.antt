@@ -13,7 +13,7 @@ use Rattle.mongo_sasl.proofs.StopsBy.{faultless_before}
 use Rattle.mongo_scram.proofs.ScramPlan.{challenge_by_first}
 use Rattle.mongo_scram.proofs.Derived.{costs_nothing}
 use Rattle.mongo_scram.proofs.EndsByScram.{refused_scram, stopped_scram, accepted_scram}
-use Rattle.mongo_scram.proofs.OpeningSteps.{credential_refused, user_stopped, user_refused, start_unsaid, answer_stopped, answer_refused}
+use Rattle.mongo_scram.proofs.OpeningSteps.{opening_refused, user_stopped, user_refused, start_unsaid, answer_stopped, answer_refused}
 use Rattle.mongo_scram.proofs.ClosingSteps.{final_by, closing_ends, closing_taken, closing_stopped, closing_refused, ends_login}
 use Rattle.mongo_scram.proofs.LoginSteps.{between_by, between_tag, stopped_early, stopped_between, stopped_last, accepted_by, frames_both, unchanged_on, close_unsaid, close_refused}
 use Rattle.mongo_scram.proofs.scram_version.ScramVersion.authenticate_stream.Goals as goal
@@ -25,8 +25,8 @@ returns-in_err-user-clause-login g c =
     let handed = handed_to c.args.self.now c.args.credential.now (option_copied c.args.server_api) c.args.first_round (base64_of c.args.nonce.now) c.args.max_iterations (frame_maximum c.args.connection.now.stream_description) in
     let e = c.in_err-user.field-0.0 in
     stopped_scram _ handed _ _ _ _ c.from_residual.result e c.from_residual.ensures.1
-    (stopped_early handed e.kind _ _ (at_once_keeping _ e.kind _ _ (credential_refused handed e.kind c.in_err-user.ensures.refused)) (costs_nothing c.args.steps.now c.args.salted.now))
-    (λ kind is. inl (credential_refused handed e.kind c.in_err-user.ensures.refused, costs_nothing c.args.steps.now c.args.salted.now)) (λ none. none) refl
+    (stopped_early handed e.kind _ _ (at_once_keeping _ e.kind _ _ (opening_refused handed e.kind c.in_err-user.ensures.refused)) (costs_nothing c.args.steps.now c.args.salted.now))
+    (λ kind is. inl (opening_refused handed e.kind c.in_err-user.ensures.refused, costs_nothing c.args.steps.now c.args.salted.now)) (λ none. none) refl
     (λ kind is. (refl, refl, refl, is)) (λ same. refl) (keeps_all c.args.connection.now) (still_counts _)
 
 pub returns-in_err-user-clause-buffer : goal.returns-in_err-user-clause-buffer

@@ -2,7 +2,7 @@ use Rattle.std.proofs.Common.{◌+◌, All, subst, sym, drop_of_length-le}
 use Rattle.std.proofs.lemmas.Result.{err_from_is_err_and}
 use Rattle.std.proofs.lemmas.List.Elements.{All-push}
 use Rattle.mongo_settings.specs.Batch.{IsLoginSpoken}
-use Rattle.mongo_settings.proofs.LoginsRead.{ReadTo, read_more, read_stopped, read_all}
+use Rattle.mongo_settings.proofs.LoginsRead.{ReadTo, read_more, read_stopped, each_read}
 use Rattle.mongo_settings.proofs.settings.logins.each_settings.Goals as goal
 
 pub returns-in_err-settings-clause-settings : goal.returns-in_err-settings-clause-settings
@@ -17,4 +17,4 @@ loop-value-preserved c = record {
 }
 
 pub returns-clause-settings : goal.returns-clause-settings
-returns-clause-settings c = read_all c.args.values.now c.loop-value.value-index c.loop-value.logins.items (drop_of_length-le c.args.values.now c.loop-value-test.false) c.loop-value.invariant.read
+returns-clause-settings c = each_read c.args.values.now c.loop-value.value-index c.loop-value.logins.items (drop_of_length-le c.args.values.now c.loop-value-test.false) c.loop-value.invariant.read

@@ -4,7 +4,7 @@ use Rattle.std.proofs.lemmas.Result.{err_from_is_err_and}
 use Rattle.serde_json.specs.View.{view, items_view}
 use Rattle.mongo_settings.specs.Properties.{item_elements, plain_element}
 use Rattle.mongo_settings.proofs.Elements.{item_elements-drop}
-use Rattle.mongo_settings.proofs.Grown.{grown, finished, refused}
+use Rattle.mongo_settings.proofs.Grown.{grown, finished, growing_refused}
 use Rattle.mongo_settings.proofs.settings.properties.array_of.Goals as goal
 
 pub loop-item-preserved : goal.loop-item-preserved
@@ -26,7 +26,7 @@ returns-in_err-push_item c =
     let x = c.item-item.result in
     let left = item_elements-drop items i x c.loop-item-test.true c.item-item.is in
     let p = err_from_is_err_and c.from_residual-in_err-push_item.result c.from_residual-in_err-push_item.ensures.1 in
-    rw (p.1, p.2) (refused c.loop-item.array.document (item_elements 0 (items_view items)) (item_elements (i + 1) (items_view (drop (i + 1) items))) (plain_element (decimal i) (view x)) c.in_err-push_item.field-0.0
+    rw (p.1, p.2) (growing_refused c.loop-item.array.document (item_elements 0 (items_view items)) (item_elements (i + 1) (items_view (drop (i + 1) items))) (plain_element (decimal i) (view x)) c.in_err-push_item.field-0.0
     (rw left at c.loop-item.invariant.grows) (rw c.loop-item.invariant.counted at c.in_err-push_item.ensures.refused))
 
 pub returns : goal.returns

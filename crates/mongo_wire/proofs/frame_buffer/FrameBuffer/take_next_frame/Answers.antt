@@ -4,7 +4,7 @@ use Rattle.mongo_wire.specs.Error.{kind_of_frame_fault}
 use Rattle.mongo_wire.specs.Header.{maximum_of}
 use Rattle.mongo_wire.specs.Outside.{risen}
 use Rattle.mongo_wire.specs.declared.error.ErrorKind.TheVariants.{InvalidResponse}
-use Rattle.mongo_wire.proofs.FrameRead.{header_refused, unknown_row, header_stopped, same_taken, no_refusal, grows_later, stays_later, more_came, no_end}
+use Rattle.mongo_wire.proofs.FrameRead.{header_refused, unknown_row, header_stopped, same_taken, no_refused_frame, grows_later, stays_later, more_came, no_end}
 use Rattle.mongo_wire.proofs.ReadStopped.{reads_on}
 use Rattle.mongo_wire.proofs.frame_buffer.FrameBuffer.take_next_frame.Goals as goal
 
@@ -18,7 +18,7 @@ pub returns-in-Err-take_after-clause-again : goal.returns-in-Err-take_after-clau
 returns-in-Err-take_after-clause-again g c = λ frame rest parts is frame_is within.
     let head = c.in-Ok-true.ensures in
     let state = g.S.Outside.state in
-    no_refusal (kind_of_frame_fault c.in-Err-take_after.fault) (maximum_of c.args.maximum) _ _ frame rest parts is frame_is within (c.in-Err-take_after.ensures.refused (state c.args.source.now) (subst (Consumes _ _) (sym c.in-Ok.ensures.spelled) (head.filled c.in-Ok-true.field-0-test)) (head.unstopped c.in-Ok-true.field-0-test) head.on)
+    no_refused_frame (kind_of_frame_fault c.in-Err-take_after.fault) (maximum_of c.args.maximum) _ _ frame rest parts is frame_is within (c.in-Err-take_after.ensures.refused (state c.args.source.now) (subst (Consumes _ _) (sym c.in-Ok.ensures.spelled) (head.filled c.in-Ok-true.field-0-test)) (head.unstopped c.in-Ok-true.field-0-test) head.on)
 
 pub returns-in-Err-clause-refused : goal.returns-in-Err-clause-refused
 returns-in-Err-clause-refused g c =
@@ -98,7 +98,7 @@ pub returns-in-Err-clause-again : goal.returns-in-Err-clause-again
 returns-in-Err-clause-again g c = λ frame rest parts is frame_is within.
     let refused = c.in-Err.ensures in
     let kind = kind_of_frame_fault c.in-Err.fault in
-    no_refusal kind (maximum_of c.args.maximum) _ _ frame rest parts is frame_is within (header_stopped kind (maximum_of c.args.maximum) _ _ refused.on.tells refused.refused)
+    no_refused_frame kind (maximum_of c.args.maximum) _ _ frame rest parts is frame_is within (header_stopped kind (maximum_of c.args.maximum) _ _ refused.on.tells refused.refused)
 
 pub returns-in-Err-clause-came : goal.returns-in-Err-clause-came
 returns-in-Err-clause-came g c = λ had left had_is left_is. omega (arith, ap (λ s. vec_capacity s) c.clear.ensures.store)
@@ -120,7 +120,7 @@ returns-in-Err-decode-clause-again g c = λ frame rest parts is frame_is within.
     let unknown = unknown_row (maximum_of c.args.maximum) c.fill_or_end.new.buf c.in-Err-decode.fault c.in-Err-decode.ensures.unknown in
     let kind = InvalidResponse c.in-Err-decode.fault in
     let refused = header_refused kind (maximum_of c.args.maximum) (state c.args.source.now) (state c.fill_or_end.new.source) c.fill_or_end.new.buf (c.in-Ok-true.ensures.filled c.in-Ok-true.field-0-test) (c.in-Ok-true.ensures.unstopped c.in-Ok-true.field-0-test) (search rules) unknown in
-    no_refusal kind (maximum_of c.args.maximum) (state c.args.source.now) (state c.fill_or_end.new.source) frame rest parts is frame_is within refused
+    no_refused_frame kind (maximum_of c.args.maximum) (state c.args.source.now) (state c.fill_or_end.new.source) frame rest parts is frame_is within refused
 
 pub returns-in-Err-decode-clause-more : goal.returns-in-Err-decode-clause-more
 returns-in-Err-decode-clause-more g c = λ _.
