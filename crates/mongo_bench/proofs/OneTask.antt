@@ -1,6 +1,5 @@
 -- The words ask for one task at most.
 use Rattle.std.proofs.Common.{◌≡◌, ◌<◌, ◌^◌, ℕ, List, [], ◌∷◌, refl, ap, sym, ◌∙◌, arith}
-use Rattle.std.specs.Prelude.{codes}
 use Rattle.std.specs.Fmt.{decimal}
 use Rattle.std.proofs.lemmas.Fmt.{decimal_injective}
 use Rattle.mongo_bench.specs.declared.task.Hash.{Hash}
@@ -15,7 +14,7 @@ use Rattle.mongo_bench.specs.declared.task.FrameSize.{FrameSize}
 use Rattle.mongo_bench.specs.declared.task.FrameSize.TheVariants.{Small, Middle, Large}
 use Rattle.mongo_bench.specs.declared.task.BenchTask.{BenchTask}
 use Rattle.mongo_bench.specs.declared.task.BenchTask.TheVariants.{Derive, Walk, Document, Frames, Insert, Login}
-use Rattle.mongo_bench.specs.Task.{AsksTask, name_of_hash, name_of_login, name_of_pass, name_of_shape, name_of_direction, name_of_size}
+use Rattle.mongo_bench.specs.Task.{AsksTask, document_word, frames_word, insert_word, login_word, name_of_hash, name_of_login, name_of_pass, name_of_shape, name_of_direction, name_of_size}
 
 one_hash : (h k : Hash) → name_of_hash h ≡ name_of_hash k → h ≡ k
 one_hash Sha1 Sha1 same = refl
@@ -69,17 +68,17 @@ one_login Sha256 Sha1 same = cc
 one_login Sha256 Sha256 same = refl
 
 -- no pass is called as the task that logs in
-pub no_pass_logs_in : (p : Pass) → name_of_pass p ≡ codes "login" → ⊥
+pub no_pass_logs_in : (p : Pass) → name_of_pass p ≡ login_word → ⊥
 no_pass_logs_in Iterate same = cc
 no_pass_logs_in Readable same = cc
 
 -- no hash is called as the task that prints a document
-pub no_hash : (h : Hash) → name_of_hash h ≡ codes "document" → ⊥
+pub no_hash : (h : Hash) → name_of_hash h ≡ document_word → ⊥
 no_hash Sha1 same = cc
 no_hash Sha256 same = cc
 
 -- nor as the one that builds inserts
-pub no_hash_inserts : (h : Hash) → name_of_hash h ≡ codes "insert" → ⊥
+pub no_hash_inserts : (h : Hash) → name_of_hash h ≡ insert_word → ⊥
 no_hash_inserts Sha1 same = cc
 no_hash_inserts Sha256 same = cc
 
@@ -93,7 +92,7 @@ pub not_two : {P : Type 0} (a b c d e : List ℕ) → a ∷ b ∷ [] ≡ c ∷ d
 not_two a b c d e same = cc
 
 -- the two tasks of two words that are no derivation
-inserts_nothing : {P : Type 0} (a b : List ℕ) → codes "insert" ∷ a ∷ [] ≡ codes "document" ∷ b ∷ [] → P
+inserts_nothing : {P : Type 0} (a b : List ℕ) → insert_word ∷ a ∷ [] ≡ document_word ∷ b ∷ [] → P
 inserts_nothing a b same = cc
 
 four_same : (a b c d e f g h : List ℕ) → a ∷ b ∷ c ∷ d ∷ [] ≡ e ∷ f ∷ g ∷ h ∷ [] → (b ≡ f) × (c ≡ g) × (d ≡ h)
@@ -114,47 +113,47 @@ one_task words (Derive h m) (Derive k n) t u =
     ap (λ x. Derive x m) (one_hash h k both.0) ∙ ap (Derive k) (same_count m n t.2 u.2 both.1)
 one_task words (Derive h m) (Walk p s n) t u = not_two (name_of_hash h) (decimal m) (name_of_pass p) (name_of_shape s) (decimal n) (sym t.0 ∙ u.0)
 one_task words (Derive h m) (Document s) t u =
-    absurd (no_hash h (two_same (name_of_hash h) (decimal m) (codes "document") (name_of_shape s) (sym t.0 ∙ u.0)).0)
+    absurd (no_hash h (two_same (name_of_hash h) (decimal m) document_word (name_of_shape s) (sym t.0 ∙ u.0)).0)
 one_task words (Walk p s n) (Derive h m) t u = not_two (name_of_hash h) (decimal m) (name_of_pass p) (name_of_shape s) (decimal n) (sym u.0 ∙ t.0)
 one_task words (Walk p s m) (Walk q r n) t u =
     let all = three_same (name_of_pass p) (name_of_shape s) (decimal m) (name_of_pass q) (name_of_shape r) (decimal n) (sym t.0 ∙ u.0) in
     ap (λ x. Walk x s m) (one_pass p q all.0) ∙ ap (λ x. Walk q x m) (one_shape s r all.1) ∙ ap (Walk q r) (same_count m n t.2 u.2 all.2)
-one_task words (Walk p s n) (Document r) t u = not_two (codes "document") (name_of_shape r) (name_of_pass p) (name_of_shape s) (decimal n) (sym u.0 ∙ t.0)
+one_task words (Walk p s n) (Document r) t u = not_two document_word (name_of_shape r) (name_of_pass p) (name_of_shape s) (decimal n) (sym u.0 ∙ t.0)
 one_task words (Document s) (Derive h m) t u =
-    absurd (no_hash h (two_same (name_of_hash h) (decimal m) (codes "document") (name_of_shape s) (sym u.0 ∙ t.0)).0)
-one_task words (Document r) (Walk p s n) t u = not_two (codes "document") (name_of_shape r) (name_of_pass p) (name_of_shape s) (decimal n) (sym t.0 ∙ u.0)
+    absurd (no_hash h (two_same (name_of_hash h) (decimal m) document_word (name_of_shape s) (sym u.0 ∙ t.0)).0)
+one_task words (Document r) (Walk p s n) t u = not_two document_word (name_of_shape r) (name_of_pass p) (name_of_shape s) (decimal n) (sym t.0 ∙ u.0)
 one_task words (Document s) (Document r) t u =
-    ap Document (one_shape s r (two_same (codes "document") (name_of_shape s) (codes "document") (name_of_shape r) (sym t.0 ∙ u.0)).1)
+    ap Document (one_shape s r (two_same document_word (name_of_shape s) document_word (name_of_shape r) (sym t.0 ∙ u.0)).1)
 one_task words (Frames d s n) (Frames e r m) t u =
-    let all = four_same (codes "frames") (name_of_direction d) (name_of_size s) (decimal n) (codes "frames") (name_of_direction e) (name_of_size r) (decimal m) (sym t.0 ∙ u.0) in
+    let all = four_same frames_word (name_of_direction d) (name_of_size s) (decimal n) frames_word (name_of_direction e) (name_of_size r) (decimal m) (sym t.0 ∙ u.0) in
     ap (λ x. Frames x s n) (one_direction d e all.0) ∙ ap (λ x. Frames e x n) (one_size s r all.1) ∙ ap (Frames e r) (same_count n m t.2 u.2 all.2)
-one_task words (Frames d s n) (Derive h m) t u = two_not_four (name_of_hash h) (decimal m) (codes "frames") (name_of_direction d) (name_of_size s) (decimal n) (sym u.0 ∙ t.0)
-one_task words (Frames d s n) (Document r) t u = two_not_four (codes "document") (name_of_shape r) (codes "frames") (name_of_direction d) (name_of_size s) (decimal n) (sym u.0 ∙ t.0)
-one_task words (Frames d s n) (Walk p r m) t u = three_not_four (name_of_pass p) (name_of_shape r) (decimal m) (codes "frames") (name_of_direction d) (name_of_size s) (decimal n) (sym u.0 ∙ t.0)
-one_task words (Derive h m) (Frames d s n) t u = two_not_four (name_of_hash h) (decimal m) (codes "frames") (name_of_direction d) (name_of_size s) (decimal n) (sym t.0 ∙ u.0)
-one_task words (Document r) (Frames d s n) t u = two_not_four (codes "document") (name_of_shape r) (codes "frames") (name_of_direction d) (name_of_size s) (decimal n) (sym t.0 ∙ u.0)
-one_task words (Walk p r m) (Frames d s n) t u = three_not_four (name_of_pass p) (name_of_shape r) (decimal m) (codes "frames") (name_of_direction d) (name_of_size s) (decimal n) (sym t.0 ∙ u.0)
-one_task words (Insert n) (Insert m) t u = ap Insert (same_count n m t.2 u.2 (two_same (codes "insert") (decimal n) (codes "insert") (decimal m) (sym t.0 ∙ u.0)).1)
-one_task words (Insert n) (Derive h m) t u = absurd (no_hash_inserts h (two_same (name_of_hash h) (decimal m) (codes "insert") (decimal n) (sym u.0 ∙ t.0)).0)
-one_task words (Derive h m) (Insert n) t u = absurd (no_hash_inserts h (two_same (name_of_hash h) (decimal m) (codes "insert") (decimal n) (sym t.0 ∙ u.0)).0)
+one_task words (Frames d s n) (Derive h m) t u = two_not_four (name_of_hash h) (decimal m) frames_word (name_of_direction d) (name_of_size s) (decimal n) (sym u.0 ∙ t.0)
+one_task words (Frames d s n) (Document r) t u = two_not_four document_word (name_of_shape r) frames_word (name_of_direction d) (name_of_size s) (decimal n) (sym u.0 ∙ t.0)
+one_task words (Frames d s n) (Walk p r m) t u = three_not_four (name_of_pass p) (name_of_shape r) (decimal m) frames_word (name_of_direction d) (name_of_size s) (decimal n) (sym u.0 ∙ t.0)
+one_task words (Derive h m) (Frames d s n) t u = two_not_four (name_of_hash h) (decimal m) frames_word (name_of_direction d) (name_of_size s) (decimal n) (sym t.0 ∙ u.0)
+one_task words (Document r) (Frames d s n) t u = two_not_four document_word (name_of_shape r) frames_word (name_of_direction d) (name_of_size s) (decimal n) (sym t.0 ∙ u.0)
+one_task words (Walk p r m) (Frames d s n) t u = three_not_four (name_of_pass p) (name_of_shape r) (decimal m) frames_word (name_of_direction d) (name_of_size s) (decimal n) (sym t.0 ∙ u.0)
+one_task words (Insert n) (Insert m) t u = ap Insert (same_count n m t.2 u.2 (two_same insert_word (decimal n) insert_word (decimal m) (sym t.0 ∙ u.0)).1)
+one_task words (Insert n) (Derive h m) t u = absurd (no_hash_inserts h (two_same (name_of_hash h) (decimal m) insert_word (decimal n) (sym u.0 ∙ t.0)).0)
+one_task words (Derive h m) (Insert n) t u = absurd (no_hash_inserts h (two_same (name_of_hash h) (decimal m) insert_word (decimal n) (sym t.0 ∙ u.0)).0)
 one_task words (Insert n) (Document s) t u = inserts_nothing (decimal n) (name_of_shape s) (sym t.0 ∙ u.0)
 one_task words (Document s) (Insert n) t u = inserts_nothing (decimal n) (name_of_shape s) (sym u.0 ∙ t.0)
-one_task words (Insert n) (Walk p s m) t u = not_two (codes "insert") (decimal n) (name_of_pass p) (name_of_shape s) (decimal m) (sym t.0 ∙ u.0)
-one_task words (Walk p s m) (Insert n) t u = not_two (codes "insert") (decimal n) (name_of_pass p) (name_of_shape s) (decimal m) (sym u.0 ∙ t.0)
-one_task words (Insert n) (Frames d s m) t u = two_not_four (codes "insert") (decimal n) (codes "frames") (name_of_direction d) (name_of_size s) (decimal m) (sym t.0 ∙ u.0)
-one_task words (Frames d s m) (Insert n) t u = two_not_four (codes "insert") (decimal n) (codes "frames") (name_of_direction d) (name_of_size s) (decimal m) (sym u.0 ∙ t.0)
+one_task words (Insert n) (Walk p s m) t u = not_two insert_word (decimal n) (name_of_pass p) (name_of_shape s) (decimal m) (sym t.0 ∙ u.0)
+one_task words (Walk p s m) (Insert n) t u = not_two insert_word (decimal n) (name_of_pass p) (name_of_shape s) (decimal m) (sym u.0 ∙ t.0)
+one_task words (Insert n) (Frames d s m) t u = two_not_four insert_word (decimal n) frames_word (name_of_direction d) (name_of_size s) (decimal m) (sym t.0 ∙ u.0)
+one_task words (Frames d s m) (Insert n) t u = two_not_four insert_word (decimal n) frames_word (name_of_direction d) (name_of_size s) (decimal m) (sym u.0 ∙ t.0)
 one_task words (Login h m) (Login k n) t u =
-    let all = three_same (codes "login") (name_of_login h) (decimal m) (codes "login") (name_of_login k) (decimal n) (sym t.0 ∙ u.0) in
+    let all = three_same login_word (name_of_login h) (decimal m) login_word (name_of_login k) (decimal n) (sym t.0 ∙ u.0) in
     ap (λ x. Login x m) (one_login h k all.1) ∙ ap (Login k) (same_count m n t.2 u.2 all.2)
 one_task words (Login h m) (Walk p s n) t u =
-    absurd (no_pass_logs_in p (three_same (name_of_pass p) (name_of_shape s) (decimal n) (codes "login") (name_of_login h) (decimal m) (sym u.0 ∙ t.0)).0)
+    absurd (no_pass_logs_in p (three_same (name_of_pass p) (name_of_shape s) (decimal n) login_word (name_of_login h) (decimal m) (sym u.0 ∙ t.0)).0)
 one_task words (Walk p s n) (Login h m) t u =
-    absurd (no_pass_logs_in p (three_same (name_of_pass p) (name_of_shape s) (decimal n) (codes "login") (name_of_login h) (decimal m) (sym t.0 ∙ u.0)).0)
-one_task words (Login h m) (Derive k n) t u = not_two (name_of_hash k) (decimal n) (codes "login") (name_of_login h) (decimal m) (sym u.0 ∙ t.0)
-one_task words (Derive k n) (Login h m) t u = not_two (name_of_hash k) (decimal n) (codes "login") (name_of_login h) (decimal m) (sym t.0 ∙ u.0)
-one_task words (Login h m) (Document s) t u = not_two (codes "document") (name_of_shape s) (codes "login") (name_of_login h) (decimal m) (sym u.0 ∙ t.0)
-one_task words (Document s) (Login h m) t u = not_two (codes "document") (name_of_shape s) (codes "login") (name_of_login h) (decimal m) (sym t.0 ∙ u.0)
-one_task words (Login h m) (Insert n) t u = not_two (codes "insert") (decimal n) (codes "login") (name_of_login h) (decimal m) (sym u.0 ∙ t.0)
-one_task words (Insert n) (Login h m) t u = not_two (codes "insert") (decimal n) (codes "login") (name_of_login h) (decimal m) (sym t.0 ∙ u.0)
-one_task words (Login h m) (Frames d s n) t u = three_not_four (codes "login") (name_of_login h) (decimal m) (codes "frames") (name_of_direction d) (name_of_size s) (decimal n) (sym t.0 ∙ u.0)
-one_task words (Frames d s n) (Login h m) t u = three_not_four (codes "login") (name_of_login h) (decimal m) (codes "frames") (name_of_direction d) (name_of_size s) (decimal n) (sym u.0 ∙ t.0)
+    absurd (no_pass_logs_in p (three_same (name_of_pass p) (name_of_shape s) (decimal n) login_word (name_of_login h) (decimal m) (sym t.0 ∙ u.0)).0)
+one_task words (Login h m) (Derive k n) t u = not_two (name_of_hash k) (decimal n) login_word (name_of_login h) (decimal m) (sym u.0 ∙ t.0)
+one_task words (Derive k n) (Login h m) t u = not_two (name_of_hash k) (decimal n) login_word (name_of_login h) (decimal m) (sym t.0 ∙ u.0)
+one_task words (Login h m) (Document s) t u = not_two document_word (name_of_shape s) login_word (name_of_login h) (decimal m) (sym u.0 ∙ t.0)
+one_task words (Document s) (Login h m) t u = not_two document_word (name_of_shape s) login_word (name_of_login h) (decimal m) (sym t.0 ∙ u.0)
+one_task words (Login h m) (Insert n) t u = not_two insert_word (decimal n) login_word (name_of_login h) (decimal m) (sym u.0 ∙ t.0)
+one_task words (Insert n) (Login h m) t u = not_two insert_word (decimal n) login_word (name_of_login h) (decimal m) (sym t.0 ∙ u.0)
+one_task words (Login h m) (Frames d s n) t u = three_not_four login_word (name_of_login h) (decimal m) frames_word (name_of_direction d) (name_of_size s) (decimal n) (sym t.0 ∙ u.0)
+one_task words (Frames d s n) (Login h m) t u = three_not_four login_word (name_of_login h) (decimal m) frames_word (name_of_direction d) (name_of_size s) (decimal n) (sym u.0 ∙ t.0)

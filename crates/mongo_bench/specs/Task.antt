@@ -34,6 +34,19 @@ example_salt = 0x41 ∷ 0x25 ∷ 0xC2 ∷ 0x47 ∷ 0xE4 ∷ 0x3A ∷ 0xB1 ∷ 0x
 abbrev pub IsTaskCount : List ℕ → ℕ → Type 0
 IsTaskCount text count = (1 ≤ count) × (count < 2 ^ 32) × (text ≡ decimal count)
 
+-- the first word of the tasks that have several
+abbrev pub document_word : List ℕ
+document_word = codes "document"
+
+abbrev pub frames_word : List ℕ
+frames_word = codes "frames"
+
+abbrev pub insert_word : List ℕ
+insert_word = codes "insert"
+
+abbrev pub login_word : List ℕ
+login_word = codes "login"
+
 -- the words for a hash, a pass and a shape
 abbrev pub name_of_hash : Hash → List ℕ
 name_of_hash Sha1 = codes "hi-sha1"
@@ -81,10 +94,10 @@ task_count (Login hash count) = count
 abbrev pub task_words : BenchTask → List (List ℕ)
 task_words (Derive hash count) = name_of_hash hash ∷ decimal count ∷ []
 task_words (Walk pass shape count) = name_of_pass pass ∷ name_of_shape shape ∷ decimal count ∷ []
-task_words (Document shape) = codes "document" ∷ name_of_shape shape ∷ []
-task_words (Frames direction size count) = codes "frames" ∷ name_of_direction direction ∷ name_of_size size ∷ decimal count ∷ []
-task_words (Insert count) = codes "insert" ∷ decimal count ∷ []
-task_words (Login hash count) = codes "login" ∷ name_of_login hash ∷ decimal count ∷ []
+task_words (Document shape) = document_word ∷ name_of_shape shape ∷ []
+task_words (Frames direction size count) = frames_word ∷ name_of_direction direction ∷ name_of_size size ∷ decimal count ∷ []
+task_words (Insert count) = insert_word ∷ decimal count ∷ []
+task_words (Login hash count) = login_word ∷ name_of_login hash ∷ decimal count ∷ []
 
 abbrev pub AsksTask : List (List ℕ) → BenchTask → Type 0
 AsksTask words task = (words ≡ task_words task) × (1 ≤ task_count task) × (task_count task < 2 ^ 32)

@@ -1,5 +1,5 @@
-ghost use Rattle.std.specs.Prelude.{◌≡◌, ◌≢◌, ◌∷◌, [], ℕ, MatchOption, codes, map, slice_index, string_bytes};
-ghost use Rattle.mongo_bench.specs.Task.{AsksTask, AsksNothing, IsTaskCount, size_of_frame, name_of_direction, name_of_hash, name_of_login, name_of_pass, name_of_shape, name_of_size};
+ghost use Rattle.std.specs.Prelude.{◌≡◌, ◌≢◌, ◌∷◌, [], ℕ, MatchOption, map, slice_index, string_bytes};
+ghost use Rattle.mongo_bench.specs.Task.{AsksTask, AsksNothing, IsTaskCount, login_word, size_of_frame, name_of_direction, name_of_hash, name_of_login, name_of_pass, name_of_shape, name_of_size};
 
 /// The password of each derivation (RFC 5802, section 5).
 pub const EXAMPLE_PASSWORD: &[u8] = b"pencil";
@@ -135,7 +135,7 @@ fn task_of_three(name: &str, kind: &str, count: &str) -> Option<BenchTask>
 
 // Logins by the hash of that name.
 fn login_task(kind: &str, count: &str) -> Option<BenchTask>
-    ensures { MatchOption result (AsksNothing (codes "login" ∷ kind.now ∷ count.now ∷ [])) (AsksTask (codes "login" ∷ kind.now ∷ count.now ∷ [])) }
+    ensures { MatchOption result (AsksNothing (login_word ∷ kind.now ∷ count.now ∷ [])) (AsksTask (login_word ∷ kind.now ∷ count.now ∷ [])) }
 {
     let hash = login_hash_of(kind)?;
     Some(BenchTask::Login(hash, count_of(count)?))
@@ -143,7 +143,7 @@ fn login_task(kind: &str, count: &str) -> Option<BenchTask>
 
 // Passes over a document.
 fn walk_of(name: &str, shape: &str, count: &str) -> Option<BenchTask>
-    requires { name.now ≢ codes "login" }
+    requires { name.now ≢ login_word }
     ensures { MatchOption result (AsksNothing (name.now ∷ shape.now ∷ count.now ∷ [])) (AsksTask (name.now ∷ shape.now ∷ count.now ∷ [])) }
 {
     let pass = pass_of(name)?;

@@ -7,6 +7,7 @@ use Rattle.mongo_bson.specs.Framed.{maximum_length}
 use Rattle.mongo_bson.specs.Document.{Element, Shape, fixed, boolean, binary, document, shape_of, IsCstring, IsElement, IsDocument, IsReadable, IsInside, HasDistinctKeys}
 use Rattle.mongo_bson.specs.declared.owned_value.OwnedValue.{OwnedValue}
 use Rattle.mongo_bson.specs.declared.raw_value.RawValue.TheVariants.{Double}
+use Rattle.mongo_bson.proofs.ByKind.{same_shape}
 use Rattle.mongo_bson.proofs.ReadBack.{written_element}
 use Rattle.mongo_command.specs.Literal.{document_element, boolean_element, int32_element, ok_element, document_of, generic_element}
 use Rattle.mongo_command.specs.declared.hello.HelloCommandResponse.{HelloCommandResponse}
@@ -29,9 +30,6 @@ not_boolean is = cc
 
 not_binary : binary ≡ document → ⊥
 not_binary is = cc
-
-same_shape : (a b : Shape) → Some a ≡ Some b → a ≡ b
-same_shape a b is = cc
 
 flat : (e : Element) (shape : Shape) → shape_of e.kind ≡ Some shape → (shape ≡ document → ⊥) → (e.kind ≡ 0x0F → ⊥) → IsFlat e
 flat e shape known other scope d inside = elim inside [ inl x ↦ other (same_shape shape document (sym known ∙ x.0)) | inr y ↦ scope y.0 ]

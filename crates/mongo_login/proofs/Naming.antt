@@ -1,13 +1,13 @@
 -- Words name one subcommand.
-use Rattle.std.proofs.Common.{◌≡◌, ℕ, ◌∙◌, refl, sym, List, [], ◌∷◌, Bool, false, Result, Ok, Err, IsTrue, ◌↔◌, codes, subst, arith}
+use Rattle.std.proofs.Common.{◌≡◌, ℕ, ◌∙◌, refl, sym, List, [], ◌∷◌, Bool, false, Result, Ok, Err, IsTrue, ◌↔◌, subst, arith}
 use Rattle.std.specs.Str.Parse.{ParsesUnsigned}
 use Rattle.std.proofs.lemmas.Fmt.{parse-decimal}
 use Rattle.mongo_settings.specs.declared.task.Task.{Task}
 use Rattle.mongo_settings.specs.declared.task.Task.TheVariants as task
 use Rattle.mongo_login.specs.declared.words.Subcommand.TheVariants.{Rehearse, Generate}
-use Rattle.mongo_login.specs.Words.{task_name, IsCountWord, NamesSubcommand}
+use Rattle.mongo_login.specs.Words.{task_name, generate_word, IsCountWord, NamesSubcommand}
 
-two_names : ◌≡◌ {A = List (List ℕ)} (codes "rehearse" ∷ []) (codes "batch" ∷ []) → ⊥
+two_names : ◌≡◌ {A = List (List ℕ)} (task_name task.Rehearse ∷ []) (task_name task.Batch ∷ []) → ⊥
 two_names e = cc
 
 pub one_rehearsal : (words : List (List ℕ)) (task other : Task) → NamesSubcommand words (Rehearse task) → NamesSubcommand words (Rehearse other) → other ≡ task
@@ -21,7 +21,7 @@ one_or_two a b c words p q = cc
 
 -- one word is no pair of them
 pub not_both_tasks : (words : List (List ℕ)) (task : Task) (count : ℕ) → NamesSubcommand words (Rehearse task) → NamesSubcommand words (Generate count) → ⊥
-not_both_tasks words task count p q = one_or_two (task_name task) (codes "generate") q.0 words p q.1
+not_both_tasks words task count p q = one_or_two (task_name task) generate_word q.0 words p q.1
 
 -- a word that is a count is read as it
 pub count_word_read : {E : Type 0} (word : List ℕ) (count : ℕ) (r : Result ℕ E) → IsCountWord word count → ParsesUnsigned 32 10 word r → r ≡ Ok count

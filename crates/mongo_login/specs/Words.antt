@@ -9,6 +9,9 @@ abbrev pub task_name : Task → List ℕ
 task_name task.Rehearse = codes "rehearse"
 task_name task.Batch = codes "batch"
 
+abbrev pub generate_word : List ℕ
+generate_word = codes "generate"
+
 -- the maximum of logins that one run makes
 abbrev pub maximum_logins : ℕ
 maximum_logins = 1000
@@ -22,7 +25,7 @@ pub record IsCountWord (word : List ℕ) (count : ℕ) : Type 0 where
 -- a task's name alone, or `generate` and a number
 abbrev pub NamesSubcommand : List (List ℕ) → Subcommand → Type 0
 NamesSubcommand words (Rehearse task) = words ≡ task_name task ∷ []
-NamesSubcommand words (Generate count) = (number : List ℕ) × (words ≡ codes "generate" ∷ number ∷ []) × IsCountWord number count
+NamesSubcommand words (Generate count) = (number : List ℕ) × (words ≡ generate_word ∷ number ∷ []) × IsCountWord number count
 
 abbrev pub NamesNone : List (List ℕ) → Type 0
 NamesNone words = (command : Subcommand) → NamesSubcommand words command → ⊥

@@ -1,12 +1,11 @@
 -- A client's last message has one reading, since a base64 text holds no comma, and none where a part of it is missing.
-use Rattle.std.proofs.Common.{◌≡◌, ◌≢◌, ℕ, Ok, List, [], ◌∷◌, ◌++◌, refl, ap, sym, ◌∙◌}
-use Rattle.base64.specs.Engines.{standard}
-use Rattle.base64.specs.GeneralPurpose.{IsBytes, decode_of}
-use Rattle.base64.proofs.EngineFacts.{decode_of-encode_of}
+use Rattle.std.proofs.Common.{◌≡◌, ◌≢◌, ℕ, List, [], ◌∷◌, ◌++◌, refl, ap, sym, ◌∙◌}
+use Rattle.base64.specs.GeneralPurpose.{IsBytes}
 use Rattle.mongo_scram.specs.Attributes.{after_comma, bound_nonce_attribute, proof_attribute}
 use Rattle.mongo_scram.specs.Base64.{base64_of}
 use Rattle.mongo_scram.specs.Messages.{no_proof}
 use Rattle.mongo_scram.specs.ServerMessages.{HasNo}
+use Rattle.mongo_scram.proofs.OneMessage.{one_base64}
 use Rattle.mongo_scram.proofs.Parts.{no_cut, heads, tails}
 use Rattle.mongo_server.specs.ClientMessages.{IsClientFinal}
 use Rattle.mongo_server.proofs.Base64Commas.{base64-no_comma}
@@ -69,11 +68,6 @@ module _ (message attributes value attribute : List ℕ) (is : AreAttributes mes
   }
 
 -- ---- one reading
-
-one_base64 : (a b : List ℕ) → IsBytes a → IsBytes b → base64_of a ≡ base64_of b → a ≡ b
-unfolding base64_of
-one_base64 a b p q same =
-    let is : Ok a ≡ Ok b = sym (decode_of-encode_of standard a refl p) ∙ ap (λ text. decode_of standard text) same ∙ decode_of-encode_of standard b refl q in cc
 
 pub record SameFinal (nonce proof other more : List ℕ) : Type 0 where
   pub nonce_is : nonce ≡ other
