@@ -1,4 +1,3 @@
 pub mod Login
-pub mod Status
 pub mod Task
 pub mod Work

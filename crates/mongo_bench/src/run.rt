@@ -1,8 +1,7 @@
 ghost use Rattle.std.specs.Prelude.{◌≡◌, ◌≢◌, ◌<◌, ◌≤◌, ◌+◌, ◌++◌, ◌↔◌, IsOk, OnOk, map, codes, string_bytes};
 ghost use Rattle.hex.specs.Hex.{encode_lower};
 ghost use Rattle.std.specs.Io.KnownBytes.{Appends};
-ghost use Rattle.mongo_bench.specs.Status.{bench_code};
-ghost use Rattle.mongo_bench.specs.Task.{AsksTask, AsksNothing, HasPrinted, Costs, derived_by};
+ghost use Rattle.mongo_bench.specs.Task.{AsksTask, AsksNothing, HasPrinted, Costs, bench_code, derived_by};
 ghost use Rattle.mongo_bench.specs.Work.{nothing_done, work_of};
 
 use crate::frames::run_frames;

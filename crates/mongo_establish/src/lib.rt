@@ -37,9 +37,9 @@ pub use mongo_bson::{
     BsonFault, Bytes, Items, ObjectId, RawDocument, RawDocumentBuf, RawValue, Text, Texts,
 };
 pub use mongo_command::{
-    Command, Connection, DEFAULT_PORT, HelloCommandResponse, HelloReply, LastWrite, MemberTag,
-    RawCommandResponse, ServerAddress, ServerApi, ServerApiVersion, ServerType, StreamDescription,
-    Tags, TopologyVersion,
+    Command, Connection, DEFAULT_PORT, FieldFault, Fields, HelloCommandResponse, HelloReply,
+    LastWrite, MemberTag, RawCommandResponse, ServerAddress, ServerApi, ServerApiVersion,
+    ServerType, StreamDescription, Tags, TopologyVersion, command_body,
 };
 pub use mongo_mac::Steps;
 pub use mongo_meta::{

@@ -52,9 +52,9 @@ short_final x =
 
 -- ---- documents
 
-pub length_hello : (payload : List ℕ) → length payload < 2 ^ 24 → length (hello_reply payload) < 2 ^ 25
+pub length_hello_reply : (payload : List ℕ) → length payload < 2 ^ 24 → length (hello_reply payload) < 2 ^ 25
 unfolding hello_reply
-length_hello payload short = omega (arith, length-document_of (standalone_elements payload), length-document_of (speculative_elements payload))
+length_hello_reply payload short = omega (arith, length-document_of (standalone_elements payload), length-document_of (speculative_elements payload))
 
 pub length_final : (payload : List ℕ) → length payload < 2 ^ 24 → length (final_reply payload) < 2 ^ 25
 unfolding final_reply

@@ -9,8 +9,7 @@ use Rattle.mongo_scram.specs.Messages.{bare_message, open_message}
 use Rattle.mongo_scram.specs.ServerMessages.{HasNo}
 use Rattle.mongo_scram.specs.UserName.{escaped}
 use Rattle.mongo_scram.proofs.Parts.{no_cut, one_cut}
-use Rattle.mongo_server.specs.ClientMessages.{IsNonce, IsClientFirst}
-use Rattle.mongo_server.specs.SaslName.{IsSaslName}
+use Rattle.mongo_server.specs.ClientMessages.{IsNonce, IsClientFirst, IsSaslName}
 use Rattle.mongo_server.proofs.UserNames.{escaped_same, escaped-no_comma, escaped_text, past_ascii, unescaped_text}
 
 -- ---- the texts
@@ -62,8 +61,8 @@ name_front name rest text =
 
 -- ---- its parts, one after another
 
-pub no_header : (message : List ℕ) → ((rest : List ℕ) → message ≢ gs2_header ++ rest) → (username nonce : List ℕ) → IsClientFirst message username nonce → ⊥
-no_header message none username nonce is = none (bare_message username nonce) (is.message_is ∙ opens username nonce)
+pub no_gs2_header : (message : List ℕ) → ((rest : List ℕ) → message ≢ gs2_header ++ rest) → (username nonce : List ℕ) → IsClientFirst message username nonce → ⊥
+no_gs2_header message none username nonce is = none (bare_message username nonce) (is.message_is ∙ opens username nonce)
 
 -- the message behind its header is the bare one
 pub one_bare : (message bare username nonce : List ℕ) → message ≡ gs2_header ++ bare → IsClientFirst message username nonce → bare ≡ bare_message username nonce
@@ -81,20 +80,20 @@ one_rest : (message bare attributes username nonce : List ℕ) → IsHeaded mess
 one_rest message bare attributes username nonce is first =
     behind_two 110 61 attributes (escaped username ++ (0x2C ∷ (nonce_attribute ++ nonce))) (sym is.key ∙ one_bare message bare username nonce is.header first ∙ bares username nonce)
 
-pub no_comma : (message bare attributes : List ℕ) → IsHeaded message bare attributes → HasNo 0x2C attributes → (username nonce : List ℕ) → IsClientFirst message username nonce → ⊥
-no_comma message bare attributes is none username nonce first = no_cut attributes (escaped username) (nonce_attribute ++ nonce) none (one_rest message bare attributes username nonce is first)
+pub no_attribute_comma : (message bare attributes : List ℕ) → IsHeaded message bare attributes → HasNo 0x2C attributes → (username nonce : List ℕ) → IsClientFirst message username nonce → ⊥
+no_attribute_comma message bare attributes is none username nonce first = no_cut attributes (escaped username) (nonce_attribute ++ nonce) none (one_rest message bare attributes username nonce is first)
 
 -- and its two attributes
-pub record AreAttributes (message bare attributes name attribute : List ℕ) : Type 0 where
+pub record AreFirstAttributes (message bare attributes name attribute : List ℕ) : Type 0 where
   pub opened : IsHeaded message bare attributes
   pub ends : HasNo 0x2C name
   pub joined : attributes ≡ name ++ (0x2C ∷ attribute)
 
-one_attributes : (message bare attributes name attribute username nonce : List ℕ) → AreAttributes message bare attributes name attribute → IsClientFirst message username nonce → (name ≡ escaped username) × (attribute ≡ nonce_attribute ++ nonce)
+one_attributes : (message bare attributes name attribute username nonce : List ℕ) → AreFirstAttributes message bare attributes name attribute → IsClientFirst message username nonce → (name ≡ escaped username) × (attribute ≡ nonce_attribute ++ nonce)
 one_attributes message bare attributes name attribute username nonce is first =
     one_cut name (escaped username) attribute (nonce_attribute ++ nonce) is.ends (escaped-no_comma username) (sym is.joined ∙ one_rest message bare attributes username nonce is.opened first)
 
-module _ (message bare attributes name attribute : List ℕ) (is : AreAttributes message bare attributes name attribute) where
+module _ (message bare attributes name attribute : List ℕ) (is : AreFirstAttributes message bare attributes name attribute) where
   pub no_nonce : ((rest : List ℕ) → attribute ≢ nonce_attribute ++ rest) → (username nonce : List ℕ) → IsClientFirst message username nonce → ⊥
   no_nonce none username nonce first = none nonce (one_attributes message bare attributes name attribute username nonce is first).1
 

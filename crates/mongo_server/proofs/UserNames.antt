@@ -10,7 +10,7 @@ use lib.Utf8.{encode, encodes, scalars, scalar}
 use Rattle.std.specs.Char.{IsScalar}
 use Rattle.mongo_scram.specs.ServerMessages.{HasNo}
 use Rattle.mongo_scram.specs.UserName.{escaped, escaped_byte, comma_code, equals_code}
-use Rattle.mongo_server.specs.SaslName.{IsSaslName}
+use Rattle.mongo_server.specs.ClientMessages.{IsSaslName}
 use Rattle.mongo_scram.proofs.Parts.{heads, tails}
 use Rattle.mongo_scram.proofs.Escaped.{IsPlain, escaped_byte-plain, escaped-plain, encode-plain, other_character}
 

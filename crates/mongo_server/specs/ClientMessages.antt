@@ -5,6 +5,11 @@ use Rattle.base64.specs.GeneralPurpose.{IsBytes}
 use Rattle.mongo_scram.specs.Attributes.{after_comma, proof_attribute}
 use Rattle.mongo_scram.specs.Base64.{base64_of}
 use Rattle.mongo_scram.specs.Messages.{open_message, no_proof}
+use Rattle.mongo_scram.specs.UserName.{escaped}
+
+-- a user name as messages carry it: `saslname`
+abbrev pub IsSaslName : List ℕ → Type 0
+IsSaslName text = (name : List ℕ) × (text ≡ escaped name)
 
 -- printable ASCII, bytes 32 to 126, without a comma
 abbrev pub IsNonceByte : ℕ → Type 0

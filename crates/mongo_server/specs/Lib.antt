@@ -3,7 +3,6 @@ pub mod Announced
 pub mod ClientMessages
 pub mod Exchange
 pub mod Parsed
-pub mod SaslName
 pub mod Server
 pub mod ServerTexts
 pub mod User

@@ -3,7 +3,7 @@
 ghost use Rattle.std.specs.Prelude.{◌≡◌, ◌≢◌, ℕ, List, ◌++◌, ◌⊎◌, ◌↔◌, IsTrue, MatchOption};
 ghost use Rattle.mongo_scram.specs.ServerMessages.{HasNo};
 ghost use Rattle.mongo_scram.specs.UserName.{comma_code, equals_code};
-ghost use Rattle.mongo_server.specs.SaslName.{IsSaslName};
+ghost use Rattle.mongo_server.specs.ClientMessages.{IsSaslName};
 
 use mongo_scram::attributes::{COMMA_CODE, EQUALS_CODE};
 use mongo_scram::cut;

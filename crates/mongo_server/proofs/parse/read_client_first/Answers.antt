@@ -1,6 +1,6 @@
 use Rattle.std.proofs.Common.{◌≡◌, ◌++◌, rules}
-use Rattle.mongo_server.specs.SaslName.{IsSaslName}
-use Rattle.mongo_server.proofs.ClientFirsts.{AreAttributes, no_utf8_message, no_header, no_user_name, no_comma, no_nonce, no_saslname, not_printable, is_message, is_bare, username_text}
+use Rattle.mongo_server.specs.ClientMessages.{IsSaslName}
+use Rattle.mongo_server.proofs.ClientFirsts.{AreFirstAttributes, no_utf8_message, no_gs2_header, no_user_name, no_attribute_comma, no_nonce, no_saslname, not_printable, is_message, is_bare, username_text}
 use Rattle.mongo_server.proofs.parse.read_client_first.Goals as goal
 use Rattle.mongo_scram.specs.Attributes.{nonce_attribute}
 
@@ -8,14 +8,14 @@ pub returns-in_default : goal.returns-in_default
 returns-in_default c = no_utf8_message c.args.message.now (search rules)
 
 pub returns-in_default-strip_prefix : goal.returns-in_default-strip_prefix
-returns-in_default-strip_prefix c = no_header c.args.message.now (search rules)
+returns-in_default-strip_prefix c = no_gs2_header c.args.message.now (search rules)
 
 pub returns-in_default-strip_prefix-2 : goal.returns-in_default-strip_prefix-2
 returns-in_default-strip_prefix-2 c = no_user_name c.args.message.now c.in-Some.bare.now (search rules) (search rules)
 
 pub returns-in_default-cut : goal.returns-in_default-cut
 returns-in_default-cut c =
-    no_comma c.args.message.now c.in-Some.bare.now c.in-Some-strip_prefix.attributes.now (record { header = search rules; key = search rules }) (search rules)
+    no_attribute_comma c.args.message.now c.in-Some.bare.now c.in-Some-strip_prefix.attributes.now (record { header = search rules; key = search rules }) (search rules)
 
 pub returns-in_default-strip_prefix-3 : goal.returns-in_default-strip_prefix-3
 returns-in_default-strip_prefix-3 c =
@@ -40,7 +40,7 @@ returns c =
     let name = c.in-Some-cut.saslname.now in
     let attribute = c.in-Some-cut.attribute.now in
     let nonce = c.in-Some-strip_prefix-2.nonce.now in
-    let parts : AreAttributes message bare attributes name attribute = record { opened = record { header = search rules; key = search rules }; ends = search rules; joined = search rules } in
+    let parts : AreFirstAttributes message bare attributes name attribute = record { opened = record { header = search rules; key = search rules }; ends = search rules; joined = search rules } in
     let named : IsSaslName name = search rules in
     let value : attribute ≡ nonce_attribute ++ nonce = search rules in
     record {

@@ -2,7 +2,7 @@ use Rattle.std.proofs.Common.{length}
 use denote.Shadow.{shadow}
 use denote.Text.{Utf8}
 use Rattle.mongo_scram.specs.ServerMessages.{HasNo}
-use Rattle.mongo_server.specs.SaslName.{IsSaslName}
+use Rattle.mongo_server.specs.ClientMessages.{IsSaslName}
 use Rattle.mongo_server.proofs.user_name.is_saslname.Given as goal
 
 abbrev pub invariant-loop-code : goal.invariant-loop-code
