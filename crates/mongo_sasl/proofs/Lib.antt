@@ -4,6 +4,7 @@ pub mod Unsent
 pub mod Handed
 pub mod StoppedKeeping
 pub mod DrawnIds
+pub mod LeftInBuffer
 pub mod StopsBy
 pub mod LastReply
 pub mod LoginEvents

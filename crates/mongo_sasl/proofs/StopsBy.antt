@@ -5,6 +5,7 @@ use Rattle.std.specs.Result.{IsErrAnd}
 use Rattle.mongo_wire.specs.declared.error.Error.{Error}
 use Rattle.mongo_wire.specs.declared.error.ErrorKind.{ErrorKind}
 use Rattle.mongo_wire.specs.declared.message.Message.{Message}
+use Rattle.mongo_wire.specs.Buffer.{IsFrameTaken}
 use Rattle.mongo_wire.specs.Outside.{State}
 use Rattle.mongo_command.specs.declared.command.Command.{Command}
 use Rattle.mongo_command.specs.Connection.{kept_fault}
@@ -14,10 +15,11 @@ use Rattle.mongo_command.specs.Exchange.{command_message, frame_maximum, BufferR
 use Rattle.mongo_command.proofs.EndsExchange.{HasRefusalCause}
 use Rattle.mongo_command.proofs.Rest.{keeps_all}
 use Rattle.mongo_command.proofs.Talked.{still_counts}
-use Rattle.mongo_sasl.specs.EndsByScript.{Standing, DrawsOnce, StopsBy}
+use Rattle.mongo_sasl.specs.EndsByScript.{Standing, DrawsOnce, LeavesInBuffer, StopsBy}
 use Rattle.mongo_sasl.specs.Stops.{StoppedKeeping, BeginsWithCommand, RefusedAtOnce}
 use Rattle.mongo_sasl.proofs.DrawnIds.{once_buffer, refused_draws}
 use Rattle.mongo_sasl.proofs.Handed.{handed_on}
+use Rattle.mongo_sasl.proofs.LeftInBuffer.{leaves_all, leaves_same, refused_leaves, taken_leaves}
 use Rattle.mongo_sasl.proofs.StoppedKeeping.{stopped_of, keeping_none, at_once_keeping}
 use Rattle.mongo_sasl.proofs.Unsent.{answered_fault, not_replied}
 
@@ -52,6 +54,14 @@ module _ {L U : Type 0} (state : L → State) (command : Command) (old new : Sta
   pub draws_refused : DrawsOnce old new
   draws_refused = draws_by (kept_fault old.connection) refl
 
+  leaves_by : (fault : Option ErrorKind) → kept_fault old.connection ≡ fault → LeavesInBuffer state old new
+  leaves_by None is = refused_leaves state e.kind (frame_maximum old.connection.stream_description) (command_message command) old new (buffer is)
+  leaves_by (Some kind) is = leaves_same state old new (ends.kept kind is).1 (untouched kind is)
+
+  -- it left the buffer as it was, or empty
+  leaves_refused : LeavesInBuffer state old new
+  leaves_refused = leaves_by (kept_fault old.connection) refl
+
 -- its reply was taken
 pub draws_exchanged : {L : Type 0} (maximum : ℤ) (message : Message) (left taken : State) (reply : List ℕ) (old new : Standing L) → Exchanges maximum message left taken old.id new.id reply → DrawsOnce old new
 draws_exchanged maximum message left taken reply old new e = record { drawn = inr e.sends.drawn }
@@ -74,6 +84,7 @@ module _ {L T A : Type 0} (state : L → State) (plan : Plan A) where
     untouched = λ kind is. (refl, refl, refl, is);
     answers = λ kind is. here_answers r kind at_once;
     buffer = λ same. refl;
+    leaves = leaves_all state old;
     rest = keeps_all old.connection;
     counts = still_counts (state old.link);
   }
@@ -87,18 +98,20 @@ module _ {L T A : Type 0} (state : L → State) (plan : Plan A) where
     untouched = λ kind is. let same = ends.kept kind is in (same.1, same.2, untouched kind is, same.3);
     answers = λ kind is. inl (answered_fault e kind (ends.kept kind is).0, begins);
     buffer = once_buffer old new (draws_refused {U = U} state command old new e ends untouched buffer);
+    leaves = leaves_refused {U = U} state command old new e ends untouched buffer;
     rest = ends.rest;
     counts = ends.counts;
   }
 
   -- the reply was received, and may be refused
   pub after_exchange : {U : Type 0} (command : Command) (x : U) (maximum : ℤ) (message : Message) (reply : List ℕ) (old new : Standing L) (r : Result T Error) → EndsExchange state ExchangeRefused command (Ok x) (footing_of old) (footing_of new)
-      → Exchanges maximum message (state old.link) (state new.link) old.id new.id reply → IfErr r (λ e. StoppedKeeping plan e.kind (state old.link) (state new.link) old.id new.id None) → StopsBy state plan r old new
-  after_exchange command x maximum message reply old new r ends e stopped = record {
+      → Exchanges maximum message (state old.link) (state new.link) old.id new.id reply → IsFrameTaken (frame_maximum old.connection.stream_description) (state old.link) (state new.link) new.buffer → IfErr r (λ e. StoppedKeeping plan e.kind (state old.link) (state new.link) old.id new.id None) → StopsBy state plan r old new
+  after_exchange command x maximum message reply old new r ends e taken stopped = record {
     refused = λ faultless. keeping_none r plan _ _ _ _ (kept_fault new.connection) ends.faultless stopped;
     untouched = λ kind is. not_replied x kind _ (ends.kept kind is).0;
     answers = λ kind is. not_replied x kind _ (ends.kept kind is).0;
     buffer = once_buffer old new (draws_exchanged maximum message (state old.link) (state new.link) reply old new e);
+    leaves = taken_leaves state old new taken;
     rest = ends.rest;
     counts = ends.counts;
   }

@@ -1,16 +1,18 @@
 -- What a login answers, and what it leaves of its connection, its link, its ids and its buffer: the same for every mechanism.
-use Rattle.std.specs.Prelude.{◌≡◌, ℕ, ℤ, ◌⊎◌, Result, None, Some, List, [], IfErr, OnOk}
+use Rattle.std.specs.Prelude.{◌≡◌, ℕ, ℤ, pos, ◌≤ℤ◌, ◌⊎◌, Result, None, Some, List, [], ◌++◌, length, IfErr, OnOk}
+use Rattle.std.specs.Io.KnownBytes.{Keeps, Consumes}
 use Rattle.mongo_wire.specs.declared.error.Error.{Error}
 use Rattle.mongo_wire.specs.declared.error.ErrorKind.{ErrorKind}
 use Rattle.mongo_wire.specs.declared.error.ErrorKind.TheVariants.{OutOfMemory}
 use Rattle.mongo_wire.specs.declared.frame_buffer.FrameBuffer.{FrameBuffer}
 use Rattle.mongo_wire.specs.Bytes.{next_id}
-use Rattle.mongo_wire.specs.Buffer.{frames_taken, held_document, IsFrameTaken}
+use Rattle.mongo_wire.specs.Buffer.{frames_taken, held_document, HoldsFrame, HoldsNothing, IsFrameTaken}
+use Rattle.mongo_wire.specs.Frame.{Frame}
 use Rattle.mongo_wire.specs.Outside.{State, Rose, risen}
 use Rattle.mongo_command.specs.declared.connection.Connection.{Connection}
 use Rattle.mongo_command.specs.Connection.{kept_fault, KeepsRest}
 use Rattle.mongo_command.specs.Conversation.{Said, Turn, ends, Plan, Reached, Leads}
-use Rattle.mongo_command.specs.Exchange.{CountsStay}
+use Rattle.mongo_command.specs.Exchange.{frame_maximum, CountsStay}
 use Rattle.mongo_sasl.specs.Stops.{StoppedKeeping, BeginsWithCommand, RefusedAtOnce}
 use Rattle.mongo_sasl.specs.Login.{HasLogin, AnswersLed, EndsByReply}
 
@@ -28,6 +30,28 @@ standing connection link id buffer = record { connection = connection; link = li
 pub record DrawsOnce {L : Type 0} (old new : Standing L) : Type 0 where
   pub drawn : ((new.id ≡ old.id) × (new.buffer ≡ old.buffer)) ⊎ (new.id ≡ next_id old.id)
 
+-- The buffer holds the last frame that was taken of the bytes left, which is within the maximum.
+pub record HoldsLast (maximum : ℤ) (old new : State) (buffer : FrameBuffer) : Type 0 where
+  pub front : List ℕ
+  pub frame : List ℕ
+  pub parts : Frame
+  pub holds : HoldsFrame frame parts buffer
+  pub within : pos (length frame) ≤ℤ maximum
+  pub taken : Consumes old.left new.left (front ++ frame)
+
+-- The buffer holds nothing, since a command that was sent found no reply; the connection keeps why.
+pub record HoldsNoReply (connection : Connection) (buffer : FrameBuffer) : Type 0 where
+  pub nothing : HoldsNothing buffer
+  pub fault : ErrorKind
+  pub kept_is : kept_fault connection ≡ Some fault
+
+-- What a call leaves in its buffer: what was there, and then it took nothing of the bytes left; or nothing, where no reply
+-- came; or the last frame that it took.
+pub record LeavesInBuffer {L : Type 0} (state : L → State) (old new : Standing L) : Type 0 where
+  pub left : ((new.buffer ≡ old.buffer) × Keeps (state old.link).left (state new.link).left)
+      ⊎ HoldsNoReply new.connection new.buffer
+      ⊎ HoldsLast (frame_maximum old.connection.stream_description) (state old.link) (state new.link) new.buffer
+
 -- Why a call that goes by a plan is refused, and what it leaves however it ends.
 pub record StopsBy {L T A : Type 0} (state : L → State) (plan : Plan A) (result : Result T Error) (old new : Standing L) : Type 0 where
   -- A refusal says why it comes and what it left: the connection keeps the fault of an exchange that failed, where that left
@@ -39,6 +63,8 @@ pub record StopsBy {L T A : Type 0} (state : L → State) (plan : Plan A) (resul
   pub answers : (kind : ErrorKind) → kept_fault old.connection ≡ Some kind → IfErr result (λ e. ((e.kind ≡ kind) × BeginsWithCommand plan) ⊎ RefusedAtOnce plan e.kind)
   -- where no id was drawn, nothing was sent, and the buffer is what it was
   pub buffer : new.id ≡ old.id → new.buffer ≡ old.buffer
+  -- it is that too where nothing was taken; else it holds the last frame that was taken, or nothing where no reply came
+  pub leaves : LeavesInBuffer state old new
   -- nothing else of the connection changes
   pub rest : KeepsRest old.connection new.connection
   -- what the link tells stays told, and no count falls

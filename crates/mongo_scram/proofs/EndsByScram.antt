@@ -8,7 +8,7 @@ use Rattle.mongo_wire.specs.Outside.{State}
 use Rattle.mongo_command.specs.Connection.{kept_fault, KeepsRest}
 use Rattle.mongo_command.specs.Conversation.{Reached}
 use Rattle.mongo_command.specs.Exchange.{CountsStay}
-use Rattle.mongo_sasl.specs.EndsByScript.{Standing, StopsBy}
+use Rattle.mongo_sasl.specs.EndsByScript.{Standing, LeavesInBuffer, StopsBy}
 use Rattle.mongo_sasl.proofs.EndsByScript.{ends_by_script}
 use Rattle.mongo_sasl.proofs.Handed.{handed_on, on_answer}
 use Rattle.mongo_sasl.proofs.StoppedKeeping.{keeping_none}
@@ -41,13 +41,14 @@ module _ {L : Type 0} (state : L → State) (handed : Handed) (old new : Standin
 
   -- a refusal is handed on
   pub refused_scram : (r : Result (Unit {0}) Error) (e : Error) → IsErrAnd r (λ x. x ≡ e) → (kept_fault old.connection ≡ None → StopsScram handed e.kind (kept_fault new.connection) before after) → ((kind : ErrorKind) → kept_fault old.connection ≡ Some kind → AnswersFault e.kind kind) → SameEntries earlier later
-      → Untouched → LeavesBuffer → KeepsRest old.connection new.connection → CountsStay (state old.link) (state new.link) → EndsByScram state handed r old new earlier later
-  refused_scram r e passed refused answers entries untouched buffer rest counts =
+      → Untouched → LeavesBuffer → LeavesInBuffer state old new → KeepsRest old.connection new.connection → CountsStay (state old.link) (state new.link) → EndsByScram state handed r old new earlier later
+  refused_scram r e passed refused answers entries untouched buffer leaves rest counts =
       let stops : StopsBy {T = Unit {0}} state (scram_plan handed) (Err e) old new = record {
         refused = λ faultless. (refused faultless).1;
         untouched = untouched;
         answers = λ kind is. elim (answers kind is) [ inl same ↦ inl (same.0, fault_begins handed earlier later same.1) | inr at_once ↦ inr (refused_whole handed e.kind earlier later at_once) ];
         buffer = buffer;
+        leaves = leaves;
         rest = rest;
         counts = counts;
       } in
@@ -61,9 +62,9 @@ module _ {L : Type 0} (state : L → State) (handed : Handed) (old new : Standin
 
   -- one between the exchanges
   pub stopped_scram : (r : Result (Unit {0}) Error) (e : Error) → IsErrAnd r (λ x. x ≡ e) → StopsScram handed e.kind None before after → ((kind : ErrorKind) → kept_fault old.connection ≡ Some kind → ScramRefused handed e.kind earlier later) → (kept_fault old.connection ≡ None → kept_fault new.connection ≡ None) → SameEntries earlier later
-      → Untouched → LeavesBuffer → KeepsRest old.connection new.connection → CountsStay (state old.link) (state new.link) → EndsByScram state handed r old new earlier later
-  stopped_scram r e passed stopped at_once faultless entries untouched buffer rest counts =
-      refused_scram r e passed (λ none. subst (λ kept. StopsScram handed e.kind kept before after) (sym (faultless none)) stopped) (λ kind is. inr (at_once kind is)) entries untouched buffer rest counts
+      → Untouched → LeavesBuffer → LeavesInBuffer state old new → KeepsRest old.connection new.connection → CountsStay (state old.link) (state new.link) → EndsByScram state handed r old new earlier later
+  stopped_scram r e passed stopped at_once faultless entries untouched buffer leaves rest counts =
+      refused_scram r e passed (λ none. subst (λ kept. StopsScram handed e.kind kept before after) (sym (faultless none)) stopped) (λ kind is. inr (at_once kind is)) entries untouched buffer leaves rest counts
 
   reached : (r : Result (Unit {0}) Error) → OnOk r (Accepted handed new.buffer before after) → OnOk r ((c : Challenge) × Reached (scram_plan handed) c (state old.link) (state new.link) old.id new.id)
   reached (Ok done) accepted = (accepted.challenge, accepted_reached handed new.buffer before after accepted)
@@ -71,13 +72,14 @@ module _ {L : Type 0} (state : L → State) (handed : Handed) (old new : Standin
 
   -- after the last exchange it is accepted, or memory runs out
   pub accepted_scram : (r : Result (Unit {0}) Error) → OnOk r (Accepted handed new.buffer before after) → IfErr r (λ e. StopsScram handed e.kind None before after) → OnErr r (SameEntries earlier later)
-      → kept_fault old.connection ≡ None → kept_fault new.connection ≡ None → LeavesBuffer → KeepsRest old.connection new.connection → CountsStay (state old.link) (state new.link) → EndsByScram state handed r old new earlier later
-  accepted_scram r accepted stopped entries was none buffer rest counts =
+      → kept_fault old.connection ≡ None → kept_fault new.connection ≡ None → LeavesBuffer → LeavesInBuffer state old new → KeepsRest old.connection new.connection → CountsStay (state old.link) (state new.link) → EndsByScram state handed r old new earlier later
+  accepted_scram r accepted stopped entries was none buffer leaves rest counts =
       let stops : StopsBy state (scram_plan handed) r old new = record {
         refused = λ faultless. keeping_none r (scram_plan handed) (state old.link) (state new.link) old.id new.id (kept_fault new.connection) none (IfErr-weaker r _ _ (λ (e : Error). λ (s : StopsScram handed e.kind None before after). s.1) stopped);
         untouched = λ kind is. absurd (not_both_faults (kept_fault old.connection) kind was is);
         answers = λ kind is. absurd (not_both_faults (kept_fault old.connection) kind was is);
         buffer = buffer;
+        leaves = leaves;
         rest = rest;
         counts = counts;
       } in

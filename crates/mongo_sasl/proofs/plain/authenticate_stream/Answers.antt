@@ -68,7 +68,7 @@ returns-clause-login g c =
     let exchanged = exchanged_as sasl_start_key user.source (plain_body user) handed.server_api handed.maximum c.in_ok-command.command _ _ _ _ _ _ c.in_ok-command.ensures.command c.held_reply.ensures exchange.exchanged in
     once_by_script _ (plain_plan handed) (IsPlainLogin handed) handed.maximum (plain_joins handed) _ _ tt _ r
     (plain_replied handed user c.in_ok-login.ensures.user r reply _ _ _ _ _ c.held_reply.ensures exchanged exchange.ends.counts c.finish.ensures.finished) (was_faultless _ _ tt _ _ exchange.ends) exchange.ends.faultless
-    (after_exchange _ (plain_plan handed) _ tt _ _ _ _ _ r exchange.ends exchanged
+    (after_exchange _ (plain_plan handed) _ tt _ _ _ _ _ r exchange.ends exchanged exchange.taken
     (plain_refused handed user c.in_ok-login.ensures.user r reply _ _ _ _ exchanged exchange.ends.counts c.finish.ensures.refused))
 
 pub returns-clause-buffer : goal.returns-clause-buffer

@@ -73,7 +73,7 @@ returns-clause-login g c =
     let exchanged = exchanged_as authenticate_key external (x509_body handed.credential.username) handed.server_api handed.maximum c.in_ok-command.command _ _ _ _ _ _ c.in_ok-command.ensures.command c.held_reply.ensures exchange.exchanged in
     once_by_script _ (x509_plan handed) (IsX509Login handed) handed.maximum (x509_joins handed) _ _ tt _ r
     (x509_replied handed later r reply _ _ _ _ _ c.held_reply.ensures exchanged exchange.ends.counts c.take.ensures.taken) (was_faultless _ _ tt _ _ exchange.ends) exchange.ends.faultless
-    (after_exchange _ (x509_plan handed) _ tt _ _ _ _ _ r exchange.ends exchanged
+    (after_exchange _ (x509_plan handed) _ tt _ _ _ _ _ r exchange.ends exchanged exchange.taken
     (x509_refused handed later r reply _ _ _ _ exchanged exchange.ends.counts c.take.ensures.refused))
 
 pub returns-clause-buffer : goal.returns-clause-buffer

@@ -71,5 +71,5 @@ returns-clause-stops g c challenge =
     let said = final_said final (frame_maximum c.args.connection.now.stream_description) in
     let reply = c.held_reply.result.bytes.now in
     let exchange = c.in_ok-exchange_into.ensures in
-    after_exchange _ (last_exchange said conversation owed challenge) _ tt _ _ _ _ _ c.take_last.result exchange.ends exchange.exchanged
+    after_exchange _ (last_exchange said conversation owed challenge) _ tt _ _ _ _ _ c.take_last.result exchange.ends exchange.exchanged exchange.taken
     (refused_stopped c.take_last.result said conversation owed challenge reply _ _ _ _ (final_exchanged final c.in_ok-command.command _ _ _ _ _ _ _ c.in_ok-command.ensures.command c.held_reply.ensures exchange.exchanged) exchange.ends.counts c.take_last.ensures.refused)

@@ -89,7 +89,7 @@ returns-in_err-server_first-clause-stops g c =
     let e = c.in_err-server_first.field-0.0 in
     let exchange = c.in_ok-exchange_into.ensures in
     handed_stops _ _ _ _ c.from_residual-in_err-server_first.result e c.from_residual-in_err-server_first.ensures.1
-    (after_exchange _ _ _ tt _ _ _ _ _ (Err e) exchange.ends exchange.exchanged
+    (after_exchange _ _ _ tt _ _ _ _ _ (Err e) exchange.ends exchange.exchanged exchange.taken
     (start_refused handed user _ _ e.kind _ _ _ _ c.held_reply.ensures (start_exchanged handed user first c.in_ok-command.command _ _ _ _ _ start c.in_ok-command.ensures.command exchange.exchanged) exchange.ends.counts c.in_err-server_first.ensures.refused))
 
 pub returns-in_err-server_first-clause-drawn : goal.returns-in_err-server_first-clause-drawn
@@ -116,4 +116,4 @@ returns-clause-once g c = let exchange = c.in_ok-exchange_into.ensures in record
 pub returns-clause-stops : goal.returns-clause-stops
 returns-clause-stops g c =
     let exchange = c.in_ok-exchange_into.ensures in
-    after_exchange _ _ _ tt _ _ _ _ _ (Ok _) exchange.ends exchange.exchanged tt
+    after_exchange _ _ _ tt _ _ _ _ _ (Ok _) exchange.ends exchange.exchanged exchange.taken tt

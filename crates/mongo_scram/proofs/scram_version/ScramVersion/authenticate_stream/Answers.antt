@@ -8,6 +8,7 @@ use Rattle.mongo_scram.specs.Costs.{ledgers, balance}
 use Rattle.mongo_scram.specs.Plan.{closing}
 use Rattle.mongo_sasl.proofs.Handed.{no_answer_on, on_answer, rest_on}
 use Rattle.mongo_sasl.proofs.DrawnIds.{twice_buffer}
+use Rattle.mongo_sasl.proofs.LeftInBuffer.{leaves_all, leaves_both}
 use Rattle.mongo_sasl.proofs.StoppedKeeping.{at_once_keeping}
 use Rattle.mongo_sasl.proofs.StopsBy.{faultless_before}
 use Rattle.mongo_scram.proofs.ScramPlan.{challenge_by_first}
@@ -27,7 +28,7 @@ returns-in_err-user-clause-login g c =
     stopped_scram _ handed _ _ _ _ c.from_residual.result e c.from_residual.ensures.1
     (stopped_early handed e.kind _ _ (at_once_keeping _ e.kind _ _ (opening_refused handed e.kind c.in_err-user.ensures.refused)) (costs_nothing c.args.steps.now c.args.salted.now))
     (λ kind is. inl (opening_refused handed e.kind c.in_err-user.ensures.refused, costs_nothing c.args.steps.now c.args.salted.now)) (λ none. none) refl
-    (λ kind is. (refl, refl, refl, is)) (λ same. refl) (keeps_all c.args.connection.now) (still_counts _)
+    (λ kind is. (refl, refl, refl, is)) (λ same. refl) (leaves_all _ _) (keeps_all c.args.connection.now) (still_counts _)
 
 pub returns-in_err-user-clause-buffer : goal.returns-in_err-user-clause-buffer
 returns-in_err-user-clause-buffer g c = no_answer_on c.from_residual.result c.in_err-user.field-0.0 _ c.from_residual.ensures.1
@@ -46,7 +47,7 @@ returns-in_err-opened-clause-login g c =
     (λ kind is. elim (stops.answers kind is) [
       | inl same ↦ inl (same.0, start_unsaid handed user _ _ c.in_ok-user.ensures.user same.1 nothing)
       | inr at_once ↦ inr (inl (user_refused handed user e.kind c.in_ok-user.ensures.user at_once, nothing))
-    ]) refl stops.untouched stops.buffer stops.rest stops.counts
+    ]) refl stops.untouched stops.buffer stops.leaves stops.rest stops.counts
 
 pub returns-in_err-opened-clause-buffer : goal.returns-in_err-opened-clause-buffer
 returns-in_err-opened-clause-buffer g c = no_answer_on c.from_residual-in_err-opened.result c.in_err-opened.field-0.0 _ c.from_residual-in_err-opened.ensures.1
@@ -64,7 +65,7 @@ returns-in_err-derived-clause-login g c =
     stopped_scram _ handed _ _ _ _ c.from_residual-in_err-derived.result e c.from_residual-in_err-derived.ensures.1
     (stopped_early handed e.kind _ _ (answer_stopped handed user o c.nonce.result.now e.kind _ _ _ _ c.in_ok-user.ensures.user opening.opened c.nonce.ensures refused.refused) refused.no_cost)
     (λ kind is. inl (answer_refused handed user o c.nonce.result.now e.kind _ _ _ _ c.in_ok-user.ensures.user opening.opened c.nonce.ensures refused.refused (opening.alone kind is), refused.no_cost))
-    opening.faultless refused.no_cost.entries opening.stops.untouched opening.stops.buffer opening.stops.rest opening.stops.counts
+    opening.faultless refused.no_cost.entries opening.stops.untouched opening.stops.buffer opening.stops.leaves opening.stops.rest opening.stops.counts
 
 pub returns-in_err-derived-clause-buffer : goal.returns-in_err-derived-clause-buffer
 returns-in_err-derived-clause-buffer g c = no_answer_on c.from_residual-in_err-derived.result c.in_err-derived.field-0.0 _ c.from_residual-in_err-derived.ensures.1
@@ -83,7 +84,7 @@ returns-in_err-client_final-clause-login g c =
     stopped_scram _ handed _ _ _ _ c.from_residual-in_err-client_final.result e c.from_residual-in_err-client_final.ensures.1
     (stopped_between handed user o derived.key derived.salted _ _ between e.kind _ _ (at_once_keeping (closing handed (challenge_by_first user o.server_first)) e.kind _ _ (inr (inl c.in_err-client_final.ensures.refused))))
     (λ kind is. close_refused handed user o derived.key derived.salted _ _ between e.kind (opening.alone kind is) (inr (inl c.in_err-client_final.ensures.refused)))
-    opening.faultless c.in_ok-derived.ensures.answered.entries opening.stops.untouched opening.stops.buffer opening.stops.rest opening.stops.counts
+    opening.faultless c.in_ok-derived.ensures.answered.entries opening.stops.untouched opening.stops.buffer opening.stops.leaves opening.stops.rest opening.stops.counts
 
 pub returns-in_err-client_final-clause-buffer : goal.returns-in_err-client_final-clause-buffer
 returns-in_err-client_final-clause-buffer g c = no_answer_on c.from_residual-in_err-client_final.result c.in_err-client_final.field-0.0 _ c.from_residual-in_err-client_final.ensures.1
@@ -118,7 +119,7 @@ returns-in_err-close-clause-login g c =
     let still = opening.stops.untouched kind kept in
     let closed = stops.untouched kind still.3 in
     (closed.0 ∙ still.0, closed.1 ∙ still.1, closed.2 ∙ still.2, closed.3))
-    (twice_buffer _ _ _ opening.drawn c.in_err-close.ensures.drawn)
+    (twice_buffer _ _ _ opening.drawn c.in_err-close.ensures.drawn) (leaves_both opening.stops stops)
     (rest_on _ _ _ opening.stops.rest stops.rest) (counts_on _ _ _ opening.stops.counts stops.counts)
 
 pub returns-in_err-close-clause-buffer : goal.returns-in_err-close-clause-buffer
@@ -147,7 +148,7 @@ returns-clause-login g c =
     (accepted_by handed user o derived.key derived.salted _ _ between r c.close.new.buffer _ _ c.keep.new.cache (closing_taken handed _ _ _ _ same closed.closed.taken) ended c.keep.ensures.rounds (ends_login handed challenge derived.salted final _ is closed.closed.message) c.keep.ensures.kept)
     (stopped_last handed user o derived.key derived.salted _ _ between r _ _ _ c.keep.new.cache ended c.keep.ensures.rounds c.keep.ensures.unchanged c.keep.ensures.refused)
     (unchanged_on r _ _ _ c.in_ok-derived.ensures.answered.entries c.keep.ensures.unchanged) (faultless_before _ _ _ _ _ opening.stops closed.once.was) closed.once.is
-    (twice_buffer _ _ _ opening.drawn closed.drawn)
+    (twice_buffer _ _ _ opening.drawn closed.drawn) (leaves_both opening.stops stops)
     (rest_on _ _ _ opening.stops.rest stops.rest) (counts_on _ _ _ opening.stops.counts stops.counts)
 
 pub returns-clause-buffer : goal.returns-clause-buffer
