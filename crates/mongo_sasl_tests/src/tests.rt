@@ -44,10 +44,31 @@ fn given<T: Drop, E: Debug + Drop>(answer: Result<T, E>) -> Result<T, Fail> {
     Ok(answer?)
 }
 
-// How a call was answered, for functions that are generic over the error.
+// How a call was answered, for functions that are generic over what it gives and over the error, so that no proof of a test holds
+// either.
 #[derive(Drop)]
-struct Answered<E> {
-    answer: Result<(), E>,
+struct Answered<T, E> {
+    answer: Result<T, E>,
+}
+
+// How a call ended that was refused.
+trait NamesFault {
+    fn fault(&self) -> &str;
+}
+
+impl NamesFault for Error {
+    fn fault(&self) -> &str {
+        fault_of(self)
+    }
+}
+
+// Whether a call ended with this fault; one that wasn't refused ended with "none".
+fn is_fault<T: Drop, E: NamesFault + Drop>(answer: Result<T, E>, fault: &str) -> bool {
+    let answered = Answered { answer };
+    match &answered.answer {
+        Ok(_) => fault == "none",
+        Err(refused) => refused.fault() == fault,
+    }
 }
 
 // The name of the fault that a login or a reply was refused for, or what the server says of it.

@@ -116,16 +116,19 @@ fn mechanism_at(place: u8) -> (AuthMechanism, &'static str, &'static str, &'stat
     }
 }
 
+// Whether the mechanism of a place has its name and its sources.
+fn has_name_and_sources(place: u8) -> bool {
+    let (mechanism, name, source, source_of_orders) = mechanism_at(place);
+    reads_as(name, Ok(mechanism))
+        && mechanism.as_str() == name
+        && mechanism.default_source(None) == source
+        && mechanism.default_source(Some("orders")) == source_of_orders
+}
+
 #[test]
 fn mechanisms_have_names_and_sources(rt: HostRuntime) {
     for place in 0..7 {
-        let (mechanism, name, source, source_of_orders) = mechanism_at(place);
-        assert!(rt;
-            reads_as(name, Ok(mechanism)) && mechanism.as_str() == name,
-            "{name}"
-        );
-        assert_eq!(rt; mechanism.default_source(None), source);
-        assert_eq!(rt; mechanism.default_source(Some("orders")), source_of_orders);
+        assert!(rt; has_name_and_sources(place), "{place}");
     }
 }
 

@@ -1,5 +1,5 @@
 use super::rows::{RowCheck, check_rows, given_text, parts, spelled, words};
-use super::{Answered, CredentialTexts, bytes, credential, fault_of, given};
+use super::{CredentialTexts, bytes, credential, given, is_fault};
 use mongo_bson::{BsonFault, Text};
 use mongo_command::{Connection, ServerAddress};
 use mongo_sasl::{Credential, plain, x509};
@@ -105,26 +105,6 @@ fn x509_answer(
         buffer,
     } = session;
     x509::authenticate_stream(alloc, connection, link, ids, buffer, user, None, answered)
-}
-
-// How a call ended that was refused.
-trait NamesFault {
-    fn fault(&self) -> &str;
-}
-
-impl NamesFault for Error {
-    fn fault(&self) -> &str {
-        fault_of(self)
-    }
-}
-
-// Whether a call ended with this fault.
-fn is_fault<E: NamesFault + Drop>(answer: Result<(), E>, fault: &str) -> bool {
-    let answered = Answered { answer };
-    match &answered.answer {
-        Ok(()) => fault == "none",
-        Err(refused) => refused.fault() == fault,
-    }
 }
 
 // Whether the user's login ends with the row's fault.

@@ -1,5 +1,5 @@
-use super::{bytes, fault_of};
-use mongo_bson::{BsonFault, OwnedValue, RawDocument, RawValue, Text};
+use super::{Answered, bytes, is_fault};
+use mongo_bson::{BsonFault, OwnedValue, RawDocument, RawDocumentBuf, RawValue, Text};
 use mongo_command::{
     Command, ServerApi, ServerApiVersion, boolean_field, document_of, int64_field,
 };
@@ -8,28 +8,28 @@ use mongo_sasl::{AuthMechanism, Credential, SaslContinue, SaslResponse, SaslStar
 use mongo_wire::Error;
 use std::alloc::Global;
 
-// A reply's document, by BSON 1.1, and what its readers answer: that it was read, or the fault or the server's text.
+// A reply's document, by BSON 1.1, and the fault that its readers answer, or the server's text; "none" where it is read.
 fn reply_at(place: u8) -> (&'static [u8], &'static str) {
     match place {
         // one without `ok`
         0 => (
             b"1\0\0\0\x10conversationId\0\x01\0\0\0\x08done\0\x01\x05payload\0\x03\0\0\0\0v=x\0",
-            "read",
+            "none",
         ),
         // in another order
         1 => (
             b"=\0\0\0\x01ok\0\0\0\0\0\0\0\xf0?\x05payload\0\x03\0\0\0\0v=x\x08done\0\x01\x10conversationId\0\x01\0\0\0\0",
-            "read",
+            "none",
         ),
         // the int32 1, and a text that says nothing
         2 => (
             b"J\0\0\0\x10ok\0\x01\0\0\0\x10conversationId\0\x01\0\0\0\x08done\0\x01\x05payload\0\x03\0\0\0\0v=x\x02errmsg\0\x05\0\0\0busy\0\0",
-            "read",
+            "none",
         ),
         // the int64 1, and an id without a value
         3 => (
             b"9\0\0\0\x12ok\0\x01\0\0\0\0\0\0\0\x0aconversationId\0\x08done\0\x01\x05payload\0\x03\0\0\0\0v=x\0",
-            "read",
+            "none",
         ),
         // failures: the int32 0, the double 2.0, the int64 -1
         4 => (
@@ -100,17 +100,14 @@ fn reply_at(place: u8) -> (&'static [u8], &'static str) {
     }
 }
 
-fn view_answers(alloc: Global, reply: RawDocument<'_>, wanted: &str) -> bool {
-    match SaslView::parse(alloc, reply) {
-        Ok(_) => wanted == "read",
-        Err(refused) => fault_of(&refused) == wanted,
-    }
-}
-
-fn response_answers(alloc: Global, reply: RawDocument<'_>, wanted: &str) -> bool {
-    match SaslResponse::parse(alloc, reply) {
-        Ok(_) => wanted == "read",
-        Err(refused) => fault_of(&refused) == wanted,
+// Whether both readers of a reply answer this of a document.
+fn is_answered(alloc: Global, document: &[u8], wanted: &str) -> bool {
+    match RawDocument::from_bytes(document) {
+        Ok(reply) => {
+            is_fault(SaslView::parse(alloc, reply), wanted)
+                && is_fault(SaslResponse::parse(alloc, reply), wanted)
+        }
+        Err(_) => false,
     }
 }
 
@@ -118,13 +115,7 @@ fn response_answers(alloc: Global, reply: RawDocument<'_>, wanted: &str) -> bool
 fn replies_are_read_or_refused(rt: HostRuntime) {
     for place in 0..20 {
         let (reply, wanted) = reply_at(place);
-        match RawDocument::from_bytes(reply) {
-            Ok(reply) => {
-                assert!(rt; view_answers(rt.alloc(), reply, wanted), "{place}");
-                assert!(rt; response_answers(rt.alloc(), reply, wanted), "{place}");
-            }
-            Err(_) => assert!(rt; false, "{place}"),
-        }
+        assert!(rt; is_answered(rt.alloc(), reply, wanted), "{place}");
     }
 }
 
@@ -136,54 +127,87 @@ const ID: &[u8] = b"\x02\x01\0\0\0\0\0\0";
 
 const MESSAGE: &[u8] = b"\x01\x02";
 
-// What a reply says: the kind of the conversation's id, whether it is the one above, whether the conversation is done, and
-// whether the message is the one above.
-type Said = (u8, bool, bool, bool);
-
-fn said_of(response: &SaslResponse) -> Said {
-    (
-        response.conversation_id.kind,
-        response.conversation_id.bytes.as_bytes() == ID,
-        response.done,
-        response.payload.as_bytes() == MESSAGE,
-    )
+// Whether that is said: the kind and the bytes of the conversation's id, whether the conversation is done, and the message.
+fn is_reply(kind: u8, id: &[u8], done: bool, message: &[u8]) -> bool {
+    kind == 0x12 && id == ID && !done && message == MESSAGE
 }
 
-fn copy_said(alloc: Global, response: &SaslResponse) -> Option<Said> {
-    match response.try_clone(alloc) {
-        Ok(copy) => Some(said_of(&copy)),
-        Err(_) => None,
+// What says what a reply does.
+trait SaysReply {
+    // Whether it says what the reply above does.
+    fn says_it(&self) -> bool;
+}
+
+// What can be copied.
+trait HasCopy {
+    // Whether a copy says what the reply above does.
+    fn copy_says_it(&self, alloc: Global) -> bool;
+}
+
+impl<'b> SaysReply for SaslView<'b> {
+    fn says_it(&self) -> bool {
+        is_reply(
+            self.conversation_kind,
+            self.conversation_bytes,
+            self.done,
+            self.payload,
+        )
     }
 }
 
-fn owned_said(alloc: Global, view: &SaslView<'_>) -> Option<Said> {
-    match view.to_response(alloc) {
-        Ok(response) => Some(said_of(&response)),
-        Err(_) => None,
+impl<'b> HasCopy for SaslView<'b> {
+    fn copy_says_it(&self, alloc: Global) -> bool {
+        is_said(self.to_response(alloc))
     }
 }
 
-// What a reply says, and what its copy says.
-fn view_said(alloc: Global, reply: RawDocument<'_>) -> (Option<Said>, Option<Said>) {
-    match SaslView::parse(alloc, reply) {
-        Ok(view) => {
-            let said = (
-                view.conversation_kind,
-                view.conversation_bytes == ID,
-                view.done,
-                view.payload == MESSAGE,
-            );
-            (Some(said), owned_said(alloc, &view))
+impl SaysReply for SaslResponse {
+    fn says_it(&self) -> bool {
+        let id = &self.conversation_id;
+        is_reply(
+            id.kind,
+            id.bytes.as_bytes(),
+            self.done,
+            self.payload.as_bytes(),
+        )
+    }
+}
+
+impl HasCopy for SaslResponse {
+    fn copy_says_it(&self, alloc: Global) -> bool {
+        is_said(self.try_clone(alloc))
+    }
+}
+
+// Whether what a call gives says what the reply above does.
+fn is_said<T: SaysReply + Drop, E: Drop>(answer: Result<T, E>) -> bool {
+    let answered = Answered { answer };
+    match &answered.answer {
+        Ok(reply) => reply.says_it(),
+        Err(_) => false,
+    }
+}
+
+// Whether its copy says so too.
+fn is_said_twice<T: SaysReply + HasCopy + Drop, E: Drop>(
+    alloc: Global,
+    answer: Result<T, E>,
+) -> bool {
+    let answered = Answered { answer };
+    match &answered.answer {
+        Ok(reply) => reply.says_it() && reply.copy_says_it(alloc),
+        Err(_) => false,
+    }
+}
+
+// Whether both readers of a reply, and their copies, say what the reply above does.
+fn is_read(alloc: Global, document: &[u8]) -> bool {
+    match RawDocument::from_bytes(document) {
+        Ok(reply) => {
+            is_said_twice(alloc, SaslView::parse(alloc, reply))
+                && is_said_twice(alloc, SaslResponse::parse(alloc, reply))
         }
-        Err(_) => (None, None),
-    }
-}
-
-// The same of what owns it.
-fn response_said(alloc: Global, reply: RawDocument<'_>) -> (Option<Said>, Option<Said>) {
-    match SaslResponse::parse(alloc, reply) {
-        Ok(response) => (Some(said_of(&response)), copy_said(alloc, &response)),
-        Err(_) => (None, None),
+        Err(_) => false,
     }
 }
 
@@ -202,14 +226,7 @@ fn is_built(alloc: Global) -> bool {
 
 #[test]
 fn a_reply_says_its_conversation_and_message(rt: HostRuntime) {
-    let wanted = Some((0x12, true, false, true));
-    match RawDocument::from_bytes(REPLY) {
-        Ok(reply) => {
-            assert_eq!(rt; view_said(rt.alloc(), reply), (wanted, wanted));
-            assert_eq!(rt; response_said(rt.alloc(), reply), (wanted, wanted));
-        }
-        Err(_) => assert!(rt; false),
-    }
+    assert!(rt; is_read(rt.alloc(), REPLY));
     assert!(rt; is_built(rt.alloc()));
 }
 
@@ -258,19 +275,40 @@ fn command_at(alloc: Global, place: u8) -> Result<Command, Error> {
     }
 }
 
-// Whether a command has this name and is sent as this document.
-fn is_sent_as(alloc: Global, command: &Command, name: &str, document: &[u8]) -> bool {
-    match command.to_document(alloc) {
-        Ok(sent) => command.name.as_str() == name && sent.as_bytes() == document,
+// What is sent, or the document that it is sent as.
+trait IsSent {
+    // Whether it has this name, where it has one, and is sent as this document.
+    fn is_sent_as(&self, alloc: Global, name: &str, document: &[u8]) -> bool;
+}
+
+impl IsSent for Command {
+    fn is_sent_as(&self, alloc: Global, name: &str, document: &[u8]) -> bool {
+        self.name.as_str() == name && is_sent(alloc, self.to_document(alloc), name, document)
+    }
+}
+
+impl IsSent for RawDocumentBuf {
+    fn is_sent_as(&self, _alloc: Global, _name: &str, document: &[u8]) -> bool {
+        self.as_bytes() == document
+    }
+}
+
+// Whether what a call gives has this name and is sent as this document.
+fn is_sent<T: IsSent + Drop, E: Drop>(
+    alloc: Global,
+    answer: Result<T, E>,
+    name: &str,
+    document: &[u8],
+) -> bool {
+    let answered = Answered { answer };
+    match &answered.answer {
+        Ok(sent) => sent.is_sent_as(alloc, name, document),
         Err(_) => false,
     }
 }
 
 fn is_command(alloc: Global, place: u8, name: &str, document: &[u8]) -> bool {
-    match command_at(alloc, place) {
-        Ok(command) => is_sent_as(alloc, &command, name, document),
-        Err(_) => false,
-    }
+    is_sent(alloc, command_at(alloc, place), name, document)
 }
 
 // The name and the document of each: a start by SCRAM, which has no empty exchange; one by PLAIN with the server API; a
