@@ -11,7 +11,7 @@ use crate::argument_field::{
     optional_version_field, optional_write_concern_field,
 };
 use crate::arguments::{append_arguments, copy_with_room, size_of_arguments};
-use crate::copies::copies_of;
+use crate::copies::{both, copies_of};
 use crate::keys::CLUSTER_TIME;
 use crate::read_concern::ReadConcern;
 use mongo_bson::{BsonFault, RawDocumentBuf};
@@ -143,18 +143,16 @@ impl GenericArguments {
         ensures copied { IfOk result (λ arguments. arguments ≡ self.now) }
         ensures refused { IfErr result (λ fault. fault ≡ BsonFault.OutOfMemory) }
     {
-        let (lsid, cluster_time, read_preference) = copies_of(
-            alloc,
-            &self.lsid,
-            &self.cluster_time,
-            &self.read_preference,
-        )?;
-        let (read_concern, write_concern, recovery_token) = copies_of(
+        let session = copies_of(alloc, &self.lsid, &self.cluster_time, &self.read_preference);
+        let concerns = copies_of(
             alloc,
             &self.read_concern,
             &self.write_concern,
             &self.recovery_token,
-        )?;
+        );
+        let (session, concerns) = both(session, concerns)?;
+        let (lsid, cluster_time, read_preference) = session;
+        let (read_concern, write_concern, recovery_token) = concerns;
         Ok(GenericArguments {
             lsid,
             cluster_time,

@@ -1,10 +1,18 @@
-use Rattle.std.proofs.Common.{rules}
-use Rattle.mongo_command.specs.Hello.{IsSetTable, IsServerTable}
-use Rattle.mongo_command.proofs.FieldAnswers.{refused, three_refused, part_fault}
+use Rattle.std.proofs.Common.{ℕ, Option, List, codes, subst, rules}
+use Rattle.mongo_bson.specs.Document.{Element}
+use Rattle.mongo_command.specs.Field.{OptionalThree, ReadsText, ReadsTexts}
+use Rattle.mongo_command.specs.Fields.{Answers}
+use Rattle.mongo_command.specs.Hello.{ReadsTags, IsSetTable, IsServerTable}
+use Rattle.mongo_command.specs.declared.tags.MemberTag.{MemberTag}
+use Rattle.mongo_command.proofs.FieldAnswers.{refused, part_fault, Both, both_answer}
 use Rattle.mongo_command.proofs.hello_table.set_of.Goals as goal
 
-pub returns-in_err-server : goal.returns-in_err-server
-returns-in_err-server c = λ els are. part_fault IsSetTable IsServerTable els els c.in_err-server.field-0.0 c.from_residual-in_err-server.result c.from_residual-in_err-server.ensures.1 (λ t is. (t, is.server)) (c.in_err-server.ensures els are)
+-- the lists of members, and the names and tags
+abbrev MemberLists : List Element → Option (List (List ℕ)) × Option (List (List ℕ)) × Option (List (List ℕ)) → Type 0
+MemberLists = OptionalThree ReadsTexts ReadsTexts ReadsTexts (codes "hosts") (codes "passives") (codes "arbiters")
+
+abbrev SetNames : List Element → Option (List ℕ) × Option (List ℕ) × Option (List MemberTag) → Type 0
+SetNames = OptionalThree ReadsText ReadsText ReadsTags (codes "primary") (codes "setName") (codes "tags")
 
 pub returns-in_err-set_version : goal.returns-in_err-set_version
 returns-in_err-set_version c = λ els are. refused IsSetTable els _ _ _ _ c.from_residual.ensures.1 (λ t is. (t.set_version, is.set_version)) (c.in_err-set_version.ensures els are)
@@ -12,25 +20,27 @@ returns-in_err-set_version c = λ els are. refused IsSetTable els _ _ _ _ c.from
 pub returns-in_err-election_id : goal.returns-in_err-election_id
 returns-in_err-election_id c = λ els are. refused IsSetTable els _ _ _ _ c.from_residual-in_err-election_id.ensures.1 (λ t is. (t.election_id, is.election_id)) (c.in_err-election_id.ensures els are)
 
-pub returns-in_err-hosts : goal.returns-in_err-hosts
-returns-in_err-hosts c = λ els are. three_refused IsSetTable els _ _ _ _ _ _ _ _ c.from_residual-in_err-hosts.ensures.1 (λ t is. ((t.hosts, t.passives, t.arbiters), (is.hosts, is.passives, is.arbiters))) (c.in_err-hosts.ensures els are)
-
-pub returns-in_err-primary : goal.returns-in_err-primary
-returns-in_err-primary c = λ els are. three_refused IsSetTable els _ _ _ _ _ _ _ _ c.from_residual-in_err-primary.ensures.1 (λ t is. ((t.primary, t.set_name, t.tags), (is.primary, is.set_name, is.tags))) (c.in_err-primary.ensures els are)
+pub returns-in_err-parts : goal.returns-in_err-parts
+returns-in_err-parts c = λ els are.
+    let parts = both_answer MemberLists SetNames els els _ _ c.both.result c.both.ensures.values c.both.ensures.fault (c.optional_three-lists.ensures els are) (c.optional_three-names.ensures els are) in
+    let all = both_answer (Both MemberLists SetNames) IsServerTable (els, els) els _ _ c.both-2.result c.both-2.ensures.values c.both-2.ensures.fault parts (c.server_of.ensures els are) in
+    part_fault IsSetTable (Both (Both MemberLists SetNames) IsServerTable) els ((els, els), els) c.in_err-parts.field-0.0 c.from_residual-in_err-parts.result c.from_residual-in_err-parts.ensures.1
+    (λ t is. ((((t.hosts, t.passives, t.arbiters), (t.primary, t.set_name, t.tags)), t), (((is.hosts, is.passives, is.arbiters), (is.primary, is.set_name, is.tags)), is.server)))
+    (subst (Answers (Both (Both MemberLists SetNames) IsServerTable) ((els, els), els)) c.in_err-parts.was all)
 
 pub returns : goal.returns
 returns c = λ els are.
-    let server = c.in_ok-server.ensures els are in
-    let lists = c.in_ok-hosts.ensures els are in
-    let names = c.in_ok-primary.ensures els are in
+    let answered = c.in_ok-parts.ensures.values in
+    let server = subst (Answers IsServerTable els) answered.1 (c.server_of.ensures els are) in
+    let parts = subst (Answers (Both MemberLists SetNames) (els, els)) answered.0 (both_answer MemberLists SetNames els els _ _ c.both.result c.both.ensures.values c.both.ensures.fault (c.optional_three-lists.ensures els are) (c.optional_three-names.ensures els are)) in
     record {
       server = search (rules, server);
-      hosts = lists.0;
-      passives = lists.1;
-      arbiters = lists.2;
-      primary = names.0;
+      hosts = parts.0.0;
+      passives = parts.0.1;
+      arbiters = parts.0.2;
+      primary = parts.1.0;
       set_version = c.in_ok-set_version.ensures els are;
-      set_name = names.1;
-      tags = names.2;
+      set_name = parts.1.1;
+      tags = parts.1.2;
       election_id = c.in_ok-election_id.ensures els are;
     }
