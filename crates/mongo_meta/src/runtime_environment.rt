@@ -12,7 +12,7 @@ use crate::keys::{NAME, RUNTIME};
 use crate::{Environment, FaasEnvironmentName};
 use mongo_bson::{BsonFault, RawDocumentBuf, RawValue, Text, copy_of};
 use mongo_command::{
-    ArgumentField, document_of, optional_document_field, optional_int32_field, optional_text_field,
+    ArgumentField, both, document_of, optional_document_field, optional_int32_field, optional_text_field,
 };
 use mongo_wire::Error;
 use std::alloc::Global;
@@ -124,31 +124,68 @@ fn taken_of(
     ensures taken { IfOk result (λ taken. taken ≡ taken_of name (provider name env.now)) }
     ensures refused { IfErr result (λ fault. fault ≡ BsonFault.OutOfMemory) }
 {
+    let (runtime, region) = both(runtime_of(alloc, name, env), region_of(alloc, name, env))?;
+    Ok(RuntimeEnvironment {
+        name: Some(name),
+        runtime,
+        timeout_sec: timeout_of(name, env),
+        memory_mb: memory_of(name, env),
+        region,
+        container: None,
+    })
+}
+
+// What a provider runs functions on.
+fn runtime_of(
+    alloc: Global,
+    name: FaasEnvironmentName,
+    env: &Environment,
+) -> Result<Option<Text>, BsonFault>
+    ensures runtime { IfOk result (λ runtime. runtime ≡ (provider name env.now).runtime) }
+    ensures refused { IfErr result (λ fault. fault ≡ BsonFault.OutOfMemory) }
+{
     match name {
-        FaasEnvironmentName::AwsLambda => Ok(RuntimeEnvironment {
-            name: Some(name),
-            runtime: env.text(alloc, AWS_EXECUTION_ENV)?,
-            memory_mb: env.number("AWS_LAMBDA_FUNCTION_MEMORY_SIZE"),
-            region: env.text(alloc, "AWS_REGION")?,
-            ..RuntimeEnvironment::UNSET
-        }),
-        FaasEnvironmentName::Vercel => Ok(RuntimeEnvironment {
-            name: Some(name),
-            region: env.text(alloc, "VERCEL_REGION")?,
-            ..RuntimeEnvironment::UNSET
-        }),
-        FaasEnvironmentName::AzureFunc => Ok(RuntimeEnvironment {
-            name: Some(name),
-            runtime: env.text(alloc, FUNCTIONS_WORKER_RUNTIME)?,
-            ..RuntimeEnvironment::UNSET
-        }),
-        FaasEnvironmentName::GcpFunc => Ok(RuntimeEnvironment {
-            name: Some(name),
-            timeout_sec: env.number("FUNCTION_TIMEOUT_SEC"),
-            memory_mb: env.number("FUNCTION_MEMORY_MB"),
-            region: env.text(alloc, "FUNCTION_REGION")?,
-            ..RuntimeEnvironment::UNSET
-        }),
+        FaasEnvironmentName::AwsLambda => env.text(alloc, AWS_EXECUTION_ENV),
+        FaasEnvironmentName::AzureFunc => env.text(alloc, FUNCTIONS_WORKER_RUNTIME),
+        FaasEnvironmentName::Vercel | FaasEnvironmentName::GcpFunc => Ok(None),
+    }
+}
+
+// Where a provider runs them.
+fn region_of(
+    alloc: Global,
+    name: FaasEnvironmentName,
+    env: &Environment,
+) -> Result<Option<Text>, BsonFault>
+    ensures region { IfOk result (λ region. region ≡ (provider name env.now).region) }
+    ensures refused { IfErr result (λ fault. fault ≡ BsonFault.OutOfMemory) }
+{
+    match name {
+        FaasEnvironmentName::AwsLambda => env.text(alloc, "AWS_REGION"),
+        FaasEnvironmentName::Vercel => env.text(alloc, "VERCEL_REGION"),
+        FaasEnvironmentName::GcpFunc => env.text(alloc, "FUNCTION_REGION"),
+        FaasEnvironmentName::AzureFunc => Ok(None),
+    }
+}
+
+// How long a function may run.
+fn timeout_of(name: FaasEnvironmentName, env: &Environment) -> Option<i32>
+    ensures { result ≡ (provider name env.now).timeout_sec }
+{
+    match name {
+        FaasEnvironmentName::GcpFunc => env.number("FUNCTION_TIMEOUT_SEC"),
+        _ => None,
+    }
+}
+
+// The memory that a function has.
+fn memory_of(name: FaasEnvironmentName, env: &Environment) -> Option<i32>
+    ensures { result ≡ (provider name env.now).memory_mb }
+{
+    match name {
+        FaasEnvironmentName::AwsLambda => env.number("AWS_LAMBDA_FUNCTION_MEMORY_SIZE"),
+        FaasEnvironmentName::GcpFunc => env.number("FUNCTION_MEMORY_MB"),
+        _ => None,
     }
 }
 
