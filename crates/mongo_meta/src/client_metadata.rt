@@ -6,8 +6,8 @@ use crate::driver_info::holds;
 use crate::keys::{NAME, VERSION};
 use crate::text_fields::owned_text_field;
 use crate::{ClientOptions, DriverInfo, DriverInfos, OsMetadata, RuntimeEnvironment};
-use mongo_bson::{BsonFault, RawDocumentBuf, Text, copy_of};
-use mongo_command::document_of;
+use mongo_bson::{BsonFault, RawDocumentBuf, Text, TryClone, copy_of};
+use mongo_command::{both, document_of};
 use mongo_wire::Error;
 use std::alloc::Global;
 
@@ -37,6 +37,12 @@ impl AppMetadata {
         ensures refused { IfErr result (λ fault. TooLongFor fault (application_document self.now)) }
     {
         document_of(alloc, &[owned_text_field(NAME, &self.name)])
+    }
+}
+
+impl TryClone for AppMetadata {
+    fn try_clone(&self, alloc: Global) -> Result<AppMetadata, BsonFault> {
+        AppMetadata::try_clone(self, alloc)
     }
 }
 
@@ -219,19 +225,15 @@ impl ClientMetadata {
         ensures copied { IfOk result (λ metadata. metadata ≡ self.now) }
         ensures refused { IfErr result (λ fault. fault ≡ BsonFault.OutOfMemory) }
     {
-        let appended = self.appended.try_clone(alloc)?;
-        let driver = self.driver.try_clone(alloc)?;
-        let application = match &self.application {
-            Some(application) => Some(application.try_clone(alloc)?),
-            None => None,
-        };
-        let env = match &self.env {
-            Some(env) => Some(env.try_clone(alloc)?),
-            None => None,
-        };
-        let (os, platform, platform_short) = self
+        let driver = both(self.appended.try_clone(alloc), self.driver.try_clone(alloc));
+        let client = both(copy_of(alloc, &self.application), copy_of(alloc, &self.env));
+        let system = self
             .os
-            .copy_with(alloc, &self.platform, &self.platform_short)?;
+            .copy_with(alloc, &self.platform, &self.platform_short);
+        let ((driver, client), system) = both(both(driver, client), system)?;
+        let (appended, driver) = driver;
+        let (application, env) = client;
+        let (os, platform, platform_short) = system;
         Ok(ClientMetadata {
             application,
             driver,

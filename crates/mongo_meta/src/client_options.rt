@@ -2,7 +2,7 @@ ghost use Rattle.std.specs.Prelude.{◌≡◌, IfOk, IfErr};
 
 use crate::{DriverInfo, Environment, OsMetadata};
 use mongo_bson::{BsonFault, Text, copy_of};
-use mongo_command::ServerApi;
+use mongo_command::{ServerApi, both};
 use std::alloc::Global;
 
 /// What a client is made of, as far as a connection needs it.
@@ -32,12 +32,16 @@ impl ClientOptions {
         ensures copied { IfOk result (λ options. options ≡ self.now) }
         ensures refused { IfErr result (λ fault. fault ≡ BsonFault.OutOfMemory) }
     {
-        let environment = self.environment.try_clone(alloc)?;
-        let app_name = copy_of(alloc, &self.app_name)?;
-        let driver_info = copy_of(alloc, &self.driver_info)?;
-        let (os, platform, platform_short) = self
+        let client = both(
+            self.environment.try_clone(alloc),
+            copy_of(alloc, &self.app_name),
+        );
+        let system = self
             .os
-            .copy_with(alloc, &self.platform, &self.platform_short)?;
+            .copy_with(alloc, &self.platform, &self.platform_short);
+        let library = both(copy_of(alloc, &self.driver_info), system);
+        let ((environment, app_name), (driver_info, system)) = both(client, library)?;
+        let (os, platform, platform_short) = system;
         Ok(ClientOptions {
             app_name,
             driver_info,

@@ -1,6 +1,7 @@
 ghost use Rattle.std.specs.Prelude.{◌≡◌, ◌↔◌, IsTrue, Contains, IfOk, IfErr};
 
 use mongo_bson::{BsonFault, Items, Text, TryClone, copy_of};
+use mongo_command::both;
 use std::alloc::Global;
 
 /// What a library that stands on the driver says of itself.
@@ -20,10 +21,15 @@ impl DriverInfo {
         ensures copied { IfOk result (λ info. info ≡ self.now) }
         ensures refused { IfErr result (λ fault. fault ≡ BsonFault.OutOfMemory) }
     {
+        let texts = both(
+            copy_of(alloc, &self.version),
+            copy_of(alloc, &self.platform),
+        );
+        let (name, (version, platform)) = both(self.name.try_clone(alloc), texts)?;
         Ok(DriverInfo {
-            name: self.name.try_clone(alloc)?,
-            version: copy_of(alloc, &self.version)?,
-            platform: copy_of(alloc, &self.platform)?,
+            name,
+            version,
+            platform,
         })
     }
 }

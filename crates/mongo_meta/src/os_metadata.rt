@@ -4,7 +4,7 @@ ghost use Rattle.mongo_command.specs.Arguments.{TooLongFor};
 use crate::keys::{NAME, TYPE, VERSION};
 use crate::text_fields::owned_text_field;
 use mongo_bson::{BsonFault, RawDocumentBuf, Text, copy_of};
-use mongo_command::{document_of, optional_text_field};
+use mongo_command::{both, document_of, optional_text_field};
 use std::alloc::Global;
 
 /// The operating system that the client runs on.
@@ -29,16 +29,22 @@ impl OsMetadata {
         ensures copied { IfOk result (λ os. os ≡ self.now) }
         ensures refused { IfErr result (λ fault. fault ≡ BsonFault.OutOfMemory) }
     {
+        let system = both(self.os_type.try_clone(alloc), copy_of(alloc, &self.name));
+        let machine = both(
+            copy_of(alloc, &self.architecture),
+            copy_of(alloc, &self.version),
+        );
+        let ((os_type, name), (architecture, version)) = both(system, machine)?;
         Ok(OsMetadata {
-            os_type: self.os_type.try_clone(alloc)?,
-            name: copy_of(alloc, &self.name)?,
-            architecture: copy_of(alloc, &self.architecture)?,
-            version: copy_of(alloc, &self.version)?,
+            os_type,
+            name,
+            architecture,
+            version,
         })
     }
 
     // A copy, and one of the long and of the short text of a platform: what the options of a client hand on to its metadata
-    // as it is. What each refusal lets go is no more than three values here.
+    // as it is.
     pub(crate) fn copy_with(
         &self,
         alloc: Global,
@@ -48,9 +54,9 @@ impl OsMetadata {
         ensures copied { IfOk result (λ copies. (copies.0 ≡ self.now) × (copies.1 ≡ platform.now) × (copies.2 ≡ platform_short.now)) }
         ensures refused { IfErr result (λ fault. fault ≡ BsonFault.OutOfMemory) }
     {
-        let platform = platform.try_clone(alloc)?;
-        let platform_short = platform_short.try_clone(alloc)?;
-        Ok((self.try_clone(alloc)?, platform, platform_short))
+        let platforms = both(platform.try_clone(alloc), platform_short.try_clone(alloc));
+        let (os, (platform, platform_short)) = both(self.try_clone(alloc), platforms)?;
+        Ok((os, platform, platform_short))
     }
 
     // The document of what is there.

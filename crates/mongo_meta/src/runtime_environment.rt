@@ -10,9 +10,10 @@ use crate::container::container_in;
 use crate::faas::{AWS_EXECUTION_ENV, FUNCTIONS_WORKER_RUNTIME};
 use crate::keys::{NAME, RUNTIME};
 use crate::{Environment, FaasEnvironmentName};
-use mongo_bson::{BsonFault, RawDocumentBuf, RawValue, Text, copy_of};
+use mongo_bson::{BsonFault, RawDocumentBuf, RawValue, Text, TryClone, copy_of};
 use mongo_command::{
-    ArgumentField, both, document_of, optional_document_field, optional_int32_field, optional_text_field,
+    ArgumentField, both, document_of, optional_document_field, optional_int32_field,
+    optional_text_field,
 };
 use mongo_wire::Error;
 use std::alloc::Global;
@@ -78,13 +79,15 @@ impl RuntimeEnvironment {
         ensures copied { IfOk result (λ environment. environment ≡ self.now) }
         ensures refused { IfErr result (λ fault. fault ≡ BsonFault.OutOfMemory) }
     {
+        let texts = both(copy_of(alloc, &self.runtime), copy_of(alloc, &self.region));
+        let ((runtime, region), container) = both(texts, copy_of(alloc, &self.container))?;
         Ok(RuntimeEnvironment {
             name: self.name,
-            runtime: copy_of(alloc, &self.runtime)?,
+            runtime,
             timeout_sec: self.timeout_sec,
             memory_mb: self.memory_mb,
-            region: copy_of(alloc, &self.region)?,
-            container: copy_of(alloc, &self.container)?,
+            region,
+            container,
         })
     }
 
@@ -112,6 +115,12 @@ impl RuntimeEnvironment {
         ensures refused { IfErr result (λ fault. TooLongFor fault (environment_document (name_alone self.now))) }
     {
         document_of(alloc, &[name_field(self.name)])
+    }
+}
+
+impl TryClone for RuntimeEnvironment {
+    fn try_clone(&self, alloc: Global) -> Result<RuntimeEnvironment, BsonFault> {
+        RuntimeEnvironment::try_clone(self, alloc)
     }
 }
 
