@@ -2,6 +2,7 @@ ghost use Rattle.std.specs.Prelude.{◌≡◌, ◌<◌, ◌≤◌};
 
 use super::{NamesFault, fault_of, given, reply};
 use base64::engine::general_purpose::STANDARD;
+use mongo_bson::Text;
 use mongo_command::{Command, ServerApi, ServerApiVersion};
 use mongo_mac::{Sha1Fn, Steps, Tag, hi};
 use mongo_scram::{
@@ -479,29 +480,45 @@ fn is_message(alloc: Global, username: &str, message: &str) -> Result<bool, Fail
     Ok(first.message() == message && copy_is(alloc, &first, message)?)
 }
 
-fn is_saslname(alloc: Global, username: &str, escaped: &str) -> Result<bool, AllocError> {
-    Ok(saslname(alloc, username)?.as_str() == escaped)
-}
-
-fn is_nonce(alloc: Global, nonce: &[u8; 32], text: &str) -> bool {
-    match nonce_text(alloc, nonce) {
-        Ok(made) => made.as_str() == text,
-        Err(_) => false,
+// Whether a call gives this text.
+fn is_text<E: Drop>(made: Result<Text, E>, text: &str) -> bool {
+    match made.ok() {
+        Some(made) => made.as_str() == text,
+        None => false,
     }
 }
 
 #[test]
-fn user_names_are_escaped(rt: HostRuntime) -> Result<(), Fail> {
-    assert!(rt; matches!(is_saslname(rt.alloc(), "a=b,c", "a=3Db=2Cc"), Ok(true)));
+fn names_and_nonces_are_spelled(rt: HostRuntime) {
+    assert!(rt; is_text(saslname(rt.alloc(), "a=b,c"), "a=3Db=2Cc"));
     assert!(rt;
-        is_nonce(
-            rt.alloc(),
-            &[1; 32],
+        is_text(
+            nonce_text(rt.alloc(), &[1; 32]),
             "AQEBAQEBAQEBAQEBAQEBAQEBAQEBAQEBAQEBAQEBAQE="
         )
     );
-    assert!(rt; is_message(rt.alloc(), "a=b", "n,,n=a=3Db,r=x")?);
-    assert!(rt; is_message(rt.alloc(), "=,=", "n,,n==3D=2C=3D,r=x")?);
-    assert!(rt; is_message(rt.alloc(), "\u{fc},", "n,,n=\u{fc}=2C,r=x")?);
+}
+
+// A user name, and the first message of that user by the nonce `x`.
+const USER_NAMES: &str = "a=b => n,,n=a=3Db,r=x
+=,= => n,,n==3D=2C=3D,r=x
+\u{fc}, => n,,n=\u{fc}=2C,r=x";
+
+// Fails where a row's user has another first message.
+fn check_user_name(alloc: Global, row: &str) -> Result<(), Fail> {
+    let (username, message) = parts(row);
+    let stands = if is_message(alloc, username, message)? {
+        "so"
+    } else {
+        "otherwise"
+    };
+    wants(row, stands, "so")
+}
+
+#[test]
+fn user_names_are_escaped(rt: HostRuntime) -> Result<(), Fail> {
+    for row in USER_NAMES.lines() {
+        check_user_name(rt.alloc(), row)?;
+    }
     Ok(())
 }
