@@ -73,6 +73,10 @@ StaysWithin maximum old new = (memory_of new ≤ memory_of old) ⊎ (pos (memory
 abbrev pub GrowsFor : State → State → FrameBuffer → FrameBuffer → Type 0
 GrowsFor source_old source_new old new = (had left : List ℕ) → source_old.left ≡ Some had → source_new.left ≡ Some left → memory_of new ≤ max (memory_of old) (4096 + 2 * (length had - length left))
 
+-- the buffer has all the memory that it had
+abbrev pub KeepsMemory : FrameBuffer → FrameBuffer → Type 0
+KeepsMemory old new = memory_of old ≤ memory_of new
+
 -- a frame was taken and counted, the buffer holds it in memory for what came, and the message shows it
 pub record IsReadInto (maximum : ℤ) (source_old source_new : State) (old : FrameBuffer) (message : MessageRef) (new : FrameBuffer) : Type 0 where
   pub is_taken : IsFrameTaken maximum source_old source_new new
@@ -80,12 +84,14 @@ pub record IsReadInto (maximum : ℤ) (source_old source_new : State) (old : Fra
   pub counted : frames_taken new ≡ risen (frames_taken old)
   pub came : GrowsFor source_old source_new old new
   pub within : StaysWithin maximum old new
+  pub keeps : KeepsMemory old new
 
 -- no frame was taken: the buffer holds nothing, in memory for what came
 pub record IsUnreadInto (maximum : ℤ) (source_old source_new : State) (old new : FrameBuffer) : Type 0 where
   pub cleared : IsCleared old new
   pub came : GrowsFor source_old source_new old new
   pub within : StaysWithin maximum old new
+  pub keeps : KeepsMemory old new
 
 -- what the buffer is after a read
 abbrev pub ReadsInto : ℤ → State → State → FrameBuffer → Result MessageRef FrameFault → FrameBuffer → Type 0

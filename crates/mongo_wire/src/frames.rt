@@ -9,7 +9,7 @@ ghost use Rattle.mongo_wire.specs.Outside.{State, ReadsOn, Unstopped, HasEnded, 
 ghost use Rattle.mongo_wire.specs.Header.{maximum_of, header_bytes};
 ghost use Rattle.mongo_wire.specs.Message.{ReadRefused, IsUnreadable, WhereFrameStands};
 ghost use Rattle.mongo_wire.specs.Ref.{IsFrameRead, ShowsAgain, FoundAgain};
-ghost use Rattle.mongo_wire.specs.Buffer.{IsFrameTaken, IsCleared, FindsAgain, TakesAgain, ReadsInto, NextInto, StaysWithin, GrowsFor, frames_taken};
+ghost use Rattle.mongo_wire.specs.Buffer.{IsFrameTaken, IsCleared, FindsAgain, TakesAgain, ReadsInto, NextInto, StaysWithin, GrowsFor, KeepsMemory, frames_taken};
 
 use crate::held_frame::HeldFrame;
 use crate::reading::{fill_or_end, take_into};
@@ -30,7 +30,8 @@ impl FrameBuffer {
         source: &mut S,
         maximum: Option<i32>,
     ) -> Result<MessageRef<'_>, FrameFault>
-        // The buffer holds the frame that was taken, and nothing where none was. Its memory is for bytes that came.
+        // The buffer holds the frame that was taken, and nothing where none was. Its memory is for bytes that came, and none
+        // of it is given back.
         ensures* after { sem 𝓛 (follows_so the_row the_row self.entry.ghost_name none (λ _ _. ⊤) (λ buffer. ReadsInto (maximum_of maximum) (S.state source.old) (S.state source.new) self.old result buffer)) }
         ensures read { IfOk result (IsFrameRead (maximum_of maximum) (S.state source.old) (S.state source.new)) }
         ensures refused { IfErr result (λ fault. ReadRefused (kind_of_frame_fault fault) (maximum_of maximum) (S.state source.old) (S.state source.new)) }
@@ -88,9 +89,10 @@ impl FrameBuffer {
         ensures counted { OnOk result (frames_taken self.new ≡ risen (frames_taken self.old)) }
         ensures emptied { OnErr result (IsCleared self.old self.new) }
         // Memory is for bytes that came, for twice as many at most and one piece of 4096, and never for more than the maximum:
-        // the buffer's capacity says so.
+        // the buffer's capacity says so. None of it is given back.
         ensures came { GrowsFor (S.state source.old) (S.state source.new) self.old self.new }
         ensures within { StaysWithin (maximum_of maximum) self.old self.new }
+        ensures keeps { KeepsMemory self.old self.new }
         ensures on { ReadsOn (S.state source.old) (S.state source.new) }
     {
         match self.take_next_frame(source, maximum) {
@@ -118,6 +120,7 @@ impl FrameBuffer {
         ensures emptied { OnErr result (IsCleared self.old self.new) }
         ensures came { GrowsFor (S.state source.old) (S.state source.new) self.old self.new }
         ensures within { StaysWithin (maximum_of maximum) self.old self.new }
+        ensures keeps { KeepsMemory self.old self.new }
         ensures on { ReadsOn (S.state source.old) (S.state source.new) }
     {
         self.clear();
@@ -154,6 +157,7 @@ impl FrameBuffer {
         ensures emptied { OnErr result (IsCleared self.old self.new) }
         ensures came { GrowsFor (S.state source.old) (S.state source.new) self.old self.new }
         ensures within { StaysWithin (maximum_of maximum) self.old self.new }
+        ensures keeps { KeepsMemory self.old self.new }
         ensures on { ReadsOn (S.state source.old) (S.state source.new) }
     {
         self.clear();

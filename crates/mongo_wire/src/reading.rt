@@ -71,8 +71,10 @@ pub fn take_into<S: Source>(
     ensures refused { IfErr result (λ fault. ReadStops (kind_of_frame_fault fault) (S.state source.old) (S.state source.new) (wanted - before)) }
     ensures some { OnErr result (before < wanted) }
     ensures size { length store.new.items ≤ max (length store.old.items) wanted }
-    // Its memory is what it was, or for what was wanted at most, and for twice what came in all and one piece at most.
+    // Its memory is what it was, or for what was wanted at most, and for twice what came in all and one piece at most. None of
+    // it is given back.
     ensures wanted { vec_capacity store.new ≤ max (vec_capacity store.old) wanted }
+    ensures keeps { vec_capacity store.old ≤ vec_capacity store.new }
     ensures came { (had left : List ℕ) → (S.state source.old).left ≡ Some had → (S.state source.new).left ≡ Some left → vec_capacity store.new ≤ max (vec_capacity store.old) (4096 + 2 * (before + (length had - length left))) }
     ensures on { ReadsOn (S.state source.old) (S.state source.new) }
 {
@@ -135,6 +137,7 @@ fn make_longer(store: &mut Vec<u8>, came: usize, wanted: usize) -> Result<(), Fr
     ensures longer { OnOk result (came < length store.new.items) }
     ensures size { length store.new.items ≤ max (length store.old.items) wanted }
     ensures wanted { vec_capacity store.new ≤ max (vec_capacity store.old) wanted }
+    ensures keeps { vec_capacity store.old ≤ vec_capacity store.new }
     ensures came { vec_capacity store.new ≤ max (vec_capacity store.old) (4096 + 2 * came) }
     ensures refused { IfErr result (λ fault. fault ≡ FrameFault.OutOfMemory) }
 {

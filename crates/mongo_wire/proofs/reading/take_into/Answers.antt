@@ -98,6 +98,7 @@ taking-preserved g c =
       taken = subst (Consumes _ _) whole (Consumes-trans _ _ _ _ _ invariant.taken filled.filled);
       size = omega (arith, filled.size, room.size, invariant.size);
       wanted = omega (arith, filled.memory, room.wanted, invariant.wanted);
+      keeps = omega (arith, filled.memory, room.keeps, invariant.keeps);
       came = omega (arith, filled.memory, room.came, invariant.came, after);
       still = unstopped_on _ _ _ invariant.still filled.unstopped;
       on = reads_on _ _ _ invariant.on filled.on;

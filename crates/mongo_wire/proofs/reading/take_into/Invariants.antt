@@ -15,6 +15,7 @@ invariant-taking g l =
       taken : Consumes (state l.fn.source).left (state l.source).left (take (l.at - l.before) (drop l.before l.store.items));
       size : length l.store.items ≤ max (length l.fn.store.items) l.wanted;
       wanted : vec_capacity l.store ≤ max (vec_capacity l.fn.store) l.wanted;
+      keeps : vec_capacity l.fn.store ≤ vec_capacity l.store;
       came : vec_capacity l.store ≤ max (vec_capacity l.fn.store) (4096 + 2 * l.at);
       still : Unstopped (state l.fn.source) (state l.source);
       on : ReadsOn (state l.fn.source) (state l.source);
