@@ -1,5 +1,5 @@
 -- What the two phases of an exchange answer, from what writing and reading a message do.
-use Rattle.std.proofs.Common.{◌≡◌, ℕ, ℤ, ◌≤◌, ◌%◌, bit_and, IfSome, ◌∙◌, refl, ap, subst, sym, inr, None, Some, Result, Ok, Err, List, length, IfOk, IfErr, OnOk, unwrap_or}
+use Rattle.std.proofs.Common.{arith, ◌≡◌, ℕ, ℤ, ◌≤◌, ◌%◌, bit_and, IfSome, ◌∙◌, refl, ap, subst, sym, inl, inr, None, Some, Result, Ok, Err, List, length, IfOk, IfErr, OnOk, unwrap_or}
 use Rattle.mongo_bson.specs.Framed.{maximum_length}
 use Rattle.mongo_wire.specs.Frame.{known_flags}
 use Rattle.std.specs.Prelude.{⊤}
@@ -13,7 +13,7 @@ use Rattle.mongo_wire.specs.declared.message.Message.{Message}
 use Rattle.std.specs.Io.KnownBytes.{Appends}
 use Rattle.mongo_wire.specs.Outside.{State, Unread, Unwritten, AppendsFront}
 use Rattle.mongo_wire.specs.Message.{TellsChecksum, IsRead, ReadRefused, WriteCut, WriteRefused, Writes, IsFrameOf, written_frame, id_of, id_after, parts_of}
-use Rattle.mongo_wire.specs.Buffer.{IsFrameTaken, HoldsFrame, held_bytes, held_document, document_at}
+use Rattle.mongo_wire.specs.Buffer.{IsFrameTaken, HoldsFrame, UsesMemory, held_bytes, held_document, document_at}
 use Rattle.mongo_wire.specs.Frame.{Frame}
 use Rattle.mongo_wire.specs.declared.fault.FrameFault.{FrameFault}
 use Rattle.mongo_wire.specs.Error.{kind_of_frame_fault}
@@ -90,3 +90,13 @@ receive_refused (Err e) maximum old new unwritten refused = record { refused = r
 
 pub fault_refused : (fault : FrameFault) (e : Error) (maximum : ℤ) (old new : State) → Unwritten old new → e.kind ≡ kind_of_frame_fault fault → ReadRefused (kind_of_frame_fault fault) maximum old new → ReceiveRefused e.kind maximum old new
 fault_refused fault e maximum old new unwritten is refused = subst (λ kind. ReceiveRefused kind maximum old new) (sym is) (record { refused = refused; unwritten = unwritten })
+
+-- ---- a buffer's memory
+
+-- nothing was read before
+pub uses_later : (maximum : ℤ) (old middle new : State) (first last : FrameBuffer) → middle.left ≡ old.left → UsesMemory maximum middle new first last → UsesMemory maximum old new first last
+uses_later maximum old middle new first last unread uses = record { came = λ had left had_is left_is. uses.came had left (unread ∙ had_is) left_is; within = uses.within; keeps = uses.keeps }
+
+-- nothing was read at all
+pub uses_none : (maximum : ℤ) (old new : State) (buffer : FrameBuffer) → UsesMemory maximum old new buffer buffer
+uses_none maximum old new buffer = record { came = λ had left had_is left_is. omega arith; within = inl (omega arith); keeps = omega arith }

@@ -77,6 +77,12 @@ GrowsFor source_old source_new old new = (had left : List ℕ) → source_old.le
 abbrev pub KeepsMemory : FrameBuffer → FrameBuffer → Type 0
 KeepsMemory old new = memory_of old ≤ memory_of new
 
+-- what is read into a buffer: its memory grows only as bytes come, stays within the maximum, and none of it is given back
+pub record UsesMemory (maximum : ℤ) (source_old source_new : State) (old new : FrameBuffer) : Type 0 where
+  pub came : GrowsFor source_old source_new old new
+  pub within : StaysWithin maximum old new
+  pub keeps : KeepsMemory old new
+
 -- a frame was taken and counted, the buffer holds it in memory for what came, and the message shows it
 pub record IsReadInto (maximum : ℤ) (source_old source_new : State) (old : FrameBuffer) (message : MessageRef) (new : FrameBuffer) : Type 0 where
   pub is_taken : IsFrameTaken maximum source_old source_new new

@@ -15,3 +15,9 @@ returns-in-Err-clause-refused g c =
 
 pub returns-in-Ok-clause-taken : goal.returns-in-Ok-clause-taken
 returns-in-Ok-clause-taken g c = c.in-Ok.ensures.taken
+
+pub returns-in-Ok-clause-memory : goal.returns-in-Ok-clause-memory
+returns-in-Ok-clause-memory g c = let taken = c.in-Ok.ensures in record { came = taken.came; within = taken.within; keeps = taken.keeps }
+
+pub returns-in-Err-clause-memory : goal.returns-in-Err-clause-memory
+returns-in-Err-clause-memory g c = let refused = c.in-Err.ensures in record { came = refused.came; within = refused.within; keeps = refused.keeps }
