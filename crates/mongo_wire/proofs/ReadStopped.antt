@@ -82,8 +82,8 @@ stops_after kind old mid new taken part wanted p still within s =
     ran_out (Some xs) (Some ys) new taken part wanted p within r = (omega (arith, r.0, ap length p, length-append taken ys, within), r.1)
 
 -- the front of a front
-pub same_front : (m n : ℕ) (xs ys : List ℕ) → m ≤ n → take n xs ≡ take n ys → take m xs ≡ take m ys
-same_front m n xs ys within same = front xs ∙ ap (take m) same ∙ sym (front ys)
+pub same_shorter_front : (m n : ℕ) (xs ys : List ℕ) → m ≤ n → take n xs ≡ take n ys → take m xs ≡ take m ys
+same_shorter_front m n xs ys within same = front xs ∙ ap (take m) same ∙ sym (front ys)
   where
     front : (zs : List ℕ) → take m zs ≡ take m (take n zs)
     front zs = sym (take-take m n zs within)

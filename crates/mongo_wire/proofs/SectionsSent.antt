@@ -22,8 +22,8 @@ sections_spelled id to flags size head word sections id_fits to_fits p q counted
     ∙ ap (λ i. fields (20 + length sections) i (to_z w32 (of_z w32 to)) ++ rest) (to_z-of_z w32 id id_fits)
     ∙ ap (λ t. fields (20 + length sections) id t ++ rest) (to_z-of_z w32 to to_fits)
 
-pub sections_refused : (kind : ErrorKind) (maximum : ℤ) (sections frame : List ℕ) (old new : State) → SectionsFit maximum sections → WriteStops kind old new frame → SectionsRefused kind maximum sections frame old new
-sections_refused kind maximum sections frame old new fits s =
+pub sections_unsent : (kind : ErrorKind) (maximum : ℤ) (sections frame : List ℕ) (old new : State) → SectionsFit maximum sections → WriteStops kind old new frame → SectionsRefused kind maximum sections frame old new
+sections_unsent kind maximum sections frame old new fits s =
     write_cases (λ k. SectionsRefused k maximum sections frame old new) kind old new frame s (λ f. (f.0, fits, f.1)) (λ m. (m.0, fits, m.1))
 
 -- the flags that are written are known ones

@@ -2,7 +2,7 @@ use Rattle.std.proofs.Common.{arith, ◌≡◌, ◌≤◌, ◌+◌, ◌-◌, len
 use Rattle.std.proofs.KnownBytes.{Consumes-trans}
 use Rattle.std.specs.Io.KnownBytes.{Consumes}
 use Rattle.mongo_wire.specs.Error.{kind_of_frame_fault}
-use Rattle.mongo_wire.proofs.ReadStopped.{length_between, stops_after, same_front, next_part, came_before, came_then, reads_on, unstopped_on}
+use Rattle.mongo_wire.proofs.ReadStopped.{length_between, stops_after, same_shorter_front, next_part, came_before, came_then, reads_on, unstopped_on}
 use Rattle.mongo_wire.proofs.reading.take_into.Goals as goal
 
 pub returns-in-Err-fill_store-clause-refused : goal.returns-in-Err-fill_store-clause-refused
@@ -21,7 +21,7 @@ pub returns-in-Err-fill_store-clause-front : goal.returns-in-Err-fill_store-clau
 returns-in-Err-fill_store-clause-front g c =
     let invariant = c.taking.invariant in
     let front : take c.taking.at c.taking.store.items ≡ take c.taking.at c.fill_store.new.store.items = sym c.in-Ok.ensures.kept ∙ sym c.in-Err-fill_store.ensures.front in
-    sym (same_front c.args.before c.taking.at c.taking.store.items c.fill_store.new.store.items invariant.behind front) ∙ invariant.front
+    sym (same_shorter_front c.args.before c.taking.at c.taking.store.items c.fill_store.new.store.items invariant.behind front) ∙ invariant.front
 
 pub returns-in-Err-fill_store-clause-came : goal.returns-in-Err-fill_store-clause-came
 returns-in-Err-fill_store-clause-came g c = λ had left had_is left_is.
@@ -94,7 +94,7 @@ taking-preserved g c =
       within = omega (arith, c.min-end.ensures, c.len.ensures, filled.size);
       short = omega (arith, c.min-end.ensures);
       behind = omega (arith, invariant.behind, after);
-      front = sym (same_front before at old new invariant.behind front) ∙ invariant.front;
+      front = sym (same_shorter_front before at old new invariant.behind front) ∙ invariant.front;
       taken = subst (Consumes _ _) whole (Consumes-trans _ _ _ _ _ invariant.taken filled.filled);
       size = omega (arith, filled.size, room.size, invariant.size);
       wanted = omega (arith, filled.memory, room.wanted, invariant.wanted);
