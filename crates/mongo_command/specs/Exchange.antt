@@ -10,7 +10,7 @@ use Rattle.mongo_wire.specs.Outside.{State, Unwritten, Unstopped, Rose, AppendsF
 use Rattle.mongo_wire.specs.Bytes.{next_id}
 use Rattle.mongo_wire.specs.Header.{maximum_of}
 use Rattle.mongo_wire.specs.declared.frame_buffer.FrameBuffer.{FrameBuffer}
-use Rattle.mongo_wire.specs.Frame.{Frame, IsFrame}
+use Rattle.mongo_wire.specs.Frame.{Frame, IsFrame, exhaust_allowed_bit}
 use Rattle.mongo_wire.specs.Buffer.{HoldsFrame, IsCleared}
 use Rattle.mongo_wire.specs.Message.{ReadRefused, Fits, ArgumentRow, IsFrameOf, written_frame}
 use Rattle.mongo_bson.specs.declared.fault.BsonFault.TheVariants.{TooLong}
@@ -18,9 +18,9 @@ use Rattle.mongo_command.specs.Command.{command_document}
 use Rattle.mongo_command.specs.declared.command.Command.{Command}
 use Rattle.mongo_command.specs.declared.stream_description.StreamDescription.{StreamDescription}
 
--- EXHAUST_ALLOWED, bit 16, or no flag
+-- EXHAUST_ALLOWED, or no flag
 abbrev pub exhaust_flag : Bool → ℕ
-exhaust_flag allowed = if allowed then 65536 else 0
+exhaust_flag allowed = if allowed then exhaust_allowed_bit else 0
 
 -- the message that a command is sent as
 abbrev pub command_message : Command → Message

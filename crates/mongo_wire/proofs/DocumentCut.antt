@@ -6,6 +6,7 @@ use Rattle.std.proofs.KnownBytes.{Consumes-trans}
 use Rattle.std.specs.Int.{cast_signed, w32}
 use Rattle.std.specs.Io.KnownBytes.{Consumes}
 use Rattle.mongo_bson.proofs.Sizes.{number_at_front}
+use Rattle.mongo_wire.specs.Buffer.{piece_length}
 use Rattle.mongo_wire.specs.Header.{signed_at}
 use Rattle.mongo_wire.specs.Outside.{State, Unstopped, ReadStops, ConsumesAtMost, ConsumesFewer, RanOut}
 use Rattle.mongo_wire.specs.Rows.{IsEmptied}
@@ -80,9 +81,9 @@ document_taken old mid new field whole n p four is least front size q still =
 
 -- memory for the length, and then for what it counts
 pub memory_after : (old mid new : Option (List ℕ)) (field had left : List ℕ) (first second third : ℕ) → Consumes old mid field → old ≡ Some had → new ≡ Some left → length field ≤ length had - length left → length field ≡ 4
-    → ((h l : List ℕ) → old ≡ Some h → mid ≡ Some l → second ≤ max first (4096 + 2 * (length h - length l)))
-    → ((h l : List ℕ) → mid ≡ Some h → new ≡ Some l → third ≤ max second (4096 + 2 * (4 + (length h - length l))))
-    → third ≤ max first (4096 + 2 * (length had - length left))
+    → ((h l : List ℕ) → old ≡ Some h → mid ≡ Some l → second ≤ max first (piece_length + 2 * (length h - length l)))
+    → ((h l : List ℕ) → mid ≡ Some h → new ≡ Some l → third ≤ max second (piece_length + 2 * (4 + (length h - length l))))
+    → third ≤ max first (piece_length + 2 * (length had - length left))
 memory_after old None new field had left first second third p had_is left_is some four a b = absurd (rw had_is at p)
 memory_after old (Some there) new field had left first second third p had_is left_is some four a b =
     let spelled : had ≡ field ++ there = rw had_is at p in

@@ -13,7 +13,7 @@ use Rattle.mongo_wire.specs.Message.{ReadRefused, IsUnreadable}
 use Rattle.std.proofs.lemmas.List.{drop_at}
 use Rattle.mongo_wire.specs.Held.{NoFrame, IsHeld}
 use Rattle.mongo_wire.specs.declared.held_frame.HeldFrame.{HeldFrame}
-use Rattle.mongo_wire.specs.Buffer.{HoldsFrame, held_bytes, IsFrameTaken, GrowsFor, StaysWithin, memory_of}
+use Rattle.mongo_wire.specs.Buffer.{HoldsFrame, held_bytes, IsFrameTaken, GrowsFor, StaysWithin, memory_of, piece_length}
 use Rattle.mongo_wire.specs.declared.op_code.OpCode.{OpCode}
 use Rattle.mongo_wire.specs.declared.op_code.OpCode.TheVariants as op_code
 use Rattle.mongo_wire.specs.declared.fault.ArgumentFault.{ArgumentFault}
@@ -212,8 +212,8 @@ pub grows_later : (old mid new : State) (taken : List ℕ) (start first last : F
 grows_later old mid new taken start first last same p grows had left had_is left_is = by mid.left p grows
   where
     by : (there : Option (List ℕ)) → Consumes old.left there taken
-        → ((h l : List ℕ) → there ≡ Some h → new.left ≡ Some l → memory_of last ≤ max (memory_of first) (4096 + 2 * (length h - length l)))
-        → memory_of last ≤ max (memory_of start) (4096 + 2 * (length had - length left))
+        → ((h l : List ℕ) → there ≡ Some h → new.left ≡ Some l → memory_of last ≤ max (memory_of first) (piece_length + 2 * (length h - length l)))
+        → memory_of last ≤ max (memory_of start) (piece_length + 2 * (length had - length left))
     by None q g = absurd (rw had_is at q)
     by (Some bytes) q g =
         let spelled : had ≡ taken ++ bytes = rw had_is at q in

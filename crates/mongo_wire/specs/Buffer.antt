@@ -69,9 +69,13 @@ pub record IsCleared (old new : FrameBuffer) : Type 0 where
 abbrev pub StaysWithin : ℤ → FrameBuffer → FrameBuffer → Type 0
 StaysWithin maximum old new = (memory_of new ≤ memory_of old) ⊎ (pos (memory_of new) ≤ℤ maximum)
 
+-- how many bytes memory is taken for at once, at least
+abbrev pub piece_length : ℕ
+piece_length = 4096
+
 -- for the bytes that were consumed the buffer gets memory for twice as many and one piece at most
 abbrev pub GrowsFor : State → State → FrameBuffer → FrameBuffer → Type 0
-GrowsFor source_old source_new old new = (had left : List ℕ) → source_old.left ≡ Some had → source_new.left ≡ Some left → memory_of new ≤ max (memory_of old) (4096 + 2 * (length had - length left))
+GrowsFor source_old source_new old new = (had left : List ℕ) → source_old.left ≡ Some had → source_new.left ≡ Some left → memory_of new ≤ max (memory_of old) (piece_length + 2 * (length had - length left))
 
 -- the buffer has all the memory that it had
 abbrev pub KeepsMemory : FrameBuffer → FrameBuffer → Type 0

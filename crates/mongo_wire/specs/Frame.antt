@@ -17,9 +17,21 @@ uint32 n = to_le_bytes w32 n
 abbrev pub message_code : ℕ
 message_code = 2013
 
--- CHECKSUM_PRESENT, MORE_TO_COME and EXHAUST_ALLOWED: bits 0, 1 and 16
+-- CHECKSUM_PRESENT, bit 0
+abbrev pub checksum_present_bit : ℕ
+checksum_present_bit = 1
+
+-- MORE_TO_COME, bit 1
+abbrev pub more_to_come_bit : ℕ
+more_to_come_bit = 2
+
+-- EXHAUST_ALLOWED, bit 16
+abbrev pub exhaust_allowed_bit : ℕ
+exhaust_allowed_bit = 65536
+
+-- the flags that have a meaning
 abbrev pub known_flags : ℕ
-known_flags = 65539
+known_flags = checksum_present_bit + more_to_come_bit + exhaust_allowed_bit
 
 -- a section: the body, kind 0, or a document sequence, kind 1
 pub data Section : Type 0 where

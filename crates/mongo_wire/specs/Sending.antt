@@ -2,15 +2,15 @@
 use Rattle.std.specs.Prelude.{◌≡◌, ℕ, ℤ, pos, ◌+◌, ◌≤ℤ◌, ◌<ℤ◌, None, List, [], ◌∷◌, ◌++◌, length, flat_map, bit_and}
 use Rattle.std.specs.List.{AllByRecursion}
 use Rattle.mongo_wire.specs.Outside.{State, Rose, AppendsFront}
-use Rattle.mongo_wire.specs.Frame.{Section, IsSection, IsFrameWith, section_bytes, bodies, sequences_of, int32, uint32, message_code}
+use Rattle.mongo_wire.specs.Frame.{Section, IsSection, IsFrameWith, section_bytes, bodies, sequences_of, int32, uint32, message_code, more_to_come_bit, exhaust_allowed_bit}
 use Rattle.mongo_wire.specs.declared.error.ErrorKind.{ErrorKind}
 use Rattle.mongo_wire.specs.declared.error.ErrorKind.TheVariants.{WriteFault, OutOfMemory, InvalidArgument}
 use Rattle.mongo_wire.specs.declared.fault.ArgumentFault.{ArgumentFault}
 use Rattle.mongo_wire.specs.declared.fault.ArgumentFault.TheVariants.{MaximumNegative, TooLong}
 
--- MORE_TO_COME and EXHAUST_ALLOWED, bits 1 and 16: the flags of a frame without a checksum
+-- the flags of a frame without a checksum
 abbrev pub unsummed_flags : ℕ
-unsummed_flags = 65538
+unsummed_flags = more_to_come_bit + exhaust_allowed_bit
 
 -- the frame of these sections, without a checksum
 abbrev pub sections_frame : ℤ → ℤ → ℕ → List ℕ → List ℕ

@@ -88,7 +88,7 @@ impl FrameBuffer {
         ensures again { WhereFrameStands (maximum_of maximum) (S.state source.old) (λ frame rest parts. TakesAgain frame parts rest (S.state source.new).left self.new result) }
         ensures counted { OnOk result (frames_taken self.new ≡ risen (frames_taken self.old)) }
         ensures emptied { OnErr result (IsCleared self.old self.new) }
-        // Memory is for bytes that came, for twice as many at most and one piece of 4096, and never for more than the maximum:
+        // Memory is for bytes that came, for twice as many at most and one piece, and never for more than the maximum:
         // the buffer's capacity says so. None of it is given back.
         ensures came { GrowsFor (S.state source.old) (S.state source.new) self.old self.new }
         ensures within { StaysWithin (maximum_of maximum) self.old self.new }

@@ -1,5 +1,5 @@
 ghost use Rattle.std.specs.Prelude.{◌≡◌, ⊤, [], ◌∷◌, codes, bit_and};
-ghost use Rattle.mongo_wire.specs.Frame.{known_flags};
+ghost use Rattle.mongo_wire.specs.Frame.{checksum_present_bit, more_to_come_bit, exhaust_allowed_bit, known_flags};
 
 use bitflags::{Flag, Flags, bitflag_items};
 
@@ -20,7 +20,7 @@ impl Flags for MessageFlags {
 
     ghost exact = { ⊤ };
 
-    ghost table = { (codes "CHECKSUM_PRESENT", 1) ∷ (codes "MORE_TO_COME", 2) ∷ (codes "EXHAUST_ALLOWED", 65536) ∷ [] };
+    ghost table = { (codes "CHECKSUM_PRESENT", checksum_present_bit) ∷ (codes "MORE_TO_COME", more_to_come_bit) ∷ (codes "EXHAUST_ALLOWED", exhaust_allowed_bit) ∷ [] };
 
     ghost set_of = { λ flags. flags.0 };
 

@@ -1,4 +1,5 @@
 ghost use Rattle.std.specs.Prelude.{◌≡◌, ◌+◌, ◌-◌, ◌*◌, ◌≤◌, ◌<ℤ◌, ℕ, List, [], Some, max, pos, length, vec_capacity, MatchOption, IfOk, IfErr, OnOk};
+ghost use Rattle.mongo_wire.specs.Buffer.{piece_length};
 ghost use Rattle.mongo_wire.specs.Error.{kind_of_frame_fault};
 ghost use Rattle.mongo_wire.specs.Header.{signed_at};
 ghost use Rattle.mongo_wire.specs.Outside.{ReadsOn};
@@ -27,13 +28,12 @@ pub fn read_document_bytes<S: Source>(alloc: Global, source: &mut S) -> Result<B
     }
 }
 
-// Takes the bytes of the next document into an empty store, whose memory is for twice what came and one piece of 4096 at
-// most.
+// Takes the bytes of the next document into an empty store, whose memory is for twice what came and one piece at most.
 fn take_document_bytes<S: Source>(source: &mut S, store: &mut Vec<u8>) -> Result<(), FrameFault>
     requires { store.old.items ≡ [] }
     ensures read { OnOk result (TakesDocument (S.state source.old) (S.state source.new) store.new.items) }
     ensures refused { IfErr result (λ fault. DocumentUnread (kind_of_frame_fault fault) (S.state source.old) (S.state source.new)) }
-    ensures came { (had left : List ℕ) → (S.state source.old).left ≡ Some had → (S.state source.new).left ≡ Some left → vec_capacity store.new ≤ max (vec_capacity store.old) (4096 + 2 * (length had - length left)) }
+    ensures came { (had left : List ℕ) → (S.state source.old).left ≡ Some had → (S.state source.new).left ≡ Some left → vec_capacity store.new ≤ max (vec_capacity store.old) (piece_length + 2 * (length had - length left)) }
     ensures on { ReadsOn (S.state source.old) (S.state source.new) }
 {
     match take_into(source, store, 0, 4) {

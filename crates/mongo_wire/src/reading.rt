@@ -1,5 +1,6 @@
 ghost use Rattle.std.specs.Prelude.{◌≡◌, ◌<◌, ◌≤◌, ◌+◌, ◌-◌, ◌*◌, ℕ, List, Some, true, false, max, take, drop, length, vec_capacity, IfOk, IfErr, OnOk, OnErr};
 ghost use Rattle.std.specs.Io.KnownBytes.{Consumes};
+ghost use Rattle.mongo_wire.specs.Buffer.{piece_length};
 ghost use Rattle.mongo_wire.specs.Error.{kind_of_frame_fault};
 ghost use Rattle.mongo_wire.specs.Outside.{ReadsOn, ReadStops, Unstopped, HasEnded, HasMore};
 ghost use Rattle.mongo_wire.specs.Small.{IsOfSource};
@@ -75,7 +76,7 @@ pub fn take_into<S: Source>(
     // it is given back.
     ensures wanted { vec_capacity store.new ≤ max (vec_capacity store.old) wanted }
     ensures keeps { vec_capacity store.old ≤ vec_capacity store.new }
-    ensures came { (had left : List ℕ) → (S.state source.old).left ≡ Some had → (S.state source.new).left ≡ Some left → vec_capacity store.new ≤ max (vec_capacity store.old) (4096 + 2 * (before + (length had - length left))) }
+    ensures came { (had left : List ℕ) → (S.state source.old).left ≡ Some had → (S.state source.new).left ≡ Some left → vec_capacity store.new ≤ max (vec_capacity store.old) (piece_length + 2 * (before + (length had - length left))) }
     ensures on { ReadsOn (S.state source.old) (S.state source.new) }
 {
     let mut at = before;
@@ -138,7 +139,7 @@ fn make_longer(store: &mut Vec<u8>, came: usize, wanted: usize) -> Result<(), Fr
     ensures size { length store.new.items ≤ max (length store.old.items) wanted }
     ensures wanted { vec_capacity store.new ≤ max (vec_capacity store.old) wanted }
     ensures keeps { vec_capacity store.old ≤ vec_capacity store.new }
-    ensures came { vec_capacity store.new ≤ max (vec_capacity store.old) (4096 + 2 * came) }
+    ensures came { vec_capacity store.new ≤ max (vec_capacity store.old) (piece_length + 2 * came) }
     ensures refused { IfErr result (λ fault. fault ≡ FrameFault.OutOfMemory) }
 {
     if came < store.len() {

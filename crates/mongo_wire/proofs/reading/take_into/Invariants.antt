@@ -1,5 +1,6 @@
 use Rattle.std.proofs.Common.{◌≡◌, length, take, drop, max, vec_capacity, ◌+◌, ◌*◌, ◌-◌, ◌≤◌}
 use Rattle.std.specs.Io.KnownBytes.{Consumes}
+use Rattle.mongo_wire.specs.Buffer.{piece_length}
 use Rattle.mongo_wire.specs.Outside.{ReadsOn, Unstopped}
 use Rattle.mongo_wire.proofs.reading.take_into.Given as goal
 
@@ -16,7 +17,7 @@ invariant-taking g l =
       size : length l.store.items ≤ max (length l.fn.store.items) l.wanted;
       wanted : vec_capacity l.store ≤ max (vec_capacity l.fn.store) l.wanted;
       keeps : vec_capacity l.fn.store ≤ vec_capacity l.store;
-      came : vec_capacity l.store ≤ max (vec_capacity l.fn.store) (4096 + 2 * l.at);
+      came : vec_capacity l.store ≤ max (vec_capacity l.fn.store) (piece_length + 2 * l.at);
       still : Unstopped (state l.fn.source) (state l.source);
       on : ReadsOn (state l.fn.source) (state l.source);
     }
