@@ -71,7 +71,7 @@ left_over settings bytes steps old new (Ok pooled) written taken x a t f tells =
     let rest = a.ended.established.scripted.taken bytes t.left in
     (rest.rest, rest.left_is)
 left_over settings bytes steps old new (Err refusal) written taken x a t f tells =
-    elim (stopped_refusal refusal.handshake_phase (asked_of settings) refusal.cause.kind old new a.after bytes a.ended.refused t.left f.reads f.writes) [
+    elim (stopped_refusal refusal.handshake_phase (asked_of settings) refusal.cause.kind old new a.after _ _ bytes a.ended.refused t.left f.reads f.writes) [
       | inl memory ↦ absurd (subst IsReported memory tells.reported)
       | inr r ↦ (r.refusal.unread, r.left_by.left)
     ]
@@ -91,7 +91,7 @@ rehearses settings bytes steps old new x told t f =
       unfailed = f.reads;
       unwritten = f.writes;
     } in
-    let replays = rehearsed {E = ℕ} (with_replies settings bytes) (asked_of settings) old new told.attempted.after told.written left told.taken told.ended (Ok x) (same_asked settings bytes) told.attempted.ended.established told.attempted.ended.refused replayed count told.tells in
+    let replays = rehearsed {E = ℕ} (with_replies settings bytes) (asked_of settings) old new told.attempted.after _ _ told.written left told.taken told.ended (Ok x) (same_asked settings bytes) told.attempted.ended.established told.attempted.ended.refused replayed count told.tells in
     let first = ledgers steps.before told.attempted.held in
     let last = ledgers steps.after told.attempted.held_after in
     let over = subst (λ asked. CostsOver told.ended asked bytes first last) (same_asked settings bytes) (told.attempted.ended.led.over bytes t.left f.reads f.writes) in

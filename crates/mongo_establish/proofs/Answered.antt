@@ -1,5 +1,5 @@
 -- What an establishment answers, by its handshake and what became of the connection after it; where either was stopped, its plan was.
-use Rattle.std.proofs.Common.{◌≡◌, ℤ, subst, sym, Option, Result, Ok, Err, IfOk, IfErr}
+use Rattle.std.proofs.Common.{◌≡◌, ℤ, subst, sym, Option, Result, Ok, Err, IfOk, IfErr, OnOk}
 use Rattle.std.proofs.lemmas.Result.{IfErr-weaker}
 use Rattle.mongo_wire.specs.declared.error.Error.{Error}
 use Rattle.mongo_wire.specs.Outside.{State}
@@ -7,22 +7,24 @@ use Rattle.mongo_command.specs.declared.connection.Connection.{Connection}
 use Rattle.mongo_command.specs.declared.hello.HelloReply.{HelloReply}
 use Rattle.mongo_command.specs.Conversation.{Stopped}
 use Rattle.mongo_sasl.specs.declared.credential.Credential.{Credential}
+use Rattle.mongo_scram.specs.Costs.{Ledgers, balance}
 use Rattle.mongo_establish.specs.declared.establisher.EstablishError.{EstablishError}
 use Rattle.mongo_establish.specs.declared.establisher.PendingConnection.{PendingConnection}
 use Rattle.mongo_establish.specs.declared.establisher.PooledConnection.{PooledConnection}
 use Rattle.mongo_establish.specs.declared.login_state.Nonces.{Nonces}
 use Rattle.mongo_establish.specs.declared.options.HandshakerOptions.{HandshakerOptions}
 use Rattle.mongo_establish.specs.Asked.{Asked, asked_for, asked_over}
+use Rattle.mongo_establish.specs.Costs.{HandshakeCosts}
 use Rattle.mongo_establish.specs.Established.{Established, ShookHands, StoppedHandshake}
 use Rattle.mongo_establish.specs.Plan.{handshake_plan, establishment_plan}
 use Rattle.mongo_establish.specs.Pooled.{phase_at, IsPooled, UnnamedService}
 use Rattle.mongo_establish.specs.Stopped.{StoppedIn}
 use Rattle.mongo_establish.proofs.Establishment.{shaking_stops, handshake_stops, stopped_whole}
-use Rattle.mongo_establish.proofs.Handshaken.{established, stopped_in, unnamed_stopped}
+use Rattle.mongo_establish.proofs.Handshaken.{established, shook_costs, stopped_in, unnamed_stopped}
 
 -- a refusal comes where the establishment was stopped
-abbrev pub StopsIn : Asked → State → State → ℤ → EstablishError → Type 0
-StopsIn asked old new after e = StoppedIn e.handshake_phase asked e.cause.kind old new after
+abbrev pub StopsIn : Asked → State → State → ℤ → Ledgers → Ledgers → EstablishError → Type 0
+StopsIn asked old new after first last e = StoppedIn e.handshake_phase asked e.cause.kind old new after first last
 
 module _ (pending : PendingConnection) (options : HandshakerOptions) (credential : Option Credential) (nonces : Nonces) (id : ℤ) (opened : Connection) (same : opened.address ≡ pending.address) where
   abbrev wanted : Asked
@@ -32,26 +34,34 @@ module _ (pending : PendingConnection) (options : HandshakerOptions) (credential
   over = asked_over opened options credential nonces id
 
   -- after a handshake the connection is ready, or its server named no service
-  pub answers_established : (r : Result PooledConnection EstablishError) (connection : Connection) (old new : State) (after : ℤ) (reply : HelloReply) → opened.id ≡ pending.id → opened.oidc_token_gen_id ≡ 0 → ShookHands over opened connection old new after reply → IfOk r (IsPooled connection pending.generation) → IfOk r (Established wanted old new after)
-  answers_established (Ok pooled) connection old new after reply number token s p = established pending options credential nonces id opened same connection old new after reply pooled number token s p
-  answers_established (Err e) connection old new after reply number token s p = tt
+  pub answers_established : (r : Result PooledConnection EstablishError) (connection : Connection) (old new : State) (after : ℤ) (first last : Ledgers) (reply : HelloReply) → opened.id ≡ pending.id → opened.oidc_token_gen_id ≡ 0 → ShookHands over opened connection old new after first last reply
+      → IfOk r (IsPooled connection pending.generation) → IfOk r (Established wanted old new after)
+  answers_established (Ok pooled) connection old new after first last reply number token s p = established pending options credential nonces id opened same connection old new after first last reply pooled number token s p
+  answers_established (Err e) connection old new after first last reply number token s p = tt
 
-  pub answers_unnamed : (r : Result PooledConnection EstablishError) (connection : Connection) (old new : State) (after : ℤ) (reply : HelloReply) → ShookHands over opened connection old new after reply → IfErr r (UnnamedService connection pending.generation) → IfErr r (StopsIn wanted old new after)
-  answers_unnamed (Ok pooled) connection old new after reply s u = tt
-  answers_unnamed (Err e) connection old new after reply s u = unnamed_stopped pending options credential nonces id opened same connection old new after reply e s u
+  pub answers_costs : (r : Result PooledConnection EstablishError) (connection : Connection) (old new : State) (after : ℤ) (first last : Ledgers) (reply : HelloReply) → ShookHands over opened connection old new after first last reply → OnOk r (HandshakeCosts wanted (balance old id first) (balance new after last))
+  answers_costs (Ok pooled) connection old new after first last reply s = shook_costs pending options credential nonces id opened same connection old new after first last reply s
+  answers_costs (Err e) connection old new after first last reply s = tt
+
+  pub answers_unnamed : (r : Result PooledConnection EstablishError) (connection : Connection) (old new : State) (after : ℤ) (first last : Ledgers) (reply : HelloReply) → ShookHands over opened connection old new after first last reply → IfErr r (UnnamedService connection pending.generation)
+      → IfErr r (StopsIn wanted old new after first last)
+  answers_unnamed (Ok pooled) connection old new after first last reply s u = tt
+  answers_unnamed (Err e) connection old new after first last reply s u = unnamed_stopped pending options credential nonces id opened same connection old new after first last reply e s u
 
   -- the handshake was stopped
-  pub answers_stopped : (e : EstablishError) (cause : Error) (connection : Connection) (old new : State) (after : ℤ) → e.cause ≡ cause → e.handshake_phase ≡ phase_at connection.stream_description pending.generation → StoppedHandshake over opened connection cause.kind old new after → StopsIn wanted old new after e
-  answers_stopped e cause connection old new after is phase s =
-      stopped_in pending options credential nonces id opened same e.handshake_phase connection e.cause.kind old new after phase (subst (λ x. StoppedHandshake over opened connection x.kind old new after) (sym is) s)
+  pub answers_stopped : (e : EstablishError) (cause : Error) (connection : Connection) (old new : State) (after : ℤ) (first last : Ledgers) → e.cause ≡ cause → e.handshake_phase ≡ phase_at connection.stream_description pending.generation
+      → StoppedHandshake over opened connection cause.kind old new after first last → StopsIn wanted old new after first last e
+  answers_stopped e cause connection old new after first last is phase s =
+      stopped_in pending options credential nonces id opened same e.handshake_phase connection e.cause.kind old new after first last phase (subst (λ x. StoppedHandshake over opened connection x.kind old new after first last) (sym is) s)
 
 -- ---- whatever part was stopped, the plan was
 
-pub shaking_stopped : {T : Type 0} (r : Result T Error) (asked : Asked) (opened connection : Connection) (old new : State) (after : ℤ) → IfErr r (λ e. StoppedHandshake asked opened connection e.kind old new after) → IfErr r (λ e. Stopped (handshake_plan asked) e.kind old new asked.first_id after)
-shaking_stopped r asked opened connection old new after = IfErr-weaker r _ _ (λ e. shaking_stops asked opened connection e.kind old new after)
+pub shaking_stopped : {T : Type 0} (r : Result T Error) (asked : Asked) (opened connection : Connection) (old new : State) (after : ℤ) (first last : Ledgers) → IfErr r (λ e. StoppedHandshake asked opened connection e.kind old new after first last)
+    → IfErr r (λ e. Stopped (handshake_plan asked) e.kind old new asked.first_id after)
+shaking_stopped r asked opened connection old new after first last = IfErr-weaker r _ _ (λ e. shaking_stops asked opened connection e.kind old new after first last)
 
 pub handshake_stopped : {T : Type 0} (r : Result T Error) (asked : Asked) (old new : State) (after : ℤ) → IfErr r (λ e. Stopped (handshake_plan asked) e.kind old new asked.first_id after) → IfErr r (λ e. Stopped (establishment_plan asked) e.kind old new asked.first_id after)
 handshake_stopped r asked old new after = IfErr-weaker r _ _ (λ e. handshake_stops asked e.kind old new after)
 
-pub establishment_stopped : {T : Type 0} (r : Result T EstablishError) (asked : Asked) (old new : State) (after : ℤ) → IfErr r (StopsIn asked old new after) → IfErr r (λ e. Stopped (establishment_plan asked) e.cause.kind old new asked.first_id after)
-establishment_stopped r asked old new after = IfErr-weaker r _ _ (λ e. stopped_whole e.handshake_phase asked e.cause.kind old new after)
+pub establishment_stopped : {T : Type 0} (r : Result T EstablishError) (asked : Asked) (old new : State) (after : ℤ) (first last : Ledgers) → IfErr r (StopsIn asked old new after first last) → IfErr r (λ e. Stopped (establishment_plan asked) e.cause.kind old new asked.first_id after)
+establishment_stopped r asked old new after first last = IfErr-weaker r _ _ (λ e. stopped_whole e.handshake_phase asked e.cause.kind old new after first last)

@@ -26,6 +26,7 @@ use Rattle.mongo_establish.specs.Spoken.{conversation_of, HasConversation}
 use Rattle.mongo_establish.proofs.Conversations.{joins}
 use Rattle.mongo_sasl.proofs.Fits.{NeverIncompatible}
 use Rattle.mongo_sasl.proofs.StoppedKeeping.{stopped_of}
+use Rattle.mongo_scram.specs.Costs.{Ledgers}
 use Rattle.mongo_scram.proofs.ScramFits.{credential_other}
 
 -- ---- a plan that never refuses so
@@ -86,10 +87,10 @@ fits_login_by (Some credential) asked greeting =
 
 -- ---- the handshake
 
-pub compatible : (asked : Asked) (opened connection : Connection) (kind : ErrorKind) (old new : State) (after : ℤ) → StoppedHandshake asked opened connection kind old new after → kind ≡ IncompatibleServer → ⊥
+pub compatible : (asked : Asked) (opened connection : Connection) (kind : ErrorKind) (old new : State) (after : ℤ) (first last : Ledgers) → StoppedHandshake asked opened connection kind old new after first last → kind ≡ IncompatibleServer → ⊥
 unfolding login_plan
-compatible asked opened connection kind old new after s is =
-    elim (subst (λ k. StoppedHandshake asked opened connection k old new after) is s) [
+compatible asked opened connection kind old new after first last s is =
+    elim (subst (λ k. StoppedHandshake asked opened connection k old new after first last) is s) [
       | inl hello ↦ no_stop (hello_plan asked) old new asked.first_id after (fits_hello asked) (stopped_of (hello_plan asked) IncompatibleServer old new asked.first_id after (kept_fault connection) hello.hello)
       | inr login ↦
           no_stop (login_plan asked login.greeting) login.middle new login.between after (fits_login_by (logging_in asked login.greeting) asked login.greeting)

@@ -1,18 +1,20 @@
 -- What a caller concludes from what an establishment costs.
-use Rattle.std.proofs.Common.{◌≡◌, ◌⊎◌, ◌↔◌, ◌<◌, ◌≤◌, ◌^◌, ℕ, ap, subst, sym, inl, inr, Option, None, Some, Result, Ok, Err, List, Contains, arith}
+use Rattle.std.proofs.Common.{◌≡◌, ◌⊎◌, ◌↔◌, ◌<◌, ◌≤◌, ◌^◌, ℕ, ℤ, ap, subst, sym, inl, inr, Option, None, Some, Result, Ok, Err, List, Contains, IfErr, OnOk, arith}
 use Rattle.mongo_wire.specs.declared.error.ErrorKind.{ErrorKind}
+use Rattle.mongo_wire.specs.Outside.{State}
 use Rattle.mongo_command.specs.Conversation.{Plan}
 use Rattle.mongo_scram.specs.declared.cache.SaltedKey.{SaltedKey}
 use Rattle.mongo_scram.specs.Cache.{entries_of, rounds_of}
-use Rattle.mongo_scram.specs.Costs.{Ledgers, Balance, HasEntry, Counts, Derives, SameEntries, CostsNothing}
+use Rattle.mongo_scram.specs.Costs.{Ledgers, Balance, balance, HasEntry, Counts, Derives, SameEntries, CostsNothing}
 use Rattle.mongo_establish.specs.declared.establisher.EstablishError.{EstablishError}
 use Rattle.mongo_establish.specs.Asked.{Asked}
-use Rattle.mongo_establish.specs.Costs.{EstablishmentCosts}
+use Rattle.mongo_establish.specs.Costs.{HandshakeCosts}
 use Rattle.mongo_establish.specs.Derivation.{LeadsToKey}
 use Rattle.mongo_establish.specs.KeyCosts.{TakesKey, AcceptedTakes, RefusedTakes, TakesAsLed}
+use Rattle.mongo_establish.specs.Stopped.{StoppedIn}
 use Rattle.mongo_establish.proofs.DerivationPlan.{one_led_key}
 use Rattle.mongo_establish.proofs.DerivationSteps.{KeyTaken, KeySpent}
-use Rattle.mongo_establish.proofs.KeyTaken.{handshake_taken, handshake_spent}
+use Rattle.mongo_establish.proofs.KeyTaken.{handshake_taken, establishment_spent}
 
 -- ---- some rounds
 
@@ -52,12 +54,13 @@ spent_some plan kind old new s =
     ]
 
 -- however an establishment came out
-pub costs_some : {T : Type 0} (r : Result T EstablishError) (asked : Asked) (old new : Balance) → EstablishmentCosts r asked old new → CostsSome old.ledgers new.ledgers
-costs_some (Ok x) asked old new costs = taken_some _ old new (handshake_taken asked old new costs.accepted)
-costs_some (Err e) asked old new costs =
-    elim costs.refused [
-      | inl s ↦ spent_some _ e.cause.kind old new (handshake_spent asked e.cause.kind old new s)
-      | inr unnamed ↦ taken_some _ old new (handshake_taken asked old new unnamed.1)
+pub costs_some : {T : Type 0} (r : Result T EstablishError) (asked : Asked) (old new : State) (after : ℤ) (first last : Ledgers) → OnOk r (HandshakeCosts asked (balance old asked.first_id first) (balance new after last))
+    → IfErr r (λ e. StoppedIn e.handshake_phase asked e.cause.kind old new after first last) → CostsSome first last
+costs_some (Ok x) asked old new after first last costs refused = taken_some _ _ _ (handshake_taken asked (balance old asked.first_id first) (balance new after last) costs)
+costs_some (Err e) asked old new after first last costs refused =
+    elim (establishment_spent e.handshake_phase asked e.cause.kind old new after first last refused) [
+      | inl spent ↦ spent_some _ e.cause.kind (balance old asked.first_id first) (balance new after last) spent
+      | inr unnamed ↦ taken_some _ _ _ (handshake_taken asked (balance old asked.first_id first) (balance new after last) unnamed.1)
     ]
 
 -- the counter never falls

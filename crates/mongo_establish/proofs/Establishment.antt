@@ -11,6 +11,7 @@ use Rattle.mongo_command.proofs.Steps.{stopped_row}
 use Rattle.mongo_command.proofs.OneSaid.{one_said}
 use Rattle.mongo_command.proofs.Leads.{one_way, no_refusal, only_refusal, reached_led, stopped_led}
 use Rattle.mongo_sasl.proofs.StoppedKeeping.{stopped_of}
+use Rattle.mongo_scram.specs.Costs.{Ledgers, balance}
 use Rattle.mongo_establish.specs.declared.establisher.HandshakePhase.{HandshakePhase}
 use Rattle.mongo_establish.specs.declared.establisher.HandshakePhase.TheVariants.{PreHello, PostHello}
 use Rattle.mongo_establish.specs.declared.generation.ConnectionGeneration.{ConnectionGeneration}
@@ -38,8 +39,8 @@ unfolding handshake_plan
 login_stops asked greeting kind old middle new between after hello s = stopped_second (hello_plan asked) (login_plan asked) greeting kind old middle new asked.first_id between after hello s
 
 -- whatever part of a handshake was stopped
-pub shaking_stops : (asked : Asked) (opened connection : Connection) (kind : ErrorKind) (old new : State) (after : ℤ) → StoppedHandshake asked opened connection kind old new after → Stopped (handshake_plan asked) kind old new asked.first_id after
-shaking_stops asked opened connection kind old new after s =
+pub shaking_stops : (asked : Asked) (opened connection : Connection) (kind : ErrorKind) (old new : State) (after : ℤ) (first last : Ledgers) → StoppedHandshake asked opened connection kind old new after first last → Stopped (handshake_plan asked) kind old new asked.first_id after
+shaking_stops asked opened connection kind old new after first last s =
     elim s [
       | inl h ↦ hello_stops asked kind old new after (stopped_of (hello_plan asked) kind old new asked.first_id after (kept_fault connection) h.hello)
       | inr l ↦ login_stops asked l.greeting kind old l.middle new l.between after l.hello (stopped_of (login_plan asked l.greeting) kind l.middle new l.between after (kept_fault connection) l.login)
@@ -51,18 +52,19 @@ unfolding establishment_plan
 handshake_stops asked kind old new after s = stopped_first (handshake_plan asked) (service_plan asked) kind old new asked.first_id after s
 
 -- or at its end
-service_stops : (asked : Asked) (greeting : Greeting) (kind : ErrorKind) (old middle new : State) (between after : ℤ) → Reached (hello_plan asked) greeting old middle asked.first_id between → UnnamedAfterLogin asked greeting kind middle new between after → Stopped (establishment_plan asked) kind old new asked.first_id after
+service_stops : (asked : Asked) (greeting : Greeting) (kind : ErrorKind) (old middle new : State) (between after : ℤ) (first last : Ledgers) → Reached (hello_plan asked) greeting old middle asked.first_id between → UnnamedAfterLogin asked greeting kind (balance middle between first) (balance new after last)
+    → Stopped (establishment_plan asked) kind old new asked.first_id after
 unfolding establishment_plan
-service_stops asked greeting kind old middle new between after hello u =
+service_stops asked greeting kind old middle new between after first last hello u =
     stopped_second (handshake_plan asked) (service_plan asked) greeting kind old new new asked.first_id after after (handshake_reached asked greeting old middle new between after hello u.login) (stopped_row _ _ kind new after u.unnamed)
 
 -- whatever part of an establishment was stopped
-pub stopped_whole : (phase : HandshakePhase) (asked : Asked) (kind : ErrorKind) (old new : State) (after : ℤ) → StoppedIn phase asked kind old new after → Stopped (establishment_plan asked) kind old new asked.first_id after
-stopped_whole (PreHello generation) asked kind old new after r = handshake_stops asked kind old new after (hello_stops asked kind old new after r.1)
-stopped_whole (PostHello generation) asked kind old new after r =
+pub stopped_whole : (phase : HandshakePhase) (asked : Asked) (kind : ErrorKind) (old new : State) (after : ℤ) (first last : Ledgers) → StoppedIn phase asked kind old new after first last → Stopped (establishment_plan asked) kind old new asked.first_id after
+stopped_whole (PreHello generation) asked kind old new after first last r = handshake_stops asked kind old new after (hello_stops asked kind old new after r.1)
+stopped_whole (PostHello generation) asked kind old new after first last r =
     elim r.stopped [
-      | inl s ↦ handshake_stops asked kind old new after (login_stops asked r.greeting kind old r.middle new r.between after r.hello s)
-      | inr u ↦ service_stops asked r.greeting kind old r.middle new r.between after r.hello u
+      | inl s ↦ handshake_stops asked kind old new after (login_stops asked r.greeting kind old r.middle new r.between after r.hello s.login)
+      | inr u ↦ service_stops asked r.greeting kind old r.middle new r.between after first last r.hello u
     ]
 
 -- ---- what an answer says, where the link doesn't fail
@@ -95,14 +97,15 @@ pub record RefusedBy (phase : HandshakePhase) (asked : Asked) (bytes : List ℕ)
   pub joined : bytes ≡ refusal.taken ++ refusal.unread
   pub left_by : LeftBy refusal.commands refusal.unread old new asked.first_id after
 
-past_hello : (generation : ConnectionGeneration) (asked : Asked) (kind : ErrorKind) (old new : State) (after : ℤ) (bytes : List ℕ) → StoppedAfterHello asked generation kind old new after → old.left ≡ Some bytes → LeadsPastHello asked bytes generation
-past_hello generation asked kind old new after bytes r is =
+past_hello : (generation : ConnectionGeneration) (asked : Asked) (kind : ErrorKind) (old new : State) (after : ℤ) (first last : Ledgers) (bytes : List ℕ) → StoppedAfterHello asked generation kind old new after first last → old.left ≡ Some bytes → LeadsPastHello asked bytes generation
+past_hello generation asked kind old new after first last bytes r is =
     let l = reached_led (hello_plan asked) r.greeting old r.middle asked.first_id r.between bytes r.hello is in
     record { greeting = r.greeting; commands = l.commands; taken = l.taken; unread = l.unread; leads = l.leads; generation_is = r.generation_is }
 
 -- where the link didn't fail, memory was wanted or the bytes lead to the refusal
-pub stopped_refusal : (phase : HandshakePhase) (asked : Asked) (kind : ErrorKind) (old new : State) (after : ℤ) (bytes : List ℕ) → StoppedIn phase asked kind old new after → old.left ≡ Some bytes → (Rose old.read_faults new.read_faults → ⊥) → (Rose old.write_faults new.write_faults → ⊥) → (kind ≡ OutOfMemory) ⊎ RefusedBy phase asked bytes kind old new after
-stopped_refusal (PreHello generation) asked kind old new after bytes r is unfailed unwritten =
+pub stopped_refusal : (phase : HandshakePhase) (asked : Asked) (kind : ErrorKind) (old new : State) (after : ℤ) (first last : Ledgers) (bytes : List ℕ) → StoppedIn phase asked kind old new after first last → old.left ≡ Some bytes → (Rose old.read_faults new.read_faults → ⊥) → (Rose old.write_faults new.write_faults → ⊥)
+    → (kind ≡ OutOfMemory) ⊎ RefusedBy phase asked bytes kind old new after
+stopped_refusal (PreHello generation) asked kind old new after first last bytes r is unfailed unwritten =
     elim (stopped_led (hello_plan asked) kind old new asked.first_id after bytes r.1 is unfailed unwritten) [
       | inl memory ↦ inl memory
       | inr l ↦ inr (record {
@@ -114,14 +117,14 @@ stopped_refusal (PreHello generation) asked kind old new after bytes r is unfail
         left_by = l.left_by;
       })
     ]
-stopped_refusal (PostHello generation) asked kind old new after bytes r is unfailed unwritten =
-    elim (stopped_led (establishment_plan asked) kind old new asked.first_id after bytes (stopped_whole (PostHello generation) asked kind old new after r) is unfailed unwritten) [
+stopped_refusal (PostHello generation) asked kind old new after first last bytes r is unfailed unwritten =
+    elim (stopped_led (establishment_plan asked) kind old new asked.first_id after bytes (stopped_whole (PostHello generation) asked kind old new after first last r) is unfailed unwritten) [
       | inl memory ↦ inl memory
       | inr l ↦ inr (record {
         refusal = record { phase = PostHello generation; kind = kind; commands = l.commands; taken = l.taken; unread = l.unread };
         phase_is = refl;
         kind_is = refl;
-        is_refusal = (past_hello generation asked kind old new after bytes r is, l.leads);
+        is_refusal = (past_hello generation asked kind old new after first last bytes r is, l.leads);
         joined = l.leads.joined;
         left_by = l.left_by;
       })

@@ -11,6 +11,7 @@ use Rattle.mongo_command.specs.Conversation.{Plan, unless, saying, Reached, Stop
 use Rattle.mongo_sasl.specs.declared.credential.Credential.{Credential}
 use Rattle.mongo_sasl.specs.Stops.{StoppedKeeping}
 use Rattle.mongo_sasl.proofs.StoppedKeeping.{stopped_of}
+use Rattle.mongo_scram.specs.Costs.{Ledgers, balance}
 use Rattle.mongo_establish.specs.declared.establisher.EstablishError.{EstablishError}
 use Rattle.mongo_establish.specs.declared.establisher.HandshakePhase.{HandshakePhase}
 use Rattle.mongo_establish.specs.declared.establisher.HandshakePhase.TheVariants.{PreHello, PostHello}
@@ -19,6 +20,7 @@ use Rattle.mongo_establish.specs.declared.establisher.PooledConnection.{PooledCo
 use Rattle.mongo_establish.specs.declared.login_state.Nonces.{Nonces}
 use Rattle.mongo_establish.specs.declared.options.HandshakerOptions.{HandshakerOptions}
 use Rattle.mongo_establish.specs.Asked.{Asked, asked_for, asked_over}
+use Rattle.mongo_establish.specs.Costs.{LoginCosts, HandshakeCosts}
 use Rattle.mongo_establish.specs.Established.{Describes, Established, IsDescribed, ShookHands, StoppedHandshake, StoppedHello, StoppedLogin}
 use Rattle.mongo_establish.specs.Generation.{NamesService, generation_of}
 use Rattle.mongo_establish.specs.Greeting.{Greeting}
@@ -27,7 +29,7 @@ use Rattle.mongo_establish.specs.Pooled.{phase_at, IsPooled, UnnamedService}
 use Rattle.mongo_establish.specs.Refusal.{NoService}
 use Rattle.mongo_establish.specs.Speculation.{HelloRow}
 use Rattle.mongo_establish.specs.Stopped.{StoppedIn, StoppedAfterHello}
-use Rattle.mongo_establish.proofs.LoginAlike.{pending_over, reached_alike, stopped_alike}
+use Rattle.mongo_establish.proofs.LoginAlike.{pending_over, reached_alike, stopped_alike, costs_alike, stopped_login_costs_alike}
 use Rattle.mongo_establish.proofs.EstablishedScript.{handshake_reached, script_by, scripted_by}
 
 -- ---- the plans of a handshake
@@ -69,17 +71,18 @@ module _ (pending : PendingConnection) (options : HandshakerOptions) (credential
 
   -- ---- a handshake that was followed to its end
 
-  handshake_wanted : (connection : Connection) (old new : State) (after : ℤ) (reply : HelloReply) (s : ShookHands over opened connection old new after reply) → Reached (handshake_plan wanted) s.script.greeting old new id after
-  handshake_wanted connection old new after reply s =
+  handshake_wanted : (connection : Connection) (old new : State) (after : ℤ) (first last : Ledgers) (reply : HelloReply) (s : ShookHands over opened connection old new after first last reply) → Reached (handshake_plan wanted) s.script.greeting old new id after
+  handshake_wanted connection old new after first last reply s =
       let greeting = s.script.greeting in
       handshake_reached wanted greeting old s.middle new s.between after (hello_reached greeting old s.middle id s.between s.hello) (login_reached greeting s.middle new s.between after s.login)
 
   -- is the connection that is ready for commands, where a service that has to be named is
-  pub established : (connection : Connection) (old new : State) (after : ℤ) (reply : HelloReply) (pooled : PooledConnection) → opened.id ≡ pending.id → opened.oidc_token_gen_id ≡ 0 → ShookHands over opened connection old new after reply → IsPooled connection pending.generation pooled → Established wanted old new after pooled
-  established connection old new after reply pooled number token s p =
+  pub established : (connection : Connection) (old new : State) (after : ℤ) (first last : Ledgers) (reply : HelloReply) (pooled : PooledConnection) → opened.id ≡ pending.id → opened.oidc_token_gen_id ≡ 0 → ShookHands over opened connection old new after first last reply
+      → IsPooled connection pending.generation pooled → Established wanted old new after pooled
+  established connection old new after first last reply pooled number token s p =
       let greeting = s.script.greeting in
       let description : p.description ≡ greeting.description = same_description p.description greeting.description (sym p.described ∙ s.described.holds.description_is) in
-      let whole = handshake_wanted connection old new after reply s in
+      let whole = handshake_wanted connection old new after first last reply s in
       let named = subst (NamesService pending.generation) description p.named in
       record {
         script = script_by wanted greeting old new after whole named;
@@ -88,41 +91,63 @@ module _ (pending : PendingConnection) (options : HandshakerOptions) (credential
         generation = p.generation_is ∙ ap (generation_of pending.generation) description;
       }
 
+  shook_login_costs : (connection : Connection) (old new : State) (after : ℤ) (first last : Ledgers) (reply : HelloReply) (s : ShookHands over opened connection old new after first last reply) → LoginCosts wanted s.script.greeting (balance s.middle s.between first) (balance new after last)
+  shook_login_costs connection old new after first last reply s = costs_alike (pending_over opened) pending options credential nonces id id s.script.greeting (balance s.middle s.between first) (balance new after last) s.costs
+
+  -- and cost this
+  pub shook_costs : (connection : Connection) (old new : State) (after : ℤ) (first last : Ledgers) (reply : HelloReply) → ShookHands over opened connection old new after first last reply → HandshakeCosts wanted (balance old id first) (balance new after last)
+  shook_costs connection old new after first last reply s = record {
+    greeting = s.script.greeting;
+    middle = s.middle;
+    between = s.between;
+    hello = hello_reached s.script.greeting old s.middle id s.between s.hello;
+    login = shook_login_costs connection old new after first last reply s;
+  }
+
   -- ---- a handshake that was stopped, and one whose server named no service
 
-  late_phase : (phase : HandshakePhase) (description : StreamDescription) (kind : ErrorKind) (old new : State) (after : ℤ) → phase ≡ PostHello (generation_of pending.generation description) → StoppedAfterHello wanted (generation_of pending.generation description) kind old new after → StoppedIn phase wanted kind old new after
-  late_phase phase description kind old new after is stopped = subst (λ p. StoppedIn p wanted kind old new after) (sym is) stopped
+  late_phase : (phase : HandshakePhase) (description : StreamDescription) (kind : ErrorKind) (old new : State) (after : ℤ) (first last : Ledgers) → phase ≡ PostHello (generation_of pending.generation description)
+      → StoppedAfterHello wanted (generation_of pending.generation description) kind old new after first last → StoppedIn phase wanted kind old new after first last
+  late_phase phase description kind old new after first last is stopped = subst (λ p. StoppedIn p wanted kind old new after first last) (sym is) stopped
 
-  stopped_hello : (phase : HandshakePhase) (connection : Connection) (kind : ErrorKind) (old new : State) (after : ℤ) → phase ≡ phase_at connection.stream_description pending.generation → StoppedHello over opened connection kind old new after → StoppedIn phase wanted kind old new after
-  stopped_hello phase connection kind old new after is s =
+  stopped_hello : (phase : HandshakePhase) (connection : Connection) (kind : ErrorKind) (old new : State) (after : ℤ) (first last : Ledgers) → phase ≡ phase_at connection.stream_description pending.generation → StoppedHello over opened connection kind old new after first last → StoppedIn phase wanted kind old new after first last
+  stopped_hello phase connection kind old new after first last is s =
       let early : phase ≡ PreHello pending.generation = is ∙ ap (λ d. phase_at d pending.generation) s.undescribed in
-      subst (λ p. StoppedIn p wanted kind old new after) (sym early) (refl, hello_stopped kind old new id after (stopped_of (hello_plan over) kind old new id after (kept_fault connection) s.hello))
+      subst (λ p. StoppedIn p wanted kind old new after first last) (sym early) (refl, hello_stopped kind old new id after (stopped_of (hello_plan over) kind old new id after (kept_fault connection) s.hello), s.costs)
 
-  stopped_login : (phase : HandshakePhase) (connection : Connection) (kind : ErrorKind) (old new : State) (after : ℤ) → phase ≡ phase_at connection.stream_description pending.generation → StoppedLogin over opened connection kind old new after → StoppedIn phase wanted kind old new after
-  stopped_login phase connection kind old new after is s =
-      late_phase phase s.greeting.description kind old new after (is ∙ ap (λ d. phase_at d pending.generation) s.held.description_is) (record {
+  stopped_login : (phase : HandshakePhase) (connection : Connection) (kind : ErrorKind) (old new : State) (after : ℤ) (first last : Ledgers) → phase ≡ phase_at connection.stream_description pending.generation → StoppedLogin over opened connection kind old new after first last → StoppedIn phase wanted kind old new after first last
+  stopped_login phase connection kind old new after first last is s =
+      late_phase phase s.greeting.description kind old new after first last (is ∙ ap (λ d. phase_at d pending.generation) s.held.description_is) (record {
         greeting = s.greeting;
         middle = s.middle;
         between = s.between;
         hello = hello_reached s.greeting old s.middle id s.between s.hello;
         generation_is = refl;
-        stopped = inl (login_stopped s.greeting kind s.middle new s.between after (kept_fault connection) s.login);
+        stopped = inl (record {
+          login = login_stopped s.greeting kind s.middle new s.between after (kept_fault connection) s.login;
+          costs = stopped_login_costs_alike (pending_over opened) pending options credential nonces id id s.greeting kind (balance s.middle s.between first) (balance new after last) s.costs;
+        });
       })
 
   -- the phase is what the connection's description says
-  pub stopped_in : (phase : HandshakePhase) (connection : Connection) (kind : ErrorKind) (old new : State) (after : ℤ) → phase ≡ phase_at connection.stream_description pending.generation → StoppedHandshake over opened connection kind old new after → StoppedIn phase wanted kind old new after
-  stopped_in phase connection kind old new after is s =
-      elim s [ inl h ↦ stopped_hello phase connection kind old new after is h | inr l ↦ stopped_login phase connection kind old new after is l ]
+  pub stopped_in : (phase : HandshakePhase) (connection : Connection) (kind : ErrorKind) (old new : State) (after : ℤ) (first last : Ledgers) → phase ≡ phase_at connection.stream_description pending.generation → StoppedHandshake over opened connection kind old new after first last → StoppedIn phase wanted kind old new after first last
+  stopped_in phase connection kind old new after first last is s =
+      elim s [ inl h ↦ stopped_hello phase connection kind old new after first last is h | inr l ↦ stopped_login phase connection kind old new after first last is l ]
 
-  pub unnamed_stopped : (connection : Connection) (old new : State) (after : ℤ) (reply : HelloReply) (e : EstablishError) → ShookHands over opened connection old new after reply → UnnamedService connection pending.generation e → StoppedIn e.handshake_phase wanted e.cause.kind old new after
-  unnamed_stopped connection old new after reply e s u =
+  pub unnamed_stopped : (connection : Connection) (old new : State) (after : ℤ) (first last : Ledgers) (reply : HelloReply) (e : EstablishError) → ShookHands over opened connection old new after first last reply → UnnamedService connection pending.generation e
+      → StoppedIn e.handshake_phase wanted e.cause.kind old new after first last
+  unnamed_stopped connection old new after first last reply e s u =
       let description : u.description ≡ s.script.greeting.description = same_description u.description s.script.greeting.description (sym u.described ∙ s.described.holds.description_is) in
       let unnamed : NoService pending.generation s.script.greeting.description e.cause.kind = (u.kind_is, subst (λ d. NamesService pending.generation d → ⊥) description u.unnamed) in
-      late_phase e.handshake_phase s.script.greeting.description e.cause.kind old new after (u.phase_is ∙ ap (λ d. PostHello (generation_of pending.generation d)) description) (record {
+      late_phase e.handshake_phase s.script.greeting.description e.cause.kind old new after first last (u.phase_is ∙ ap (λ d. PostHello (generation_of pending.generation d)) description) (record {
         greeting = s.script.greeting;
         middle = s.middle;
         between = s.between;
         hello = hello_reached s.script.greeting old s.middle id s.between s.hello;
         generation_is = refl;
-        stopped = inr (record { login = login_reached s.script.greeting s.middle new s.between after s.login; unnamed = unnamed });
+        stopped = inr (record {
+          login = login_reached s.script.greeting s.middle new s.between after s.login;
+          costs = shook_login_costs connection old new after first last reply s;
+          unnamed = unnamed;
+        });
       })

@@ -25,10 +25,12 @@ use Rattle.mongo_scram.proofs.OneRow.{user_in}
 use Rattle.mongo_establish.specs.declared.conversation.Conversation.{Conversation}
 use Rattle.mongo_establish.specs.declared.conversation.Conversation.TheVariants.{Scram}
 use Rattle.mongo_establish.specs.declared.establisher.EstablishError.{EstablishError}
+use Rattle.mongo_establish.specs.declared.establisher.HandshakePhase.{HandshakePhase}
+use Rattle.mongo_establish.specs.declared.establisher.HandshakePhase.TheVariants.{PreHello, PostHello}
 use Rattle.mongo_establish.specs.declared.establisher.PooledConnection.{PooledConnection}
 use Rattle.mongo_establish.specs.declared.generation.PoolGeneration.{PoolGeneration}
 use Rattle.mongo_establish.specs.Asked.{Asked}
-use Rattle.mongo_establish.specs.Costs.{AcceptedCosts, StoppedCosts, LoginCostsOf, StoppedLoginCostsOf, HandshakeCosts, StoppedHandshakeCosts, EstablishmentCosts}
+use Rattle.mongo_establish.specs.Costs.{AcceptedCosts, StoppedCosts, LoginCostsOf, StoppedLoginCostsOf, HandshakeCosts}
 use Rattle.mongo_establish.specs.Derivation.{derivation_by, derivation_of, login_derivation, derivation_plan}
 use Rattle.mongo_establish.specs.Established.{StoppedHandshake}
 use Rattle.mongo_establish.specs.Greeting.{Greeting}
@@ -38,6 +40,7 @@ use Rattle.mongo_establish.specs.Plan.{hello_plan}
 use Rattle.mongo_establish.specs.Pooled.{UnnamedService}
 use Rattle.mongo_establish.specs.Speculation.{mechanism_before, ConversationRow, MechanismRow, HelloRow}
 use Rattle.mongo_establish.specs.Spoken.{conversation_of, scram_in, IsScram}
+use Rattle.mongo_establish.specs.Stopped.{StoppedIn}
 use Rattle.mongo_establish.proofs.Compatible.{compatible}
 use Rattle.mongo_establish.proofs.DerivationSteps.{KeyTaken, KeySpent, taken_more, spent_more, taken_after, spent_after}
 use Rattle.mongo_establish.proofs.HelloPlan.{greeted}
@@ -195,14 +198,17 @@ handshake_taken asked old new h =
     taken_after (hello_plan asked) (login_derivation asked) h.greeting h.middle h.between old new h.hello
     (login_taken (logging_in asked h.greeting) asked h.greeting (balance h.middle h.between old.ledgers) new (hello_made asked h.greeting old.state h.middle old.id h.between h.hello) h.login)
 
-pub handshake_spent : (asked : Asked) (kind : ErrorKind) (old new : Balance) → StoppedHandshakeCosts asked kind old new → KeySpent (derivation_plan asked) kind old new
+-- one that was stopped, or whose server named no service
+pub establishment_spent : (phase : HandshakePhase) (asked : Asked) (kind : ErrorKind) (old new : State) (after : ℤ) (first last : Ledgers) → StoppedIn phase asked kind old new after first last
+    → KeySpent (derivation_plan asked) kind (balance old asked.first_id first) (balance new after last) ⊎ ((kind ≡ IncompatibleServer) × HandshakeCosts asked (balance old asked.first_id first) (balance new after last))
 unfolding derivation_plan login_derivation
-handshake_spent asked kind old new s =
-    elim s [
-      | inl h ↦ inl (record { stopped = stopped_first (hello_plan asked) (login_derivation asked) kind old.state new.state old.id new.id h.hello; nothing = h.nothing })
-      | inr l ↦
-          spent_after (hello_plan asked) (login_derivation asked) l.greeting kind l.middle l.between old new l.hello
-          (login_spent (logging_in asked l.greeting) asked l.greeting kind (balance l.middle l.between old.ledgers) new (hello_made asked l.greeting old.state l.middle old.id l.between l.hello) l.login)
+establishment_spent (PreHello generation) asked kind old new after first last (is, stopped, nothing) = inl (inl (record { stopped = stopped_first (hello_plan asked) (login_derivation asked) kind old new asked.first_id after stopped; nothing = nothing }))
+establishment_spent (PostHello generation) asked kind old new after first last s =
+    let made = hello_made asked s.greeting old s.middle asked.first_id s.between s.hello in
+    elim s.stopped [
+      | inl l ↦ inl (spent_after (hello_plan asked) (login_derivation asked) s.greeting kind s.middle s.between (balance old asked.first_id first) (balance new after last) s.hello
+      (login_spent (logging_in asked s.greeting) asked s.greeting kind (balance s.middle s.between first) (balance new after last) made l.costs))
+      | inr u ↦ inr (u.unnamed.0, record { greeting = s.greeting; middle = s.middle; between = s.between; hello = s.hello; login = u.costs })
     ]
 
 -- ---- over told bytes
@@ -238,12 +244,17 @@ pub unnamed_kind : (r : Result PooledConnection EstablishError) (connection : Co
 unnamed_kind (Ok pooled) connection pool u = tt
 unnamed_kind (Err e) connection pool u = u.kind_is
 
+-- where a service is missing, the login had been accepted
+pub unnamed_entries : (P : Type 0) (r : Result PooledConnection EstablishError) (connection : Connection) (pool : PoolGeneration) → IfErr r (UnnamedService connection pool) → IfErr r (λ e. (e.cause.kind ≡ IncompatibleServer) ⊎ P)
+unnamed_entries P (Ok pooled) connection pool u = tt
+unnamed_entries P (Err e) connection pool u = inl u.kind_is
+
 -- one that was refused
-pub refused_led : (e : EstablishError) (asked : Asked) (old new : Balance) → EstablishmentCosts {T = PooledConnection} (Err e) asked old new → (e.cause.kind ≡ IncompatibleServer → ⊥) → CostsAsLed {T = PooledConnection} (Err e) asked old.state new.state old.ledgers new.ledgers
-refused_led e asked old new costs other = record {
+pub refused_led : (e : EstablishError) (asked : Asked) (old new : State) (after : ℤ) (first last : Ledgers) → StoppedIn e.handshake_phase asked e.cause.kind old new after first last → (e.cause.kind ≡ IncompatibleServer → ⊥) → CostsAsLed {T = PooledConnection} (Err e) asked old new first last
+refused_led e asked old new after first last s other = record {
   over = λ bytes is unfailed unwritten.
-      elim costs.refused [
-        | inl s ↦ elim (spends_led asked e.cause.kind bytes old new (handshake_spent asked e.cause.kind old new s) is unfailed unwritten) [
+      elim (establishment_spent e.handshake_phase asked e.cause.kind old new after first last s) [
+        | inl spent ↦ elim (spends_led asked e.cause.kind bytes (balance old asked.first_id first) (balance new after last) spent is unfailed unwritten) [
           | inl memory ↦ inl memory
           | inr led ↦ inr (inr (record { other = other; led = led }))
         ]
@@ -251,5 +262,5 @@ refused_led e asked old new costs other = record {
       ];
 }
 
-pub refused_compatible : (e : EstablishError) (cause : Error) (asked : Asked) (opened connection : Connection) (old new : State) (after : ℤ) → e.cause ≡ cause → StoppedHandshake asked opened connection cause.kind old new after → e.cause.kind ≡ IncompatibleServer → ⊥
-refused_compatible e cause asked opened connection old new after same s is = compatible asked opened connection cause.kind old new after s (sym (ap (λ (c : Error). c.kind) same) ∙ is)
+pub refused_compatible : (e : EstablishError) (cause : Error) (asked : Asked) (opened connection : Connection) (old new : State) (after : ℤ) (first last : Ledgers) → e.cause ≡ cause → StoppedHandshake asked opened connection cause.kind old new after first last → e.cause.kind ≡ IncompatibleServer → ⊥
+refused_compatible e cause asked opened connection old new after first last same s is = compatible asked opened connection cause.kind old new after first last s (sym (ap (λ (c : Error). c.kind) same) ∙ is)

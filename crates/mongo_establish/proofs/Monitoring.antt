@@ -10,17 +10,16 @@ use Rattle.mongo_command.specs.declared.server_address.ServerAddress.{ServerAddr
 use Rattle.mongo_command.specs.Connection.{kept_fault}
 use Rattle.mongo_command.specs.Conversation.{Reached, Stopped}
 use Rattle.mongo_command.specs.Hello.{description_of}
+use Rattle.mongo_command.proofs.FollowedBy.{stopped_first}
 use Rattle.mongo_command.proofs.Steps.{reached_unless, stopped_unless}
 use Rattle.mongo_sasl.proofs.StoppedKeeping.{stopped_of}
-use Rattle.mongo_establish.specs.declared.establisher.HandshakePhase.TheVariants.{PreHello}
-use Rattle.mongo_establish.specs.declared.generation.PoolGeneration.TheVariants.{Normal}
 use Rattle.mongo_establish.specs.declared.options.HandshakerOptions.{HandshakerOptions}
 use Rattle.mongo_establish.specs.Asked.{Asked, asked_alone}
 use Rattle.mongo_establish.specs.Established.{GreetedBy, UngreetedBy, IsReplyOf, Monitored}
 use Rattle.mongo_establish.specs.Greeting.{Greeting, greeting_in}
-use Rattle.mongo_establish.specs.Plan.{hello_exchange, hello_plan, establishment_plan}
+use Rattle.mongo_establish.specs.Plan.{hello_exchange, hello_plan, login_plan, handshake_plan, establishment_plan}
 use Rattle.mongo_establish.proofs.EstablishedScript.{handshake_reached, script_by, scripted_by}
-use Rattle.mongo_establish.proofs.Establishment.{stopped_whole}
+use Rattle.mongo_establish.proofs.Establishment.{handshake_stops}
 use Rattle.mongo_establish.proofs.Handshaken.{is_described}
 use Rattle.mongo_establish.proofs.LoggedIn.{nobody, no_credential}
 
@@ -70,4 +69,5 @@ module _ (address : ServerAddress) (number : ℕ) (options : HandshakerOptions) 
   unmonitored r connection old new after = IfErr-weaker r _ _ (λ e h. stopped e.kind old new after (stopped_of (hello_exchange options None None opened.address) e.kind old new id after (kept_fault connection) h.stopped))
 
   pub unmonitored_whole : {T : Type 0} (r : Result T Error) (old new : State) (after : ℤ) → IfErr r (λ e. Stopped (hello_plan alone) e.kind old new id after) → IfErr r (λ e. Stopped (establishment_plan alone) e.kind old new id after)
-  unmonitored_whole r old new after = IfErr-weaker r _ _ (λ e s. stopped_whole (PreHello (Normal 0)) alone e.kind old new after (refl, s))
+  unfolding handshake_plan
+  unmonitored_whole r old new after = IfErr-weaker r _ _ (λ e s. handshake_stops alone e.kind old new after (stopped_first (hello_plan alone) (login_plan alone) e.kind old new id after s))

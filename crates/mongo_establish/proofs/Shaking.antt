@@ -13,15 +13,14 @@ use Rattle.mongo_command.proofs.Rest.{keeps_all}
 use Rattle.mongo_command.proofs.Steps.{reached_unless}
 use Rattle.mongo_sasl.specs.declared.credential.Credential.{Credential}
 use Rattle.mongo_sasl.specs.Stops.{StoppedKeeping, RefusedAtOnce}
-use Rattle.mongo_sasl.proofs.StoppedKeeping.{stopped_of, keeping_unless, at_once_more, at_once_keeping}
+use Rattle.mongo_sasl.proofs.StoppedKeeping.{keeping_unless, at_once_more, at_once_keeping}
 use Rattle.mongo_scram.specs.Client.{speculated_of}
-use Rattle.mongo_scram.specs.Costs.{Ledgers, Balance, balance, CostsNothing}
+use Rattle.mongo_scram.specs.Costs.{Ledgers, balance, CostsNothing}
 use Rattle.mongo_establish.specs.declared.client_first.ClientFirst.{ClientFirst}
 use Rattle.mongo_establish.specs.declared.answered_round.AnsweredRound.{AnsweredRound}
 use Rattle.mongo_establish.specs.declared.login_state.Nonces.{Nonces}
 use Rattle.mongo_establish.specs.declared.options.HandshakerOptions.{HandshakerOptions}
 use Rattle.mongo_establish.specs.Asked.{Asked, asked_over}
-use Rattle.mongo_establish.specs.Costs.{HandshakeCosts, StoppedHandshakeCosts, CostsOf}
 use Rattle.mongo_establish.specs.Established.{HoldsGreeting, GreetedBy, UngreetedBy, IsReplyOf, ShookHands, StoppedHandshake}
 use Rattle.mongo_establish.specs.First.{IsFirstMessage, IsUnmade, IsRoundOf, first_document, scram_round, round_with}
 use Rattle.mongo_establish.specs.Greeting.{Greeting, greeting_in}
@@ -51,11 +50,6 @@ handed (Err e) x P same h = subst P (sym same) h
 pub refusal_handed_on : {T U : Type 0} (out : Result U Error) (inner : Result T Error) (x : Error) (P : Error → Type 0) → IsErrAnd out (λ e. e ≡ x) → inner ≡ Err x → IfErr inner P → IfErr out P
 refusal_handed_on out inner x P same was h = handed out x P same (if_err_of inner x P was h)
 
--- what a refusal costs
-costs_of_err : {T : Type 0} (r : Result T Error) (e : Error) (asked : Asked) (old new : Balance) → IsErrAnd r (λ x. x ≡ e) → StoppedHandshakeCosts asked e.kind old new → CostsOf r asked old new
-costs_of_err (Ok y) e asked old new same h = absurd same
-costs_of_err (Err x) e asked old new same h = record { accepted = tt; refused = subst (λ (y : Error). StoppedHandshakeCosts asked y.kind old new) (sym same) h }
-
 -- the reply after what it said to the login that went with the hello was taken out
 abbrev pub taken_out : HelloReply → Option (List ℕ) → HelloReply
 taken_out reply login = record reply { command_response = record reply.command_response { speculative_authenticate = left_in login reply.command_response.speculative_authenticate } }
@@ -80,14 +74,10 @@ module _ (opened : Connection) (options : HandshakerOptions) (credential : Optio
     unmade_keeping : (kind : ErrorKind) (old : State) → NoFirst kind → StoppedKeeping (hello_plan asked) kind old old id id None
     unmade_keeping kind old h = at_once_keeping (hello_plan asked) kind old id (unmade kind h)
 
-    pub unmade_stopped : {T : Type 0} (r : Result T Error) (old : State) → kept_fault opened ≡ None → IfErr r (λ e. NoFirst e.kind) → IfErr r (λ e. StoppedHandshake asked opened opened e.kind old old id)
-    unmade_stopped (Ok x) old faultless h = tt
-    unmade_stopped (Err e) old faultless h =
-        inl (record { hello = subst (StoppedKeeping (hello_plan asked) e.kind old old id id) (sym faultless) (unmade_keeping e.kind old h); undescribed = fresh; rest = keeps_all opened })
-
-    pub unmade_costs : {T : Type 0} (r : Result T Error) (e : Error) (old : State) (ledgers : Ledgers) → IsErrAnd r (λ x. x ≡ e) → CostsNothing ledgers ledgers → NoFirst e.kind → CostsOf r asked (balance old id ledgers) (balance old id ledgers)
-    unmade_costs r e old ledgers same nothing h =
-        costs_of_err r e asked (balance old id ledgers) (balance old id ledgers) same (inl (record { hello = stopped_of (hello_plan asked) e.kind old old id id None (unmade_keeping e.kind old h); nothing = nothing }))
+    pub unmade_stopped : {T : Type 0} (r : Result T Error) (old : State) (first last : Ledgers) → kept_fault opened ≡ None → CostsNothing first last → IfErr r (λ e. NoFirst e.kind) → IfErr r (λ e. StoppedHandshake asked opened opened e.kind old old id first last)
+    unmade_stopped (Ok x) old first last faultless nothing h = tt
+    unmade_stopped (Err e) old first last faultless nothing h =
+        inl (record { hello = subst (StoppedKeeping (hello_plan asked) e.kind old old id id) (sym faultless) (unmade_keeping e.kind old h); costs = nothing; undescribed = fresh; rest = keeps_all opened })
 
   -- ---- the hello
 
@@ -105,12 +95,10 @@ module _ (opened : Connection) (options : HandshakerOptions) (credential : Optio
     reached_so greeting old new after r =
         reached_unless _ _ greeting old new id after made (subst (λ login. Reached (hello_exchange options credential login opened.address) greeting old new id after) (first_speculation credential nonces.first first is_first) r)
 
-    pub ungreeted_stopped : {T : Type 0} (r : Result T Error) (connection : Connection) (old new : State) (after : ℤ) → IfErr r (λ e. UngreetedBy options credential sent opened connection e.kind old new id after) → IfErr r (λ e. StoppedHandshake asked opened connection e.kind old new after)
-    ungreeted_stopped (Ok x) connection old new after h = tt
-    ungreeted_stopped (Err e) connection old new after h = inl (record { hello = stopped_so e.kind old new after h.stopped; undescribed = h.undescribed; rest = h.rest })
-
-    pub ungreeted_costs : {T : Type 0} (r : Result T Error) (e : Error) (connection : Connection) (old new : State) (after : ℤ) (ledgers : Ledgers) → IsErrAnd r (λ x. x ≡ e) → CostsNothing ledgers ledgers → UngreetedBy options credential sent opened connection e.kind old new id after → CostsOf r asked (balance old id ledgers) (balance new after ledgers)
-    ungreeted_costs r e connection old new after ledgers same nothing h = costs_of_err r e asked (balance old id ledgers) (balance new after ledgers) same (inl (record { hello = stopped_of (hello_plan asked) e.kind old new id after (kept_fault connection) (stopped_so e.kind old new after h.stopped); nothing = nothing }))
+    pub ungreeted_stopped : {T : Type 0} (r : Result T Error) (connection : Connection) (old new : State) (after : ℤ) (first last : Ledgers) → CostsNothing first last → IfErr r (λ e. UngreetedBy options credential sent opened connection e.kind old new id after)
+        → IfErr r (λ e. StoppedHandshake asked opened connection e.kind old new after first last)
+    ungreeted_stopped (Ok x) connection old new after first last nothing h = tt
+    ungreeted_stopped (Err e) connection old new after first last nothing h = inl (record { hello = stopped_so e.kind old new after h.stopped; costs = nothing; undescribed = h.undescribed; rest = h.rest })
 
     -- ---- the login
 
@@ -141,26 +129,18 @@ module _ (opened : Connection) (options : HandshakerOptions) (credential : Optio
             token = later.token ∙ holds.token;
           }
 
-      pub login_stopped : {T : Type 0} (r : Result T Error) (connection : Connection) (early : Ledgers) (new : Balance) → KeepsRest described connection
-          → IfErr r (λ e. LoginStops anew described.stream_description round e.kind (kept_fault connection) (balance middle between early) new) → IfErr r (λ e. StoppedHandshake asked opened connection e.kind old new.state new.id)
-      login_stopped (Ok x) connection early new later h = tt
-      login_stopped (Err e) connection early new later h = inr (record {
+      pub login_stopped : {T : Type 0} (r : Result T Error) (connection : Connection) (new : State) (after : ℤ) (first last : Ledgers) → KeepsRest described connection
+          → IfErr r (λ e. LoginStops anew described.stream_description round e.kind (kept_fault connection) (balance middle between first) (balance new after last)) → IfErr r (λ e. StoppedHandshake asked opened connection e.kind old new after first last)
+      login_stopped (Ok x) connection new after first last later h = tt
+      login_stopped (Err e) connection new after first last later h = inr (record {
         greeting = greeting;
         middle = middle;
         between = between;
         hello = hello_reached;
-        login = stopped_alike (pending_over described) (pending_over opened) options credential nonces between id greeting e.kind middle new.state between new.id (h.stopped greeting greeted.described.holds.description_is held_round);
+        login = stopped_alike (pending_over described) (pending_over opened) options credential nonces between id greeting e.kind middle new between after (h.stopped greeting greeted.described.holds.description_is held_round);
+        costs = stopped_login_costs_alike (pending_over described) (pending_over opened) options credential nonces between id greeting e.kind (balance middle between first) (balance new after last) (h.costs greeting greeted.described.holds.description_is held_round);
         held = held connection later;
       })
-
-      pub login_stopped_costs : {T : Type 0} {kept : Option ErrorKind} (r : Result T Error) (e : Error) (early : Ledgers) (new : Balance) → IsErrAnd r (λ x. x ≡ e) → LoginStops anew described.stream_description round e.kind kept (balance middle between early) new → CostsOf r asked (balance old id early) new
-      login_stopped_costs r e early new same h = costs_of_err r e asked (balance old id early) new same (inr (record {
-        greeting = greeting;
-        middle = middle;
-        between = between;
-        hello = hello_reached;
-        login = stopped_login_costs_alike (pending_over described) (pending_over opened) options credential nonces between id greeting e.kind (balance middle between early) new (h.costs greeting greeted.described.holds.description_is held_round);
-      }))
 
       is_reply : (answer : HelloReply) → answer ≡ taken_out reply sent → IsReplyOf asked greeting answer
       unfolding greeting_in
@@ -174,27 +154,19 @@ module _ (opened : Connection) (options : HandshakerOptions) (credential : Optio
             speculative = ap (λ login. left_in login reply.command_response.speculative_authenticate) (first_speculation credential nonces.first first is_first);
           })
 
-      pub shook : (connection : Connection) (early : Ledgers) (new : Balance) (answer : HelloReply) → KeepsRest described connection → kept_fault connection ≡ None → answer ≡ taken_out reply sent
-          → LogsIn anew described.stream_description round (balance middle between early) new → ShookHands asked opened connection old new.state new.id answer
-      shook connection early new answer later faultless is h =
-          let login = reached_alike (pending_over described) (pending_over opened) options credential nonces between id greeting middle new.state between new.id (h.reached greeting greeted.described.holds.description_is held_round) in
-          let whole = handshake_reached asked greeting old middle new.state between new.id hello_reached login in
+      pub shook : (connection : Connection) (new : State) (after : ℤ) (first last : Ledgers) (answer : HelloReply) → KeepsRest described connection → kept_fault connection ≡ None → answer ≡ taken_out reply sent
+          → LogsIn anew described.stream_description round (balance middle between first) (balance new after last) → ShookHands asked opened connection old new after first last answer
+      shook connection new after first last answer later faultless is h =
+          let login = reached_alike (pending_over described) (pending_over opened) options credential nonces between id greeting middle new between after (h.reached greeting greeted.described.holds.description_is held_round) in
+          let whole = handshake_reached asked greeting old middle new between after hello_reached login in
           record {
-            script = script_by asked greeting old new.state new.id whole tt;
-            scripted = scripted_by asked greeting old new.state new.id whole tt;
+            script = script_by asked greeting old new after whole tt;
+            scripted = scripted_by asked greeting old new after whole tt;
             middle = middle;
             between = between;
             hello = hello_reached;
             login = login;
+            costs = costs_alike (pending_over described) (pending_over opened) options credential nonces between id greeting (balance middle between first) (balance new after last) (h.costs greeting greeted.described.holds.description_is held_round);
             described = record { holds = held connection later; faultless = faultless };
             reply_is = is_reply answer is;
           }
-
-      pub shook_costs : (early : Ledgers) (new : Balance) → LogsIn anew described.stream_description round (balance middle between early) new → HandshakeCosts asked (balance old id early) new
-      shook_costs early new h = record {
-        greeting = greeting;
-        middle = middle;
-        between = between;
-        hello = hello_reached;
-        login = costs_alike (pending_over described) (pending_over opened) options credential nonces between id greeting (balance middle between early) new (h.costs greeting greeted.described.holds.description_is held_round);
-      }

@@ -1,16 +1,13 @@
 -- What an establishment takes of the counter and of the cache of salted passwords: what its SCRAM login takes, and nothing else.
-use Rattle.std.specs.Prelude.{◌≡◌, ℤ, ◌⊎◌, Option, None, Some, Result, IfErr, OnOk}
-use Rattle.mongo_wire.specs.declared.error.Error.{Error}
+use Rattle.std.specs.Prelude.{ℤ, ◌⊎◌, Option, None, Some}
 use Rattle.mongo_wire.specs.declared.error.ErrorKind.{ErrorKind}
-use Rattle.mongo_wire.specs.declared.error.ErrorKind.TheVariants.{IncompatibleServer}
 use Rattle.mongo_wire.specs.declared.frame_buffer.FrameBuffer.{FrameBuffer}
 use Rattle.mongo_wire.specs.Outside.{State}
-use Rattle.mongo_command.specs.Conversation.{Reached, Stopped}
+use Rattle.mongo_command.specs.Conversation.{Reached}
 use Rattle.mongo_sasl.specs.declared.credential.Credential.{Credential}
 use Rattle.mongo_sasl.specs.declared.mechanism.AuthMechanism.{AuthMechanism}
 use Rattle.mongo_scram.specs.declared.scram_version.ScramVersion.{ScramVersion}
 use Rattle.mongo_scram.specs.Costs.{Balance, balance, CostsNothing, Accepted, StoppedScram}
-use Rattle.mongo_establish.specs.declared.establisher.EstablishError.{EstablishError}
 use Rattle.mongo_establish.specs.Asked.{Asked}
 use Rattle.mongo_establish.specs.Greeting.{Greeting}
 use Rattle.mongo_establish.specs.Login.{logging_in, speculative_reply, IsMechanism, InvalidRow, scram_handed_by}
@@ -63,7 +60,7 @@ StoppedLoginCostsOf (Some credential) asked greeting kind old new = StoppedMecha
 abbrev pub StoppedLoginCosts : Asked → Greeting → ErrorKind → Balance → Balance → Type 0
 StoppedLoginCosts asked greeting kind old new = StoppedLoginCostsOf (logging_in asked greeting) asked greeting kind old new
 
--- ---- a handshake
+-- ---- a handshake that was followed to its end
 
 -- the hello was followed to its end, with the old id, which costs nothing, and then the login
 pub record HandshakeCosts (asked : Asked) (old new : Balance) : Type 0 where
@@ -72,35 +69,3 @@ pub record HandshakeCosts (asked : Asked) (old new : Balance) : Type 0 where
   pub between : ℤ
   pub hello : Reached (hello_plan asked) greeting old.state middle old.id between
   pub login : LoginCosts asked greeting (balance middle between old.ledgers) new
-
--- the hello was stopped
-pub record StoppedHelloCosts (asked : Asked) (kind : ErrorKind) (old new : Balance) : Type 0 where
-  pub hello : Stopped (hello_plan asked) kind old.state new.state old.id new.id
-  pub nothing : CostsNothing old.ledgers new.ledgers
-
--- the login was
-pub record LateCosts (asked : Asked) (kind : ErrorKind) (old new : Balance) : Type 0 where
-  pub greeting : Greeting
-  pub middle : State
-  pub between : ℤ
-  pub hello : Reached (hello_plan asked) greeting old.state middle old.id between
-  pub login : StoppedLoginCosts asked greeting kind (balance middle between old.ledgers) new
-
-abbrev pub StoppedHandshakeCosts : Asked → ErrorKind → Balance → Balance → Type 0
-StoppedHandshakeCosts asked kind old new = StoppedHelloCosts asked kind old new ⊎ LateCosts asked kind old new
-
--- what a handshake costs by its answer
-pub record CostsOf {T : Type 0} (result : Result T Error) (asked : Asked) (old new : Balance) : Type 0 where
-  pub accepted : OnOk result (HandshakeCosts asked old new)
-  pub refused : IfErr result (λ e. StoppedHandshakeCosts asked e.kind old new)
-
--- ---- an establishment
-
--- the handshake was stopped, or its server named no service
-abbrev pub StoppedEstablishmentCosts : Asked → ErrorKind → Balance → Balance → Type 0
-StoppedEstablishmentCosts asked kind old new = StoppedHandshakeCosts asked kind old new ⊎ ((kind ≡ IncompatibleServer) × HandshakeCosts asked old new)
-
--- what it costs by its answer
-pub record EstablishmentCosts {T : Type 0} (result : Result T EstablishError) (asked : Asked) (old new : Balance) : Type 0 where
-  pub accepted : OnOk result (HandshakeCosts asked old new)
-  pub refused : IfErr result (λ e. StoppedEstablishmentCosts asked e.cause.kind old new)

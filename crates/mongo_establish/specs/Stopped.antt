@@ -1,38 +1,46 @@
--- Where an establishment was stopped, by how far it had come, and what reply bytes call for.
+-- Where an establishment was stopped and what it cost, by how far it had come, and what reply bytes call for.
 use Rattle.std.specs.Prelude.{◌≡◌, ℕ, ℤ, ◌⊎◌, List}
 use Rattle.mongo_wire.specs.declared.error.ErrorKind.{ErrorKind}
 use Rattle.mongo_wire.specs.Outside.{State}
 use Rattle.mongo_command.specs.Conversation.{Said, refuses, ends, Reached, Stopped, Leads}
+use Rattle.mongo_scram.specs.Costs.{Ledgers, Balance, balance, CostsNothing}
 use Rattle.mongo_establish.specs.declared.generation.ConnectionGeneration.{ConnectionGeneration}
 use Rattle.mongo_establish.specs.declared.establisher.HandshakePhase.{HandshakePhase}
 use Rattle.mongo_establish.specs.declared.establisher.HandshakePhase.TheVariants.{PreHello, PostHello}
 use Rattle.mongo_establish.specs.Generation.{generation_of}
 use Rattle.mongo_establish.specs.Asked.{Asked}
+use Rattle.mongo_establish.specs.Costs.{LoginCosts, StoppedLoginCosts}
 use Rattle.mongo_establish.specs.Greeting.{Greeting}
 use Rattle.mongo_establish.specs.Plan.{hello_plan, login_plan, establishment_plan}
 use Rattle.mongo_establish.specs.Refusal.{NoService}
 
 -- ---- what a call did
 
--- the login was followed to its end, and then the server had named no service
-pub record UnnamedAfterLogin (asked : Asked) (greeting : Greeting) (kind : ErrorKind) (old new : State) (before after : ℤ) : Type 0 where
-  pub login : Reached (login_plan asked greeting) greeting old new before after
+-- the login was stopped, and cost this
+pub record LoginRefused (asked : Asked) (greeting : Greeting) (kind : ErrorKind) (old new : Balance) : Type 0 where
+  pub login : Stopped (login_plan asked greeting) kind old.state new.state old.id new.id
+  pub costs : StoppedLoginCosts asked greeting kind old new
+
+-- it was followed to its end, and cost this, and then the server had named no service
+pub record UnnamedAfterLogin (asked : Asked) (greeting : Greeting) (kind : ErrorKind) (old new : Balance) : Type 0 where
+  pub login : Reached (login_plan asked greeting) greeting old.state new.state old.id new.id
+  pub costs : LoginCosts asked greeting old new
   pub unnamed : NoService asked.pending.generation greeting.description kind
 
 -- the hello had described the server, and what follows it was stopped, from where the hello had ended
-pub record StoppedAfterHello (asked : Asked) (generation : ConnectionGeneration) (kind : ErrorKind) (old new : State) (after : ℤ) : Type 0 where
+pub record StoppedAfterHello (asked : Asked) (generation : ConnectionGeneration) (kind : ErrorKind) (old new : State) (after : ℤ) (first last : Ledgers) : Type 0 where
   pub greeting : Greeting
   pub middle : State
   pub between : ℤ
   pub hello : Reached (hello_plan asked) greeting old middle asked.first_id between
   pub generation_is : generation ≡ generation_of asked.pending.generation greeting.description
-  pub stopped : Stopped (login_plan asked greeting) kind middle new between after ⊎ UnnamedAfterLogin asked greeting kind middle new between after
+  pub stopped : LoginRefused asked greeting kind (balance middle between first) (balance new after last) ⊎ UnnamedAfterLogin asked greeting kind (balance middle between first) (balance new after last)
 
--- The phase says which part was stopped: the hello, with the pool's generation, or what follows it, with the
--- connection's.
-abbrev pub StoppedIn : HandshakePhase → Asked → ErrorKind → State → State → ℤ → Type 0
-StoppedIn (PreHello generation) asked kind old new after = (generation ≡ asked.pending.generation) × Stopped (hello_plan asked) kind old new asked.first_id after
-StoppedIn (PostHello generation) asked kind old new after = StoppedAfterHello asked generation kind old new after
+-- The phase says which part was stopped: the hello, with the pool's generation, which costs nothing, or what follows it, with
+-- the connection's.
+abbrev pub StoppedIn : HandshakePhase → Asked → ErrorKind → State → State → ℤ → Ledgers → Ledgers → Type 0
+StoppedIn (PreHello generation) asked kind old new after first last = (generation ≡ asked.pending.generation) × Stopped (hello_plan asked) kind old new asked.first_id after × CostsNothing first last
+StoppedIn (PostHello generation) asked kind old new after first last = StoppedAfterHello asked generation kind old new after first last
 
 -- ---- what reply bytes call for
 

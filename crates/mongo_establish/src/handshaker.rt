@@ -49,10 +49,9 @@ impl Handshaker {
     ghost use Rattle.mongo_command.specs.Conversation.{Said, Turn, refuses, Leads, LeftBy};
     ghost use Rattle.mongo_command.specs.Exchange.{CountsStay, DocumentRefused};
     ghost use Rattle.mongo_scram.specs.Cache.{entries_of};
-    ghost use Rattle.mongo_scram.specs.Costs.{ledgers, balance};
+    ghost use Rattle.mongo_scram.specs.Costs.{ledgers};
     ghost use Rattle.mongo_establish.specs.Asked.{asked_over};
     ghost use Rattle.mongo_establish.specs.Client.{common_hello, hello_with};
-    ghost use Rattle.mongo_establish.specs.Costs.{CostsOf};
     ghost use Rattle.mongo_establish.specs.Established.{GreetedBy, UngreetedBy, ShookHands, StoppedHandshake};
     ghost use Rattle.mongo_establish.specs.First.{first_document};
     ghost use Rattle.mongo_establish.specs.Greeting.{Greeting};
@@ -92,14 +91,15 @@ impl Handshaker {
         requires undescribed { connection.old.stream_description ≡ None }
         requires faultless { kept_fault connection.old ≡ None }
 
-        // What was written and read is exactly a script, and the connection and the reply are what its replies say.
+        // What was written and read is exactly a script, the connection and the reply are what its replies say, and so is what was
+        // derived.
         ensures shook { IfOk result (ShookHands (asked_over connection.old (options_in self.now) (option_copied credential.entry) inputs.now.nonces state.old.ids) connection.old connection.new
-            (L.state link.old) (L.state link.new) state.new.ids) }
+            (L.state link.old) (L.state link.new) state.new.ids (ledgers steps.old state.old.salted) (ledgers steps.new state.new.salted)) }
 
-        // A refusal says why it comes, how far the handshake had come and what it left: the connection keeps the fault of an exchange
-        // that failed, where that left one, and else none.
+        // A refusal says why it comes, how far the handshake had come, what it left and what was derived: the connection keeps the
+        // fault of an exchange that failed, where that left one, and else none.
         ensures refused { IfErr result (λ e. StoppedHandshake (asked_over connection.old (options_in self.now) (option_copied credential.entry) inputs.now.nonces state.old.ids) connection.old connection.new e.kind
-            (L.state link.old) (L.state link.new) state.new.ids) }
+            (L.state link.old) (L.state link.new) state.new.ids (ledgers steps.old state.old.salted) (ledgers steps.new state.new.salted)) }
 
         // A script's replies at the front of the bytes left are answered by Ok, unless the link fails or memory runs out.
         ensures complete { (bytes : List ℕ) → (L.state link.old).left ≡ Some bytes → HasScript (asked_over connection.old (options_in self.now) (option_copied credential.entry) inputs.now.nonces state.old.ids) bytes →
@@ -113,9 +113,6 @@ impl Handshaker {
             IfErr result (λ e. (e.kind ≡ OutOfMemory) ⊎ ((outcome ≡ refuses e.kind) × LeftBy commands unread
             (L.state link.old) (L.state link.new) state.old.ids state.new.ids)) }
 
-        // What was derived and which entries there are, by how the login came out.
-        ensures costs { CostsOf result (asked_over connection.old (options_in self.now) (option_copied credential.entry) inputs.now.nonces state.old.ids)
-            (balance (L.state link.old) state.old.ids (ledgers steps.old state.old.salted)) (balance (L.state link.new) state.new.ids (ledgers steps.new state.new.salted)) }
         ensures entries { OnErr result (entries_of state.new.salted ≡ entries_of state.old.salted) }
         ensures counts { CountsStay (L.state link.old) (L.state link.new) }
     {

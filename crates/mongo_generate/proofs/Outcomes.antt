@@ -8,7 +8,7 @@ use Rattle.mongo_scram.proofs.Derived.{costs_nothing}
 use Rattle.mongo_scram.specs.declared.cache.SaltedCache.{SaltedCache}
 use Rattle.mongo_scram.specs.declared.cache.SaltedKey.{SaltedKey}
 use Rattle.mongo_scram.specs.Cache.{entries_of, Adds}
-use Rattle.mongo_scram.specs.Costs.{Ledgers, ledgers, Balance, SameEntries}
+use Rattle.mongo_scram.specs.Costs.{Ledgers, ledgers, SameEntries}
 use Rattle.mongo_scram.specs.Entry.{salted_of}
 use Rattle.mongo_establish.specs.declared.establisher.EstablishError.{EstablishError}
 use Rattle.mongo_establish.specs.declared.establisher.PendingConnection.{PendingConnection}
@@ -16,12 +16,11 @@ use Rattle.mongo_establish.specs.declared.establisher.PooledConnection.{PooledCo
 use Rattle.mongo_establish.specs.declared.generation.PoolGeneration.TheVariants.{Normal}
 use Rattle.mongo_establish.specs.declared.options.HandshakerOptions.{HandshakerOptions}
 use Rattle.mongo_establish.specs.Asked.{Asked, asked_for}
-use Rattle.mongo_establish.specs.Costs.{EstablishmentCosts}
 use Rattle.mongo_establish.specs.Derivation.{LeadsToKey}
 use Rattle.mongo_establish.specs.Established.{Established}
 use Rattle.mongo_establish.specs.KeyCosts.{TakesKey, AcceptedTakes, CostsOver}
 use Rattle.mongo_establish.specs.Script.{HasScript}
-use Rattle.mongo_establish.proofs.Counting.{costs_some, taken_as_led}
+use Rattle.mongo_establish.proofs.Counting.{CostsSome, taken_as_led}
 use Rattle.mongo_establish.proofs.Establishment.{one_script}
 use Rattle.mongo_server.specs.Exchange.{Exchange, close_of}
 use Rattle.mongo_generate.specs.declared.user_login.UserLogin.{UserLogin}
@@ -109,11 +108,9 @@ entries_keep : (ended : Result PooledConnection EstablishError) (request : Asked
 entries_keep (Ok pooled) request bytes first last costs entries = accepted_keeps costs.key first last costs.taken
 entries_keep (Err e) request bytes first last costs entries = elim entries [ inl incompatible ↦ refused_keeps e request bytes first last costs incompatible | inr same ↦ inl same ]
 
-pub keeps_entries : (ended : Result PooledConnection EstablishError) (request : Asked) (bytes : List ℕ) (old new : Balance) → EstablishmentCosts ended request old new → CostsOver ended request bytes old.ledgers new.ledgers
-    → IfErr ended (λ e. (e.cause.kind ≡ IncompatibleServer) ⊎ SameEntries old.ledgers new.ledgers) → KeepsEntries old.ledgers new.ledgers
-keeps_entries ended request bytes old new costs over entries =
-    let some = costs_some ended request old new costs in
-    record { rounds = some.rounds; counts = some.counts; entries = entries_keep ended request bytes old.ledgers new.ledgers over entries }
+pub keeps_entries : (ended : Result PooledConnection EstablishError) (request : Asked) (bytes : List ℕ) (first last : Ledgers) → CostsSome first last → CostsOver ended request bytes first last
+    → IfErr ended (λ e. (e.cause.kind ≡ IncompatibleServer) ⊎ SameEntries first last) → KeepsEntries first last
+keeps_entries ended request bytes first last some over entries = record { rounds = some.rounds; counts = some.counts; entries = entries_keep ended request bytes first last over entries }
 
 -- where nobody says hello
 pub keeps_still : (steps : ℕ) (cache : SaltedCache) → KeepsEntries (ledgers steps cache) (ledgers steps cache)

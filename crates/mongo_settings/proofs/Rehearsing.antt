@@ -6,6 +6,7 @@ use Rattle.std.specs.List.{AllByRecursion, concat}
 use Rattle.mongo_wire.specs.declared.error.ErrorKind.{ErrorKind}
 use Rattle.mongo_wire.specs.Outside.{State, Rose, IsFlushed}
 use Rattle.mongo_command.specs.Conversation.{Said, IsSaid, IsFlushedAfter}
+use Rattle.mongo_scram.specs.Costs.{Ledgers}
 use Rattle.mongo_establish.specs.declared.establisher.EstablishError.{EstablishError}
 use Rattle.mongo_establish.specs.declared.establisher.HandshakePhase.{HandshakePhase}
 use Rattle.mongo_establish.specs.declared.establisher.PooledConnection.{PooledConnection}
@@ -154,10 +155,10 @@ told_refusal settings kind phase old new after output left taken refusal x kind_
       };
     }
 
-unmade : (settings : Settings) (old new : State) (after : ℤ) (refusal : EstablishError) (output left : List ℕ) (taken : ℕ) (x : Rehearsal)
-    → StoppedIn refusal.handshake_phase (asked_of settings) refusal.cause.kind old new after → Replayed settings.replies output left old new → taken ≡ length settings.replies - length left → TellsRefused output taken refusal x → Replays settings (Err refusal) old new x
-unmade settings old new after refusal output left taken x s p taken_is tells =
-    elim (stopped_refusal refusal.handshake_phase (asked_of settings) refusal.cause.kind old new after settings.replies s p.given p.unfailed p.unwritten) [
+unmade : (settings : Settings) (old new : State) (after : ℤ) (first last : Ledgers) (refusal : EstablishError) (output left : List ℕ) (taken : ℕ) (x : Rehearsal)
+    → StoppedIn refusal.handshake_phase (asked_of settings) refusal.cause.kind old new after first last → Replayed settings.replies output left old new → taken ≡ length settings.replies - length left → TellsRefused output taken refusal x → Replays settings (Err refusal) old new x
+unmade settings old new after first last refusal output left taken x s p taken_is tells =
+    elim (stopped_refusal refusal.handshake_phase (asked_of settings) refusal.cause.kind old new after first last settings.replies s p.given p.unfailed p.unwritten) [
       | inl memory ↦ absurd (subst IsReported memory tells.reported)
       | inr r ↦ told_refusal settings refusal.cause.kind refusal.handshake_phase old new after output left taken refusal x refl refl r p taken_is tells
     ]
@@ -165,9 +166,9 @@ unmade settings old new after refusal output left taken x s p taken_is tells =
 -- ---- either
 
 -- however an establishment ended, what is told of it is the report
-pub rehearsed : {E : Type 0} (settings : Settings) (asked : Asked) (old new : State) (after : ℤ) (output left : List ℕ) (taken : ℕ) (ended : Result PooledConnection EstablishError) (r : Result Rehearsal E)
-    → asked ≡ asked_of settings → IfOk ended (Established asked old new after) → IfErr ended (λ e. StoppedIn e.handshake_phase asked e.cause.kind old new after)
+pub rehearsed : {E : Type 0} (settings : Settings) (asked : Asked) (old new : State) (after : ℤ) (first last : Ledgers) (output left : List ℕ) (taken : ℕ) (ended : Result PooledConnection EstablishError) (r : Result Rehearsal E)
+    → asked ≡ asked_of settings → IfOk ended (Established asked old new after) → IfErr ended (λ e. StoppedIn e.handshake_phase asked e.cause.kind old new after first last)
     → Replayed settings.replies output left old new → taken ≡ length settings.replies - length left → IfOk r (Tells output taken ended) → IfOk r (Replays settings ended old new)
-rehearsed settings asked old new after output left taken (Ok pooled) (Ok x) same m s p taken_is tells = made settings old new after pooled output left taken x (subst (λ a. Established a old new after pooled) same m) p taken_is tells
-rehearsed settings asked old new after output left taken (Err refusal) (Ok x) same m s p taken_is tells = unmade settings old new after refusal output left taken x (subst (λ a. StoppedIn refusal.handshake_phase a refusal.cause.kind old new after) same s) p taken_is tells
-rehearsed settings asked old new after output left taken ended (Err error) same m s p taken_is tells = tt
+rehearsed settings asked old new after first last output left taken (Ok pooled) (Ok x) same m s p taken_is tells = made settings old new after pooled output left taken x (subst (λ a. Established a old new after pooled) same m) p taken_is tells
+rehearsed settings asked old new after first last output left taken (Err refusal) (Ok x) same m s p taken_is tells = unmade settings old new after first last refusal output left taken x (subst (λ a. StoppedIn refusal.handshake_phase a refusal.cause.kind old new after first last) same s) p taken_is tells
+rehearsed settings asked old new after first last output left taken ended (Err error) same m s p taken_is tells = tt

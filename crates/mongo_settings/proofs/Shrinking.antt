@@ -11,6 +11,7 @@ use Rattle.mongo_wire.specs.Message.{ReadRefused}
 use Rattle.mongo_wire.specs.Outside.{State}
 use Rattle.mongo_command.specs.Conversation.{Plan, Stopped, Reached}
 use Rattle.mongo_command.specs.Exchange.{ExchangeRefused, SendRefused, Unsent, Cut}
+use Rattle.mongo_scram.specs.Costs.{Ledgers}
 use Rattle.mongo_establish.specs.declared.establisher.EstablishError.{EstablishError}
 use Rattle.mongo_establish.specs.declared.establisher.HandshakePhase.{HandshakePhase}
 use Rattle.mongo_establish.specs.declared.establisher.HandshakePhase.TheVariants.{PreHello, PostHello}
@@ -73,12 +74,12 @@ stopped plan kind old new before after is =
 
 -- ---- an establishment
 
-stopped_in : (phase : HandshakePhase) (asked : Asked) (kind : ErrorKind) (old new : State) (after : ℤ) → StoppedIn phase asked kind old new after → TakesSome old.left new.left
-stopped_in (PreHello generation) asked kind old new after is = stopped _ kind old new _ after is.1
-stopped_in (PostHello generation) asked kind old new after is =
+stopped_in : (phase : HandshakePhase) (asked : Asked) (kind : ErrorKind) (old new : State) (after : ℤ) (first last : Ledgers) → StoppedIn phase asked kind old new after first last → TakesSome old.left new.left
+stopped_in (PreHello generation) asked kind old new after first last is = stopped _ kind old new _ after is.1
+stopped_in (PostHello generation) asked kind old new after first last is =
     more_taken old.left is.middle.left new.left (reached _ is.greeting old is.middle _ _ is.hello)
     (elim is.stopped [
-      | inl login ↦ stopped _ kind is.middle new _ after login
+      | inl refused ↦ stopped _ kind is.middle new _ after refused.login
       | inr unnamed ↦ reached _ is.greeting is.middle new _ after unnamed.login
     ])
 
@@ -86,12 +87,12 @@ shorter : (bytes left : List ℕ) → TakesSome (Some bytes) (Some left) → len
 shorter bytes left is = let parts : length bytes ≡ length is.0 + length left = ap length is.1 ∙ length-append is.0 left in omega (arith, parts)
 
 -- what is left isn't longer than what was left before
-pub left_within : (asked : Asked) (old new : State) (after : ℤ) (bytes left : List ℕ) (ended : Result PooledConnection EstablishError) → IfOk ended (Established asked old new after) → IfErr ended (λ e. StoppedIn e.handshake_phase asked e.cause.kind old new after)
-    → old.left ≡ Some bytes → new.left ≡ Some left → length left ≤ length bytes
-left_within asked old new after bytes left (Ok pooled) made refused was is =
+pub left_within : (asked : Asked) (old new : State) (after : ℤ) (first last : Ledgers) (bytes left : List ℕ) (ended : Result PooledConnection EstablishError) → IfOk ended (Established asked old new after)
+    → IfErr ended (λ e. StoppedIn e.handshake_phase asked e.cause.kind old new after first last) → old.left ≡ Some bytes → new.left ≡ Some left → length left ≤ length bytes
+left_within asked old new after first last bytes left (Ok pooled) made refused was is =
     let replies = made.scripted.taken bytes was in
     shorter bytes left (replies.taken, replies.joined ∙ ap (λ rest. replies.taken ++ rest) (same_some replies.rest left (sym replies.left_is ∙ is))) where
       same_some : (a b : List ℕ) → Some a ≡ Some b → a ≡ b
       same_some a b e = cc
-left_within asked old new after bytes left (Err e) made refused was is =
-    shorter bytes left (subst (λ left. TakesSome (Some bytes) left) is (subst (λ o. TakesSome o new.left) was (stopped_in e.handshake_phase asked e.cause.kind old new after refused)))
+left_within asked old new after first last bytes left (Err e) made refused was is =
+    shorter bytes left (subst (λ left. TakesSome (Some bytes) left) is (subst (λ o. TakesSome o new.left) was (stopped_in e.handshake_phase asked e.cause.kind old new after first last refused)))

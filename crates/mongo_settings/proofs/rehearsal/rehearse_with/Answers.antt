@@ -10,7 +10,7 @@ overflow_sub-taken g c =
     let replies = bytes_left c.new-link.result in
     let rest = bytes_left c.connect-ended.new.link in
     let how = c.connect-ended.ensures.ended in
-    let within : length rest ≤ length replies = left_within _ _ _ _ replies rest c.connect-ended.result how.established how.refused refl refl in
+    let within : length rest ≤ length replies = left_within _ _ _ _ _ _ replies rest c.connect-ended.result how.established how.refused refl refl in
     let before : length c.left-total.result.now ≡ length replies = ap length c.left-total.ensures in
     let after : length c.left.result.now ≡ length rest = ap length c.left.ensures in
     omega (arith, within, before, after)
@@ -41,4 +41,4 @@ returns-clause-taking g c =
     let count : taken ≡ length settings.replies - length (bytes_left link) = ap (λ l. length l - length c.left.result.now) (c.left-total.ensures ∙ given)
     ∙ ap (λ l. length settings.replies - length l) c.left.ensures in
     taking settings _ _ _ _ _ written (bytes_left link) taken ended c.report_outcome.result ready.login.asked how.led replayed c.report_outcome.ensures.told
-    (rehearsed settings _ _ _ _ written (bytes_left link) taken ended c.report_outcome.result ready.login.asked how.established how.refused replayed count c.report_outcome.ensures.told)
+    (rehearsed settings _ _ _ _ _ _ written (bytes_left link) taken ended c.report_outcome.result ready.login.asked how.established how.refused replayed count c.report_outcome.ensures.told)

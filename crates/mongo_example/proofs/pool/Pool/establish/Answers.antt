@@ -7,4 +7,4 @@ returns-clause-ended g c =
     record { established = e.established; refused = e.refused; complete = e.complete; exact = e.exact; costs = e.costs; led = e.led; entries = e.entries; counts = e.counts }
 
 pub returns-clause-rounds : goal.returns-clause-rounds
-returns-clause-rounds g c = rounds_rise _ _ (costs_some _ _ _ _ c.establish_connection.ensures.costs)
+returns-clause-rounds g c = rounds_rise _ _ (costs_some c.establish_connection.result _ _ _ _ _ _ c.establish_connection.ensures.costs c.establish_connection.ensures.refused)

@@ -9,7 +9,7 @@ use Rattle.mongo_generate.proofs.options.Client.establish.Goals as goal
 pub returns-in_err-is_accepted-clause-steps : goal.returns-in_err-is_accepted-clause-steps
 returns-in_err-is_accepted-clause-steps g c =
     let made = c.establish_connection-ended in
-    some_rise _ _ (costs_some made.result _ _ _ made.ensures.costs)
+    some_rise _ _ (costs_some made.result _ _ _ _ _ _ made.ensures.costs made.ensures.refused)
 
 pub returns-then-not-branch-clause-written : goal.returns-then-not-branch-clause-written
 returns-then-not-branch-clause-written g c = λ x logs heard.
@@ -30,7 +30,7 @@ returns-then-not-branch-clause-takes g c = λ x logs heard.
 pub returns-then-not-branch-clause-steps : goal.returns-then-not-branch-clause-steps
 returns-then-not-branch-clause-steps g c =
     let made = c.establish_connection-ended in
-    some_rise _ _ (costs_some made.result _ _ _ made.ensures.costs)
+    some_rise _ _ (costs_some made.result _ _ _ _ _ _ made.ensures.costs made.ensures.refused)
 
 pub returns-clause-written : goal.returns-clause-written
 returns-clause-written g c = λ x logs heard.
@@ -51,28 +51,28 @@ returns-clause-takes g c = λ x logs heard.
 pub returns-clause-steps : goal.returns-clause-steps
 returns-clause-steps g c =
     let made = c.establish_connection-ended in
-    some_rise _ _ (costs_some made.result _ _ _ made.ensures.costs)
+    some_rise _ _ (costs_some made.result _ _ _ _ _ _ made.ensures.costs made.ensures.refused)
 
 pub returns-in_err-is_accepted-clause-keeps : goal.returns-in_err-is_accepted-clause-keeps
 returns-in_err-is_accepted-clause-keeps g c =
     let made = c.establish_connection-ended in
     let link = c.new-link in
     let told = ap Some (ap (λ n. drop n link.result.input.items) link.ensures.at ∙ link.ensures.input) in
-    keeps_entries made.result _ c.args.replies _ _ made.ensures.costs (made.ensures.led.over c.args.replies told no_fault no_fault) made.ensures.entries
+    keeps_entries made.result _ c.args.replies _ _ (costs_some made.result _ _ _ _ _ _ made.ensures.costs made.ensures.refused) (made.ensures.led.over c.args.replies told no_fault no_fault) made.ensures.entries
 
 pub returns-then-not-branch-clause-keeps : goal.returns-then-not-branch-clause-keeps
 returns-then-not-branch-clause-keeps g c =
     let made = c.establish_connection-ended in
     let link = c.new-link in
     let told = ap Some (ap (λ n. drop n link.result.input.items) link.ensures.at ∙ link.ensures.input) in
-    keeps_entries made.result _ c.args.replies _ _ made.ensures.costs (made.ensures.led.over c.args.replies told no_fault no_fault) made.ensures.entries
+    keeps_entries made.result _ c.args.replies _ _ (costs_some made.result _ _ _ _ _ _ made.ensures.costs made.ensures.refused) (made.ensures.led.over c.args.replies told no_fault no_fault) made.ensures.entries
 
 pub returns-clause-keeps : goal.returns-clause-keeps
 returns-clause-keeps g c =
     let made = c.establish_connection-ended in
     let link = c.new-link in
     let told = ap Some (ap (λ n. drop n link.result.input.items) link.ensures.at ∙ link.ensures.input) in
-    keeps_entries made.result _ c.args.replies _ _ made.ensures.costs (made.ensures.led.over c.args.replies told no_fault no_fault) made.ensures.entries
+    keeps_entries made.result _ c.args.replies _ _ (costs_some made.result _ _ _ _ _ _ made.ensures.costs made.ensures.refused) (made.ensures.led.over c.args.replies told no_fault no_fault) made.ensures.entries
 
 pub returns-in_err-pending-clause-keeps : goal.returns-in_err-pending-clause-keeps
 returns-in_err-pending-clause-keeps g c = keeps_still c.args.steps.now c.args.state.now.salted
