@@ -3,6 +3,7 @@ use Rattle.std.proofs.Common.{◌≡◌, ℕ, ℤ, ◌∙◌, append-nil, append
 use Rattle.mongo_wire.specs.Outside.{State}
 use Rattle.mongo_wire.specs.Bytes.{IsSent, IsWhole, next_id}
 use Rattle.mongo_command.specs.Conversation.{Said, Event, exchanged, ends, Plan, said_in, given_in, id_after_said, IsSaid, IsHeard, IsFlushedAfter, Reached, Leads}
+use Rattle.mongo_command.specs.Conversation as conversation
 use Rattle.mongo_command.proofs.Ends.{PlanEnds}
 use Rattle.mongo_command.proofs.FollowedBy.{reached_both}
 use Rattle.mongo_command.proofs.Leads.{told_taken}
@@ -10,12 +11,11 @@ use Rattle.mongo_command.proofs.OneSaid.{framed_sendable}
 use Rattle.mongo_sasl.proofs.LoginEvents.{replies_in, documents_in, within_sent, events_sent_within, within_heard, heard_within, within_given, said_sendable}
 use Rattle.mongo_establish.specs.Asked.{Asked}
 use Rattle.mongo_establish.specs.Client.{hello_document}
-use Rattle.mongo_establish.specs.Established.{Scripted}
+use Rattle.mongo_establish.specs.Established.{Scripted, id_after_all}
 use Rattle.mongo_establish.specs.Generation.{NamesService}
 use Rattle.mongo_establish.specs.Greeting.{Greeting}
 use Rattle.mongo_establish.specs.Plan.{hello_said, hello_plan, login_plan, handshake_plan, establishment_plan}
 use Rattle.mongo_establish.specs.Script.{Script, IsScript, HasScript}
-use Rattle.mongo_establish.proofs.LoginBytes.{within_ids}
 use Rattle.mongo_establish.proofs.Conversations.{greeted_maximum}
 use Rattle.mongo_establish.proofs.EstablishmentPlan.{IsEstablished, handshake_ended, script_ends}
 
@@ -60,6 +60,12 @@ ended_by asked greeting old new after r named = handshake_ended asked r.events g
 abbrev pub script_by : (asked : Asked) (greeting : Greeting) (old new : State) (after : ℤ) → Reached (handshake_plan asked) greeting old new asked.first_id after → NamesService asked.pending.generation greeting.description → Script
 script_by asked greeting old new after r named = script_of asked r.events greeting (ended_by asked greeting old new after r named)
 
+-- the ids that a login's commands draw
+within_ids : (events : List Event) (id : ℤ) → id_after_said (said_in events) id ≡ id_after_all (documents_in events) id
+within_ids [] id = refl
+within_ids (exchanged s reply ∷ events) id = within_ids events (next_id id)
+within_ids (conversation.asked question answer ∷ events) id = within_ids events id
+
 pub scripted_by : (asked : Asked) (greeting : Greeting) (old new : State) (after : ℤ) (r : Reached (handshake_plan asked) greeting old new asked.first_id after) (named : NamesService asked.pending.generation greeting.description) → Scripted asked (script_by asked greeting old new after r named) old new after
 scripted_by asked greeting old new after r named =
     let t = r.talked in
@@ -74,6 +80,7 @@ scripted_by asked greeting old new after r named =
       taken = λ bytes is.
           let told = told_taken bytes t.heard old.left new.left is t.consumed in
           record { taken = t.heard; rest = told.0; joined = told.1; is_taken = script_heard asked r.events greeting e t.heard t.heard_is; left_is = told.2 };
+      uncounted = t.uncounted;
     }
 
 -- ---- what bytes lead to
