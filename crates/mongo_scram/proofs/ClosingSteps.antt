@@ -61,9 +61,9 @@ same_closing handed c tag final maximum same is =
     let api = is.api in
     λ i. let said : Said = record { maximum = same i; document = command_document (final_command (conversation i) (source i) (message i) (api i)) } in (said, conversation i, verifier (digest_of handed.version) (salted i) (auth i))
 
-pub closing_ends : (handed : Handed) (c : Challenge) (tag : List ℕ) (final : ClientFinal) (maximum : ℤ) (document : List ℕ) (old new : State) (before after : ℤ) → maximum ≡ handed.maximum → IsFinal handed c tag final
+pub closing_exchange_ends : (handed : Handed) (c : Challenge) (tag : List ℕ) (final : ClientFinal) (maximum : ℤ) (document : List ℕ) (old new : State) (before after : ℤ) → maximum ≡ handed.maximum → IsFinal handed c tag final
     → EndsByReply (last_exchange (final_said final maximum) (final_conversation final) (verifier (digest_of handed.version) tag (auth_message_of final)) c) c document old new before after → EndsByReply (closing handed c) c document old new before after
-closing_ends handed c tag final maximum document old new before after same is = subst (λ (x : Closing). EndsByReply (last_exchange x.0 x.1 x.2 c) c document old new before after) (same_closing handed c tag final maximum same is)
+closing_exchange_ends handed c tag final maximum document old new before after same is = subst (λ (x : Closing). EndsByReply (last_exchange x.0 x.1 x.2 c) c document old new before after) (same_closing handed c tag final maximum same is)
 
 pub closing_taken : (handed : Handed) (maximum : ℤ) (old new : State) (buffer : FrameBuffer) → maximum ≡ handed.maximum → IsFrameTaken maximum old new buffer → IsFrameTaken handed.maximum old new buffer
 closing_taken handed maximum old new buffer same = subst (λ m. IsFrameTaken m old new buffer) same

@@ -15,7 +15,7 @@ use Rattle.mongo_scram.proofs.ScramPlan.{challenge_by_first}
 use Rattle.mongo_scram.proofs.Derived.{costs_nothing}
 use Rattle.mongo_scram.proofs.EndsByScram.{refused_scram, stopped_scram, accepted_scram}
 use Rattle.mongo_scram.proofs.OpeningSteps.{opening_refused, user_stopped, user_refused, start_unsaid, answer_stopped, answer_refused}
-use Rattle.mongo_scram.proofs.ClosingSteps.{final_by, closing_ends, closing_taken, closing_stopped, closing_refused, ends_login}
+use Rattle.mongo_scram.proofs.ClosingSteps.{final_by, closing_exchange_ends, closing_taken, closing_stopped, closing_refused, ends_login}
 use Rattle.mongo_scram.proofs.LoginSteps.{between_by, between_tag, stopped_early, stopped_between, stopped_last, accepted_by, frames_both, unchanged_on, close_unsaid, close_refused}
 use Rattle.mongo_scram.proofs.scram_version.ScramVersion.authenticate_stream.Goals as goal
 
@@ -142,7 +142,7 @@ returns-clause-login g c =
     let same = ap frame_maximum opening.stops.rest.description in
     let closed = c.in_ok-close.ensures in
     let stops = closed.stops challenge in
-    let ended = closing_ends handed challenge derived.salted final _ _ _ _ _ _ same is (closed.closed.ends challenge) in
+    let ended = closing_exchange_ends handed challenge derived.salted final _ _ _ _ _ _ same is (closed.closed.ends challenge) in
     let r = c.keep.result in
     accepted_scram _ handed _ _ _ _ r
     (accepted_by handed user o derived.key derived.salted _ _ between r c.close.new.buffer _ _ c.keep.new.cache (closing_taken handed _ _ _ _ same closed.closed.taken) ended c.keep.ensures.rounds (ends_login handed challenge derived.salted final _ is closed.closed.message) c.keep.ensures.kept)
