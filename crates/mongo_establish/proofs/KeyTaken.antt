@@ -207,7 +207,7 @@ establishment_spent (PostHello generation) asked kind old new after first last s
     let made = hello_made asked s.greeting old s.middle asked.first_id s.between s.hello in
     elim s.stopped [
       | inl l ↦ inl (spent_after (hello_plan asked) (login_derivation asked) s.greeting kind s.middle s.between (balance old asked.first_id first) (balance new after last) s.hello
-      (login_spent (logging_in asked s.greeting) asked s.greeting kind (balance s.middle s.between first) (balance new after last) made l.costs))
+          (login_spent (logging_in asked s.greeting) asked s.greeting kind (balance s.middle s.between first) (balance new after last) made l.costs))
       | inr u ↦ inr (u.unnamed.0, record { greeting = s.greeting; middle = s.middle; between = s.between; hello = s.hello; login = u.costs })
     ]
 
