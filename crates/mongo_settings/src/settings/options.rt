@@ -9,7 +9,7 @@ ghost use Rattle.mongo_settings.specs.Options.{default_os, os_in};
 use crate::settings::reading::{SettingValue, judge_object, optional, required};
 use crate::settings::{SettingsError, keys};
 use mongo_bson::Text;
-use mongo_command::{ServerApi, ServerApiVersion};
+use mongo_command::{ServerApi, ServerApiVersion, both};
 use mongo_meta::{ClientOptions, DriverInfo, Environment, OsMetadata};
 use serde_json::Value;
 use std::alloc::Global;
@@ -24,12 +24,20 @@ impl SettingValue for ClientOptions {
     fn read(alloc: Global, value: &Value) -> Result<ClientOptions, SettingsError> {
         let server_api = optional::<ServerApi>(alloc, value, keys::SERVER_API)?;
         let load_balanced = optional::<bool>(alloc, value, keys::LOAD_BALANCED)?;
-        let platform = text_or(alloc, value, keys::PLATFORM, "rattle / sync")?;
-        let platform_short = text_or(alloc, value, keys::PLATFORM_SHORT, "rattle")?;
-        let environment = Environment::read(alloc, value)?;
-        let app_name = optional::<Text>(alloc, value, keys::APP_NAME)?;
-        let driver_info = optional::<DriverInfo>(alloc, value, keys::DRIVER_INFO)?;
-        let os = os_or_default(alloc, value)?;
+        let platforms = both(
+            text_or(alloc, value, keys::PLATFORM, "rattle / sync"),
+            text_or(alloc, value, keys::PLATFORM_SHORT, "rattle"),
+        );
+        let client = both(
+            Environment::read(alloc, value),
+            optional::<Text>(alloc, value, keys::APP_NAME),
+        );
+        let library = both(
+            optional::<DriverInfo>(alloc, value, keys::DRIVER_INFO),
+            os_or_default(alloc, value),
+        );
+        let (texts, (driver_info, os)) = both(both(platforms, client), library)?;
+        let ((platform, platform_short), (environment, app_name)) = texts;
         Ok(ClientOptions {
             app_name,
             driver_info,
