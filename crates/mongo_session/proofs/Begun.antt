@@ -90,10 +90,10 @@ begins account suffix message old new text user name password salt named worded 
 
 -- ---- by the settings
 
-same_text : (message : Option (Bor (List ℕ))) (m : Bor (List ℕ)) (text : List ℕ) → message ≡ Some m → option_copied message ≡ Some text → m.now ≡ text
+pub same_text : (message : Option (Bor (List ℕ))) (m : Bor (List ℕ)) (text : List ℕ) → message ≡ Some m → option_copied message ≡ Some text → m.now ≡ text
 same_text message m text is said = let same : Some m.now ≡ Some text = sym (ap option_copied is) ∙ said in cc
 
-same_version : (v w : ScramVersion) (o : Option ScramVersion) → o ≡ Some v → o ≡ Some w → v ≡ w
+pub same_version : (v w : ScramVersion) (o : Option ScramVersion) → o ≡ Some v → o ≡ Some w → v ≡ w
 same_version v w o p q = let same : Some v ≡ Some w = sym p ∙ q in cc
 
 -- nothing is asked for without a mechanism, nor without a message

@@ -3,6 +3,7 @@ pub mod Asked
 pub mod Begun
 pub mod Carried
 pub mod Continued
+pub mod Derived
 pub mod Described
 pub mod PlainKeys
 pub mod Remembered

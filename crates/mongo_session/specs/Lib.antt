@@ -1,6 +1,7 @@
 pub mod Accounts
 pub mod Answers
 pub mod CommandNames
+pub mod Costs
 pub mod Last
 pub mod Login
 pub mod Opened

@@ -3,6 +3,7 @@
 ghost use Rattle.std.specs.Prelude.{◌≡◌, ◌≤◌, ◌↔◌, ℕ, List, [], ◌∷◌, ◌++◌, IsTrue, IfOk, IfErr, OnOk, OnErr};
 ghost use Rattle.mongo_session.specs.Accounts.{AreMechanismsOf, ListsAccounts, HasAccount, IsOf};
 ghost use Rattle.mongo_session.specs.Answers.{guarded_by, AnswersCarried, AnswersHello, IsAnswer, login_reply};
+ghost use Rattle.mongo_session.specs.Costs.{CarriedRounds, RequestRounds, TakesAtMost, TakesRounds};
 ghost use Rattle.mongo_session.specs.Login.{Remembers};
 ghost use Rattle.mongo_session.specs.Requests.{CarriesLogin, IsGreeting, SaysRequest, SaysHello};
 ghost use Rattle.mongo_bson.specs.declared.fault.BsonFault.TheVariants.{OutOfMemory};
@@ -31,6 +32,9 @@ pub fn answer_request<G: Ledger>(
     ensures answered { IfOk result (IsAnswer settings.now session.old request.entry session.new) }
     ensures kept { OnErr result (session.new.user ≡ session.old.user) }
     ensures refused { IfErr result (λ fault. fault ≡ OutOfMemory) }
+    // What is derived for it; where memory ran out, at most that.
+    ensures cost { OnOk result (TakesRounds (RequestRounds settings.now request.entry) steps.old steps.new) }
+    ensures at_most { OnErr result (TakesAtMost (RequestRounds settings.now request.entry) steps.old steps.new) }
     ensures rises { steps.old ≤ steps.new }
 {
     match request {
@@ -62,6 +66,8 @@ pub fn greet<G: Ledger>(
     ensures answered { IfOk result (AnswersHello settings.now session.old hello.entry session.new) }
     ensures user { session.new.user ≡ session.old.user }
     ensures refused { IfErr result (λ fault. fault ≡ OutOfMemory) }
+    ensures cost { OnOk result (TakesRounds (CarriedRounds settings.now hello.entry.speculation) steps.old steps.new) }
+    ensures at_most { OnErr result (TakesAtMost (CarriedRounds settings.now hello.entry.speculation) steps.old steps.new) }
     ensures rises { steps.old ≤ steps.new }
 {
     let speculation = begin(alloc, settings, session, hello.speculation, steps)?;
@@ -85,6 +91,8 @@ fn begin<G: Ledger>(
     ensures answered { IfOk result (AnswersCarried settings.now session.old speculation.entry session.new) }
     ensures user { session.new.user ≡ session.old.user }
     ensures refused { IfErr result (λ fault. fault ≡ OutOfMemory) }
+    ensures cost { OnOk result (TakesRounds (CarriedRounds settings.now speculation.entry) steps.old steps.new) }
+    ensures at_most { OnErr result (TakesAtMost (CarriedRounds settings.now speculation.entry) steps.old steps.new) }
     ensures rises { steps.old ≤ steps.new }
 {
     match speculation {

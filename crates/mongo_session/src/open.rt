@@ -1,7 +1,8 @@
 //! How a login begins: which account the client's first message is of, and the server's answer to it.
 
-ghost use Rattle.std.specs.Prelude.{◌≡◌, ◌≢◌, ◌+◌, ◌≤◌, ◌↔◌, None, IsTrue, IfOk, IfErr};
+ghost use Rattle.std.specs.Prelude.{◌≡◌, ◌≤◌, ◌≢◌, ◌↔◌, None, IsTrue, IfOk, IfErr, OnOk, OnErr};
 ghost use Rattle.mongo_server.specs.ClientMessages.{IsNonce};
+ghost use Rattle.mongo_session.specs.Costs.{KeyRounds, StartRounds, TakesAtMost, TakesRounds};
 ghost use Rattle.mongo_session.specs.Opened.{NamesUser, Suits, FindsAccount, OpensFor, OpensBy};
 ghost use Rattle.mongo_bson.specs.declared.fault.BsonFault.TheVariants.{OutOfMemory};
 ghost use Rattle.mongo_wire.specs.declared.error.ErrorKind.TheVariants.{OutOfMemory as WantOfMemory};
@@ -37,6 +38,9 @@ pub fn open_login<G: Ledger>(
 ) -> Result<Option<OpenedLogin>, BsonFault>
     ensures opened { IfOk result (OpensBy settings.now start.entry) }
     ensures refused { IfErr result (λ fault. fault ≡ OutOfMemory) }
+    // The key of the account that is found is derived, also where the message is refused after that.
+    ensures cost { OnOk result (TakesRounds (StartRounds settings.now start.entry) steps.old steps.new) }
+    ensures at_most { OnErr result (TakesAtMost (StartRounds settings.now start.entry) steps.old steps.new) }
     ensures rises { steps.old ≤ steps.new }
 {
     let (Some(version), Some(payload)) = (start.version, start.payload) else {
@@ -111,7 +115,8 @@ fn open<G: Ledger>(
     requires { IsNonce suffix.now }
     ensures opened { IfOk result (OpensFor account.now suffix.now payload.now skips_empty_exchange) }
     ensures refused { IfErr result (λ fault. fault ≡ OutOfMemory) }
-    ensures one_key { steps.new ≤ steps.old + account.now.count }
+    ensures cost { OnOk result (TakesRounds (KeyRounds account.now) steps.old steps.new) }
+    ensures at_most { OnErr result (TakesAtMost (KeyRounds account.now) steps.old steps.new) }
     ensures rises { steps.old ≤ steps.new }
 {
     let salt = account.salt.try_clone(alloc)?;

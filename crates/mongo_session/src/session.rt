@@ -33,7 +33,8 @@ pub struct Session {
 }
 
 impl Session {
-    ghost use Rattle.std.specs.Prelude.{◌≡◌, ◌≤◌, ℕ, true, List, [], ◌∷◌, ◌++◌, None, IfSome, IfOk, IfErr, OnErr};
+    ghost use Rattle.std.specs.Prelude.{◌≡◌, ◌≤◌, ℕ, true, List, [], ◌∷◌, ◌++◌, None, IfSome, IfOk, IfErr, OnOk, OnErr};
+    ghost use Rattle.mongo_session.specs.Costs.{StartRounds, TakesAtMost, TakesRounds};
     ghost use Rattle.mongo_session.specs.Last.{AnswersLast, AnswersEmpty};
     ghost use Rattle.mongo_session.specs.Login.{HasLoggedIn, IsOpenLogin, Remembers};
     ghost use Rattle.mongo_session.specs.Requests.{OpensLogin, SaysSaslContinue};
@@ -67,6 +68,8 @@ impl Session {
         ensures answered { IfOk result (AnswersStart settings.now start.entry self.new) }
         ensures user { self.new.user ≡ self.old.user }
         ensures refused { IfErr result (λ fault. fault ≡ OutOfMemory) }
+        ensures cost { OnOk result (TakesRounds (StartRounds settings.now start.entry) steps.old steps.new) }
+        ensures at_most { OnErr result (TakesAtMost (StartRounds settings.now start.entry) steps.old steps.new) }
         ensures rises { steps.old ≤ steps.new }
     {
         self.login = None;

@@ -1,6 +1,8 @@
 use Rattle.std.proofs.Common.{rules}
 use Rattle.mongo_session.proofs.Carried.{start_carries, next_continues}
+use Rattle.mongo_session.proofs.Derived.{refused_after}
 use Rattle.mongo_session.proofs.Remembered.{remembers_later}
+use Rattle.mongo_session.specs.Costs.{StartRounds, TakesAtMost}
 use Rattle.mongo_session.proofs.answer.answer_request.Goals as goal
 
 pub returns-in_ok-greet-in-Hello-clause-remembers :
@@ -46,3 +48,12 @@ returns-in_ok-go_on-in-SaslContinue-clause-answered g c =
 
 pub returns-in-Ping-clause-answered : goal.returns-in-Ping-clause-answered
 returns-in-Ping-clause-answered g c = search rules
+
+pub returns-in_ok-start-in-SaslStart-clause-cost :
+    goal.returns-in_ok-start-in-SaslStart-clause-cost
+returns-in_ok-start-in-SaslStart-clause-cost g c = rw c.in-SaslStart.is c.in_ok-start-in-SaslStart.ensures.cost
+
+pub returns-in_err-start-in-SaslStart-clause-at_most :
+    goal.returns-in_err-start-in-SaslStart-clause-at_most
+returns-in_err-start-in-SaslStart-clause-at_most g c =
+    rw c.in-SaslStart.is (refused_after (TakesAtMost (StartRounds c.args.settings.now c.in-SaslStart.start) c.args.steps.now c.start.new.steps) c.from_residual-in_err-start-in-SaslStart.result c.in_err-start-in-SaslStart.ensures.at_most)

@@ -11,3 +11,9 @@ returns-in-Some-clause-remembers g c = λ requests document h greeting carries.
 
 pub returns-in-None-clause-remembers : goal.returns-in-None-clause-remembers
 returns-in-None-clause-remembers g c = λ requests document h greeting carries. remembers_later c.args.settings.now requests document c.args.session.now h
+
+pub returns-in-Some-clause-cost : goal.returns-in-Some-clause-cost
+returns-in-Some-clause-cost g c = rw c.in-Some.is c.start.ensures.cost
+
+pub returns-in-Some-clause-at_most : goal.returns-in-Some-clause-at_most
+returns-in-Some-clause-at_most g c = rw c.in-Some.is c.start.ensures.at_most

@@ -1,5 +1,6 @@
 use Rattle.std.proofs.Common.{◌∙◌}
 use Rattle.mongo_session.proofs.Begun.{begins, unheard, unopened}
+use Rattle.mongo_session.proofs.Derived.{at_most_derived, key_derived, none_derived}
 use Rattle.mongo_session.proofs.open.open.Goals as goal
 
 pub returns-in-Ok-first-clause-opened : goal.returns-in-Ok-first-clause-opened
@@ -19,6 +20,17 @@ returns g c = record {
       unheard c.args.account.now c.args.suffix.now c.args.payload.now c.new-core.result c.in-Ok.user c.as_str.result.now c.as_str-2.result.now c.in_ok-salt.salt c.in-Err-first.fault c.as_str.ensures c.as_str-2.ensures
       c.in_ok-salt.ensures.copied c.in-Ok.ensures.user c.new-core.ensures.user (c.new-core.ensures.suffix ∙ c.in_ok-from_slice.ensures.copied) c.in-Err-first.ensures.accepts c.in_default.not-OutOfMemory;
   refused = tt;
-  one_key = c.new.ensures.at_most;
+  cost = key_derived c.args.account.now c.as_str-2.result.now c.as_str-2.ensures c.args.steps.now c.new.new.steps c.in-Ok.ensures.usable c.in-Ok.ensures.cost;
+  at_most = tt;
   rises = c.new.ensures.rises;
 }
+
+pub returns-in-Ok-first-clause-cost : goal.returns-in-Ok-first-clause-cost
+returns-in-Ok-first-clause-cost g c = key_derived c.args.account.now c.as_str-2.result.now c.as_str-2.ensures c.args.steps.now c.new.new.steps c.in-Ok.ensures.usable c.in-Ok.ensures.cost
+
+pub returns-in-Err-clause-cost : goal.returns-in-Err-clause-cost
+returns-in-Err-clause-cost g c = none_derived c.args.account.now c.as_str-2.result.now c.as_str-2.ensures c.args.steps.now c.new.new.steps c.no_login.result c.in-Err.error.kind c.in-Err.ensures.refused c.in-Err.ensures.no_cost c.no_login.ensures.none
+
+pub returns-in-Err-clause-at_most : goal.returns-in-Err-clause-at_most
+returns-in-Err-clause-at_most g c =
+    at_most_derived c.args.account.now c.as_str-2.result.now c.as_str-2.ensures c.args.steps.now c.new.new.steps c.no_login.result c.in-Err.error.kind c.in-Err.ensures.refused c.in-Err.ensures.exact c.in-Err.ensures.no_cost c.new.ensures.rises c.new.ensures.at_most
