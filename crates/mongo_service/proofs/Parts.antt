@@ -13,6 +13,7 @@ use Rattle.mongo_service.specs.declared.fault.ServeFault.TheVariants.{ReplyTooLo
 use Rattle.mongo_session.specs.declared.reply.Reply.{Reply}
 use Rattle.mongo_session.specs.declared.session.Session.{Session}
 use Rattle.mongo_session.specs.declared.serve_settings.ServeSettings.{ServeSettings}
+use Rattle.mongo_session.specs.Costs.{DocumentRounds, TakesRounds}
 use Rattle.mongo_session.specs.Login.{HasLoggedIn, Remembers}
 use Rattle.mongo_session.specs.Replies.{document_of_served}
 use Rattle.mongo_session.specs.Requests.{IsGreeting}
@@ -21,6 +22,7 @@ use Rattle.mongo_service.specs.Sent.{IsAnswerTo, IsLongMessage, IsLongReply, IsR
 use Rattle.mongo_service.specs.Served.{FollowsHead, Lasts, PartEnds}
 use Rattle.mongo_session.specs.Answers.{IsDocumentAnswered}
 use Rattle.mongo_service.proofs.Lasts.{sent_flushed}
+use Rattle.mongo_service.specs.Spent.{SpendsRounds}
 use Rattle.mongo_service.specs.Taken.{IsQuery, IsQueryBody}
 use Rattle.mongo_wire.proofs.OneFrame.{signed_in}
 use Rattle.mongo_service.proofs.Causes.{long_cause}
@@ -39,22 +41,22 @@ unsent : (fault : ServeFault) (n : ℕ) (bytes : List ℕ) → Some fault ≡ So
 unsent fault n bytes is = let same : fault ≡ ReplyTooLong = cc in subst (λ f. take (part_of f n) bytes ≡ []) (sym same) refl
 
 -- an OP_MSG was taken and answered, and the answer sent or cut
-pub message_part : (settings : ServeSettings) (requests : List (List ℕ)) (old mid new : State) (before : Session) (id : ℤ) (after : Session) (later : ℤ) (frame : List ℕ) (parts : Frame) (document : List ℕ) → IsFrame frame parts → parts.body ≡ document
-    → Consumes old.left mid.left frame → mid.written ≡ old.written → Lasts old mid → WritesOn mid new → (reply : Reply) → IsDocumentAnswered settings before document after reply → Remembers settings (requests ++ document ∷ []) after
+pub message_part : (settings : ServeSettings) (requests : List (List ℕ)) (old mid new : State) (first last : ℕ) (before : Session) (id : ℤ) (after : Session) (later : ℤ) (frame : List ℕ) (parts : Frame) (document : List ℕ) → IsFrame frame parts → parts.body ≡ document
+    → Consumes old.left mid.left frame → mid.written ≡ old.written → Lasts old mid → WritesOn mid new → (reply : Reply) → IsDocumentAnswered settings before document after reply → TakesRounds (DocumentRounds settings document) first last → Remembers settings (requests ++ document ∷ []) after
     → (to : ℤ) → to ≡ parts.request_id → (flags : ℕ) → flags ≡ parts.flags → (r : Result ⊤ ServeFault) → OnOk r (new.write_faults ≡ mid.write_faults) → OnOk r (IsReplySent mid new to flags reply id later) → OnErr r (IsSentInPart mid new to flags reply id) → IfErr r (λ fault. WriteCause (IsLongMessage (document_of_served reply)) fault mid new)
-    → PartEnds settings requests old new before id after later r
-message_part settings requests old mid new before id after later frame parts document is_frame body_is consumed unwritten lasts on reply answered remembers to to_is flags flags_are (Ok done) still h cut cause =
+    → PartEnds settings requests old new first last before id after later r
+message_part settings requests old mid new first last before id after later frame parts document is_frame body_is consumed unwritten lasts on reply answered cost remembers to to_is flags flags_are (Ok done) still h cut cause =
     let answer : IsAnswerTo parts.request_id parts.flags reply id later h.sent = subst (λ f. IsAnswerTo parts.request_id f reply id later h.sent) flags_are (subst (λ t. IsAnswerTo t flags reply id later h.sent) to_is h.is_answer) in
-    turn_taken settings requests old mid new before id after later (record { frame = frame; document = document; sent = h.sent }) (inl (parts, is_frame, body_is)) consumed unwritten lasts still on h.appended h.flushed
+    turn_taken settings requests old mid new first last before id after later (record { frame = frame; document = document; sent = h.sent }) (inl (parts, is_frame, body_is)) consumed unwritten lasts still on h.appended h.flushed
     (record { reply = reply; answered = answered; sent = inl (record { parts = parts; is_frame = is_frame; body_is = body_is; answer = answer }) })
-    remembers
-message_part settings requests old mid new before id after later frame parts document is_frame body_is consumed unwritten lasts on reply answered remembers to to_is flags flags_are (Err fault) still h cut cause =
+    remembers cost
+message_part settings requests old mid new first last before id after later frame parts document is_frame body_is consumed unwritten lasts on reply answered cost remembers to to_is flags flags_are (Err fault) still h cut cause =
     let reply_bytes = document_of_served reply in
     let n = part_of fault cut.front.0 in
     let bytes = message_reply id to reply_bytes in
     let front = appends_part (IsLongMessage reply_bytes) fault cut.front.0 bytes mid new cut.front.1 cause in
     let sent = take n bytes in
-    turn_cut (IsLongMessage reply_bytes) settings requests old mid new before id after.user fault (record { frame = frame; document = document; sent = sent })
+    turn_cut (IsLongMessage reply_bytes) settings requests old mid new first last before id after.user fault (record { frame = frame; document = document; sent = sent })
     (record {
       is_taken = inl (parts, is_frame, body_is);
       after = after;
@@ -71,25 +73,25 @@ message_part settings requests old mid new before id after later frame parts doc
           });
       too_long = λ is. (inl ((parts, is_frame, body_is), long_cause (IsLongMessage reply_bytes) fault mid new cause is), unsent fault cut.front.0 bytes is);
     })
-    consumed unwritten lasts on front cause remembers.user
+    consumed unwritten lasts on front cause remembers.user cost
 
 -- an OP_QUERY was taken and answered, and the answer sent or cut
-pub query_part : (settings : ServeSettings) (requests : List (List ℕ)) (old mid new : State) (before : Session) (id : ℤ) (after : Session) (later : ℤ) (head body command : List ℕ) → IsQuery (head ++ body) command → length head ≡ 16
-    → Consumes old.left mid.left (head ++ body) → mid.written ≡ old.written → Lasts old mid → WritesOn mid new → (reply : Reply) → IsDocumentAnswered settings before command after reply → IsGreeting command
+pub query_part : (settings : ServeSettings) (requests : List (List ℕ)) (old mid new : State) (first last : ℕ) (before : Session) (id : ℤ) (after : Session) (later : ℤ) (head body command : List ℕ) → IsQuery (head ++ body) command → length head ≡ 16
+    → Consumes old.left mid.left (head ++ body) → mid.written ≡ old.written → Lasts old mid → WritesOn mid new → (reply : Reply) → IsDocumentAnswered settings before command after reply → TakesRounds (DocumentRounds settings command) first last → IsGreeting command
     → Remembers settings (requests ++ command ∷ []) after → (to : ℤ) → to ≡ signed_at 4 head → (r : Result ⊤ ServeFault) → OnOk r (new.write_faults ≡ mid.write_faults) → OnOk r (IsSentToQuery mid new to reply id later)
-    → OnErr r (AppendsFront mid.written new.written (query_reply id to (document_of_served reply))) → IfErr r (λ fault. WriteCause (IsLongReply (document_of_served reply)) fault mid new) → PartEnds settings requests old new before id after later r
-query_part settings requests old mid new before id after later head body command is_query sixteen consumed unwritten lasts on reply answered greeting remembers to to_is (Ok done) still h front cause =
+    → OnErr r (AppendsFront mid.written new.written (query_reply id to (document_of_served reply))) → IfErr r (λ fault. WriteCause (IsLongReply (document_of_served reply)) fault mid new) → PartEnds settings requests old new first last before id after later r
+query_part settings requests old mid new first last before id after later head body command is_query sixteen consumed unwritten lasts on reply answered cost greeting remembers to to_is (Ok done) still h front cause =
     let sent = query_reply id to (document_of_served reply) in
     let to_front : to ≡ signed_at 4 (take 16 (head ++ body)) = to_is ∙ ap (signed_at 4) (sym (take_at head body 16 sixteen)) in
-    turn_taken settings requests old mid new before id after later (record { frame = head ++ body; document = command; sent = sent }) (inr is_query) consumed unwritten lasts still on h.appended (sent_flushed mid new sent h.appended h.flushed)
+    turn_taken settings requests old mid new first last before id after later (record { frame = head ++ body; document = command; sent = sent }) (inr is_query) consumed unwritten lasts still on h.appended (sent_flushed mid new sent h.appended h.flushed)
     (record { reply = reply; answered = answered; sent = inr (is_query, greeting, (ap (λ t. query_reply id t (document_of_served reply)) to_front, h.drawn)) })
-    remembers
-query_part settings requests old mid new before id after later head body command is_query sixteen consumed unwritten lasts on reply answered greeting remembers to to_is (Err fault) still h front cause =
+    remembers cost
+query_part settings requests old mid new first last before id after later head body command is_query sixteen consumed unwritten lasts on reply answered cost greeting remembers to to_is (Err fault) still h front cause =
     let n = part_of fault front.0 in
     let bytes = query_reply id to (document_of_served reply) in
     let sent = appends_part (IsLongReply (document_of_served reply)) fault front.0 bytes mid new front.1 cause in
     let to_front : to ≡ signed_at 4 (take 16 (head ++ body)) = to_is ∙ ap (signed_at 4) (sym (take_at head body 16 sixteen)) in
-    turn_cut (IsLongReply (document_of_served reply)) settings requests old mid new before id after.user fault (record { frame = head ++ body; document = command; sent = take n bytes })
+    turn_cut (IsLongReply (document_of_served reply)) settings requests old mid new first last before id after.user fault (record { frame = head ++ body; document = command; sent = take n bytes })
     (record {
       is_taken = inr is_query;
       after = after;
@@ -99,7 +101,7 @@ query_part settings requests old mid new before id after later head body command
       sent = inr (is_query, greeting, (n, ap (λ t. take n (query_reply id t (document_of_served reply))) to_front));
       too_long = λ is. (inr (is_query, long_cause (IsLongReply (document_of_served reply)) fault mid new cause is), unsent fault front.0 bytes is);
     })
-    consumed unwritten lasts on sent cause remembers.user
+    consumed unwritten lasts on sent cause remembers.user cost
 
 -- a header and what follows it are an OP_QUERY
 pub query_of : (head body command : List ℕ) (rest : ℕ) → length head ≡ 16 → signed_at 12 head ≡ code_number Query → pos (16 + rest) ≡ signed_at 0 head → length body ≡ rest → IsQueryBody body command → IsQuery (head ++ body) command
@@ -131,8 +133,8 @@ front_taken head None = tt
 front_taken head (Some bytes) = refl
 
 -- more was taken after a header, and nothing answered
-pub none_after : (settings : ServeSettings) (requests : List (List ℕ)) (before now new : State) (session : Session) (id : ℤ) (user : Option (List ℕ)) (fault : ServeFault) (head more : List ℕ) → user ≡ session.user → IsPart (head ++ more)
+pub none_after : (settings : ServeSettings) (requests : List (List ℕ)) (before now new : State) (first last : ℕ) (session : Session) (id : ℤ) (user : Option (List ℕ)) (fault : ServeFault) (head more : List ℕ) → user ≡ session.user → IsPart (head ++ more)
     → FollowsHead before now head → Consumes now.left new.left more → new.written ≡ now.written → IfSome session.user (λ name. HasLoggedIn settings name requests) → HasCause fault before new [] (head ++ more) → before.flushed ≤ new.flushed
-    → IsCut settings requests before new session id user fault
-none_after settings requests before now new session id user fault head more same part f consumed unwritten logged_in cause stays =
-    none_taken settings requests before new session id user fault (head ++ more) same part (Consumes-trans before.left now.left new.left head more f.taken consumed) (unwritten ∙ f.on.unwritten.written) logged_in cause stays
+    → SpendsRounds settings [] (Some fault) (head ++ more) first last → IsCut settings requests before new first last session id user fault
+none_after settings requests before now new first last session id user fault head more same part f consumed unwritten logged_in cause stays spent =
+    none_taken settings requests before new first last session id user fault (head ++ more) same part (Consumes-trans before.left now.left new.left head more f.taken consumed) (unwritten ∙ f.on.unwritten.written) logged_in cause stays spent

@@ -8,20 +8,23 @@ use Rattle.mongo_service.specs.declared.fault.ServeFault.TheVariants.{TooManyReq
 use Rattle.mongo_session.specs.declared.session.Session.{Session}
 use Rattle.mongo_session.specs.declared.serve_settings.ServeSettings.{ServeSettings}
 use Rattle.mongo_service.specs.Cut.{IsCut}
+use Rattle.mongo_session.specs.Costs.{AllRounds, TakesRounds}
 use Rattle.mongo_session.specs.Login.{HasLoggedIn, Remembers}
 use Rattle.mongo_service.specs.Sent.{HasFlushed}
 use Rattle.mongo_service.specs.Served.{TakesTurn, NoTurn, HasServed, IsServed}
+use Rattle.mongo_service.specs.Spent.{SpendsRounds}
 use Rattle.mongo_service.specs.Turns.{joined_frames, documents, sent_for}
 use Rattle.mongo_session.specs.Login.{fresh}
 use Rattle.mongo_service.proofs.Causes.{cause_after}
 use Rattle.mongo_service.proofs.Lasts.{flushed_on, flushed_still, lasts_all, lasts_on}
+use Rattle.mongo_service.proofs.Spent.{all_spent, rounds_after, rounds_then}
 use Rattle.mongo_service.proofs.Turns.{turns_joined, joined_append, documents_append, sent_append, turns_more}
 
 is_fresh : (session : Session) → session.user ≡ None → session.login ≡ None → fresh ≡ session
 is_fresh session nobody none = ap (λ u. record { user = u; login = None }) (sym nobody) ∙ ap (λ l. record { user = session.user; login = l }) (sym none)
 
-none_served : (settings : ServeSettings) (old : State) → HasServed settings old old fresh (pos 1) 0
-none_served settings old = record {
+none_served : (settings : ServeSettings) (old : State) (first : ℕ) → HasServed settings old old first first fresh (pos 1) 0
+none_served settings old first = record {
   turns = [];
   counted = refl;
   answered = (refl, refl);
@@ -31,33 +34,35 @@ none_served settings old = record {
   flushed = inl refl;
   lasts = lasts_all old;
   remembers = record { user = tt; login = tt };
+  cost = (0, refl, omega arith);
 }
 
-pub begun : (settings : ServeSettings) (old : State) (session : Session) (id : ℤ) → session.user ≡ None → session.login ≡ None → id ≡ pos 1 → HasServed settings old old session id 0
-begun settings old session id nobody none first =
-    subst (λ i. HasServed settings old old session i 0) (sym first) (subst (λ s. HasServed settings old old s (pos 1) 0) (is_fresh session nobody none) (none_served settings old))
+pub begun : (settings : ServeSettings) (old : State) (first : ℕ) (session : Session) (id : ℤ) → session.user ≡ None → session.login ≡ None → id ≡ pos 1 → HasServed settings old old first first session id 0
+begun settings old first session id nobody none one =
+    subst (λ i. HasServed settings old old first first session i 0) (sym one) (subst (λ s. HasServed settings old old first first s (pos 1) 0) (is_fresh session nobody none) (none_served settings old first))
 
-pub one_turn_more : (settings : ServeSettings) (old mid new : State) (before : Session) (id : ℤ) (after : Session) (later : ℤ) (count : ℕ) (h : HasServed settings old mid before id count) → TakesTurn settings (documents h.turns) mid new before id after later
-    → HasServed settings old new after later (count + 1)
-one_turn_more settings old mid new before id after later count h t =
-    let last = t.turn ∷ [] in
-    let sent = sent_append h.turns last ∙ ap (λ l. sent_for h.turns ++ l) (append-nil t.turn.sent) in
+pub one_turn_more : (settings : ServeSettings) (old mid new : State) (first mark last : ℕ) (before : Session) (id : ℤ) (after : Session) (later : ℤ) (count : ℕ) (h : HasServed settings old mid first mark before id count) → TakesTurn settings (documents h.turns) mid new mark last before id after later
+    → HasServed settings old new first last after later (count + 1)
+one_turn_more settings old mid new first mark last before id after later count h t =
+    let one = t.turn ∷ [] in
+    let sent = sent_append h.turns one ∙ ap (λ l. sent_for h.turns ++ l) (append-nil t.turn.sent) in
     record {
-      turns = h.turns ++ last;
-      counted = length-append h.turns last ∙ ap (λ n. n + 1) h.counted;
+      turns = h.turns ++ one;
+      counted = length-append h.turns one ∙ ap (λ n. n + 1) h.counted;
       answered = turns_more settings fresh (pos 1) before id after later h.turns t.turn h.answered t.is_turn;
-      each = turns_joined h.turns last h.each (t.is_taken, tt);
+      each = turns_joined h.turns one h.each (t.is_taken, tt);
       consumed =
-          subst (Consumes old.left new.left) (sym (joined_append h.turns last ∙ ap (λ l. joined_frames h.turns ++ l) (append-nil t.turn.frame))) (Consumes-trans old.left mid.left new.left (joined_frames h.turns) t.turn.frame h.consumed t.consumed);
+          subst (Consumes old.left new.left) (sym (joined_append h.turns one ∙ ap (λ l. joined_frames h.turns ++ l) (append-nil t.turn.frame))) (Consumes-trans old.left mid.left new.left (joined_frames h.turns) t.turn.frame h.consumed t.consumed);
       appended = subst (Appends old.written new.written) (sym sent) (Appends-trans old.written mid.written new.written (sent_for h.turns) t.turn.sent h.appended t.appended);
       flushed = subst (HasFlushed old new) (sym sent) (flushed_on old mid new (sent_for h.turns) t.turn.sent h.appended h.flushed t.lasts.flushed t.flushed);
       lasts = lasts_on old mid new h.lasts t.lasts;
-      remembers = subst (λ rs. Remembers settings rs after) (sym (documents_append h.turns last)) t.remembers;
+      remembers = subst (λ rs. Remembers settings rs after) (sym (documents_append h.turns one)) t.remembers;
+      cost = subst (λ rs. TakesRounds (AllRounds settings rs) first last) (sym (documents_append h.turns one)) (rounds_then settings (documents h.turns) t.turn.document first mark last h.cost t.cost);
     }
 
-pub has_ended : (settings : ServeSettings) (old mid new : State) (before : Session) (id : ℤ) (after : Session) (count : ℕ) (h : HasServed settings old mid before id count) → NoTurn mid new before after
-    → IsServed settings old new (record { fault = None; user = after.user })
-has_ended settings old mid new before id after count h n =
+pub has_ended : (settings : ServeSettings) (old mid new : State) (first mark last : ℕ) (before : Session) (id : ℤ) (after : Session) (count : ℕ) (h : HasServed settings old mid first mark before id count) → NoTurn mid new mark last before after
+    → IsServed settings old new first last (record { fault = None; user = after.user })
+has_ended settings old mid new first mark last before id after count h n =
     let turns = sym (append-nil h.turns) in
     record {
       turns = h.turns;
@@ -76,6 +81,7 @@ has_ended settings old mid new before id after count h n =
           subst (λ l. Consumes old.left new.left (l ++ [])) (ap joined_frames turns) (subst (Consumes old.left new.left) (sym (append-nil (joined_frames h.turns))) (Consumes-kept old.left mid.left new.left (joined_frames h.turns) h.consumed n.ended.keeps));
       appended = subst (λ l. Appends old.written new.written (sent_for l)) turns (subst (Appends old.written new.written) (append-nil (sent_for h.turns)) (Appends-trans old.written mid.written new.written (sent_for h.turns) [] h.appended n.appended));
       logged_in = subst (λ l. IfSome after.user (λ name. HasLoggedIn settings name (documents l))) turns (subst (λ s. IfSome s.user (λ name. HasLoggedIn settings name (documents h.turns))) (sym n.kept) h.remembers.user);
+      spent = subst (λ l. SpendsRounds settings (documents l) None [] first last) turns (all_spent settings (documents h.turns) None [] first last (subst (λ n. TakesRounds (AllRounds settings (documents h.turns)) first n) (sym n.unspent) h.cost));
       cause = tt;
       whole = λ _. (refl, refl, n.ended.still);
     }
@@ -83,9 +89,9 @@ has_ended settings old mid new before id after count h n =
 is_fault : (fault : ServeFault) → Some fault ≡ None → ⊥
 is_fault fault e = cc
 
-pub was_cut : (settings : ServeSettings) (old mid new : State) (before : Session) (id : ℤ) (user : Option (List ℕ)) (fault : ServeFault) (count : ℕ) (h : HasServed settings old mid before id count)
-    → IsCut settings (documents h.turns) mid new before id user fault → IsServed settings old new (record { fault = Some fault; user = user })
-was_cut settings old mid new before id user fault count h c =
+pub was_cut : (settings : ServeSettings) (old mid new : State) (first mark last : ℕ) (before : Session) (id : ℤ) (user : Option (List ℕ)) (fault : ServeFault) (count : ℕ) (h : HasServed settings old mid first mark before id count)
+    → IsCut settings (documents h.turns) mid new mark last before id user fault → IsServed settings old new first last (record { fault = Some fault; user = user })
+was_cut settings old mid new first mark last before id user fault count h c =
     record {
       turns = h.turns;
       session = before;
@@ -103,14 +109,15 @@ was_cut settings old mid new before id user fault count h c =
           subst (Consumes old.left new.left) (sym (ap (λ l. l ++ c.more) (joined_append h.turns c.turns) ∙ append_assoc (joined_frames h.turns) (joined_frames c.turns) c.more)) (Consumes-trans old.left mid.left new.left (joined_frames h.turns) (joined_frames c.turns ++ c.more) h.consumed c.consumed);
       appended = subst (Appends old.written new.written) (sym (sent_append h.turns c.turns)) (Appends-trans old.written mid.written new.written (sent_for h.turns) (sent_for c.turns) h.appended c.appended);
       logged_in = subst (λ rs. IfSome user (λ name. HasLoggedIn settings name rs)) (sym (documents_append h.turns c.turns)) c.logged_in;
+      spent = subst (λ rs. SpendsRounds settings rs (Some fault) c.more first last) (sym (documents_append h.turns c.turns)) (rounds_after settings (documents h.turns) (documents c.turns) (Some fault) c.more first mark last h.cost c.spent);
       cause = cause_after fault (length h.turns) old mid new (joined_frames h.turns) c.turns c.more h.lasts h.consumed c.cause;
       whole = λ is. absurd (is_fault fault is);
     }
 
 -- the turns are as many as are counted
-pub went_on : (settings : ServeSettings) (old new : State) (session : Session) (id : ℤ) (count : ℕ) → count ≡ 2 ^ 64 - 1 → HasServed settings old new session id count
-    → IsServed settings old new (record { fault = Some TooManyRequests; user = session.user })
-went_on settings old new session id count all h =
+pub went_on : (settings : ServeSettings) (old new : State) (first last : ℕ) (session : Session) (id : ℤ) (count : ℕ) → count ≡ 2 ^ 64 - 1 → HasServed settings old new first last session id count
+    → IsServed settings old new first last (record { fault = Some TooManyRequests; user = session.user })
+went_on settings old new first last session id count all h =
     let turns = sym (append-nil h.turns) in
     record {
       turns = h.turns;
@@ -128,6 +135,7 @@ went_on settings old new session id count all h =
       consumed = subst (λ l. Consumes old.left new.left (l ++ [])) (ap joined_frames turns) (subst (Consumes old.left new.left) (sym (append-nil (joined_frames h.turns))) h.consumed);
       appended = subst (λ l. Appends old.written new.written (sent_for l)) turns h.appended;
       logged_in = subst (λ l. IfSome session.user (λ name. HasLoggedIn settings name (documents l))) turns h.remembers.user;
+      spent = subst (λ l. SpendsRounds settings (documents l) (Some TooManyRequests) [] first last) turns (all_spent settings (documents h.turns) (Some TooManyRequests) [] first last h.cost);
       cause = (h.counted ∙ all, refl, refl);
       whole = λ is. absurd (is_fault TooManyRequests is);
     }

@@ -11,11 +11,14 @@ use Rattle.mongo_session.specs.declared.session.Session.{Session}
 use Rattle.mongo_session.specs.declared.serve_settings.ServeSettings.{ServeSettings}
 use Rattle.mongo_service.specs.Cut.{HasCause, IsCut, IsCutTurn, IsPart}
 use Rattle.mongo_session.specs.Login.{HasLoggedIn, Remembers}
+use Rattle.mongo_session.specs.Costs.{DocumentRounds, TakesRounds}
 use Rattle.mongo_service.specs.Sent.{HasFlushed, WriteCause}
 use Rattle.mongo_service.specs.Served.{Lasts, TakesTurn}
+use Rattle.mongo_service.specs.Spent.{SpendsRounds}
 use Rattle.mongo_service.specs.Turns.{ServerTurn, IsTurnTaken, IsTurn, AreTurns, joined_frames, documents, sent_for}
 use Rattle.mongo_service.proofs.Causes.{write_cause}
 use Rattle.mongo_service.proofs.Lasts.{flushed_from, lasts_on, lasts_write}
+use Rattle.mongo_service.proofs.Spent.{one_spent}
 
 pub turns_joined : (xs ys : List ServerTurn) → AllByRecursion IsTurnTaken xs → AllByRecursion IsTurnTaken ys → AllByRecursion IsTurnTaken (xs ++ ys)
 turns_joined [] ys all others = others
@@ -37,10 +40,10 @@ one_joined : (f : ServerTurn → List ℕ) (turn : ServerTurn) → flat_map f (t
 one_joined f turn = append-nil (f turn)
 
 -- a request was taken, answered, and the answer sent
-pub turn_taken : (settings : ServeSettings) (requests : List (List ℕ)) (old mid new : State) (before : Session) (id : ℤ) (after : Session) (later : ℤ) (turn : ServerTurn) → IsTurnTaken turn → Consumes old.left mid.left turn.frame → mid.written ≡ old.written
+pub turn_taken : (settings : ServeSettings) (requests : List (List ℕ)) (old mid new : State) (first last : ℕ) (before : Session) (id : ℤ) (after : Session) (later : ℤ) (turn : ServerTurn) → IsTurnTaken turn → Consumes old.left mid.left turn.frame → mid.written ≡ old.written
     → Lasts old mid → new.write_faults ≡ mid.write_faults → WritesOn mid new → Appends mid.written new.written turn.sent → HasFlushed mid new turn.sent → IsTurn settings before id turn after later → Remembers settings (requests ++ turn.document ∷ []) after
-    → TakesTurn settings requests old new before id after later
-turn_taken settings requests old mid new before id after later turn is_taken consumed unwritten lasts still on appended flushed is_turn remembers = record {
+    → TakesRounds (DocumentRounds settings turn.document) first last → TakesTurn settings requests old new first last before id after later
+turn_taken settings requests old mid new first last before id after later turn is_taken consumed unwritten lasts still on appended flushed is_turn remembers cost = record {
   turn = turn;
   is_taken = is_taken;
   is_turn = is_turn;
@@ -49,13 +52,14 @@ turn_taken settings requests old mid new before id after later turn is_taken con
   flushed = flushed_from old mid new turn.sent unwritten flushed;
   lasts = lasts_on old mid new lasts (lasts_write mid new still on);
   remembers = remembers;
+  cost = cost;
 }
 
 -- a request was taken, and its answer cut
-pub turn_cut : (too_long : Type 0) (settings : ServeSettings) (requests : List (List ℕ)) (old mid new : State) (before : Session) (id : ℤ) (user : Option (List ℕ)) (fault : ServeFault) (turn : ServerTurn) → IsCutTurn settings before id user (Some fault) turn
+pub turn_cut : (too_long : Type 0) (settings : ServeSettings) (requests : List (List ℕ)) (old mid new : State) (first last : ℕ) (before : Session) (id : ℤ) (user : Option (List ℕ)) (fault : ServeFault) (turn : ServerTurn) → IsCutTurn settings before id user (Some fault) turn
     → Consumes old.left mid.left turn.frame → mid.written ≡ old.written → Lasts old mid → WritesOn mid new → Appends mid.written new.written turn.sent → WriteCause too_long fault mid new
-    → IfSome user (λ name. HasLoggedIn settings name (requests ++ turn.document ∷ [])) → IsCut settings requests old new before id user fault
-turn_cut too_long settings requests old mid new before id user fault turn is_cut consumed unwritten lasts on appended cause logged_in = record {
+    → IfSome user (λ name. HasLoggedIn settings name (requests ++ turn.document ∷ [])) → TakesRounds (DocumentRounds settings turn.document) first last → IsCut settings requests old new first last before id user fault
+turn_cut too_long settings requests old mid new first last before id user fault turn is_cut consumed unwritten lasts on appended cause logged_in cost = record {
   turns = turn ∷ [];
   one = omega arith;
   each = (is_cut, tt);
@@ -67,6 +71,7 @@ turn_cut too_long settings requests old mid new before id user fault turn is_cut
   appended = subst (Appends old.written new.written) (sym (one_joined (λ t. t.sent) turn)) (subst (λ written. Appends written new.written turn.sent) unwritten appended);
   logged_in = logged_in;
   stays = omega (arith, lasts.flushed, on.flushed_stays);
+  spent = one_spent settings turn.document (Some fault) [] first last cost;
   cause = write_cause too_long fault old mid new (turn ∷ []) (omega arith) lasts cause;
 }
   where
@@ -74,9 +79,9 @@ turn_cut too_long settings requests old mid new before id user fault turn is_cut
     filled e = cc
 
 -- no request was answered, but some bytes taken
-pub none_taken : (settings : ServeSettings) (requests : List (List ℕ)) (old new : State) (before : Session) (id : ℤ) (user : Option (List ℕ)) (fault : ServeFault) (more : List ℕ) → user ≡ before.user → IsPart more → Consumes old.left new.left more
-    → new.written ≡ old.written → IfSome before.user (λ name. HasLoggedIn settings name requests) → HasCause fault old new [] more → old.flushed ≤ new.flushed → IsCut settings requests old new before id user fault
-none_taken settings requests old new before id user fault more same part consumed unwritten logged_in cause stays = record {
+pub none_taken : (settings : ServeSettings) (requests : List (List ℕ)) (old new : State) (first last : ℕ) (before : Session) (id : ℤ) (user : Option (List ℕ)) (fault : ServeFault) (more : List ℕ) → user ≡ before.user → IsPart more → Consumes old.left new.left more
+    → new.written ≡ old.written → IfSome before.user (λ name. HasLoggedIn settings name requests) → HasCause fault old new [] more → old.flushed ≤ new.flushed → SpendsRounds settings [] (Some fault) more first last → IsCut settings requests old new first last before id user fault
+none_taken settings requests old new first last before id user fault more same part consumed unwritten logged_in cause stays spent = record {
   turns = [];
   one = omega arith;
   each = tt;
@@ -87,6 +92,7 @@ none_taken settings requests old new before id user fault more same part consume
   appended = subst (λ written. Appends old.written written []) (sym unwritten) (Appends-nil old.written);
   logged_in = subst (λ rs. IfSome user (λ name. HasLoggedIn settings name rs)) (sym (append-nil requests)) (subst (λ u. IfSome u (λ name. HasLoggedIn settings name requests)) (sym same) logged_in);
   stays = stays;
+  spent = spent;
   cause = cause;
 }
 

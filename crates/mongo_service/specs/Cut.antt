@@ -17,6 +17,7 @@ use Rattle.mongo_server.specs.Announced.{maximum_message_length}
 use Rattle.mongo_session.specs.Replies.{document_of_served}
 use Rattle.mongo_session.specs.Requests.{IsGreeting}
 use Rattle.mongo_service.specs.Sent.{CutsMessage, CutsQuery, IsLongMessage, IsLongReply}
+use Rattle.mongo_service.specs.Spent.{SpendsRounds}
 use Rattle.mongo_service.specs.Taken.{CarriesRequest, IsMessage, IsQuery}
 use Rattle.mongo_service.specs.Turns.{ServerTurn, IsTurnTaken, joined_frames, documents, sent_for}
 
@@ -95,7 +96,7 @@ HasCause OutOfMemory old new cut more = (cut ≡ []) ⊎ (more ≡ [])
 
 -- A turn was cut: a frame was taken and its answer cut, or some bytes were taken and nothing answered. Who is logged in has sent what a
 -- login takes.
-pub record IsCut (settings : ServeSettings) (requests : List (List ℕ)) (old new : State) (before : Session) (id : ℤ) (user : Option (List ℕ)) (fault : ServeFault) : Type 0 where
+pub record IsCut (settings : ServeSettings) (requests : List (List ℕ)) (old new : State) (first last : ℕ) (before : Session) (id : ℤ) (user : Option (List ℕ)) (fault : ServeFault) : Type 0 where
   pub turns : List ServerTurn
   pub one : length turns ≤ 1
   pub each : AllByRecursion (IsCutTurn settings before id user (Some fault)) turns
@@ -106,4 +107,5 @@ pub record IsCut (settings : ServeSettings) (requests : List (List ℕ)) (old ne
   pub appended : Appends old.written new.written (sent_for turns)
   pub logged_in : IfSome user (λ name. HasLoggedIn settings name (requests ++ documents turns))
   pub stays : old.flushed ≤ new.flushed
+  pub spent : SpendsRounds settings (documents turns) (Some fault) more first last
   pub cause : HasCause fault old new turns more

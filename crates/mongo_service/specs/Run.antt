@@ -26,12 +26,14 @@ status_of_fault None = Ended
 status_of_fault (Some fault.OutOfMemory) = NoMemory
 status_of_fault (Some other) = Broken
 
--- what the link and the report are before a run and after it
+-- what the link, the report and the counter of steps are before a run and after it
 pub record ServeRun : Type 0 where
   pub old : State
   pub new : State
   pub report_old : State
   pub report_new : State
+  pub steps_old : ℕ
+  pub steps_new : ℕ
 
 -- the text stands whole in what was written, and is flushed, or the sink failed
 abbrev pub IsSaidWhole : State → State → List ℕ → Type 0
@@ -52,24 +54,28 @@ pub record Ran (run : ServeRun) (status : ServeStatus) : Type 0 where
   pub between : State
   pub after_line : IsAfterLine run.old between settings
   pub served : Served
-  pub is_served : IsServed settings between run.new served
+  pub is_served : IsServed settings between run.new run.steps_old run.steps_new served
   pub told : TellsReport run (report_text served) (status_of_fault served.fault) status
 
 -- nothing was written to the link
 abbrev pub SendsNothing : ServeRun → Type 0
 SendsNothing run = run.new.written ≡ run.old.written
 
+-- and no key was derived
+abbrev pub TakesNoStep : ServeRun → Type 0
+TakesNoStep run = run.steps_new ≡ run.steps_old
+
 -- the first line is no settings
 abbrev pub HasBadLine : ServeRun → ServeStatus → Type 0
-HasBadLine run status = HasNoSettings run.old run.new × SendsNothing run × TellsReport run no_settings BadSettings status
+HasBadLine run status = HasNoSettings run.old run.new × SendsNothing run × TellsReport run no_settings BadSettings status × TakesNoStep run
 
 -- the link failed within it
 abbrev pub FailsWithin : ServeRun → ServeStatus → Type 0
-FailsWithin run status = Rose run.old.read_faults run.new.read_faults × StopsWithin run.old run.new × SendsNothing run × TellsReport run line_failed Broken status
+FailsWithin run status = Rose run.old.read_faults run.new.read_faults × StopsWithin run.old run.new × SendsNothing run × TellsReport run line_failed Broken status × TakesNoStep run
 
 -- memory ran out within it
 abbrev pub RunsOutWithin : ServeRun → ServeStatus → Type 0
-RunsOutWithin run status = StopsWithin run.old run.new × SendsNothing run × TellsReport run no_memory NoMemory status
+RunsOutWithin run status = StopsWithin run.old run.new × SendsNothing run × TellsReport run no_memory NoMemory status × TakesNoStep run
 
 -- How a run without words ends. The link may fail, and memory run out, before there are settings: then no more than the first line was
 -- taken. Memory may run out for the report too, however the run is to end.
@@ -86,5 +92,5 @@ NeitherReadsNorWrites run = (run.new ≡ run.old) × (run.report_new ≡ run.rep
 
 -- how a run ends, with so many words after the program's name: it takes none
 abbrev pub ServeRunEnds : ℕ → ServeRun → ServeStatus → Type 0
-ServeRunEnds words run Usage = (0 < words) × NeitherReadsNorWrites run
+ServeRunEnds words run Usage = (0 < words) × NeitherReadsNorWrites run × TakesNoStep run
 ServeRunEnds words run status = (words ≡ 0) × ServingEnds run status

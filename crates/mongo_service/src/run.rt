@@ -1,6 +1,6 @@
 //! The top call.
 
-ghost use Rattle.std.specs.Prelude.{◌≡◌, ◌<◌, ◌≤◌, length};
+ghost use Rattle.std.specs.Prelude.{◌≡◌, ◌<◌, ℕ, length};
 ghost use Rattle.mongo_service.specs.Report.{report_text};
 ghost use Rattle.mongo_service.specs.Run.{status_of_fault, ServingEnds, ServeRunEnds, EndsTelling};
 
@@ -26,8 +26,7 @@ pub fn run<L: Link, K: Sink, G: Ledger>(
     report: &mut K,
     steps: &mut Steps<G>,
 ) -> ServeStatus
-    ensures ends { ServeRunEnds (length words.now) (record { old = L.state link.old; new = L.state link.new; report_old = K.state report.old; report_new = K.state report.new }) result }
-    ensures rises { steps.old ≤ steps.new }
+    ensures ends { ServeRunEnds (length words.now) (record { old = L.state link.old; new = L.state link.new; report_old = K.state report.old; report_new = K.state report.new; steps_old = steps.old; steps_new = steps.new }) result }
 {
     if words.is_empty() {
         serve_line(alloc, link, report, steps)
@@ -47,7 +46,7 @@ pub fn run_counted<L: Link, K: Sink, G: Ledger>(
     requires name { blank.name ≡ G.name }
     requires parts { blank.parts ≡ G.parts }
     requires has_a_part { 0 < G.parts }
-    ensures { ServeRunEnds (length words.now) (record { old = L.state link.old; new = L.state link.new; report_old = K.state report.old; report_new = K.state report.new }) result }
+    ensures { (steps : ℕ) × ServeRunEnds (length words.now) (record { old = L.state link.old; new = L.state link.new; report_old = K.state report.old; report_new = K.state report.new; steps_old = 0; steps_new = steps }) result }
 {
     let mut steps = Steps::<G>::new(blank);
     run(alloc, words, link, report, &mut steps)
@@ -60,8 +59,7 @@ fn serve_line<L: Link, K: Sink, G: Ledger>(
     report: &mut K,
     steps: &mut Steps<G>,
 ) -> ServeStatus
-    ensures ends { ServingEnds (record { old = L.state link.old; new = L.state link.new; report_old = K.state report.old; report_new = K.state report.new }) result }
-    ensures rises { steps.old ≤ steps.new }
+    ensures ends { ServingEnds (record { old = L.state link.old; new = L.state link.new; report_old = K.state report.old; report_new = K.state report.new; steps_old = steps.old; steps_new = steps.new }) result }
 {
     let settings = match read_serve_settings(alloc, link) {
         Ok(settings) => settings,

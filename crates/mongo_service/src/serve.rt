@@ -1,9 +1,10 @@
 //! The server: requests are read one after another, and each is answered before the next is read.
 
-ghost use Rattle.std.specs.Prelude.{◌≡◌, ℕ, pos, ◌+◌, ◌≤◌, ◌<ℤ◌, ◌≤ℤ◌, ◌⊎◌, List, [], ◌∷◌, ◌++◌, IsNone, IfSome, IfOk, IfErr, OnOk, OnErr};
+ghost use Rattle.std.specs.Prelude.{◌≡◌, ℕ, pos, ◌+◌, ◌<ℤ◌, ◌≤ℤ◌, ◌⊎◌, List, [], ◌∷◌, ◌++◌, IsNone, IfSome, IfOk, IfErr, OnOk, OnErr};
 ghost use Rattle.mongo_wire.specs.Header.{header_bytes};
 ghost use Rattle.mongo_wire.specs.Outside.{State};
 ghost use Rattle.mongo_session.specs.Answers.{IsDocumentAnswered};
+ghost use Rattle.mongo_session.specs.Costs.{DocumentRounds, TakesAtMost, TakesRounds};
 ghost use Rattle.mongo_session.specs.Login.{Remembers};
 ghost use Rattle.mongo_server.specs.Announced.{maximum_message_length};
 ghost use Rattle.mongo_session.specs.Requests.{IsGreeting};
@@ -47,8 +48,7 @@ pub fn serve<L: Link, G: Ledger>(
     link: &mut L,
     steps: &mut Steps<G>,
 ) -> Served
-    ensures served { IsServed settings.now (L.state link.old) (L.state link.new) result }
-    ensures rises { steps.old ≤ steps.new }
+    ensures served { IsServed settings.now (L.state link.old) (L.state link.new) steps.old steps.new result }
 {
     let mut serving = Serving {
         session: Session::new(),
@@ -87,8 +87,7 @@ fn take_turn<L: Link, G: Ledger>(
     steps: &mut Steps<G>,
 ) -> Result<bool, ServeFault>
     ensures turn { (requests : List (List ℕ)) → Remembers settings.now requests serving.old.session →
-        TurnEnds settings.now requests (L.state link.old) (L.state link.new) serving.old.session serving.old.ids serving.new.session serving.new.ids result }
-    ensures rises { steps.old ≤ steps.new }
+        TurnEnds settings.now requests (L.state link.old) (L.state link.new) steps.old steps.new serving.old.session serving.old.ids serving.new.session serving.new.ids result }
 {
     let mut head = [0u8; Header::LENGTH];
     match fill_or_end(link, &mut head) {
@@ -111,8 +110,7 @@ fn take_after<L: Link, G: Ledger>(
     steps: &mut Steps<G>,
 ) -> Result<(), ServeFault>
     ensures turn { (requests : List (List ℕ)) (before : State) → Remembers settings.now requests serving.old.session → FollowsHead before (L.state link.old) head.now →
-        PartEnds settings.now requests before (L.state link.new) serving.old.session serving.old.ids serving.new.session serving.new.ids result }
-    ensures rises { steps.old ≤ steps.new }
+        PartEnds settings.now requests before (L.state link.new) steps.old steps.new serving.old.session serving.old.ids serving.new.session serving.new.ids result }
 {
     match Header::decode(head) {
         Ok(header) => match header.op_code {
@@ -135,8 +133,7 @@ fn take_message<L: Link, G: Ledger>(
 ) -> Result<(), ServeFault>
     requires { header.op_code ≡ Message }
     ensures turn { (requests : List (List ℕ)) (before : State) → Remembers settings.now requests serving.old.session → FollowsHead before (L.state link.old) (header_bytes header) →
-        PartEnds settings.now requests before (L.state link.new) serving.old.session serving.old.ids serving.new.session serving.new.ids result }
-    ensures rises { steps.old ≤ steps.new }
+        PartEnds settings.now requests before (L.state link.new) steps.old steps.new serving.old.session serving.old.ids serving.new.session serving.new.ids result }
 {
     let maximum = Some(MAXIMUM_MESSAGE_LENGTH);
     match serving.buffer.take_after(link, header, maximum) {
@@ -168,7 +165,8 @@ fn answer_document<G: Ledger>(
     ensures answered { IfOk result (IsDocumentAnswered settings.now session.old document.entry.bytes.now session.new) }
     ensures kept { OnErr result (session.new.user ≡ session.old.user) }
     ensures refused { IfErr result (λ fault. fault ≡ OutOfMemory) }
-    ensures rises { steps.old ≤ steps.new }
+    ensures cost { OnOk result (TakesRounds (DocumentRounds settings.now document.entry.bytes.now) steps.old steps.new) }
+    ensures at_most { OnErr result (TakesAtMost (DocumentRounds settings.now document.entry.bytes.now) steps.old steps.new) }
 {
     match answer_request(alloc, settings, session, request_of(document), steps) {
         Ok(reply) => Ok(reply),
@@ -187,8 +185,7 @@ fn take_query<L: Link, G: Ledger>(
 ) -> Result<(), ServeFault>
     requires { header.op_code ≡ Query }
     ensures turn { (requests : List (List ℕ)) (before : State) → Remembers settings.now requests serving.old.session → FollowsHead before (L.state link.old) (header_bytes header) →
-        PartEnds settings.now requests before (L.state link.new) serving.old.session serving.old.ids serving.new.session serving.new.ids result }
-    ensures rises { steps.old ≤ steps.new }
+        PartEnds settings.now requests before (L.state link.new) steps.old steps.new serving.old.session serving.old.ids serving.new.session serving.new.ids result }
 {
     let Some(rest) = length_after(header.length) else {
         return Err(ServeFault::NoFrame);
@@ -232,7 +229,9 @@ fn greet_query<G: Ledger>(
     ensures greeting { OnOk result (IsGreeting document.entry.bytes.now) }
     ensures kept { OnErr result (session.new.user ≡ session.old.user) }
     ensures refused { IfErr result (λ fault. (fault ≡ OutOfMemory) ⊎ ((fault ≡ NoHello) × (IsGreeting document.entry.bytes.now → ⊥))) }
-    ensures rises { steps.old ≤ steps.new }
+    ensures cost { OnOk result (TakesRounds (DocumentRounds settings.now document.entry.bytes.now) steps.old steps.new) }
+    ensures at_most { OnErr result (TakesAtMost (DocumentRounds settings.now document.entry.bytes.now) steps.old steps.new) }
+    ensures no_cost { IfErr result (λ fault. fault ≡ NoHello → steps.new ≡ steps.old) }
 {
     match request_of(document) {
         Request::Hello(hello) => match greet(alloc, settings, session, hello, steps) {

@@ -1,6 +1,8 @@
-use Rattle.std.proofs.Common.{inr, refl, arith}
+use Rattle.std.proofs.Common.{inl, inr, refl, arith}
 use Rattle.mongo_session.proofs.Carried.{greeting_carried}
 use Rattle.mongo_service.proofs.Greeted.{no_greeting}
+use Rattle.mongo_service.proofs.Spent.{request_at_most}
+use Rattle.mongo_session.specs.declared.request.Request.TheVariants.{Hello}
 use Rattle.mongo_service.proofs.serve.greet_query.Goals as goal
 
 pub returns-in-Ok-clause-remembers : goal.returns-in-Ok-clause-remembers
@@ -16,5 +18,10 @@ returns-in_default g c = record {
   greeting = tt;
   kept = refl;
   refused = inr (refl, no_greeting c.args.document.bytes.now c.request_of.result c.request_of.ensures c.in_default.not-Hello);
-  rises = omega arith;
+  cost = tt;
+  at_most = (omega arith, inl refl);
+  no_cost = λ _. refl;
 }
+
+pub returns-in-Err-clause-at_most : goal.returns-in-Err-clause-at_most
+returns-in-Err-clause-at_most g c = request_at_most c.args.settings.now c.args.document.bytes.now (Hello c.in-Hello.hello) c.in-Hello.ensures c.args.steps.now c.greet.new.steps c.in-Err.ensures.at_most

@@ -4,32 +4,42 @@ use Rattle.mongo_service.specs.Turns.{documents}
 use Rattle.mongo_service.proofs.Stream.{begun, one_turn_more, has_ended, was_cut, went_on}
 use Rattle.mongo_service.proofs.serve.serve.Goals as goal
 
-pub returns-in-Ok-false-clause-served : goal.returns-in-Ok-false-clause-served
-returns-in-Ok-false-clause-served g c =
-    let old = g.L.Outside.state c.args.link.now in
-    let mid = g.L.Outside.state c.serving.link in
-    let new = g.L.Outside.state c.take_turn.new.link in
-    let before = c.serving.serving.session in
-    let after = c.take_turn.new.serving.session in
-    let id = c.serving.serving.ids in
-    let later = c.take_turn.new.serving.ids in
-    let count = c.serving._turn in
-    let h = c.serving.invariant.served in
-    let result : c.take_turn.result ≡ Ok false = c.in-Ok-false.is ∙ ap Ok c.in-Ok-false.field-0-test in
-    has_ended c.args.settings.now old mid new before id after count h (subst (TurnEnds c.args.settings.now (documents h.turns) mid new before id after later) result (c.take_turn.ensures.turn (documents h.turns) h.remembers))
+pub returns-in-Ok-false : goal.returns-in-Ok-false
+returns-in-Ok-false g c = record {
+  served =
+      let old = g.L.Outside.state c.args.link.now in
+      let mid = g.L.Outside.state c.serving.link in
+      let new = g.L.Outside.state c.take_turn.new.link in
+      let before = c.serving.serving.session in
+      let after = c.take_turn.new.serving.session in
+      let id = c.serving.serving.ids in
+      let later = c.take_turn.new.serving.ids in
+      let count = c.serving._turn in
+      let first = c.args.steps.now in
+      let mark = c.serving.steps in
+      let last = c.take_turn.new.steps in
+      let h = c.serving.invariant in
+      let result : c.take_turn.result ≡ Ok false = c.in-Ok-false.is ∙ ap Ok c.in-Ok-false.field-0-test in
+      has_ended c.args.settings.now old mid new first mark last before id after count h (subst (TurnEnds c.args.settings.now (documents h.turns) mid new mark last before id after later) result (c.take_turn.ensures.turn (documents h.turns) h.remembers));
+}
 
-pub returns-in-Err-clause-served : goal.returns-in-Err-clause-served
-returns-in-Err-clause-served g c =
-    let old = g.L.Outside.state c.args.link.now in
-    let mid = g.L.Outside.state c.serving.link in
-    let new = g.L.Outside.state c.take_turn.new.link in
-    let before = c.serving.serving.session in
-    let after = c.take_turn.new.serving.session in
-    let id = c.serving.serving.ids in
-    let later = c.take_turn.new.serving.ids in
-    let count = c.serving._turn in
-    let h = c.serving.invariant.served in
-    was_cut c.args.settings.now old mid new before id after.user c.in-Err.fault count h (subst (TurnEnds c.args.settings.now (documents h.turns) mid new before id after later) c.in-Err.is (c.take_turn.ensures.turn (documents h.turns) h.remembers))
+pub returns-in-Err : goal.returns-in-Err
+returns-in-Err g c = record {
+  served =
+      let old = g.L.Outside.state c.args.link.now in
+      let mid = g.L.Outside.state c.serving.link in
+      let new = g.L.Outside.state c.take_turn.new.link in
+      let before = c.serving.serving.session in
+      let after = c.take_turn.new.serving.session in
+      let id = c.serving.serving.ids in
+      let later = c.take_turn.new.serving.ids in
+      let count = c.serving._turn in
+      let first = c.args.steps.now in
+      let mark = c.serving.steps in
+      let last = c.take_turn.new.steps in
+      let h = c.serving.invariant in
+      was_cut c.args.settings.now old mid new first mark last before id after.user c.in-Err.fault count h (subst (TurnEnds c.args.settings.now (documents h.turns) mid new mark last before id after later) c.in-Err.is (c.take_turn.ensures.turn (documents h.turns) h.remembers));
+}
 
 pub serving-preserved : goal.serving-preserved
 serving-preserved g c =
@@ -41,14 +51,19 @@ serving-preserved g c =
     let id = c.serving.serving.ids in
     let later = c.take_turn.new.serving.ids in
     let count = c.serving._turn in
-    let h = c.serving.invariant.served in
+    let first = c.args.steps.now in
+    let mark = c.serving.steps in
+    let last = c.take_turn.new.steps in
+    let h = c.serving.invariant in
     let result : c.take_turn.result ≡ Ok true = c.in-Ok-true.is ∙ ap Ok c.in-Ok-true.field-0-test in
-    record { served = one_turn_more c.args.settings.now old mid new before id after later count h (subst (TurnEnds c.args.settings.now (documents h.turns) mid new before id after later) result (c.take_turn.ensures.turn (documents h.turns) h.remembers)); rises = omega (arith, c.serving.invariant.rises, c.take_turn.ensures.rises) }
+    one_turn_more c.args.settings.now old mid new first mark last before id after later count h (subst (TurnEnds c.args.settings.now (documents h.turns) mid new mark last before id after later) result (c.take_turn.ensures.turn (documents h.turns) h.remembers))
 
-pub returns-clause-served : goal.returns-clause-served
-returns-clause-served g c =
-    let all : c.serving._turn ≡ 2 ^ 64 - 1 = omega arith in
-    went_on c.args.settings.now (g.L.Outside.state c.args.link.now) (g.L.Outside.state c.serving.link) c.serving.serving.session c.serving.serving.ids c.serving._turn all c.serving.invariant.served
+pub returns : goal.returns
+returns g c = record {
+  served =
+      let all : c.serving._turn ≡ 2 ^ 64 - 1 = omega arith in
+      went_on c.args.settings.now (g.L.Outside.state c.args.link.now) (g.L.Outside.state c.serving.link) c.args.steps.now c.serving.steps c.serving.serving.session c.serving.serving.ids c.serving._turn all c.serving.invariant;
+}
 
 pub serving-init : goal.serving-init
-serving-init g c = record { served = begun c.args.settings.now (g.L.Outside.state c.args.link.now) c.new.result c.new-3.result c.new.ensures.nobody c.new.ensures.none c.new-3.ensures; rises = omega arith }
+serving-init g c = begun c.args.settings.now (g.L.Outside.state c.args.link.now) c.args.steps.now c.new.result c.new-3.result c.new.ensures.nobody c.new.ensures.none c.new-3.ensures
