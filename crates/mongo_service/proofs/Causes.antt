@@ -10,7 +10,7 @@ use Rattle.mongo_wire.proofs.OneFrame.{signed_in}
 use Rattle.mongo_wire.specs.Error.{kind_of_frame_fault}
 use Rattle.mongo_wire.specs.Header.{code_number, signed_at}
 use Rattle.mongo_wire.specs.Message.{ReadRefused}
-use Rattle.mongo_wire.specs.Outside.{State, ReadStops, RanOut, risen}
+use Rattle.mongo_wire.specs.Outside.{State, ReadsOn, ReadStops, RanOut, Unstopped, WritesOn}
 use Rattle.mongo_wire.specs.Rows.{FrameRow, IsStarted, IsUnfinished, IsEmptied, TakesRow}
 use Rattle.mongo_wire.specs.declared.error.ErrorKind.{ErrorKind}
 use Rattle.mongo_wire.specs.declared.error.ErrorKind.TheVariants.{InvalidArgument, InvalidResponse, EndOfInput}
@@ -19,7 +19,7 @@ use Rattle.mongo_wire.specs.declared.fault.FrameFault.TheVariants as frame
 use Rattle.mongo_wire.specs.declared.op_code.OpCode.TheVariants.{Message, Query}
 use Rattle.mongo_service.specs.declared.fault.ServeFault.{ServeFault}
 use Rattle.mongo_service.specs.declared.fault.ServeFault.TheVariants.{ReadFault, WriteFault, CutFrame, NoFrame, NoHello, ReplyTooLong, TooManyRequests, OutOfMemory}
-use Rattle.mongo_service.specs.Cut.{HasCause, IsNoRequest, IsPart, TookSome}
+use Rattle.mongo_service.specs.Cut.{HasCause, CountsFault, IsNoRequest, IsPart, TookSome}
 use Rattle.mongo_service.specs.Faults.{fault_of_bson, fault_of_frame, IsOfBuilding}
 use Rattle.mongo_server.specs.Announced.{maximum_message_length}
 use Rattle.mongo_session.specs.Replies.{TooLongFor}
@@ -28,6 +28,7 @@ use Rattle.mongo_session.specs.Requests.{IsGreeting}
 use Rattle.mongo_service.specs.Served.{HasCauseAfter, Lasts}
 use Rattle.mongo_service.specs.Taken.{IsQuery}
 use Rattle.mongo_service.specs.Turns.{ServerTurn}
+use Rattle.mongo_service.proofs.Lasts.{counted_after, end_after, lasts_unstopped}
 use Rattle.mongo_service.proofs.NoRequest.{ended_within, IsShort, no_message, unfinished, untold_zeros, untold_zeros_begin_none}
 
 -- ---- reading was refused
@@ -37,6 +38,7 @@ pub record StoppedWithCause (fault : ServeFault) (old mid new : State) (front : 
   pub taken : List ℕ
   pub within : length taken ≤ wanted
   pub consumed : Consumes mid.left new.left taken
+  pub counted : CountsFault fault old new
   pub cause : HasCause fault old new [] (front ++ taken)
 
 ran_empty : (old new : Option (List ℕ)) (wanted : ℕ) → is_some new ≡ is_some old → RanOut old new wanted → IsEmptied new
@@ -71,15 +73,15 @@ all_taken old mid new front wanted (Some xs) is before some r =
     record { taken = xs; within = omega (arith, r.0); consumed = subst (λ l. Consumes l new.left xs) (sym is) all; some = told_some old.left mid.left front (front ++ xs) before (some_after mid.left front xs is some); few = inl r.0 }
 
 pub cause_of_stop : (fault : FrameFault) (old mid new : State) (front : List ℕ) (wanted : ℕ) → Lasts old mid → Consumes old.left mid.left front → (kind_of_frame_fault fault ≡ EndOfInput → IfSome mid.left (λ bytes. 0 < length (front ++ bytes)))
-    → ((taken : List ℕ) → IsShort wanted taken → IsNoRequest (front ++ taken)) → is_some new.left ≡ is_some mid.left → ReadStops (kind_of_frame_fault fault) mid new wanted → StoppedWithCause (fault_of_frame fault) old mid new front wanted
-cause_of_stop frame.ReadFault old mid new front wanted lasts before some short tells s =
-    record { taken = s.1.0; within = omega (arith, s.1.1); consumed = s.1.2; cause = (s.0.reads ∙ ap risen lasts.reads, refl, short s.1.0 (inl s.1.1)) }
-cause_of_stop frame.EndOfInput old mid new front wanted lasts before some short tells s =
+    → ((taken : List ℕ) → IsShort wanted taken → IsNoRequest (front ++ taken)) → ReadsOn mid new → ReadStops (kind_of_frame_fault fault) mid new wanted → StoppedWithCause (fault_of_frame fault) old mid new front wanted
+cause_of_stop frame.ReadFault old mid new front wanted lasts before some short on s =
+    record { taken = s.1.0; within = omega (arith, s.1.1); consumed = s.1.2; counted = counted_after ReadFault old mid new lasts (s.0, on.unwritten.writes); cause = (refl, short s.1.0 (inl s.1.1)) }
+cause_of_stop frame.EndOfInput old mid new front wanted lasts before some short on s =
     let all = all_taken old mid new front wanted mid.left refl before (some refl) s.1 in
-    record { taken = all.taken; within = all.within; consumed = all.consumed; cause = (s.0.ends ∙ ap risen lasts.ends, ran_empty mid.left new.left wanted tells s.1, refl, all.some, short all.taken all.few) }
-cause_of_stop frame.OutOfMemory old mid new front wanted lasts before some short tells s = record { taken = s.1.0; within = s.1.1; consumed = s.1.2; cause = inl refl }
-cause_of_stop (frame.InvalidArgument _) old mid new front wanted lasts before some short tells s = absurd s
-cause_of_stop (frame.InvalidResponse _) old mid new front wanted lasts before some short tells s = absurd s
+    record { taken = all.taken; within = all.within; consumed = all.consumed; counted = end_after old mid new lasts (s.0, on.unwritten.writes); cause = (ran_empty mid.left new.left wanted on.tells s.1, refl, all.some, short all.taken all.few) }
+cause_of_stop frame.OutOfMemory old mid new front wanted lasts before some short on s = record { taken = s.1.0; within = s.1.1; consumed = s.1.2; counted = counted_after OutOfMemory old mid new lasts (s.0, on.unwritten.writes); cause = inl refl }
+cause_of_stop (frame.InvalidArgument _) old mid new front wanted lasts before some short on s = absurd s
+cause_of_stop (frame.InvalidResponse _) old mid new front wanted lasts before some short on s = absurd s
 
 -- after some bytes
 pub some_before : (left : Option (List ℕ)) (front : List ℕ) → 0 < length front → IfSome left (λ bytes. 0 < length (front ++ bytes))
@@ -92,6 +94,7 @@ pub record Refused (fault : ServeFault) (old new : State) : Type 0 where
   pub taken : List ℕ
   pub part : IsPart taken
   pub consumed : Consumes old.left new.left taken
+  pub counted : CountsFault fault old new
   pub cause : HasCause fault old new [] taken
 
 started : (maximum : ℤ) (taken : List ℕ) → IsUnfinished maximum taken → IsStarted maximum taken
@@ -125,23 +128,23 @@ message_taken xs taken None message whole p = absurd p
 message_taken xs taken (Some ys) message whole p = sym (signed_in 12 taken ys (omega arith)) ∙ ap (signed_at 12) (sym p) ∙ message
 
 -- the bytes of an OP_MSG call for a row; where none are told, any do that begin no request
-row_refused : (kind : ErrorKind) (old new : State) (left : Option (List ℕ)) → old.left ≡ left → (kind ≡ EndOfInput → ⊥) → IfSome old.left IsOfMessage → TakesRow kind maximum_message_length old.left new.left → Refused NoFrame old new
-row_refused kind old new None is other message row =
-    record { taken = untold_zeros; part = inl (inl (omega arith)); consumed = subst (λ left. Consumes left new.left untold_zeros) (sym is) tt; cause = (refl, omega arith, untold_zeros_begin_none) }
-row_refused kind old new (Some xs) is other message row =
+row_refused : (kind : ErrorKind) (old new : State) (left : Option (List ℕ)) → old.left ≡ left → (kind ≡ EndOfInput → ⊥) → IfSome old.left IsOfMessage → ReadsOn old new → Unstopped old new → TakesRow kind maximum_message_length old.left new.left → Refused NoFrame old new
+row_refused kind old new None is other message on still row =
+    record { taken = untold_zeros; part = inl (inl (omega arith)); consumed = subst (λ left. Consumes left new.left untold_zeros) (sym is) tt; counted = (still, on.unwritten.writes); cause = (refl, omega arith, untold_zeros_begin_none) }
+row_refused kind old new (Some xs) is other message on still row =
     let taken = row.0 in
     let whole = row_whole maximum_message_length taken kind other row.2 in
     let code = message_taken xs taken new.left (subst (λ left. IfSome left IsOfMessage) is message) whole (subst (λ left. Consumes left new.left taken) is row.1) in
-    record { taken = taken; part = inl (row_started maximum_message_length taken kind row.2); consumed = row.1; cause = (refl, whole, no_message taken kind whole code other row.2) }
+    record { taken = taken; part = inl (row_started maximum_message_length taken kind row.2); consumed = row.1; counted = (still, on.unwritten.writes); cause = (refl, whole, no_message taken kind whole code other row.2) }
 
-pub cause_of_refusal : (fault : FrameFault) (old new : State) → IfSome old.left (λ bytes. 0 < length bytes) → IfSome old.left IsOfMessage → ReadRefused (kind_of_frame_fault fault) maximum_message_length old new → Refused (fault_of_frame fault) old new
-cause_of_refusal frame.ReadFault old new some message h =
-    record { taken = h.1.0; part = inl (started maximum_message_length h.1.0 h.1.2); consumed = h.1.1; cause = (h.0.reads, refl, unfinished maximum_message_length h.1.0 h.1.2) }
-cause_of_refusal frame.EndOfInput old new some message h =
-    record { taken = h.1.0; part = inl (row_started maximum_message_length h.1.0 EndOfInput h.1.2); consumed = h.1.1; cause = (h.0.ends, h.2, refl, emptied_some old.left new.left h.1.0 some h.1.1 h.2, ended_within maximum_message_length h.1.0 h.1.2) }
-cause_of_refusal frame.OutOfMemory old new some message h = record { taken = h.1.0; part = inl h.1.2; consumed = h.1.1; cause = inl refl }
-cause_of_refusal (frame.InvalidArgument f) old new some message h = row_refused (InvalidArgument f) old new old.left refl (λ e. cc) message h.1
-cause_of_refusal (frame.InvalidResponse f) old new some message h = row_refused (InvalidResponse f) old new old.left refl (λ e. cc) message h.1
+pub cause_of_refusal : (fault : FrameFault) (old new : State) → IfSome old.left (λ bytes. 0 < length bytes) → IfSome old.left IsOfMessage → ReadsOn old new → ReadRefused (kind_of_frame_fault fault) maximum_message_length old new → Refused (fault_of_frame fault) old new
+cause_of_refusal frame.ReadFault old new some message on h =
+    record { taken = h.1.0; part = inl (started maximum_message_length h.1.0 h.1.2); consumed = h.1.1; counted = (h.0, on.unwritten.writes); cause = (refl, unfinished maximum_message_length h.1.0 h.1.2) }
+cause_of_refusal frame.EndOfInput old new some message on h =
+    record { taken = h.1.0; part = inl (row_started maximum_message_length h.1.0 EndOfInput h.1.2); consumed = h.1.1; counted = (h.0, on.unwritten.writes); cause = (h.2, refl, emptied_some old.left new.left h.1.0 some h.1.1 h.2, ended_within maximum_message_length h.1.0 h.1.2) }
+cause_of_refusal frame.OutOfMemory old new some message on h = record { taken = h.1.0; part = inl h.1.2; consumed = h.1.1; counted = (h.0, on.unwritten.writes); cause = inl refl }
+cause_of_refusal (frame.InvalidArgument f) old new some message on h = row_refused (InvalidArgument f) old new old.left refl (λ e. cc) message on h.0 h.1
+cause_of_refusal (frame.InvalidResponse f) old new some message on h = row_refused (InvalidResponse f) old new old.left refl (λ e. cc) message on h.0 h.1
 
 -- ---- fronts
 
@@ -169,7 +172,7 @@ is_of_building document fault is = absurd is
 
 pub document_cause : (too_long : Type 0) (document : List ℕ) (fault : BsonFault) (old : State) → (maximum_length < length document → too_long) → TooLongFor fault document → WriteCause too_long (fault_of_bson fault) old old
 document_cause too_long document TooLong old long is = (long is, refl)
-document_cause too_long document NoMemory old long is = tt
+document_cause too_long document NoMemory old long is = refl
 document_cause too_long document fault old long is = absurd is
 
 -- the cause of a reply that is too long
@@ -177,17 +180,23 @@ pub long_cause : (too_long : Type 0) (fault : ServeFault) (old new : State) → 
 long_cause too_long fault old new cause is = let same : fault ≡ ReplyTooLong = cc in (subst (λ f. WriteCause too_long f old new) same cause).0
 
 pub write_cause : (too_long : Type 0) (fault : ServeFault) (old mid new : State) (cut : List ServerTurn) → length cut ≡ 1 → Lasts old mid → WriteCause too_long fault mid new → HasCause fault old new cut []
-write_cause too_long WriteFault old mid new cut one lasts w = (w ∙ ap risen lasts.writes, (one, refl))
+write_cause too_long WriteFault old mid new cut one lasts w = (one, refl)
 write_cause too_long ReplyTooLong old mid new cut one lasts w = (one, refl)
 write_cause too_long OutOfMemory old mid new cut one lasts w = inr refl
 write_cause too_long fault old mid new cut one lasts w = absurd w
 
+pub write_counted : (too_long : Type 0) (fault : ServeFault) (old mid new : State) → Lasts old mid → WritesOn mid new → WriteCause too_long fault mid new → CountsFault fault old new
+write_counted too_long WriteFault old mid new lasts on w = counted_after WriteFault old mid new lasts (record { reads = on.unread.reads; ends = on.unread.ends }, w)
+write_counted too_long ReplyTooLong old mid new lasts on w = counted_after ReplyTooLong old mid new lasts (record { reads = on.unread.reads; ends = on.unread.ends }, ap (λ s. s.write_faults) w.1)
+write_counted too_long OutOfMemory old mid new lasts on w = counted_after OutOfMemory old mid new lasts (record { reads = on.unread.reads; ends = on.unread.ends }, w)
+write_counted too_long fault old mid new lasts on w = absurd w
+
 -- ---- after the turns before
 
 pub cause_after : (fault : ServeFault) (count : ℕ) (old mid new : State) (taken : List ℕ) (cut : List ServerTurn) (more : List ℕ) → Lasts old mid → Consumes old.left mid.left taken → HasCause fault mid new cut more → HasCauseAfter fault count old new cut more
-cause_after ReadFault count old mid new taken cut more lasts before c = (c.0 ∙ ap risen lasts.reads, c.1, c.2)
-cause_after WriteFault count old mid new taken cut more lasts before c = (c.0 ∙ ap risen lasts.writes, c.1)
-cause_after CutFrame count old mid new taken cut more lasts before c = (c.0 ∙ ap risen lasts.ends, c.1, c.2, told_some old.left mid.left taken more before c.3, c.4)
+cause_after ReadFault count old mid new taken cut more lasts before c = c
+cause_after WriteFault count old mid new taken cut more lasts before c = c
+cause_after CutFrame count old mid new taken cut more lasts before c = (c.0, c.1, told_some old.left mid.left taken more before c.2, c.3)
 cause_after TooManyRequests count old mid new taken cut more lasts before c = absurd c
 cause_after fault count old mid new taken cut more lasts before c = c
 
@@ -196,3 +205,7 @@ cause_after fault count old mid new taken cut more lasts before c = c
 pub unasked : (fault : ServeFault) (old new : State) (bytes command : List ℕ) → IsQuery bytes command → (fault ≡ OutOfMemory) ⊎ ((fault ≡ NoHello) × (IsGreeting command → ⊥)) → HasCause fault old new [] bytes
 unasked fault old new bytes command is_query (inl memory) = subst (λ f. HasCause f old new [] bytes) (sym memory) (inl refl)
 unasked fault old new bytes command is_query (inr (other, none)) = subst (λ f. HasCause f old new [] bytes) (sym other) (refl, (command, is_query, none))
+
+pub unasked_counted : (fault : ServeFault) (old new : State) (command : List ℕ) → (fault ≡ OutOfMemory) ⊎ ((fault ≡ NoHello) × (IsGreeting command → ⊥)) → Lasts old new → CountsFault fault old new
+unasked_counted fault old new command (inl memory) lasts = subst (λ f. CountsFault f old new) (sym memory) (lasts_unstopped old new lasts, lasts.writes)
+unasked_counted fault old new command (inr (other, none)) lasts = subst (λ f. CountsFault f old new) (sym other) (lasts_unstopped old new lasts, lasts.writes)

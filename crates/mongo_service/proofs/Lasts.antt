@@ -1,7 +1,11 @@
 -- What lasts from one state of a link to a later one.
 use Rattle.std.proofs.Common.{◌≡◌, ℕ, ◌+◌, ◌≤◌, Option, None, Some, IfSome, List, [], ◌++◌, length, inl, inr, refl, ap, ◌∙◌, subst, arith, length-append}
 use Rattle.std.specs.Io.KnownBytes.{Appends}
-use Rattle.mongo_wire.specs.Outside.{State, ReadsOn, WritesOn, Unstopped, IsFlushed}
+use Rattle.mongo_wire.specs.Outside.{State, MeetsEnd, ReadsOn, WritesOn, Unstopped, IsFlushed, risen}
+use Rattle.mongo_wire.proofs.ReadStopped.{unstopped_on, fails_after, ends_after}
+use Rattle.mongo_service.specs.Cut.{CountsEnd, CountsFault}
+use Rattle.mongo_service.specs.declared.fault.ServeFault.{ServeFault}
+use Rattle.mongo_service.specs.declared.fault.ServeFault.TheVariants.{ReadFault, WriteFault, CutFrame}
 use Rattle.mongo_service.specs.Sent.{HasFlushed}
 use Rattle.mongo_service.specs.Served.{Lasts}
 
@@ -27,6 +31,21 @@ lasts_after before now new still p q = record { reads = still.reads; ends = stil
 
 pub lasts_write : (old new : State) → new.write_faults ≡ old.write_faults → WritesOn old new → Lasts old new
 lasts_write old new still on = record { reads = on.unread.reads; ends = on.unread.ends; writes = still; flushed = on.flushed_stays }
+
+-- ---- what was counted
+
+pub lasts_unstopped : (old new : State) → Lasts old new → Unstopped old new
+lasts_unstopped old new lasts = record { reads = lasts.reads; ends = lasts.ends }
+
+pub end_after : (old mid new : State) → Lasts old mid → CountsEnd mid new → CountsEnd old new
+end_after old mid new lasts c = (ends_after old mid new (lasts_unstopped old mid lasts) c.0, c.1 ∙ lasts.writes)
+
+-- nothing was counted before
+pub counted_after : (fault : ServeFault) (old mid new : State) → Lasts old mid → CountsFault fault mid new → CountsFault fault old new
+counted_after ReadFault old mid new lasts c = (fails_after old mid new (lasts_unstopped old mid lasts) c.0, c.1 ∙ lasts.writes)
+counted_after CutFrame old mid new lasts c = end_after old mid new lasts c
+counted_after WriteFault old mid new lasts c = (unstopped_on old mid new (lasts_unstopped old mid lasts) c.0, c.1 ∙ ap risen lasts.writes)
+counted_after fault old mid new lasts c = (unstopped_on old mid new (lasts_unstopped old mid lasts) c.0, c.1 ∙ lasts.writes)
 
 -- ---- what was flushed
 

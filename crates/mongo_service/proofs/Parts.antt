@@ -17,7 +17,7 @@ use Rattle.mongo_session.specs.Costs.{DocumentRounds, TakesRounds}
 use Rattle.mongo_session.specs.Login.{HasLoggedIn, Remembers}
 use Rattle.mongo_session.specs.Replies.{document_of_served}
 use Rattle.mongo_session.specs.Requests.{IsGreeting}
-use Rattle.mongo_service.specs.Cut.{HasCause, IsCut, IsPart}
+use Rattle.mongo_service.specs.Cut.{HasCause, CountsFault, IsCut, IsPart}
 use Rattle.mongo_service.specs.Sent.{IsAnswerTo, IsLongMessage, IsLongReply, IsReplySent, IsSentInPart, IsSentToQuery, message_reply, query_reply, WantsNone, WriteCause}
 use Rattle.mongo_service.specs.Served.{FollowsHead, Lasts, PartEnds}
 use Rattle.mongo_session.specs.Answers.{IsDocumentAnswered}
@@ -134,7 +134,7 @@ front_taken head (Some bytes) = refl
 
 -- more was taken after a header, and nothing answered
 pub none_after : (settings : ServeSettings) (requests : List (List ℕ)) (before now new : State) (first last : ℕ) (session : Session) (id : ℤ) (user : Option (List ℕ)) (fault : ServeFault) (head more : List ℕ) → user ≡ session.user → IsPart (head ++ more)
-    → FollowsHead before now head → Consumes now.left new.left more → new.written ≡ now.written → IfSome session.user (λ name. HasLoggedIn settings name requests) → HasCause fault before new [] (head ++ more) → before.flushed ≤ new.flushed
+    → FollowsHead before now head → Consumes now.left new.left more → new.written ≡ now.written → IfSome session.user (λ name. HasLoggedIn settings name requests) → CountsFault fault before new → HasCause fault before new [] (head ++ more) → before.flushed ≤ new.flushed
     → SpendsRounds settings [] (Some fault) (head ++ more) first last → IsCut settings requests before new first last session id user fault
-none_after settings requests before now new first last session id user fault head more same part f consumed unwritten logged_in cause stays spent =
-    none_taken settings requests before new first last session id user fault (head ++ more) same part (Consumes-trans before.left now.left new.left head more f.taken consumed) (unwritten ∙ f.on.unwritten.written) logged_in cause stays spent
+none_after settings requests before now new first last session id user fault head more same part f consumed unwritten logged_in counted cause stays spent =
+    none_taken settings requests before new first last session id user fault (head ++ more) same part (Consumes-trans before.left now.left new.left head more f.taken consumed) (unwritten ∙ f.on.unwritten.written) logged_in counted cause stays spent

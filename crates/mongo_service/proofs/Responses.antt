@@ -90,7 +90,7 @@ long_message document sequences to flags none fault row =
 pub refused_cause : (too_long : Type 0) (kind : ErrorKind) (maximum : ℤ) (m : Message) (old new : State) (before after : ℤ) → ((fault : ArgumentFault) → ArgumentRow fault maximum m → too_long) → WriteRefused kind maximum m old new before after → WriteCause too_long (fault_of_kind kind) old new
 refused_cause too_long (InvalidArgument fault) maximum m old new before after long h = (long fault h.0, h.1)
 refused_cause too_long WriteFault maximum m old new before after long h = h.0
-refused_cause too_long OutOfMemory maximum m old new before after long h = tt
+refused_cause too_long OutOfMemory maximum m old new before after long h = h.0
 refused_cause too_long kind maximum m old new before after long h = absurd h
 
 -- ---- an OP_MSG was answered

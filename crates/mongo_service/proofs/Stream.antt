@@ -16,7 +16,7 @@ use Rattle.mongo_service.specs.Spent.{SpendsRounds}
 use Rattle.mongo_service.specs.Turns.{joined_frames, documents, sent_for}
 use Rattle.mongo_session.specs.Login.{fresh}
 use Rattle.mongo_service.proofs.Causes.{cause_after}
-use Rattle.mongo_service.proofs.Lasts.{flushed_on, flushed_still, lasts_all, lasts_on}
+use Rattle.mongo_service.proofs.Lasts.{counted_after, end_after, flushed_on, flushed_still, lasts_all, lasts_on, lasts_unstopped}
 use Rattle.mongo_service.proofs.Spent.{all_spent, rounds_after, rounds_then}
 use Rattle.mongo_service.proofs.Turns.{turns_joined, joined_append, documents_append, sent_append, turns_more}
 
@@ -82,6 +82,7 @@ has_ended settings old mid new first mark last before id after count h n =
       appended = subst (λ l. Appends old.written new.written (sent_for l)) turns (subst (Appends old.written new.written) (append-nil (sent_for h.turns)) (Appends-trans old.written mid.written new.written (sent_for h.turns) [] h.appended n.appended));
       logged_in = subst (λ l. IfSome after.user (λ name. HasLoggedIn settings name (documents l))) turns (subst (λ s. IfSome s.user (λ name. HasLoggedIn settings name (documents h.turns))) (sym n.kept) h.remembers.user);
       spent = subst (λ l. SpendsRounds settings (documents l) None [] first last) turns (all_spent settings (documents h.turns) None [] first last (subst (λ n. TakesRounds (AllRounds settings (documents h.turns)) first n) (sym n.unspent) h.cost));
+      counted = end_after old mid new h.lasts (n.ended.met, n.writes);
       cause = tt;
       whole = λ _. (refl, refl, n.ended.still);
     }
@@ -110,6 +111,7 @@ was_cut settings old mid new first mark last before id user fault count h c =
       appended = subst (Appends old.written new.written) (sym (sent_append h.turns c.turns)) (Appends-trans old.written mid.written new.written (sent_for h.turns) (sent_for c.turns) h.appended c.appended);
       logged_in = subst (λ rs. IfSome user (λ name. HasLoggedIn settings name rs)) (sym (documents_append h.turns c.turns)) c.logged_in;
       spent = subst (λ rs. SpendsRounds settings rs (Some fault) c.more first last) (sym (documents_append h.turns c.turns)) (rounds_after settings (documents h.turns) (documents c.turns) (Some fault) c.more first mark last h.cost c.spent);
+      counted = counted_after fault old mid new h.lasts c.counted;
       cause = cause_after fault (length h.turns) old mid new (joined_frames h.turns) c.turns c.more h.lasts h.consumed c.cause;
       whole = λ is. absurd (is_fault fault is);
     }
@@ -136,6 +138,7 @@ went_on settings old new first last session id count all h =
       appended = subst (λ l. Appends old.written new.written (sent_for l)) turns h.appended;
       logged_in = subst (λ l. IfSome session.user (λ name. HasLoggedIn settings name (documents l))) turns h.remembers.user;
       spent = subst (λ l. SpendsRounds settings (documents l) (Some TooManyRequests) [] first last) turns (all_spent settings (documents h.turns) (Some TooManyRequests) [] first last h.cost);
+      counted = (lasts_unstopped old new h.lasts, h.lasts.writes);
       cause = (h.counted ∙ all, refl, refl);
       whole = λ is. absurd (is_fault TooManyRequests is);
     }

@@ -9,14 +9,14 @@ use Rattle.mongo_wire.specs.Outside.{State, WritesOn}
 use Rattle.mongo_service.specs.declared.fault.ServeFault.{ServeFault}
 use Rattle.mongo_session.specs.declared.session.Session.{Session}
 use Rattle.mongo_session.specs.declared.serve_settings.ServeSettings.{ServeSettings}
-use Rattle.mongo_service.specs.Cut.{HasCause, IsCut, IsCutTurn, IsPart}
+use Rattle.mongo_service.specs.Cut.{HasCause, CountsFault, IsCut, IsCutTurn, IsPart}
 use Rattle.mongo_session.specs.Login.{HasLoggedIn, Remembers}
 use Rattle.mongo_session.specs.Costs.{DocumentRounds, TakesRounds}
 use Rattle.mongo_service.specs.Sent.{HasFlushed, WriteCause}
 use Rattle.mongo_service.specs.Served.{Lasts, TakesTurn}
 use Rattle.mongo_service.specs.Spent.{SpendsRounds}
 use Rattle.mongo_service.specs.Turns.{ServerTurn, IsTurnTaken, IsTurn, AreTurns, joined_frames, documents, sent_for}
-use Rattle.mongo_service.proofs.Causes.{write_cause}
+use Rattle.mongo_service.proofs.Causes.{write_cause, write_counted}
 use Rattle.mongo_service.proofs.Lasts.{flushed_from, lasts_on, lasts_write}
 use Rattle.mongo_service.proofs.Spent.{one_spent}
 
@@ -72,6 +72,7 @@ turn_cut too_long settings requests old mid new first last before id user fault 
   logged_in = logged_in;
   stays = omega (arith, lasts.flushed, on.flushed_stays);
   spent = one_spent settings turn.document (Some fault) [] first last cost;
+  counted = write_counted too_long fault old mid new lasts on cause;
   cause = write_cause too_long fault old mid new (turn ∷ []) (omega arith) lasts cause;
 }
   where
@@ -80,8 +81,8 @@ turn_cut too_long settings requests old mid new first last before id user fault 
 
 -- no request was answered, but some bytes taken
 pub none_taken : (settings : ServeSettings) (requests : List (List ℕ)) (old new : State) (first last : ℕ) (before : Session) (id : ℤ) (user : Option (List ℕ)) (fault : ServeFault) (more : List ℕ) → user ≡ before.user → IsPart more → Consumes old.left new.left more
-    → new.written ≡ old.written → IfSome before.user (λ name. HasLoggedIn settings name requests) → HasCause fault old new [] more → old.flushed ≤ new.flushed → SpendsRounds settings [] (Some fault) more first last → IsCut settings requests old new first last before id user fault
-none_taken settings requests old new first last before id user fault more same part consumed unwritten logged_in cause stays spent = record {
+    → new.written ≡ old.written → IfSome before.user (λ name. HasLoggedIn settings name requests) → CountsFault fault old new → HasCause fault old new [] more → old.flushed ≤ new.flushed → SpendsRounds settings [] (Some fault) more first last → IsCut settings requests old new first last before id user fault
+none_taken settings requests old new first last before id user fault more same part consumed unwritten logged_in counted cause stays spent = record {
   turns = [];
   one = omega arith;
   each = tt;
@@ -93,6 +94,7 @@ none_taken settings requests old new first last before id user fault more same p
   logged_in = subst (λ rs. IfSome user (λ name. HasLoggedIn settings name rs)) (sym (append-nil requests)) (subst (λ u. IfSome u (λ name. HasLoggedIn settings name requests)) (sym same) logged_in);
   stays = stays;
   spent = spent;
+  counted = counted;
   cause = cause;
 }
 

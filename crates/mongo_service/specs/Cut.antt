@@ -3,7 +3,7 @@ use Rattle.std.specs.Prelude.{◌≡◌, ℕ, ℤ, pos, ◌<◌, ◌≤◌, ◌�
 use Rattle.std.specs.List.{AllByRecursion}
 use Rattle.std.specs.Io.KnownBytes.{Consumes, Appends}
 use Rattle.mongo_wire.specs.Header.{code_number, signed_at}
-use Rattle.mongo_wire.specs.Outside.{State, Rose}
+use Rattle.mongo_wire.specs.Outside.{State, Rose, FailsToRead, MeetsEnd, Unstopped}
 use Rattle.mongo_wire.specs.Rows.{IsStarted, IsEmptied}
 use Rattle.mongo_wire.specs.declared.op_code.OpCode.TheVariants.{Query}
 use Rattle.mongo_service.specs.declared.fault.ServeFault.{ServeFault}
@@ -82,12 +82,23 @@ IsNoRequest bytes = (document : List ℕ) → CarriesRequest bytes document → 
 abbrev pub BeginsNoRequest : List ℕ → Type 0
 BeginsNoRequest taken = (frame rest document : List ℕ) → frame ≡ taken ++ rest → pos (length frame) ≤ℤ maximum_message_length → CarriesRequest frame document → ⊥
 
+-- one end was counted, and no fault
+abbrev pub CountsEnd : State → State → Type 0
+CountsEnd old new = MeetsEnd old new × (new.write_faults ≡ old.write_faults)
+
+-- What was counted for a fault: one read fault, one end or one write fault alone, or nothing.
+abbrev pub CountsFault : ServeFault → State → State → Type 0
+CountsFault ReadFault old new = FailsToRead old new × (new.write_faults ≡ old.write_faults)
+CountsFault CutFrame old new = CountsEnd old new
+CountsFault WriteFault old new = Unstopped old new × Rose old.write_faults new.write_faults
+CountsFault fault old new = Unstopped old new × (new.write_faults ≡ old.write_faults)
+
 -- What a fault says of the bytes that weren't answered, and of the link before and after. Whatever it is, nothing is taken behind a frame
 -- whose answer is cut.
 abbrev pub HasCause : ServeFault → State → State → List ServerTurn → List ℕ → Type 0
-HasCause ReadFault old new cut more = Rose old.read_faults new.read_faults × (cut ≡ []) × IsNoRequest more
-HasCause WriteFault old new cut more = Rose old.write_faults new.write_faults × CutsOne cut more
-HasCause CutFrame old new cut more = Rose old.ends new.ends × IsEmptied new.left × (cut ≡ []) × TookSome old more × IsNoRequest more
+HasCause ReadFault old new cut more = (cut ≡ []) × IsNoRequest more
+HasCause WriteFault old new cut more = CutsOne cut more
+HasCause CutFrame old new cut more = IsEmptied new.left × (cut ≡ []) × TookSome old more × IsNoRequest more
 HasCause NoFrame old new cut more = (cut ≡ []) × (16 ≤ length more) × BeginsNoRequest more
 HasCause NoHello old new cut more = (cut ≡ []) × AsksOtherwise more
 HasCause ReplyTooLong old new cut more = CutsOne cut more
@@ -108,4 +119,5 @@ pub record IsCut (settings : ServeSettings) (requests : List (List ℕ)) (old ne
   pub logged_in : IfSome user (λ name. HasLoggedIn settings name (requests ++ documents turns))
   pub stays : old.flushed ≤ new.flushed
   pub spent : SpendsRounds settings (documents turns) (Some fault) more first last
+  pub counted : CountsFault fault old new
   pub cause : HasCause fault old new turns more

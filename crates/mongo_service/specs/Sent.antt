@@ -1,5 +1,5 @@
 -- The frames that replies go out in.
-use Rattle.std.specs.Prelude.{◌≡◌, ℕ, ℤ, pos, ◌+◌, ◌≤◌, ◌<ℤ◌, ◌⊎◌, None, List, [], ◌∷◌, ◌++◌, length, take, bit_and, IfSome, ⊤}
+use Rattle.std.specs.Prelude.{◌≡◌, ℕ, ℤ, pos, ◌+◌, ◌≤◌, ◌<ℤ◌, ◌⊎◌, None, List, [], ◌∷◌, ◌++◌, length, take, bit_and, IfSome}
 use Rattle.std.specs.Int.{to_le_bytes, w64}
 use Rattle.std.specs.Io.KnownBytes.{Appends}
 use Rattle.mongo_wire.specs.Bytes.{next_id}
@@ -116,9 +116,9 @@ IsLongMessage document = maximum_message_length <ℤ pos (21 + length document)
 abbrev pub IsLongReply : List ℕ → Type 0
 IsLongReply document = maximum_message_length <ℤ pos (36 + length document)
 
--- The sink failed only where its count rose, and a reply is refused as too long only where it is, before any of it is written.
+-- The sink failed just where its count rose, and a reply is refused as too long only where it is, before any of it is written.
 abbrev pub WriteCause : Type 0 → ServeFault → State → State → Type 0
 WriteCause too_long WriteFault old new = Rose old.write_faults new.write_faults
 WriteCause too_long ReplyTooLong old new = too_long × (new ≡ old)
-WriteCause too_long OutOfMemory old new = ⊤
+WriteCause too_long OutOfMemory old new = new.write_faults ≡ old.write_faults
 WriteCause too_long fault old new = ⊥

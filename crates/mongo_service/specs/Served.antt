@@ -1,5 +1,5 @@
 -- How a stream was served.
-use Rattle.std.specs.Prelude.{◌≡◌, ℕ, ℤ, pos, ◌-◌, ◌^◌, ◌≤◌, Bool, true, false, None, Result, Ok, Err, List, [], ◌∷◌, ◌++◌, length, IfSome, ⊤}
+use Rattle.std.specs.Prelude.{◌≡◌, ℕ, ℤ, pos, ◌-◌, ◌^◌, ◌≤◌, Bool, true, false, None, Result, Ok, Err, List, [], ◌∷◌, ◌++◌, length, IfSome, MatchOption, ⊤}
 use Rattle.std.specs.List.{AllByRecursion}
 use Rattle.std.specs.Io.KnownBytes.{Consumes, Appends}
 use Rattle.mongo_wire.specs.Outside.{State, HasEnded, ReadsOn, Unstopped}
@@ -8,7 +8,7 @@ use Rattle.mongo_service.specs.declared.fault.ServeFault.TheVariants.{TooManyReq
 use Rattle.mongo_service.specs.declared.serve.Served.{Served}
 use Rattle.mongo_session.specs.declared.session.Session.{Session}
 use Rattle.mongo_session.specs.declared.serve_settings.ServeSettings.{ServeSettings}
-use Rattle.mongo_service.specs.Cut.{HasCause, IsCut, IsCutTurn, IsPart}
+use Rattle.mongo_service.specs.Cut.{CountsEnd, HasCause, CountsFault, IsCut, IsCutTurn, IsPart}
 use Rattle.mongo_session.specs.Costs.{AllRounds, DocumentRounds, TakesRounds}
 use Rattle.mongo_session.specs.Login.{fresh, HasLoggedIn, Remembers}
 use Rattle.mongo_service.specs.Sent.{HasFlushed}
@@ -40,6 +40,7 @@ pub record NoTurn (old new : State) (first last : ℕ) (before after : Session) 
   pub ended : HasEnded old new
   pub appended : Appends old.written new.written []
   pub flushed : new.flushed ≡ old.flushed
+  pub writes : new.write_faults ≡ old.write_faults
   pub kept : after ≡ before
   pub unspent : last ≡ first
 
@@ -103,5 +104,6 @@ pub record IsServed (settings : ServeSettings) (old new : State) (first last : �
   pub appended : Appends old.written new.written (sent_for (turns ++ cut))
   pub logged_in : IfSome served.user (λ name. HasLoggedIn settings name (documents (turns ++ cut)))
   pub spent : SpendsRounds settings (documents (turns ++ cut)) served.fault more first last
+  pub counted : MatchOption served.fault (CountsEnd old new) (λ fault. CountsFault fault old new)
   pub cause : IfSome served.fault (λ fault. HasCauseAfter fault (length turns) old new cut more)
   pub whole : served.fault ≡ None → (cut ≡ []) × (more ≡ []) × IfSome new.left (λ rest. rest ≡ [])

@@ -32,7 +32,7 @@ returns-in_default g c = record {
       let known = c.in-Ok.ensures.header.0 in
       let other = other_code head (omega (arith, sixteen)) (unlike_code (signed_at 12 head) Message c.in-Ok.header.op_code known refl c.in_default.not-Message) (unlike_code (signed_at 12 head) Query c.in-Ok.header.op_code known refl c.in_default.not-Query) in
       none_taken c.args.settings.now requests before (g.L.Outside.state c.args.link.now) steps steps session c.args.serving.now.ids session.user NoFrame head refl (header_part head (omega (arith, sixteen))) f.taken f.on.unwritten.written h.user
-      (refl, omega (arith, sixteen), other) (flushed_read before _ f.on) (none_spent c.args.settings.now (Some NoFrame) head steps);
+      (f.unstopped, f.on.unwritten.writes) (refl, omega (arith, sixteen), other) (flushed_read before _ f.on) (none_spent c.args.settings.now (Some NoFrame) head steps);
 }
 
 pub returns-in-Err : goal.returns-in-Err
@@ -45,5 +45,5 @@ returns-in-Err g c = record {
       let none = c.in-Err.ensures.unknown.1 in
       let other = other_code head (omega (arith, sixteen)) (unknown (signed_at 12 head) Message none refl) (unknown (signed_at 12 head) Query none refl) in
       none_taken c.args.settings.now requests before (g.L.Outside.state c.args.link.now) steps steps session c.args.serving.now.ids session.user NoFrame head refl (header_part head (omega (arith, sixteen))) f.taken f.on.unwritten.written h.user
-      (refl, omega (arith, sixteen), other) (flushed_read before _ f.on) (none_spent c.args.settings.now (Some NoFrame) head steps);
+      (f.unstopped, f.on.unwritten.writes) (refl, omega (arith, sixteen), other) (flushed_read before _ f.on) (none_spent c.args.settings.now (Some NoFrame) head steps);
 }

@@ -3,11 +3,12 @@ use Rattle.std.specs.Int.{w32}
 use Rattle.std.specs.Io.KnownBytes.{prepend_known}
 use Rattle.std.proofs.lemmas.Bool.{false≢true}
 use Rattle.std.proofs.lemmas.Int.{to_z-of_z}
+use Rattle.mongo_wire.proofs.ReadStopped.{reads_on}
 use Rattle.mongo_wire.specs.Header.{header_bytes}
 use Rattle.mongo_wire.specs.declared.op_code.OpCode.TheVariants.{Message}
-use Rattle.mongo_service.specs.Cut.{HasCause, IsCut}
+use Rattle.mongo_service.specs.Cut.{HasCause, CountsFault, IsCut}
 use Rattle.mongo_service.proofs.Causes.{cause_of_refusal}
-use Rattle.mongo_service.proofs.Lasts.{flushed_after, lasts_after}
+use Rattle.mongo_service.proofs.Lasts.{flushed_after, lasts_after, lasts_unstopped}
 use Rattle.mongo_service.proofs.NoRequest.{code_spelled}
 use Rattle.mongo_service.specs.Taken.{CarriesRequest}
 use Rattle.mongo_service.specs.Spent.{SpendsRounds}
@@ -27,9 +28,9 @@ returns-in-Err g c = record {
       let steps = c.args.steps.now in
       let code = code_spelled c.args.header Message (search rules) (search rules) (search rules) c.requires in
       let on = c.in-Err.ensures.on in
-      let some = cause_of_refusal c.in-Err.fault before t (has_some before.left s.left head refl f.taken) (code_before before.left s.left head refl code f.taken) (c.in-Err.ensures.refused before f.taken f.unstopped f.on) in
+      let some = cause_of_refusal c.in-Err.fault before t (has_some before.left s.left head refl f.taken) (code_before before.left s.left head refl code f.taken) (reads_on before s t f.on on) (c.in-Err.ensures.refused before f.taken f.unstopped f.on) in
       subst (IsCut c.args.settings.now requests before t steps steps session id session.user) (sym c.into.ensures)
-      (none_taken c.args.settings.now requests before t steps steps session id session.user _ some.taken refl some.part some.consumed (on.unwritten.written ∙ f.on.unwritten.written) h.user some.cause (flushed_after before s t f.on on) (none_spent c.args.settings.now (Some _) some.taken steps));
+      (none_taken c.args.settings.now requests before t steps steps session id session.user _ some.taken refl some.part some.consumed (on.unwritten.written ∙ f.on.unwritten.written) h.user some.counted some.cause (flushed_after before s t f.on on) (none_spent c.args.settings.now (Some _) some.taken steps));
 }
 
 -- a frame was taken, whatever was left before its header
@@ -69,9 +70,10 @@ returns-in-Err-answer_document g c = record {
       let on = c.in-Ok.ensures.on in
       let document = message.document_payload.bytes.now in
       let carries : CarriesRequest taken.frame document = inl (taken.parts, shown.is_frame, sym shown.body_is) in
+      let lasts = lasts_after before s t taken.unstopped f.on on in
       let fault_is = c.in-Err-answer_document.ensures.refused in
       none_taken c.args.settings.now requests before t c.args.steps.now c.answer_document.new.steps c.args.serving.now.session c.args.serving.now.ids c.answer_document.new.session.user c.in-Err-answer_document.fault taken.frame c.in-Err-answer_document.ensures.kept
       (inr (inr (document, carries))) taken.taken (on.unwritten.written ∙ f.on.unwritten.written) h.user
-      (subst (λ fault. HasCause fault before t [] taken.frame) (sym fault_is) (inl refl)) (flushed_after before s t f.on on)
+      (subst (λ fault. CountsFault fault before t) (sym fault_is) (lasts_unstopped before t lasts, lasts.writes)) (subst (λ fault. HasCause fault before t [] taken.frame) (sym fault_is) (inl refl)) (flushed_after before s t f.on on)
       (subst (λ fault. SpendsRounds c.args.settings.now [] (Some fault) taken.frame c.args.steps.now c.answer_document.new.steps) (sym fault_is) (memory_spent c.args.settings.now taken.frame document c.args.steps.now c.answer_document.new.steps carries c.in-Err-answer_document.ensures.at_most));
 }

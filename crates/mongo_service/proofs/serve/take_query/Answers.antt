@@ -10,9 +10,9 @@ use Rattle.mongo_service.specs.Taken.{IsQueryBody}
 use Rattle.mongo_service.specs.declared.fault.ServeFault.TheVariants.{NoFrame}
 use Rattle.mongo_server.specs.Announced.{maximum_message_length}
 use Rattle.mongo_service.proofs.NoRequest.{bad_length, code_spelled, request_cut, no_query_body}
-use Rattle.mongo_service.proofs.Causes.{header_part, query_front, some_before, cause_of_stop, unasked}
+use Rattle.mongo_service.proofs.Causes.{header_part, query_front, some_before, cause_of_stop, unasked, unasked_counted}
 use Rattle.mongo_wire.proofs.ReadStopped.{unstopped_on}
-use Rattle.mongo_service.proofs.Lasts.{flushed_after, flushed_read, lasts_after, lasts_read}
+use Rattle.mongo_service.proofs.Lasts.{flushed_after, flushed_read, lasts_after, lasts_read, lasts_unstopped}
 use Rattle.mongo_service.proofs.Spent.{none_spent, unasked_spent}
 use Rattle.mongo_service.proofs.Turns.{none_taken}
 use Rattle.mongo_service.proofs.Parts.{query_part, query_of, none_after}
@@ -28,7 +28,7 @@ returns-in_default g c = record {
       let code = code_spelled c.args.header Query length_fits (search rules) (search rules) c.requires in
       let length_is : c.args.header.length ≡ signed_at 0 head = sym (length_back c.args.header length_fits) in
       none_taken c.args.settings.now requests before (g.L.Outside.state c.args.link.now) c.args.steps.now c.args.steps.now session c.args.serving.now.ids session.user NoFrame head refl (header_part head (omega (arith, sixteen))) f.taken f.on.unwritten.written h.user
-      (refl, omega (arith, sixteen), bad_length head sixteen code (subst (λ z. (z <ℤ pos 16) ⊎ (maximum_message_length <ℤ z)) (to_z-of_z w32 c.args.header.length length_fits ∙ length_is) (c.in_default.ensures.outside refl))) (flushed_read before _ f.on) (none_spent c.args.settings.now (Some NoFrame) head c.args.steps.now);
+      (f.unstopped, f.on.unwritten.writes) (refl, omega (arith, sixteen), bad_length head sixteen code (subst (λ z. (z <ℤ pos 16) ⊎ (maximum_message_length <ℤ z)) (to_z-of_z w32 c.args.header.length length_fits ∙ length_is) (c.in_default.ensures.outside refl))) (flushed_read before _ f.on) (none_spent c.args.settings.now (Some NoFrame) head c.args.steps.now);
 }
 
 pub returns-in-Err : goal.returns-in-Err
@@ -44,10 +44,10 @@ returns-in-Err g c = record {
       let length_fits : FitsSigned w32 c.args.header.length = search rules in
       let code = code_spelled c.args.header Query length_fits (search rules) (search rules) c.requires in
       let counted : pos (16 + c.in-Some.rest) ≡ signed_at 0 head = c.in-Some.ensures.counted ∙ to_z-of_z w32 c.args.header.length length_fits ∙ sym (length_back c.args.header length_fits) in
-      let some = cause_of_stop c.in-Err.fault before s t head c.in-Some.rest (lasts_read before s f.unstopped f.on) f.taken (λ _. some_before s.left head (omega (arith, sixteen))) (λ taken few. request_cut head taken c.in-Some.rest sixteen counted few) on.tells c.in-Err.ensures.refused in
+      let some = cause_of_stop c.in-Err.fault before s t head c.in-Some.rest (lasts_read before s f.unstopped f.on) f.taken (λ _. some_before s.left head (omega (arith, sixteen))) (λ taken few. request_cut head taken c.in-Some.rest sixteen counted few) on c.in-Err.ensures.refused in
       subst (IsCut c.args.settings.now requests before t c.args.steps.now c.args.steps.now session id session.user) (sym c.into.ensures)
       (none_after c.args.settings.now requests before s t c.args.steps.now c.args.steps.now session id session.user _ head some.taken refl (query_front head some.taken c.in-Some.rest sixteen code counted c.in-Some.ensures.within some.within) f some.consumed
-      on.unwritten.written h.user some.cause (flushed_after before s t f.on on) (none_spent c.args.settings.now (Some _) (head ++ some.taken) c.args.steps.now));
+      on.unwritten.written h.user some.counted some.cause (flushed_after before s t f.on on) (none_spent c.args.settings.now (Some _) (head ++ some.taken) c.args.steps.now));
 }
 
 pub returns-in_default-command_of_query : goal.returns-in_default-command_of_query
@@ -64,8 +64,9 @@ returns-in_default-command_of_query g c = record {
       let code = code_spelled c.args.header Query length_fits (search rules) (search rules) c.requires in
       let counted : pos (16 + c.in-Some.rest) ≡ signed_at 0 head = c.in-Some.ensures.counted ∙ to_z-of_z w32 c.args.header.length length_fits ∙ sym (length_back c.args.header length_fits) in
       let none = subst (λ b. (command : List ℕ) → IsQueryBody b command → ⊥) c.as_slice.ensures.value c.in_default-command_of_query.ensures in
+      let lasts = lasts_after before s t (unstopped_on before s t f.unstopped c.in-Ok.ensures.unstopped) f.on on in
       none_after c.args.settings.now requests before s t c.args.steps.now c.args.steps.now session c.args.serving.now.ids session.user NoFrame head body refl (query_front head body c.in-Some.rest sixteen code counted c.in-Some.ensures.within (omega (arith, c.in-Ok.ensures.whole))) f
-      c.in-Ok.ensures.taken on.unwritten.written h.user (refl, omega (arith, sixteen, length-append head body), no_query_body head body c.in-Some.rest sixteen code counted c.in-Ok.ensures.whole none) (flushed_after before s t f.on on) (none_spent c.args.settings.now (Some NoFrame) (head ++ body) c.args.steps.now);
+      c.in-Ok.ensures.taken on.unwritten.written h.user (lasts_unstopped before t lasts, lasts.writes) (refl, omega (arith, sixteen, length-append head body), no_query_body head body c.in-Some.rest sixteen code counted c.in-Ok.ensures.whole none) (flushed_after before s t f.on on) (none_spent c.args.settings.now (Some NoFrame) (head ++ body) c.args.steps.now);
 }
 
 pub returns-in-Ok-greet_query : goal.returns-in-Ok-greet_query
@@ -106,7 +107,8 @@ returns g c = record {
       let counted : pos (16 + c.in-Some.rest) ≡ signed_at 0 head = c.in-Some.ensures.counted ∙ to_z-of_z w32 c.args.header.length length_fits ∙ sym (length_back c.args.header length_fits) in
       let is_body : IsQueryBody body command = subst (λ b. IsQueryBody b command) c.as_slice.ensures.value c.in-Some-command_of_query.ensures in
       let is_query = query_of head body command c.in-Some.rest sixteen code counted c.in-Ok.ensures.whole is_body in
+      let lasts = lasts_after before s t (unstopped_on before s t f.unstopped c.in-Ok.ensures.unstopped) f.on on in
       none_after c.args.settings.now requests before s t c.args.steps.now c.greet_query.new.steps c.args.serving.now.session c.args.serving.now.ids c.greet_query.new.session.user c.in-Err-greet_query.fault head body c.in-Err-greet_query.ensures.kept (inr (inr (command, inr is_query))) f
-      c.in-Ok.ensures.taken on.unwritten.written h.user (unasked c.in-Err-greet_query.fault before t (head ++ body) command is_query c.in-Err-greet_query.ensures.refused) (flushed_after before s t f.on on)
+      c.in-Ok.ensures.taken on.unwritten.written h.user (unasked_counted c.in-Err-greet_query.fault before t command c.in-Err-greet_query.ensures.refused lasts) (unasked c.in-Err-greet_query.fault before t (head ++ body) command is_query c.in-Err-greet_query.ensures.refused) (flushed_after before s t f.on on)
       (unasked_spent c.args.settings.now c.in-Err-greet_query.fault (head ++ body) command c.args.steps.now c.greet_query.new.steps is_query c.in-Err-greet_query.ensures.refused c.in-Err-greet_query.ensures.no_cost c.in-Err-greet_query.ensures.at_most);
 }

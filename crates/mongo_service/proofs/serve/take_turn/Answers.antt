@@ -17,7 +17,7 @@ returns-in-Err g c = record {
       let id = c.args.serving.now.ids in
       let steps = c.args.steps.now in
       let on = c.in-Err.ensures.on in
-      let some = cause_of_stop c.in-Err.fault s s t [] 16 (lasts_all s) (Consumes-nil s.left) c.in-Err.ensures.more within_header on.tells c.in-Err.ensures.refused in
+      let some = cause_of_stop c.in-Err.fault s s t [] 16 (lasts_all s) (Consumes-nil s.left) c.in-Err.ensures.more within_header on c.in-Err.ensures.refused in
       subst (IsCut c.args.settings.now requests s t steps steps session id session.user) (sym c.into.ensures)
-      (none_taken c.args.settings.now requests s t steps steps session id session.user _ some.taken refl (header_part some.taken some.within) some.consumed on.unwritten.written h.user some.cause (flushed_read s t on) (none_spent c.args.settings.now (Some _) some.taken steps));
+      (none_taken c.args.settings.now requests s t steps steps session id session.user _ some.taken refl (header_part some.taken some.within) some.consumed on.unwritten.written h.user some.counted some.cause (flushed_read s t on) (none_spent c.args.settings.now (Some _) some.taken steps));
 }
