@@ -1,7 +1,7 @@
 -- What lasts from one state of a link to a later one.
 use Rattle.std.proofs.Common.{◌≡◌, ℕ, ◌+◌, ◌≤◌, Option, None, Some, IfSome, List, [], ◌++◌, length, inl, inr, refl, ap, ◌∙◌, subst, arith, length-append}
 use Rattle.std.specs.Io.KnownBytes.{Appends}
-use Rattle.mongo_wire.specs.Outside.{State, MeetsEnd, ReadsOn, WritesOn, Unstopped, IsFlushed, risen}
+use Rattle.mongo_wire.specs.Outside.{State, ReadsOn, WritesOn, Unstopped, IsFlushed, risen}
 use Rattle.mongo_wire.proofs.ReadStopped.{unstopped_on, fails_after, ends_after}
 use Rattle.mongo_service.specs.Cut.{CountsEnd, CountsFault}
 use Rattle.mongo_service.specs.declared.fault.ServeFault.{ServeFault}

@@ -33,9 +33,6 @@ module _ (account : Account) (password : List ℕ) (worded : password ≡ accoun
   pub key_derived : ((kind : ErrorKind) → PasswordRow account.version password kind → ⊥) → new ≡ old + account.count → TakesRounds (KeyRounds account) old new
   key_derived usable cost = (account.count, inl (password_taken usable, refl), cost)
 
-  pub key_at_most : ((kind : ErrorKind) → PasswordRow account.version password kind → ⊥) → new ≡ old + account.count → TakesAtMost (KeyRounds account) old new
-  key_at_most usable cost = (omega (arith, cost), inr (account.count, inl (password_taken usable, refl), omega (arith, cost)))
-
   -- the mechanism doesn't take the password, or memory ran out
   pub none_derived : (result : Result (Option OpenedLogin) BsonFault) (kind : ErrorKind) → PasswordRow account.version password kind ⊎ (kind ≡ OutOfMemory) → (kind ≢ OutOfMemory → new ≡ old)
       → IfOk result (λ found. (found ≡ None) × (kind ≢ OutOfMemory)) → OnOk result (TakesRounds (KeyRounds account) old new)
@@ -55,13 +52,6 @@ module _ (account : Account) (password : List ℕ) (worded : password ≡ accoun
   at_most_derived (Err fault) kind refused exact none rises most = some_derived kind refused exact none rises most
 
 -- ---- by the settings
-
--- nothing is found without a mechanism, nor without a message
-pub finds_no_version : (settings : ServeSettings) (start : StartRequest) → start.version ≡ None → (account : Account) → StartFinds settings start account → ⊥
-finds_no_version settings start none account finds = let never : None ≡ Some account.version = sym none ∙ finds.version_is in cc
-
-pub finds_no_payload : (settings : ServeSettings) (start : StartRequest) → start.payload ≡ None → (account : Account) → StartFinds settings start account → ⊥
-finds_no_payload settings start none account finds = let never : None ≡ Some finds.message = sym (ap option_copied none) ∙ finds.said in cc
 
 module _ (settings : ServeSettings) (start : StartRequest) (version : ScramVersion) (message : Bor (List ℕ)) (version_is : start.version ≡ Some version) (message_is : start.payload ≡ Some message) where
   start_finds : (account : Account) → IsFound settings.accounts.items version message.now account → StartFinds settings start account

@@ -1,6 +1,6 @@
 //! One step of a session: a request, and the reply to it.
 
-ghost use Rattle.std.specs.Prelude.{◌≡◌, ◌≤◌, ◌↔◌, ℕ, List, [], ◌∷◌, ◌++◌, IsTrue, IfOk, IfErr, OnOk, OnErr};
+ghost use Rattle.std.specs.Prelude.{◌≡◌, ◌↔◌, ℕ, List, [], ◌∷◌, ◌++◌, IsTrue, IfOk, IfErr, OnOk, OnErr};
 ghost use Rattle.mongo_session.specs.Accounts.{AreMechanismsOf, ListsAccounts, HasAccount, IsOf};
 ghost use Rattle.mongo_session.specs.Answers.{guarded_by, AnswersCarried, AnswersHello, IsAnswer, login_reply};
 ghost use Rattle.mongo_session.specs.Costs.{CarriedRounds, RequestRounds, TakesAtMost, TakesRounds};
@@ -35,7 +35,6 @@ pub fn answer_request<G: Ledger>(
     // What is derived for it; where memory ran out, at most that.
     ensures cost { OnOk result (TakesRounds (RequestRounds settings.now request.entry) steps.old steps.new) }
     ensures at_most { OnErr result (TakesAtMost (RequestRounds settings.now request.entry) steps.old steps.new) }
-    ensures rises { steps.old ≤ steps.new }
 {
     match request {
         Request::Hello(hello) => Ok(Reply::Hello(greet(alloc, settings, session, hello, steps)?)),
@@ -68,7 +67,6 @@ pub fn greet<G: Ledger>(
     ensures refused { IfErr result (λ fault. fault ≡ OutOfMemory) }
     ensures cost { OnOk result (TakesRounds (CarriedRounds settings.now hello.entry.speculation) steps.old steps.new) }
     ensures at_most { OnErr result (TakesAtMost (CarriedRounds settings.now hello.entry.speculation) steps.old steps.new) }
-    ensures rises { steps.old ≤ steps.new }
 {
     let speculation = begin(alloc, settings, session, hello.speculation, steps)?;
     Ok(HelloAnswer {
@@ -93,7 +91,6 @@ fn begin<G: Ledger>(
     ensures refused { IfErr result (λ fault. fault ≡ OutOfMemory) }
     ensures cost { OnOk result (TakesRounds (CarriedRounds settings.now speculation.entry) steps.old steps.new) }
     ensures at_most { OnErr result (TakesAtMost (CarriedRounds settings.now speculation.entry) steps.old steps.new) }
-    ensures rises { steps.old ≤ steps.new }
 {
     match speculation {
         Some(start) => session.start(alloc, settings, start, steps),

