@@ -151,8 +151,8 @@ cause_of_refusal (frame.InvalidResponse f) old new some message on h = row_refus
 pub header_part : (head : List ℕ) → length head ≤ 16 → IsPart head
 header_part head short = inl (inl short)
 
-pub query_front : (head rest : List ℕ) (wanted : ℕ) → length head ≡ 16 → signed_at 12 head ≡ code_number Query → pos (16 + wanted) ≡ signed_at 0 head → pos (16 + wanted) ≤ℤ maximum_message_length → length rest ≤ wanted → IsPart (head ++ rest)
-query_front head rest wanted sixteen code counted within short =
+pub query_front_taken : (head rest : List ℕ) (wanted : ℕ) → length head ≡ 16 → signed_at 12 head ≡ code_number Query → pos (16 + wanted) ≡ signed_at 0 head → pos (16 + wanted) ≤ℤ maximum_message_length → length rest ≤ wanted → IsPart (head ++ rest)
+query_front_taken head rest wanted sixteen code counted within short =
     inr (inl (record {
       head = head;
       rest = rest;

@@ -10,7 +10,7 @@ use Rattle.mongo_service.specs.Taken.{IsQueryBody}
 use Rattle.mongo_service.specs.declared.fault.ServeFault.TheVariants.{NoFrame}
 use Rattle.mongo_server.specs.Announced.{maximum_message_length}
 use Rattle.mongo_service.proofs.NoRequest.{bad_length, code_spelled, request_cut, no_query_body}
-use Rattle.mongo_service.proofs.Causes.{header_part, query_front, some_before, cause_of_stop, unasked, unasked_counted}
+use Rattle.mongo_service.proofs.Causes.{header_part, query_front_taken, some_before, cause_of_stop, unasked, unasked_counted}
 use Rattle.mongo_wire.proofs.ReadStopped.{unstopped_on}
 use Rattle.mongo_service.proofs.Lasts.{flushed_after, flushed_read, lasts_after, lasts_read, lasts_unstopped}
 use Rattle.mongo_service.proofs.Spent.{none_spent, unasked_spent}
@@ -46,7 +46,7 @@ returns-in-Err g c = record {
       let counted : pos (16 + c.in-Some.rest) ≡ signed_at 0 head = c.in-Some.ensures.counted ∙ to_z-of_z w32 c.args.header.length length_fits ∙ sym (length_back c.args.header length_fits) in
       let some = cause_of_stop c.in-Err.fault before s t head c.in-Some.rest (lasts_read before s f.unstopped f.on) f.taken (λ _. some_before s.left head (omega (arith, sixteen))) (λ taken few. request_cut head taken c.in-Some.rest sixteen counted few) on c.in-Err.ensures.refused in
       subst (IsCut c.args.settings.now requests before t c.args.steps.now c.args.steps.now session id session.user) (sym c.into.ensures)
-      (none_after c.args.settings.now requests before s t c.args.steps.now c.args.steps.now session id session.user _ head some.taken refl (query_front head some.taken c.in-Some.rest sixteen code counted c.in-Some.ensures.within some.within) f some.consumed
+      (none_after c.args.settings.now requests before s t c.args.steps.now c.args.steps.now session id session.user _ head some.taken refl (query_front_taken head some.taken c.in-Some.rest sixteen code counted c.in-Some.ensures.within some.within) f some.consumed
       on.unwritten.written h.user some.counted some.cause (flushed_after before s t f.on on) (none_spent c.args.settings.now (Some _) (head ++ some.taken) c.args.steps.now));
 }
 
@@ -65,7 +65,7 @@ returns-in_default-command_of_query g c = record {
       let counted : pos (16 + c.in-Some.rest) ≡ signed_at 0 head = c.in-Some.ensures.counted ∙ to_z-of_z w32 c.args.header.length length_fits ∙ sym (length_back c.args.header length_fits) in
       let none = subst (λ b. (command : List ℕ) → IsQueryBody b command → ⊥) c.as_slice.ensures.value c.in_default-command_of_query.ensures in
       let lasts = lasts_after before s t (unstopped_on before s t f.unstopped c.in-Ok.ensures.unstopped) f.on on in
-      none_after c.args.settings.now requests before s t c.args.steps.now c.args.steps.now session c.args.serving.now.ids session.user NoFrame head body refl (query_front head body c.in-Some.rest sixteen code counted c.in-Some.ensures.within (omega (arith, c.in-Ok.ensures.whole))) f
+      none_after c.args.settings.now requests before s t c.args.steps.now c.args.steps.now session c.args.serving.now.ids session.user NoFrame head body refl (query_front_taken head body c.in-Some.rest sixteen code counted c.in-Some.ensures.within (omega (arith, c.in-Ok.ensures.whole))) f
       c.in-Ok.ensures.taken on.unwritten.written h.user (lasts_unstopped before t lasts, lasts.writes) (refl, omega (arith, sixteen, length-append head body), no_query_body head body c.in-Some.rest sixteen code counted c.in-Ok.ensures.whole none) (flushed_after before s t f.on on) (none_spent c.args.settings.now (Some NoFrame) (head ++ body) c.args.steps.now);
 }
 
