@@ -4,13 +4,14 @@ use Rattle.std.proofs.Common.{length-drop}
 use Rattle.std.proofs.lemmas.Bool.Decides.{nat_tests}
 use Rattle.std.specs.Io.KnownBytes.{Appends, Consumes}
 use Rattle.std.specs.List.{concat, position_or_len}
-use Rattle.mongo_wire.specs.Outside.{State, Rose, ReadsOn, IsFlushed}
+use Rattle.mongo_wire.specs.Outside.{State, Rose, IsFlushed}
 use Rattle.mongo_settings.specs.declared.settings.Settings.{Settings}
 use Rattle.mongo_settings.specs.declared.settings.SettingsError.{SettingsError}
+use Rattle.mongo_settings.specs.declared.settings.SettingsError.TheVariants.{BadSettings as Bad, NotBuilt as Unbuilt}
 use Rattle.mongo_settings.specs.declared.rehearsal.Rehearsal.{Rehearsal}
 use Rattle.mongo_settings.specs.declared.rehearsal.RehearsalStatus.{RehearsalStatus}
 use Rattle.mongo_settings.specs.declared.rehearsal.RehearsalStatus.TheVariants as rehearsal
-use Rattle.mongo_settings.specs.Run.{Run}
+use Rattle.mongo_settings.specs.Run.{Run, NoReadFailed, EndsAtMostOnce, NoWriteFailed}
 use Rattle.mongo_settings.specs.Settings.{maximum_settings_length}
 use Rattle.mongo_settings.specs.Status.{status_after, JudgementDecides}
 use Rattle.mongo_settings.specs.Outcome.{taken_by}
@@ -20,9 +21,9 @@ use Rattle.mongo_settings.proofs.Outcomes.{one_status}
 use Rattle.mongo_settings.specs.declared.status.Status.{Status}
 use Rattle.mongo_settings.specs.declared.status.Status.TheVariants.{Done, Refused, BadSettings, Usage, SourceFault, SinkFault, NoMemory, NotBuilt}
 use Rattle.mongo_connect.specs.Connecting.{IsConnectionTold, TellsBytes, Faultless, ReportsConnection}
-use Rattle.mongo_connect.specs.Input.{is_line_feed, line_of, after_line}
+use Rattle.mongo_connect.specs.Input.{is_line_feed, line_of, after_line, LineRead}
 use Rattle.mongo_connect.specs.Settings.{line_judged, with_replies}
-use Rattle.mongo_connect.specs.Run.{Connected, LineRead, Attempt, ConnectReported, IsRefusedLine, Ends, ConnectRunEnds, ConnectUnfailed, LineComesOut, ConnectDecided}
+use Rattle.mongo_connect.specs.Run.{Connected, Attempt, ConnectReported, IsRefusedLine, IsSilent, LineRanOut, Ends, ConnectRunEnds, ConnectUnfailed, LineComesOut, ConnectDecided}
 
 -- ---- after the line
 
@@ -63,33 +64,29 @@ connected input line settings steps old middle new x read judged rehearses told 
     }
 
 pub attempt : (line : List ℕ) (settings : Settings) (steps : StepsTaken) (old middle new : State) (x : Rehearsal)
-    → ReadsOn old middle → middle.read_faults ≡ old.read_faults → ((input : List ℕ) → old.left ≡ Some input → line ≡ line_of input) → ((input : List ℕ) → old.left ≡ Some input → middle.left ≡ Some (after_line input))
-    → line_judged line ≡ Ok settings → IsConnectionTold settings steps middle new x → ((bytes : List ℕ) → TellsBytes middle bytes → Faultless middle new → ReportsConnection settings bytes steps middle new x) → Attempt steps x old new
-attempt line settings steps old middle new x on unfailed line_is left judged told rehearses =
-    let read : LineRead line old middle = record { on = on; unfailed = unfailed; line_is = line_is; left = left } in
-    record {
-      told = record { line = line; middle = middle; line_read = read; settings = settings; settings_are = judged; done = told };
-      connected = λ input is f. connected input line settings steps old middle new x read judged rehearses is f;
-    }
+    → LineRead line old middle → line_judged line ≡ Ok settings → IsConnectionTold settings steps middle new x → ((bytes : List ℕ) → TellsBytes middle bytes → Faultless middle new → ReportsConnection settings bytes steps middle new x) → Attempt steps x old new
+attempt line settings steps old middle new x read judged told rehearses = record {
+  told = record { line = line; middle = middle; line_read = read; settings = settings; settings_are = judged; done = told };
+  connected = λ input is f. connected input line settings steps old middle new x read judged rehearses is f;
+}
 
 module _ {L K : Type 0} (link : L → State) (sink : K → State) (steps : StepsTaken) (run : Run L K) where
   -- ---- each end
 
   pub ends_refused : (line : List ℕ) (error : SettingsError) → LineRead line (link run.source) (link run.source_after) → line_judged line ≡ Err error → run.sink_after ≡ run.sink → IsRefusedLine link sink error run
-  ends_refused line error read judged unreported = record {
-    judged_so = λ input is. ap line_judged (sym (read.line_is input is)) ∙ judged;
-    left = read.left;
-    unwritten = read.on.unwritten;
-    unreported = unreported;
-  }
+  ends_refused line error read judged unreported = record { line = line; line_read = read; judged_so = judged; unreported = unreported }
+
+  -- memory ran out before there were settings
+  pub ends_untold : NoReadFailed (link run.source) (link run.source_after) → EndsAtMostOnce (link run.source) (link run.source_after) → IsSilent link sink steps run → LineRanOut link sink steps run
+  ends_untold unfailed ended silent = record { unfailed = unfailed; ended = ended; silent = silent }
 
   reported_end : (status : RehearsalStatus) → ConnectReported link sink steps status run → Ends link sink steps run (status_after status)
   reported_end rehearsal.Accepted r = r
   reported_end rehearsal.Refused r = r
 
   pub ends_reported : (x : Rehearsal) → Attempt steps x (link run.source) (link run.source_after) → Appends (sink run.sink).written (sink run.sink_after).written x.report.items → IsFlushed (sink run.sink_after)
-      → Ends link sink steps run (status_after x.status)
-  ends_reported x a written flushed = reported_end x.status (record { rehearsal = x; status_is = refl; attempt = a; written = written; flushed = flushed })
+      → NoWriteFailed (sink run.sink) (sink run.sink_after) → Ends link sink steps run (status_after x.status)
+  ends_reported x a written flushed unfailed = reported_end x.status (record { rehearsal = x; status_is = refl; attempt = a; written = written; flushed = flushed; sink_unfailed = unfailed })
 
   -- an end on the line is an end of a run without words
   pub run_ends : (words : ℕ) (status : Status) → words ≡ 0 → Ends link sink steps run status → ConnectRunEnds link sink words steps run status
@@ -105,11 +102,14 @@ module _ {L K : Type 0} (link : L → State) (sink : K → State) (steps : Steps
         decides_asked _ _ c.settings status c.settings_are
         (λ other out. sym r.status_is ∙ c.status_is ∙ one_status (with_replies c.settings (after_line input)) r.rehearsal.report.items c.report other out)
 
+    judged_input : (error : SettingsError) → IsRefusedLine link sink error run → line_judged (line_of input) ≡ Err error
+    judged_input error e = ap line_judged (sym (e.line_read.line_is input told.left)) ∙ e.judged_so
+
     settle : (result : Status) → Ends link sink steps run result → JudgementDecides (LineComesOut (after_line input)) (line_judged (line_of input)) result
     settle Done e = reported_decides rehearsal.Accepted e
     settle Refused e = reported_decides rehearsal.Refused e
-    settle BadSettings e = decides_bad _ _ (e.judged_so input told.left)
-    settle NotBuilt e = decides_unbuilt _ _ (e.judged_so input told.left)
+    settle BadSettings e = decides_bad _ _ (judged_input Bad e)
+    settle NotBuilt e = decides_unbuilt _ _ (judged_input Unbuilt e)
     settle NoMemory e = decides_memory _ _
     settle Usage e = absurd e
     settle SourceFault e = absurd (u.link_faultless.reads e.rose)

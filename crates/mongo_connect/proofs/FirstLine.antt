@@ -1,5 +1,5 @@
 -- What was read of an input up to a line feed, its end or the greatest length is its first line, and what is left follows that.
-use Rattle.std.proofs.Common.{◌≡◌, ℕ, suc, ◌+◌, ◌<◌, ◌≤◌, ◌∙◌, Bool, true, false, not, cond, Option, None, Some, List, [], ◌∷◌, ◌++◌, length, take, drop, refl, sym, ap, subst, arith, append-nil, append_assoc, length-append}
+use Rattle.std.proofs.Common.{◌≡◌, ℕ, suc, ◌+◌, ◌<◌, ◌≤◌, ◌∙◌, Bool, true, false, not, cond, Option, None, Some, List, [], ◌∷◌, ◌++◌, length, take, drop, refl, sym, ap, subst, arith, append-nil, append_assoc, length-append, inl, inr}
 use Rattle.std.proofs.Math.Seq.{take-append-add, drop-append-add, take-append_seam, drop-append_seam}
 use Rattle.std.proofs.lemmas.Bool.{le-leb, lt-leb}
 use Rattle.std.proofs.lemmas.Bool.Decides.{nat_tests}
@@ -8,11 +8,12 @@ use Rattle.std.specs.Bool.{if◌then◌else◌}
 use Rattle.std.specs.Option.{option_to_list}
 use Rattle.std.specs.Io.KnownBytes.{Consumes, IsAtEnd, Keeps}
 use Rattle.std.proofs.KnownBytes.{Consumes-trans, Consumes-kept}
-use Rattle.mongo_wire.specs.Outside.{State, ReadsOn}
+use Rattle.mongo_wire.specs.Outside.{State, ReadsOn, Rose, risen}
 use Rattle.mongo_wire.proofs.ReadStopped.{reads_on}
 use Rattle.std.specs.List.{position_or_len, before_first, after_first}
+use Rattle.mongo_settings.specs.Run.{GaveInput, NoReadFailed, NoReadEnded, EndsAtMostOnce}
 use Rattle.mongo_settings.specs.Settings.{maximum_settings_length}
-use Rattle.mongo_connect.specs.Input.{is_line_feed, line_of, after_line, IsUnbroken, TakesOfLine, TakesNoLineFeed}
+use Rattle.mongo_connect.specs.Input.{is_line_feed, line_of, after_line, IsUnbroken, TakesOfLine, TakesNoLineFeed, MeetsEndUnless, MeetsEndOfLine, LineRead}
 
 -- the first line feed stands after bytes that have none
 past_byte : (b : Bool) (held rest n m : ℕ) → cond (not b) (1 + held) 0 ≡ suc n → (held ≡ n → rest ≡ n + m) → cond (not b) (1 + rest) 0 ≡ suc n + m
@@ -72,40 +73,56 @@ first_cut held rest unbroken long =
 
 -- ---- what a source gave
 
--- a told source had this line, and what follows it is left
-pub record Gave (old new : Option (List ℕ)) (line : List ℕ) : Type 0 where
-  pub line_is : (input : List ℕ) → old ≡ Some input → line ≡ line_of input
-  pub left : (input : List ℕ) → old ≡ Some input → new ≡ Some (after_line input)
+-- a source that tells its bytes had these in front
+given_front : (old new : Option (List ℕ)) (given input : List ℕ) → old ≡ Some input → Consumes old new given → (rest : List ℕ) × (new ≡ Some rest) × (input ≡ given ++ rest)
+given_front old None given input told consumed = absurd (subst (λ o. Consumes o None given) told consumed)
+given_front old (Some rest) given input told consumed = (rest, refl, subst (λ o. Consumes o (Some rest) given) told consumed)
 
-gave : (old new : Option (List ℕ)) (held given : List ℕ) → Consumes old new given → ((rest : List ℕ) → new ≡ Some rest → First held rest (given ++ rest)) → Gave old new held
-gave None new held given consumed first = record { line_is = λ input is. cc; left = λ input is. cc }
-gave (Some bytes) None held given consumed first = absurd consumed
-gave (Some bytes) (Some rest) held given consumed first =
-    let f = first rest refl in
+-- how a line ended that is the first of its input, where the end was met just then
+record LineEnds (line rest input : List ℕ) (old new : State) : Type 0 where
+  first : First line rest input
+  met : MeetsEndOfLine input old new
+
+end_fed : (held rest : List ℕ) (old new : State) → IsUnbroken held → length held ≤ maximum_settings_length → NoReadEnded old new → LineEnds held rest (held ++ 10 ∷ rest) old new
+end_fed held rest old new unbroken short still =
+    let stands : position_or_len is_line_feed (held ++ 10 ∷ rest) < length (held ++ 10 ∷ rest) = omega (arith, past held (10 ∷ rest) unbroken, length-append held (10 ∷ rest)) in
     record {
-      line_is = λ input is. let same : given ++ rest ≡ input = cc in f.line_is ∙ ap line_of same;
-      left = λ input is. let same : given ++ rest ≡ input = cc in ap Some (f.rest_is ∙ ap after_line same);
+      first = first_fed held rest unbroken short;
+      met = record { ended = λ whole within. absurd (omega (arith, stands, whole)); fed = λ _. still; cut = λ _. still };
     }
 
-pub gave_fed : (old new : Option (List ℕ)) (held : List ℕ) → Consumes old new (held ++ 10 ∷ []) → IsUnbroken held → length held ≤ maximum_settings_length → Gave old new held
-gave_fed old new held consumed unbroken short = gave old new held (held ++ 10 ∷ []) consumed (λ rest is. simp append_assoc (first_fed held rest unbroken short))
+end_met : (held : List ℕ) (old new : State) → IsUnbroken held → length held ≤ maximum_settings_length → Rose old.ends new.ends → LineEnds held [] (held ++ []) old new
+end_met held old new unbroken short rose =
+    let all = past held [] unbroken in
+    let size = length-append held [] in
+    record {
+      first = first_ended held unbroken short;
+      met = record { ended = λ _ _. rose; fed = λ stands. absurd (omega (arith, stands, all, size)); cut = λ long. absurd (omega (arith, long, short, size)) };
+    }
 
-pub gave_ended : (old new : Option (List ℕ)) (held : List ℕ) → Consumes old new held → IsAtEnd new → IsUnbroken held → length held ≤ maximum_settings_length → Gave old new held
-gave_ended old new held consumed end unbroken short = gave old new held held consumed (λ rest is. subst (λ r. First held r (held ++ r)) (sym (subst IsAtEnd is end)) (first_ended held unbroken short))
+end_cut : (held rest : List ℕ) (old new : State) → IsUnbroken held → length held ≡ maximum_settings_length + 1 → NoReadEnded old new → LineEnds held rest (held ++ rest) old new
+end_cut held rest old new unbroken long still = record {
+  first = first_cut held rest unbroken long;
+  met = record { ended = λ whole within. absurd (omega (arith, within, long, length-append held rest)); fed = λ _. still; cut = λ _. still };
+}
 
-pub gave_cut : (old new : Option (List ℕ)) (held : List ℕ) → Consumes old new held → IsUnbroken held → length held ≡ maximum_settings_length + 1 → Gave old new held
-gave_cut old new held consumed unbroken long = gave old new held held consumed (λ rest is. first_cut held rest unbroken long)
+-- of an input in front of which these bytes were given
+line_told : (held given input : List ℕ) (old new : State) → Consumes old.left new.left given → ((rest : List ℕ) → new.left ≡ Some rest → LineEnds held rest (given ++ rest) old new) → old.left ≡ Some input
+    → (rest : List ℕ) × (new.left ≡ Some rest) × LineEnds held rest input old new
+line_told held given input old new consumed ends told =
+    let (rest, is, joined) = given_front old.left new.left given input told consumed in
+    (rest, is, subst (λ l. LineEnds held rest l old new) (sym joined) (ends rest is))
 
--- the same, by the last byte that was read
-pub gave_line_feed : (old mid new : Option (List ℕ)) (held : List ℕ) (next : Option ℕ) (byte : ℕ) → Consumes old mid held → Consumes mid new (option_to_list next) → next ≡ Some byte → byte ≡ 10 → IsUnbroken held → length held ≤ maximum_settings_length → Gave old new held
-gave_line_feed old mid new held next byte front last is feed unbroken short =
-    let e : option_to_list next ≡ 10 ∷ [] = ap option_to_list is ∙ ap (λ b. b ∷ []) feed in
-    gave_fed old new held (Consumes-trans old mid new held (10 ∷ []) front (subst (Consumes mid new) e last)) unbroken short
-
-pub gave_end : (old mid new : Option (List ℕ)) (held : List ℕ) (next : Option ℕ) → Consumes old mid held → Consumes mid new (option_to_list next) → (next ≡ None → IsAtEnd new) → next ≡ None → IsUnbroken held → length held ≤ maximum_settings_length → Gave old new held
-gave_end old mid new held next front last end is unbroken short =
-    let e : held ++ option_to_list next ≡ held = ap (λ n. held ++ option_to_list n) is ∙ append-nil held in
-    gave_ended old new held (subst (Consumes old new) e (Consumes-trans old mid new held (option_to_list next) front last)) (end is) unbroken short
+line_given : (held given : List ℕ) (old new : State) → Consumes old.left new.left given → ((rest : List ℕ) → new.left ≡ Some rest → LineEnds held rest (given ++ rest) old new)
+    → ReadsOn old new → NoReadFailed old new → EndsAtMostOnce old new → LineRead held old new
+line_given held given old new consumed ends on unfailed once = record {
+  on = on;
+  unfailed = unfailed;
+  ended = once;
+  met = λ input told. let (rest, is, e) = line_told held given input old new consumed ends told in e.met;
+  line_is = λ input told. let (rest, is, e) = line_told held given input old new consumed ends told in e.first.line_is;
+  left = λ input told. let (rest, is, e) = line_told held given input old new consumed ends told in is ∙ ap Some e.first.rest_is;
+}
 
 -- ---- what was taken
 
@@ -114,7 +131,8 @@ pub record HeldSoFar (old new : State) (held : List ℕ) : Type 0 where
   pub within : length held ≤ maximum_settings_length + 1
   pub unbroken : IsUnbroken held
   pub front : Consumes old.left new.left held
-  pub unfailed : new.read_faults ≡ old.read_faults
+  pub unfailed : NoReadFailed old new
+  pub unended : NoReadEnded old new
   pub on : ReadsOn old new
 
 stops : (old new : Option (List ℕ)) (held : List ℕ) → IsUnbroken held → length held ≤ maximum_settings_length + 1 → Consumes old new held → TakesNoLineFeed old new
@@ -128,7 +146,35 @@ takes_stopped old new s = record { taken = s.taken; one_line = let e = s.unended
 pub stops_held : (old new : State) (held : List ℕ) → HeldSoFar old new held → TakesNoLineFeed old.left new.left
 stops_held old new held so_far = stops old.left new.left held so_far.unbroken so_far.within so_far.front
 
+-- past the greatest length the line is cut
+pub line_cut : (old new : State) (held : List ℕ) → HeldSoFar old new held → length held ≡ maximum_settings_length + 1 → LineRead held old new
+line_cut old new held so_far long =
+    line_given held held old new so_far.front (λ rest is. end_cut held rest old new so_far.unbroken long so_far.unended) so_far.on so_far.unfailed (inl so_far.unended)
+
 module _ (old mid new : State) (held : List ℕ) (so_far : HeldSoFar old mid held) where
+  -- no end was met with a byte
+  pub still_unended : (next : Option ℕ) (byte : ℕ) → next ≡ Some byte → MeetsEndUnless next mid new → NoReadEnded old new
+  still_unended next byte is ends =
+      let still : NoReadEnded mid new = subst (λ n. MeetsEndUnless n mid new) is ends in
+      still ∙ so_far.unended
+
+  -- a line feed ends the line
+  pub line_fed : (next : Option ℕ) (byte : ℕ) → next ≡ Some byte → byte ≡ 10 → length held ≤ maximum_settings_length → Consumes mid.left new.left (option_to_list next) → NoReadFailed mid new → MeetsEndUnless next mid new → ReadsOn mid new → LineRead held old new
+  line_fed next byte is feed short last unfailed ends on =
+      let e : option_to_list next ≡ 10 ∷ [] = ap option_to_list is ∙ ap (λ b. b ∷ []) feed in
+      let taken = Consumes-trans old.left mid.left new.left held (10 ∷ []) so_far.front (subst (Consumes mid.left new.left) e last) in
+      let still = still_unended next byte is ends in
+      line_given held (held ++ 10 ∷ []) old new taken (λ rest is. simp append_assoc (end_fed held rest old new so_far.unbroken short still)) (reads_on old mid new so_far.on on) (unfailed ∙ so_far.unfailed) (inl still)
+
+  -- so does the input's end
+  pub line_ended : (next : Option ℕ) → next ≡ None → length held ≤ maximum_settings_length → Consumes mid.left new.left (option_to_list next) → (next ≡ None → IsAtEnd new.left) → NoReadFailed mid new → MeetsEndUnless next mid new → ReadsOn mid new → LineRead held old new
+  line_ended next is short last end unfailed ends on =
+      let e : held ++ option_to_list next ≡ held = ap (λ n. held ++ option_to_list n) is ∙ append-nil held in
+      let taken = subst (Consumes old.left new.left) e (Consumes-trans old.left mid.left new.left held (option_to_list next) so_far.front last) in
+      let met : Rose mid.ends new.ends = subst (λ n. MeetsEndUnless n mid new) is ends in
+      let rose : Rose old.ends new.ends = met ∙ ap risen so_far.unended in
+      line_given held held old new taken (λ rest at. subst (λ r. LineEnds held r (held ++ r) old new) (sym (subst IsAtEnd at (end is))) (end_met held old new so_far.unbroken short rose)) (reads_on old mid new so_far.on on) (unfailed ∙ so_far.unfailed) (inr rose)
+
   -- nothing else was taken
   pub stops_kept : Keeps mid.left new.left → TakesNoLineFeed old.left new.left
   stops_kept kept = stops old.left new.left held so_far.unbroken so_far.within (Consumes-kept old.left mid.left new.left held so_far.front kept)
@@ -146,17 +192,18 @@ module _ (old mid new : State) (held : List ℕ) (so_far : HeldSoFar old mid hel
       }
 
   -- it is no line feed
-  pub one_more : (next : Option ℕ) (byte : ℕ) → next ≡ Some byte → (byte ≡ 10 → ⊥) → length held ≤ maximum_settings_length → Consumes mid.left new.left (option_to_list next) → new.read_faults ≡ mid.read_faults → ReadsOn mid new → HeldSoFar old new (held ++ byte ∷ [])
-  one_more next byte is other short taken unfailed on = record {
+  pub one_more : (next : Option ℕ) (byte : ℕ) → next ≡ Some byte → (byte ≡ 10 → ⊥) → length held ≤ maximum_settings_length → Consumes mid.left new.left (option_to_list next) → NoReadFailed mid new → MeetsEndUnless next mid new → ReadsOn mid new → HeldSoFar old new (held ++ byte ∷ [])
+  one_more next byte is other short taken unfailed ends on = record {
     within = omega (arith, short, length-append held (byte ∷ []));
     unbroken = unbroken_push held byte so_far.unbroken (no_line_feed byte other);
     front = Consumes-trans old.left mid.left new.left held (byte ∷ []) so_far.front (subst (λ n. Consumes mid.left new.left (option_to_list n)) is taken);
     unfailed = unfailed ∙ so_far.unfailed;
+    unended = still_unended next byte is ends;
     on = reads_on old mid new so_far.on on;
   }
 
   -- and was pushed
   pub one_pushed : (next : Option ℕ) (byte : ℕ) (pushed : Bool) (longer : List ℕ) → next ≡ Some byte → (byte ≡ 10 → ⊥) → longer ≡ (if pushed then held ++ byte ∷ [] else held) → pushed ≡ true → length held ≤ maximum_settings_length
-      → Consumes mid.left new.left (option_to_list next) → new.read_faults ≡ mid.read_faults → ReadsOn mid new → HeldSoFar old new longer
-  one_pushed next byte false longer is other grown ok short taken unfailed on = absurd cc
-  one_pushed next byte true longer is other grown ok short taken unfailed on = subst (HeldSoFar old new) (sym grown) (one_more next byte is other short taken unfailed on)
+      → Consumes mid.left new.left (option_to_list next) → NoReadFailed mid new → MeetsEndUnless next mid new → ReadsOn mid new → HeldSoFar old new longer
+  one_pushed next byte false longer is other grown ok short taken unfailed ends on = absurd cc
+  one_pushed next byte true longer is other grown ok short taken unfailed ends on = subst (HeldSoFar old new) (sym grown) (one_more next byte is other short taken unfailed ends on)

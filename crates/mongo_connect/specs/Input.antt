@@ -1,8 +1,10 @@
 -- The first line of an input. It ends before a line feed or at the input's end, and is cut one byte past the greatest length of
 -- settings.
-use Rattle.std.specs.Prelude.{◌≡◌, ℕ, ◌==◌, ◌+◌, ◌≤◌, Bool, nat_le, if◌then◌else◌, Option, List, length, take, drop}
+use Rattle.std.specs.Prelude.{◌≡◌, ℕ, ◌==◌, ◌+◌, ◌<◌, ◌≤◌, Bool, nat_le, if◌then◌else◌, Option, None, Some, List, length, take, drop}
 use Rattle.std.specs.Io.KnownBytes.{Consumes}
 use Rattle.std.specs.List.{before_first, after_first, position_or_len}
+use Rattle.mongo_wire.specs.Outside.{State, Rose, ReadsOn}
+use Rattle.mongo_settings.specs.Run.{GaveInput, NoReadFailed, NoReadEnded, EndsAtMostOnce}
 use Rattle.mongo_settings.specs.Settings.{maximum_settings_length}
 
 abbrev pub is_line_feed : ℕ → Bool
@@ -37,3 +39,25 @@ pub record TakesNoLineFeed (old new : Option (List ℕ)) : Type 0 where
   pub unended : IsUnbroken taken
   pub short : length taken ≤ maximum_settings_length + 1
   pub consumed : Consumes old new taken
+
+-- ---- what was counted
+
+-- the end was met, once, just where there was no byte
+abbrev pub MeetsEndUnless : Option ℕ → State → State → Type 0
+MeetsEndUnless (Some byte) old new = NoReadEnded old new
+MeetsEndUnless None old new = Rose old.ends new.ends
+
+-- The end of this input was met, once, just where it ended the line: where no line feed stands in it and it isn't cut.
+pub record MeetsEndOfLine (input : List ℕ) (old new : State) : Type 0 where
+  pub ended : IsUnbroken input → length input ≤ maximum_settings_length → Rose old.ends new.ends
+  pub fed : position_or_len is_line_feed input < length input → NoReadEnded old new
+  pub cut : maximum_settings_length < length input → NoReadEnded old new
+
+-- A line was read: the first, where the bytes are told. No read failed.
+pub record LineRead (line : List ℕ) (old new : State) : Type 0 where
+  pub on : ReadsOn old new
+  pub unfailed : NoReadFailed old new
+  pub ended : EndsAtMostOnce old new
+  pub met : GaveInput old (λ input. MeetsEndOfLine input old new)
+  pub line_is : GaveInput old (λ input. line ≡ line_of input)
+  pub left : GaveInput old (λ input. new.left ≡ Some (after_line input))

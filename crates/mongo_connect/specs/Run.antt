@@ -2,7 +2,7 @@
 use Rattle.std.specs.Prelude.{◌≡◌, ℕ, ◌<◌, ◌⊎◌, Some, Ok, Err, List, []}
 use Rattle.std.specs.Io.KnownBytes.{Appends, Consumes}
 use Rattle.std.specs.List.{concat}
-use Rattle.mongo_wire.specs.Outside.{State, Rose, ReadsOn, Unwritten, AppendsFront, IsFlushed}
+use Rattle.mongo_wire.specs.Outside.{State, Rose, Unwritten, AppendsFront, IsFlushed}
 use Rattle.mongo_settings.specs.declared.settings.Settings.{Settings}
 use Rattle.mongo_settings.specs.declared.settings.SettingsError.{SettingsError}
 use Rattle.mongo_settings.specs.declared.settings.SettingsError.TheVariants.{BadSettings as Bad, NotBuilt as Unbuilt}
@@ -11,13 +11,13 @@ use Rattle.mongo_settings.specs.declared.rehearsal.RehearsalStatus.{RehearsalSta
 use Rattle.mongo_settings.specs.declared.rehearsal.RehearsalStatus.TheVariants as rehearsal
 use Rattle.mongo_settings.specs.declared.status.Status.{Status}
 use Rattle.mongo_settings.specs.declared.status.Status.TheVariants.{Done, Refused, BadSettings, Usage, SourceFault, SinkFault, NoMemory, NotBuilt}
-use Rattle.mongo_settings.specs.Run.{Run, GaveInput}
+use Rattle.mongo_settings.specs.Run.{Run, NoReadFailed, NoReadEnded, EndsAtMostOnce, NoWriteFailed}
 use Rattle.mongo_settings.specs.Status.{JudgementDecides, UnlessUsage}
 use Rattle.mongo_settings.specs.Outcome.{taken_by, status_of}
 use Rattle.mongo_settings.specs.Rehearsal.{IsReport}
 use Rattle.mongo_settings.specs.Task.{StepsTaken, CountsKey, LoginComesOut}
 use Rattle.mongo_connect.specs.Connecting.{IsConnectionTold, IsUntold, TellsBytes, Faultless}
-use Rattle.mongo_connect.specs.Input.{line_of, after_line, TakesOfLine, TakesNoLineFeed}
+use Rattle.mongo_connect.specs.Input.{line_of, after_line, TakesOfLine, TakesNoLineFeed, LineRead}
 use Rattle.mongo_connect.specs.Settings.{line_judged, with_replies}
 
 -- ---- what was done over a link
@@ -34,13 +34,6 @@ pub record Connected (input : List ℕ) (steps : StepsTaken) (rehearsal : Rehear
   pub flushed : (concat report.frames ≡ []) ⊎ IsFlushed new
   pub taken : Consumes (Some (after_line input)) new.left (taken_by report.outcome)
   pub counted : CountsKey (with_replies settings (after_line input)) steps
-
--- a line was read of the link: the first, where its bytes are told
-pub record LineRead (line : List ℕ) (old new : State) : Type 0 where
-  pub on : ReadsOn old new
-  pub unfailed : new.read_faults ≡ old.read_faults
-  pub line_is : (input : List ℕ) → old.left ≡ Some input → line ≡ line_of input
-  pub left : (input : List ℕ) → old.left ≡ Some input → new.left ≡ Some (after_line input)
 
 -- the first line was read and is settings, and what they ask for was done over what follows
 pub record LineAsked (P : Settings → State → State → Type 0) (old new : State) : Type 0 where
@@ -59,19 +52,20 @@ pub record Attempt (steps : StepsTaken) (rehearsal : Rehearsal) (old new : State
 -- ---- the ends, one a status
 
 module _ {L K : Type 0} (link : L → State) (sink : K → State) where
-  -- the report was written whole after what was there, and flushed
+  -- the report was written whole after what was there, and flushed, and no write of it failed
   pub record ConnectReported (steps : StepsTaken) (status : RehearsalStatus) (run : Run L K) : Type 0 where
     pub rehearsal : Rehearsal
     pub status_is : rehearsal.status ≡ status
     pub attempt : Attempt steps rehearsal (link run.source) (link run.source_after)
     pub written : Appends (sink run.sink).written (sink run.sink_after).written rehearsal.report.items
     pub flushed : IsFlushed (sink run.sink_after)
+    pub sink_unfailed : NoWriteFailed (sink run.sink) (sink run.sink_after)
 
   -- the line was read and judged so, and nothing was written
   pub record IsRefusedLine (error : SettingsError) (run : Run L K) : Type 0 where
-    pub judged_so : GaveInput (link run.source) (λ input. line_judged (line_of input) ≡ Err error)
-    pub left : GaveInput (link run.source) (λ input. (link run.source_after).left ≡ Some (after_line input))
-    pub unwritten : Unwritten (link run.source) (link run.source_after)
+    pub line : List ℕ
+    pub line_read : LineRead line (link run.source) (link run.source_after)
+    pub judged_so : line_judged line ≡ Err error
     pub unreported : run.sink_after ≡ run.sink
 
   -- nothing past the line was read, nothing was written, and no step was counted
@@ -81,10 +75,17 @@ module _ {L K : Type 0} (link : L → State) (sink : K → State) where
     pub unreported : run.sink_after ≡ run.sink
     pub uncounted : steps.after ≡ steps.before
 
-  -- the link failed before the line was read: no line feed was
+  -- the link failed before the line was read: no line feed was, and no end was met
   pub record LinkFailed (steps : StepsTaken) (run : Run L K) : Type 0 where
     pub rose : Rose (link run.source).read_faults (link run.source_after).read_faults
+    pub unended : NoReadEnded (link run.source) (link run.source_after)
     pub stopped : TakesNoLineFeed (link run.source).left (link run.source_after).left
+    pub silent : IsSilent steps run
+
+  -- memory ran out before there were settings: no read of the line failed
+  pub record LineRanOut (steps : StepsTaken) (run : Run L K) : Type 0 where
+    pub unfailed : NoReadFailed (link run.source) (link run.source_after)
+    pub ended : EndsAtMostOnce (link run.source) (link run.source_after)
     pub silent : IsSilent steps run
 
   -- a front of the report was written after what was there
@@ -96,6 +97,11 @@ module _ {L K : Type 0} (link : L → State) (sink : K → State) where
   -- the report's sink failed
   pub record ConnectSinkFailed (steps : StepsTaken) (run : Run L K) : Type 0 where
     pub rose : Rose (sink run.sink).write_faults (sink run.sink_after).write_faults
+    pub front : ReportedFront steps run
+
+  -- memory ran out while the report was written, and no write of it failed
+  pub record ReportRanOut (steps : StepsTaken) (run : Run L K) : Type 0 where
+    pub sink_unfailed : NoWriteFailed (sink run.sink) (sink run.sink_after)
     pub front : ReportedFront steps run
 
   -- what the settings ask for has no report, and none was begun
@@ -111,7 +117,7 @@ module _ {L K : Type 0} (link : L → State) (sink : K → State) where
   Ends steps run Usage = ⊥
   Ends steps run SourceFault = LinkFailed steps run
   Ends steps run SinkFault = ConnectSinkFailed steps run
-  Ends steps run NoMemory = IsSilent steps run ⊎ (Unreported steps run ⊎ ReportedFront steps run)
+  Ends steps run NoMemory = LineRanOut steps run ⊎ (Unreported steps run ⊎ ReportRanOut steps run)
   Ends steps run NotBuilt = IsRefusedLine Unbuilt run
 
   -- there are no words, and it ends so

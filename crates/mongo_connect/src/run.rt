@@ -10,7 +10,7 @@ mod tests;
 
 use crate::connecting::connect_over;
 use crate::input::read_line;
-use crate::settings::read_settings;
+use crate::settings::settings_of_line;
 use mongo_establish::{Link, Sink, SinkError};
 use mongo_mac::Steps;
 use mongo_settings::{InputError, SettingsError, Status, write_report};
@@ -75,7 +75,7 @@ fn run_line<L: Link, K: Sink, G: Ledger>(
         Err(InputError::Fault) => return (Status::SourceFault, link),
         Err(InputError::OutOfMemory) => return (Status::NoMemory, link),
     };
-    let settings = match read_settings(alloc, line.as_slice()) {
+    let settings = match settings_of_line(alloc, line.as_slice()) {
         Ok(settings) => settings,
         Err(SettingsError::BadSettings) => return (Status::BadSettings, link),
         Err(SettingsError::NotBuilt) => return (Status::NotBuilt, link),

@@ -4,19 +4,19 @@ ghost use Rattle.mongo_establish.specs.Speculation.{SpeaksFor};
 ghost use Rattle.mongo_settings.specs.Settings.{Gives};
 ghost use Rattle.mongo_connect.specs.Settings.{line_judged};
 
-use mongo_settings::{Settings, SettingsError, read};
+use mongo_settings::{Settings, SettingsError, read_settings};
 use std::alloc::Global;
 
 /// Reads the settings of a line.
 ///
-/// Refusals, in this order: those of [`mongo_settings::read`]; `BadSettings` where they bring reply bytes, which come from the
+/// Refusals, in this order: those of [`read_settings`]; `BadSettings` where they bring reply bytes, which come from the
 /// link here.
 #[tactic(auto, unfolding(crate::specs::Settings::line_judged))]
-pub fn read_settings(alloc: Global, line: &[u8]) -> Result<Settings, SettingsError>
+pub fn settings_of_line(alloc: Global, line: &[u8]) -> Result<Settings, SettingsError>
     ensures settings { Gives (λ s. s) result (line_judged line.now) }
     ensures spoken { IfOk result (λ s. SpeaksFor s.credential) }
 {
-    let settings = read(alloc, line)?;
+    let settings = read_settings(alloc, line)?;
     if !settings.replies.as_bytes().is_empty() {
         return Err(SettingsError::BadSettings);
     }

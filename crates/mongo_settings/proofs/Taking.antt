@@ -15,7 +15,7 @@ use Rattle.mongo_settings.specs.declared.rehearsal.Rehearsal.{Rehearsal}
 use Rattle.mongo_settings.specs.Outcome.{asked_of}
 use Rattle.mongo_settings.specs.Rehearsal.{IsRehearsal}
 use Rattle.mongo_settings.specs.Rounds.{is_after_login, logs_in, rounds_alone}
-use Rattle.mongo_settings.specs.Takes.{TakesBy, has_logged_in, TakesLedgers, IsTaking}
+use Rattle.mongo_settings.specs.Takes.{TakesBy, was_accepted, TakesLedgers, IsTaking}
 use Rattle.mongo_settings.specs.Task.{CountsKey, ReportsOne, steps_of}
 use Rattle.mongo_settings.specs.Telling.{IsReported, Tells}
 use Rattle.mongo_settings.proofs.Rehearsing.{Replayed, Replays}
@@ -28,7 +28,7 @@ before_login kind other = refl
 took : (settings : Settings) (accepted : Bool) (first last : Ledgers) → TakesAsLed (asked_of settings) settings.replies (λ key. TakesBy accepted key first last) → TakesLedgers settings accepted first last
 took settings accepted first last t = record { key = t.key; key_is = t.leads; taken = t.taken }
 
-takes_over : (settings : Settings) (first last : Ledgers) (ended : Result PooledConnection EstablishError) → CostsOver ended (asked_of settings) settings.replies first last → ((e : EstablishError) → ended ≡ Err e → IsReported e.cause.kind) → TakesLedgers settings (has_logged_in ended) first last
+takes_over : (settings : Settings) (first last : Ledgers) (ended : Result PooledConnection EstablishError) → CostsOver ended (asked_of settings) settings.replies first last → ((e : EstablishError) → ended ≡ Err e → IsReported e.cause.kind) → TakesLedgers settings (was_accepted ended) first last
 takes_over settings first last (Ok pooled) costs reported = took settings true first last costs
 takes_over settings first last (Err e) (inl memory) reported = absurd (subst IsReported memory (reported e refl))
 takes_over settings first last (Err e) (inr (inl unnamed)) reported = subst (λ b. TakesLedgers settings b first last) (sym (ap is_after_login unnamed.kind_is)) (took settings true first last unnamed.led)
@@ -77,7 +77,7 @@ counted settings accepted first last none t = record { key = t.key; key_is = t.k
 pub counted_over : (settings : Settings) (first last : Ledgers) (ended : Result PooledConnection EstablishError) (written : List ℕ) (count : ℕ) (x : Rehearsal)
     → entries_of first.cache ≡ [] → CostsOver ended (asked_of settings) settings.replies first last → Tells written count ended x → CountsKey settings (steps_of first.steps last.steps)
 counted_over settings first last ended written count x none over tells =
-    counted settings (has_logged_in ended) first last none (takes_over settings first last ended over (told_cause written count ended x tells))
+    counted settings (was_accepted ended) first last none (takes_over settings first last ended over (told_cause written count ended x tells))
 
 pub reports_alone : {E : Type 0} (settings : Settings) (first last : Ledgers) (r : Result Rehearsal E) → entries_of first.cache ≡ [] → IfOk r (IsTaking settings first last)
     → IfOk r (λ x. ReportsOne settings (steps_of first.steps last.steps) x.status x.report.items)

@@ -109,13 +109,13 @@ reading_of name = reading_in keys name
 abbrev pub is_known : List ℕ → Bool
 is_known name = is_some (reading_of name)
 
-abbrev pub is_read : Option Reading → Bool
-is_read None = false
-is_read (Some Later) = false
-is_read (Some Built) = true
+abbrev pub is_read_yet : Option Reading → Bool
+is_read_yet None = false
+is_read_yet (Some Later) = false
+is_read_yet (Some Built) = true
 
 abbrev pub is_built : List ℕ → Bool
-is_built name = is_read (reading_of name)
+is_built name = is_read_yet (reading_of name)
 
 -- ---- the key of a batch
 

@@ -17,14 +17,14 @@ TakesBy true key first last = AcceptedTakes key first last
 TakesBy false key first last = RefusedTakes key first last
 
 -- whether the login of an establishment was accepted that ended so
-abbrev pub has_logged_in : Result PooledConnection EstablishError → Bool
-has_logged_in (Ok pooled) = true
-has_logged_in (Err refusal) = is_after_login refusal.cause.kind
+abbrev pub was_accepted : Result PooledConnection EstablishError → Bool
+was_accepted (Ok pooled) = true
+was_accepted (Err refusal) = is_after_login refusal.cause.kind
 
 -- the rehearsal is that of settings, whose establishment ended so
 pub record Rehearses (settings : Settings) (ended : Result PooledConnection EstablishError) (rehearsal : Rehearsal) : Type 0 where
   pub rehearsal_is : IsRehearsal settings rehearsal
-  pub logs_in_is : logs_in rehearsal_is.report.outcome ≡ has_logged_in ended
+  pub logs_in_is : logs_in rehearsal_is.report.outcome ≡ was_accepted ended
 
 pub record TakesLedgers (settings : Settings) (accepted : Bool) (first last : Ledgers) : Type 0 where
   pub key : Option SaltedKey

@@ -91,7 +91,7 @@ impl From<BsonFault> for SettingsError {
 /// Refusals, in this order: `BadSettings` where the text is longer than 4194304 bytes, isn't JSON or holds a float; those
 /// of [`settings_of`].
 #[tactic(auto, unfolding(crate::specs::Settings::judged))]
-pub fn read(alloc: Global, text: &[u8]) -> Result<Settings, SettingsError>
+pub fn read_settings(alloc: Global, text: &[u8]) -> Result<Settings, SettingsError>
     ensures settings { Gives (λ s. s) result (judged text.now) }
     ensures spoken { IfOk result (λ s. SpeaksFor s.credential) }
 {

@@ -4,7 +4,7 @@ ghost use Rattle.mongo_settings.specs.Settings.{Gives};
 
 use crate::batch::rehearse_all;
 use crate::rehearsal::{Rehearsal, rehearse};
-use crate::settings::{Settings, SettingsError, read, read_logins};
+use crate::settings::{Settings, SettingsError, read_logins, read_settings};
 use mongo_mac::Steps;
 use std::alloc::{AllocError, Global};
 use std::sync::ledger::Ledger;
@@ -42,7 +42,7 @@ impl Logins {
         ensures spoken { IfOk result (λ logins. AreSpoken (asks_of logins)) }
     {
         match task {
-            Task::Rehearse => Ok(Logins::One(read(alloc, text)?)),
+            Task::Rehearse => Ok(Logins::One(read_settings(alloc, text)?)),
             Task::Batch => Ok(Logins::Many(read_logins(alloc, text)?)),
         }
     }

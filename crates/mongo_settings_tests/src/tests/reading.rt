@@ -1,7 +1,7 @@
 use mongo_establish::{
     AuthMechanism, Credential, Generations, ObjectId, PoolGeneration, ServerAddress, Text,
 };
-use mongo_settings::{Settings, SettingsError, read};
+use mongo_settings::{Settings, SettingsError, read_settings};
 use std::alloc::Global;
 use std::test::Fail;
 
@@ -123,7 +123,7 @@ fn is_said<T: Says + Drop>(read: Result<T, SettingsError>, wanted: Wanted) -> bo
 
 // Whether a text is settings that say this.
 fn reads(alloc: Global, text: &str, wanted: Wanted) -> bool {
-    is_said(read(alloc, text.as_bytes()), wanted)
+    is_said(read_settings(alloc, text.as_bytes()), wanted)
 }
 
 // Settings, and what they say: a port beside a path says nothing, and of two keys that name one service the later in byte
@@ -230,7 +230,7 @@ const REFUSED: &str = " => Some(BadSettings)
 
 // Why a text is no settings; None where it is settings.
 fn cause_of(alloc: Global, text: &str) -> Option<SettingsError> {
-    read(alloc, text.as_bytes()).err()
+    read_settings(alloc, text.as_bytes()).err()
 }
 
 // Whether the text of a row is refused for the cause behind the arrow.

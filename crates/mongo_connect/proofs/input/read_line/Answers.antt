@@ -1,41 +1,26 @@
 use Rattle.std.proofs.Common.{arith, ap, ◌∙◌, ◌≡◌, ◌+◌, length}
 use Rattle.mongo_settings.specs.Settings.{maximum_settings_length}
-use Rattle.mongo_connect.proofs.FirstLine.{gave_line_feed, gave_end, gave_cut, stops_held, stops_kept, takes_stopped, takes_next, one_more, one_pushed}
+use Rattle.mongo_connect.proofs.FirstLine.{line_fed, line_ended, line_cut, still_unended, stops_held, stops_kept, takes_stopped, takes_next, one_more, one_pushed}
 use Rattle.mongo_wire.specs.Outside.{risen}
 use Rattle.mongo_wire.proofs.ReadStopped.{reads_on}
 use Rattle.mongo_connect.proofs.input.read_line.Goals as goal
 
 pub returns-in-Ok-Some-eq10-clause-line : goal.returns-in-Ok-Some-eq10-clause-line
 returns-in-Ok-Some-eq10-clause-line g c =
+    let state = g.S.Outside.state in
     let e = c.in-Ok-Some-eq10 in
-    (gave_line_feed _ _ _ c.reading.held.items _ _ c.reading.invariant.front e.ensures.byte e.field-0-is e.field-0-0-test c.reading.invariant.unbroken (omega arith)).line_is
-
-pub returns-in-Ok-Some-eq10-clause-left : goal.returns-in-Ok-Some-eq10-clause-left
-returns-in-Ok-Some-eq10-clause-left g c =
-    let e = c.in-Ok-Some-eq10 in
-    (gave_line_feed _ _ _ c.reading.held.items _ _ c.reading.invariant.front e.ensures.byte e.field-0-is e.field-0-0-test c.reading.invariant.unbroken (omega arith)).left
+    line_fed (state c.args.source.now) (state c.reading.source) (state c.read_byte.new.source) c.reading.held.items c.reading.invariant _ _ e.field-0-is e.field-0-0-test (omega arith) e.ensures.byte e.ensures.unfailed e.ensures.ended e.ensures.on
 
 pub returns-in-Ok-None-clause-line : goal.returns-in-Ok-None-clause-line
 returns-in-Ok-None-clause-line g c =
+    let state = g.S.Outside.state in
     let e = c.in-Ok-None in
-    (gave_end _ _ _ c.reading.held.items _ c.reading.invariant.front e.ensures.byte e.ensures.end e.field-0-is c.reading.invariant.unbroken (omega arith)).line_is
-
-pub returns-in-Ok-None-clause-left : goal.returns-in-Ok-None-clause-left
-returns-in-Ok-None-clause-left g c =
-    let e = c.in-Ok-None in
-    (gave_end _ _ _ c.reading.held.items _ c.reading.invariant.front e.ensures.byte e.ensures.end e.field-0-is c.reading.invariant.unbroken (omega arith)).left
+    line_ended (state c.args.source.now) (state c.reading.source) (state c.read_byte.new.source) c.reading.held.items c.reading.invariant _ e.field-0-is (omega arith) e.ensures.byte e.ensures.end e.ensures.unfailed e.ensures.ended e.ensures.on
 
 pub returns-clause-line : goal.returns-clause-line
 returns-clause-line g c =
-    let held = c.reading.held.items in
-    let past : length held ≡ maximum_settings_length + 1 = omega arith in
-    (gave_cut _ _ held c.reading.invariant.front c.reading.invariant.unbroken past).line_is
-
-pub returns-clause-left : goal.returns-clause-left
-returns-clause-left g c =
-    let held = c.reading.held.items in
-    let past : length held ≡ maximum_settings_length + 1 = omega arith in
-    (gave_cut _ _ held c.reading.invariant.front c.reading.invariant.unbroken past).left
+    let state = g.S.Outside.state in
+    line_cut (state c.args.source.now) (state c.reading.source) c.reading.held.items c.reading.invariant (omega arith)
 
 -- ---- what was taken
 
@@ -56,7 +41,7 @@ pub returns-then-is_err-clause-stopped : goal.returns-then-is_err-clause-stopped
 returns-then-is_err-clause-stopped g c =
     let state = g.S.Outside.state in
     stops_held (state c.args.source.now) (state c.read_byte.new.source) _
-    (one_more (state c.args.source.now) (state c.reading.source) (state c.read_byte.new.source) c.reading.held.items c.reading.invariant c.in-Ok-Some.field-0 c.in-Ok-Some.byte c.in-Ok-Some.field-0-is c.in-Ok-Some.byte-test.1 (omega (arith, c.reading-test.true, c.len.ensures)) c.in-Ok-Some.ensures.byte c.in-Ok-Some.ensures.unfailed c.in-Ok-Some.ensures.on)
+    (one_more (state c.args.source.now) (state c.reading.source) (state c.read_byte.new.source) c.reading.held.items c.reading.invariant c.in-Ok-Some.field-0 c.in-Ok-Some.byte c.in-Ok-Some.field-0-is c.in-Ok-Some.byte-test.1 (omega (arith, c.reading-test.true, c.len.ensures)) c.in-Ok-Some.ensures.byte c.in-Ok-Some.ensures.unfailed c.in-Ok-Some.ensures.ended c.in-Ok-Some.ensures.on)
 
 pub returns-then-is_err-clause-on : goal.returns-then-is_err-clause-on
 returns-then-is_err-clause-on g c = reads_on _ _ _ c.reading.invariant.on c.in-Ok-Some.ensures.on
@@ -65,7 +50,7 @@ pub reading-preserved : goal.reading-preserved
 reading-preserved g c =
     let state = g.S.Outside.state in
     one_pushed (state c.args.source.now) (state c.reading.source) (state c.read_byte.new.source) c.reading.held.items c.reading.invariant c.in-Ok-Some.field-0 c.in-Ok-Some.byte _ c.push.new.self.items c.in-Ok-Some.field-0-is c.in-Ok-Some.byte-test.1 c.push.ensures.items c.if-is_err.ensures.negation
-    (omega (arith, c.reading-test.true, c.len.ensures)) c.in-Ok-Some.ensures.byte c.in-Ok-Some.ensures.unfailed c.in-Ok-Some.ensures.on
+    (omega (arith, c.reading-test.true, c.len.ensures)) c.in-Ok-Some.ensures.byte c.in-Ok-Some.ensures.unfailed c.in-Ok-Some.ensures.ended c.in-Ok-Some.ensures.on
 
 pub returns-in-Ok-None-clause-within : goal.returns-in-Ok-None-clause-within
 returns-in-Ok-None-clause-within g c =
@@ -74,6 +59,17 @@ returns-in-Ok-None-clause-within g c =
 
 pub returns-in-Ok-None-clause-on : goal.returns-in-Ok-None-clause-on
 returns-in-Ok-None-clause-on g c = reads_on _ _ _ c.reading.invariant.on c.in-Ok-None.ensures.on
+
+pub returns-then-is_err-clause-memory : goal.returns-then-is_err-clause-memory
+returns-then-is_err-clause-memory g c = λ _. c.in-Ok-Some.ensures.unfailed ∙ c.reading.invariant.unfailed
+
+pub returns-then-is_err-clause-unended : goal.returns-then-is_err-clause-unended
+returns-then-is_err-clause-unended g c =
+    let state = g.S.Outside.state in
+    still_unended (state c.args.source.now) (state c.reading.source) (state c.read_byte.new.source) c.reading.held.items c.reading.invariant c.in-Ok-Some.field-0 c.in-Ok-Some.byte c.in-Ok-Some.field-0-is c.in-Ok-Some.ensures.ended
+
+pub returns-in-Err-clause-unended : goal.returns-in-Err-clause-unended
+returns-in-Err-clause-unended g c = c.in-Err.ensures.unended ∙ c.reading.invariant.unended
 
 pub returns-in-Err-clause-failed : goal.returns-in-Err-clause-failed
 returns-in-Err-clause-failed g c = λ _. c.in-Err.ensures.failed ∙ ap risen c.reading.invariant.unfailed

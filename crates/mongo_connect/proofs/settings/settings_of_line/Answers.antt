@@ -1,6 +1,6 @@
 use Rattle.std.proofs.Common.{rules}
 use Rattle.mongo_connect.specs.Settings.{line_judged}
-use Rattle.mongo_connect.proofs.settings.read_settings.Goals as goal
+use Rattle.mongo_connect.proofs.settings.settings_of_line.Goals as goal
 
 pub returns-clause-settings : goal.returns-clause-settings
 unfolding line_judged
