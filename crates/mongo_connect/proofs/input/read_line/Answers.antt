@@ -1,5 +1,4 @@
-use Rattle.std.proofs.Common.{arith, ap, ◌∙◌, ◌≡◌, ◌+◌, length}
-use Rattle.mongo_settings.specs.Settings.{maximum_settings_length}
+use Rattle.std.proofs.Common.{arith, ap, ◌∙◌}
 use Rattle.mongo_connect.proofs.FirstLine.{line_fed, line_ended, line_cut, still_unended, stops_held, stops_kept, takes_stopped, takes_next, one_more, one_pushed}
 use Rattle.mongo_wire.specs.Outside.{risen}
 use Rattle.mongo_wire.proofs.ReadStopped.{reads_on}
