@@ -4,6 +4,7 @@ use Rattle.std.specs.Io.KnownBytes.{Appends}
 use Rattle.hex.specs.Hex.{encode_lower}
 use Rattle.mongo_wire.specs.Outside.{State, Rose, AppendsFront, IsFlushed}
 use Rattle.mongo_settings.specs.Line.{line}
+use Rattle.mongo_settings.specs.Run.{NoWriteFailed}
 use Rattle.mongo_settings.specs.Task.{StepsTaken}
 use Rattle.mongo_generate.specs.declared.logins.Generated.{Generated}
 use Rattle.mongo_generate.specs.Generated.{IsGenerated}
@@ -25,8 +26,9 @@ pub record TellsLogins (count : ℕ) (steps : StepsTaken) (text : List ℕ) : Ty
 
 -- ---- the ends, between a sink before and after
 
--- what was made of so many logins was written whole, and flushed
+-- what was made of so many logins was written whole, and flushed, and no write failed
 pub record MadeLogins (count : ℕ) (steps : StepsTaken) (sink sink_after : State) : Type 0 where
+  pub sink_unfailed : NoWriteFailed sink sink_after
   pub text : List ℕ
   pub tells : TellsLogins count steps text
   pub written : Appends sink.written sink_after.written text
@@ -43,10 +45,15 @@ pub record WriteFailed (count : ℕ) (steps : StepsTaken) (sink sink_after : Sta
   pub rose : Rose sink.write_faults sink_after.write_faults
   pub wrote : WroteFront count steps sink sink_after
 
+-- memory ran out while it was written, and no write failed
+pub record WriteRanOut (count : ℕ) (steps : StepsTaken) (sink sink_after : State) : Type 0 where
+  pub sink_unfailed : NoWriteFailed sink sink_after
+  pub wrote : WroteFront count steps sink sink_after
+
 -- How the making of so many logins ends; no login of its own can be refused. Want of memory may come before anything is written, or
 -- while it is.
 abbrev pub GenerateEnds : {K : Type 0} → (K → State) → ℕ → StepsTaken → K → K → Status → Type 0
 GenerateEnds sink count steps old new Done = MadeLogins count steps (sink old) (sink new)
 GenerateEnds sink count steps old new SinkFault = WriteFailed count steps (sink old) (sink new)
-GenerateEnds sink count steps old new NoMemory = (new ≡ old) ⊎ WroteFront count steps (sink old) (sink new)
+GenerateEnds sink count steps old new NoMemory = (new ≡ old) ⊎ WriteRanOut count steps (sink old) (sink new)
 GenerateEnds sink count steps old new status = ⊥

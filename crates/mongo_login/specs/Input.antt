@@ -1,6 +1,7 @@
--- What is read of a source whose bytes are settings: all of it, or a front that is past the greatest length; and what no read did.
-use Rattle.std.specs.Prelude.{◌≡◌, ℕ, ◌+◌, Option, Some, List, take, drop}
-use Rattle.mongo_wire.specs.Outside.{State}
+-- What is read of a source whose bytes are settings: all of it, or a front that is past the greatest length.
+use Rattle.std.specs.Prelude.{◌≡◌, ℕ, ◌+◌, ◌<◌, ◌≤◌, Option, Some, List, length, take, drop}
+use Rattle.mongo_wire.specs.Outside.{State, Rose}
+use Rattle.mongo_settings.specs.Run.{NoReadEnded}
 use Rattle.mongo_settings.specs.Settings.{maximum_settings_length}
 
 -- What is left of an input that was read as settings: what follows the byte past the greatest length, and so nothing of one within
@@ -13,10 +14,7 @@ LeftOver input left = left ≡ Some (drop (maximum_settings_length + 1) input)
 abbrev pub ReadsInput : List ℕ → List ℕ → Option (List ℕ) → Type 0
 ReadsInput input held left = (held ≡ take (maximum_settings_length + 1) input) × LeftOver input left
 
--- no read failed
-abbrev pub NoReadFailed : State → State → Type 0
-NoReadFailed old new = new.read_faults ≡ old.read_faults
-
--- no read met the source's end
-abbrev pub NoReadEnded : State → State → Type 0
-NoReadEnded old new = new.ends ≡ old.ends
+-- With these bytes held the end was met, once, just where they are within the greatest length.
+pub record MeetsEndWithin (held : List ℕ) (old new : State) : Type 0 where
+  pub within : length held ≤ maximum_settings_length → Rose old.ends new.ends
+  pub past : maximum_settings_length < length held → NoReadEnded old new

@@ -8,14 +8,14 @@ use Rattle.mongo_settings.specs.declared.rehearsal.RehearsalStatus.{RehearsalSta
 use Rattle.mongo_settings.specs.declared.rehearsal.RehearsalStatus.TheVariants as rehearsal
 use Rattle.mongo_settings.specs.declared.status.Status.{Status}
 use Rattle.mongo_settings.specs.declared.status.Status.TheVariants.{Done, Refused, BadSettings, Usage, SourceFault, SinkFault, NoMemory, NotBuilt}
-use Rattle.mongo_settings.specs.Run.{Run, GaveInput}
+use Rattle.mongo_settings.specs.Run.{Run, GaveInput, NoReadFailed, NoReadEnded, EndsAtMostOnce, NoWriteFailed}
 use Rattle.mongo_settings.specs.Settings.{maximum_settings_length}
 use Rattle.mongo_settings.specs.Status.{EndsAs, JudgementDecides, UnlessUsage}
 use Rattle.mongo_settings.specs.Task.{Asks, judged_as, StepsTaken, Reports, ComesOut}
 use Rattle.mongo_login.specs.declared.words.Subcommand.{Subcommand}
 use Rattle.mongo_login.specs.declared.words.Subcommand.TheVariants.{Rehearse, Generate}
 use Rattle.mongo_login.specs.Generated.{GenerateEnds}
-use Rattle.mongo_login.specs.Input.{LeftOver, NoReadFailed, NoReadEnded}
+use Rattle.mongo_login.specs.Input.{ReadsInput, MeetsEndWithin}
 use Rattle.mongo_login.specs.Words.{NamesSubcommand, NamesNone}
 
 -- ---- what was printed
@@ -47,17 +47,21 @@ PrintedAtMost task steps input sink sink_after = Keeps sink.written sink_after.w
 -- ---- the ends, one a status
 
 module _ {S K : Type 0} (source : S → State) (sink : K → State) where
-  -- the report was written whole; an end of the source was met, and no read failed
+  -- the report was written whole; an end of the source was met, and no read and no write failed
   pub record Reported (task : Task) (steps : StepsTaken) (status : RehearsalStatus) (run : Run S K) : Type 0 where
     pub unfailed : NoReadFailed (source run.source) (source run.source_after)
+    pub sink_unfailed : NoWriteFailed (sink run.sink) (sink run.sink_after)
     pub ended : Rose (source run.source).ends (source run.source_after).ends
     pub printed : GaveInput (source run.source) (λ input. Printed task steps status input (source run.source_after) (sink run.sink) (sink run.sink_after))
 
-  -- the text asks for nothing: at most one byte past the greatest length was read, no read failed, and nothing was written
+  -- the text asks for nothing: it was read to its end, or to one byte past the greatest length, no read failed, and nothing was
+  -- written
   pub record IsBad (task : Task) (run : Run S K) : Type 0 where
     pub unfailed : NoReadFailed (source run.source) (source run.source_after)
     pub judged_so : GaveInput (source run.source) (λ input. judged_as task input ≡ Err Bad)
-    pub read : GaveInput (source run.source) (λ input. LeftOver input (source run.source_after).left)
+    pub held : List ℕ
+    pub ended : MeetsEndWithin held (source run.source) (source run.source_after)
+    pub read : GaveInput (source run.source) (λ input. ReadsInput input held (source run.source_after).left)
     pub unwritten : run.sink_after ≡ run.sink
 
   -- a key that isn't read yet: the source was read to its end, no read failed, and nothing was written
@@ -83,10 +87,12 @@ module _ {S K : Type 0} (source : S → State) (sink : K → State) where
     pub read : GaveInput (source run.source) (λ input. (source run.source_after).left ≡ Some [])
     pub printed : GaveInput (source run.source) (λ input. PrintedFront task steps input (sink run.sink) (sink run.sink_after))
 
-  -- memory ran out: no more than one byte past the greatest length was read, no read failed, and at most a front of the report
-  -- was written
+  -- memory ran out: no more than one byte past the greatest length was read, no read and no write failed, and at most a front of
+  -- the report was written
   pub record TaskRanOut (task : Task) (steps : StepsTaken) (run : Run S K) : Type 0 where
     pub unfailed : NoReadFailed (source run.source) (source run.source_after)
+    pub sink_unfailed : NoWriteFailed (sink run.sink) (sink run.sink_after)
+    pub ended : EndsAtMostOnce (source run.source) (source run.source_after)
     pub read : ConsumesAtMost (source run.source).left (source run.source_after).left (maximum_settings_length + 1)
     pub printed : GaveInput (source run.source) (λ input. PrintedAtMost task steps input (sink run.sink) (sink run.sink_after))
 

@@ -1,11 +1,12 @@
 //! Reading the text of settings from a source.
-ghost use Rattle.std.specs.Prelude.{◌≡◌, ℕ, List, Some, ◌+◌, ◌≤◌, length, IfOk, OnOk, OnErr, IsErrOf};
+ghost use Rattle.std.specs.Prelude.{◌≡◌, ℕ, List, Some, ◌+◌, IfOk, OnOk, OnErr, IsErrOf};
 ghost use Rattle.mongo_settings.specs.declared.task.Task.{Task};
 ghost use Rattle.std.specs.Io.KnownBytes.{Consumes};
 ghost use Rattle.mongo_wire.specs.Outside.{ReadsOn, Rose, ConsumesAtMost};
+ghost use Rattle.mongo_settings.specs.Run.{NoReadFailed, NoReadEnded};
 ghost use Rattle.mongo_settings.specs.Settings.{maximum_settings_length};
 ghost use Rattle.mongo_settings.specs.Task.{judged_as};
-ghost use Rattle.mongo_login.specs.Input.{ReadsInput, NoReadFailed, NoReadEnded};
+ghost use Rattle.mongo_login.specs.Input.{ReadsInput, MeetsEndWithin};
 
 #[cfg(test)]
 mod tests;
@@ -25,7 +26,7 @@ pub fn read_input<S: Source>(alloc: Global, source: &mut S) -> Result<Vec<u8>, I
     ensures read { (input : List ℕ) → (S.state source.old).left ≡ Some input → IfOk result (λ held. ReadsInput input held.items (S.state source.new).left) }
     ensures judged_alike { (task : Task) (input : List ℕ) → (S.state source.old).left ≡ Some input → IfOk result (λ held. judged_as task held.items ≡ judged_as task input) }
     ensures consumed { IfOk result (λ held. Consumes (S.state source.old).left (S.state source.new).left held.items) }
-    ensures ended { IfOk result (λ held. length held.items ≤ maximum_settings_length → Rose (S.state source.old).ends (S.state source.new).ends) }
+    ensures ended { IfOk result (λ held. MeetsEndWithin held.items (S.state source.old) (S.state source.new)) }
     ensures failed { IsErrOf result InputError.Fault → Rose (S.state source.old).read_faults (S.state source.new).read_faults }
     ensures at_most { ConsumesAtMost (S.state source.old).left (S.state source.new).left (maximum_settings_length + 1) }
     ensures unfailed { OnOk result (NoReadFailed (S.state source.old) (S.state source.new)) }

@@ -54,7 +54,11 @@ returns-in-Ok-eq0-clause-consumed g c = nothing_more _ _ _ c.reading.held.items 
 pub returns-in-Ok-eq0-clause-ended : goal.returns-in-Ok-eq0-clause-ended
 returns-in-Ok-eq0-clause-ended g c =
     let room : 0 < length c.read.new.buf = grind (arith, common_steps, c.read.auto.buf) in
-    λ _. c.in-Ok-eq0.ensures.ended c.in-Ok-eq0.field-0-test room ∙ ap risen c.reading.invariant.unended
+    let short : length c.reading.held.items ≤ maximum_settings_length = omega arith in
+    record {
+      within = λ _. c.in-Ok-eq0.ensures.ended c.in-Ok-eq0.field-0-test room ∙ ap risen c.reading.invariant.unended;
+      past = λ long. absurd (omega (arith, short, long));
+    }
 
 pub returns-in-Ok-eq0-clause-at_most : goal.returns-in-Ok-eq0-clause-at_most
 returns-in-Ok-eq0-clause-at_most g c =
@@ -66,6 +70,16 @@ returns-in-Ok-eq0-clause-unfailed g c = c.in-Ok-eq0.ensures.exact.0 ∙ c.readin
 
 pub returns-in-Ok-eq0-clause-on : goal.returns-in-Ok-eq0-clause-on
 returns-in-Ok-eq0-clause-on g c = reads_on _ _ _ c.reading.invariant.on c.in-Ok-eq0.ensures.on
+
+-- ---- it was read to one byte past the greatest length
+
+pub returns-clause-ended : goal.returns-clause-ended
+returns-clause-ended g c =
+    let past : length c.reading.held.items ≡ maximum_settings_length + 1 = omega arith in
+    record {
+      within = λ short. absurd (omega (arith, past, short));
+      past = λ _. c.reading.invariant.unended;
+    }
 
 -- ---- memory ran out for its piece
 

@@ -1,8 +1,8 @@
 use Rattle.std.proofs.Common.{◌≤◌, ◌+◌, ◌-◌, length}
 use Rattle.std.specs.Io.KnownBytes.{Consumes}
 use Rattle.mongo_wire.specs.Outside.{ReadsOn}
+use Rattle.mongo_settings.specs.Run.{NoReadFailed, NoReadEnded}
 use Rattle.mongo_settings.specs.Settings.{maximum_settings_length}
-use Rattle.mongo_login.specs.Input.{NoReadFailed, NoReadEnded}
 use Rattle.mongo_login.proofs.input.read_input.Given as goal
 
 -- what is held is what the source gave so far; no read failed, and none met the end

@@ -4,8 +4,16 @@ use Rattle.mongo_wire.specs.Outside.{AppendsFront}
 use Rattle.mongo_settings.specs.Run.{run_of}
 use Rattle.mongo_settings.specs.Task.{judged_as, asks_of, steps_of}
 use Rattle.mongo_login.specs.Run.{TaskEnds}
-use Rattle.mongo_login.proofs.Ends.{ends_unbuilt, ends_reported, ends_sink, ends_unwritten}
+use Rattle.mongo_login.proofs.Ends.{ends_bad, ends_unbuilt, ends_reported, ends_sink, ends_unwritten}
 use Rattle.mongo_login.proofs.run.run_task.Goals as goal
+
+pub returns-in-Err-BadSettings-clause-ends : goal.returns-in-Err-BadSettings-clause-ends
+returns-in-Err-BadSettings-clause-ends g c =
+    let task = c.args.task in
+    let run = run_of c.args.source.now c.read_input.new.source c.args.sink.now c.args.sink.now in
+    ends_bad g.S.Outside.state g.K.Outside.state task (steps_of c.args.steps.now c.args.steps.now) run c.in-Ok.text.items
+    (record { reads = c.in-Ok.ensures.read; alike = c.in-Ok.ensures.judged_alike task; ended = c.in-Ok.ensures.ended; at_most = c.read_input.ensures.at_most; unfailed = c.in-Ok.ensures.unfailed })
+    (ap (judged_as task) (sym c.as_slice.ensures.value) ∙ (rw c.in-Err-BadSettings.field-0-is at c.in-Err-BadSettings.ensures.logins)) refl
 
 pub returns-in-Err-NotBuilt-clause-ends : goal.returns-in-Err-NotBuilt-clause-ends
 returns-in-Err-NotBuilt-clause-ends g c =
@@ -24,7 +32,7 @@ returns-in-Ok-write_report-clause-ends g c =
     (ends_reported g.S.Outside.state g.K.Outside.state task steps run c.in-Ok.text.items (asks_of c.in-Ok-read.logins) c.in-Ok-rehearse.rehearsal.status c.in-Ok-rehearse.rehearsal.report.items
     (record { reads = c.in-Ok.ensures.read; alike = c.in-Ok.ensures.judged_alike task; ended = c.in-Ok.ensures.ended; at_most = c.read_input.ensures.at_most; unfailed = c.in-Ok.ensures.unfailed })
     (ap (judged_as task) (sym c.as_slice.ensures.value) ∙ c.in-Ok-read.ensures.logins) c.in-Ok-rehearse.ensures.reported
-    (subst (Appends _ _) c.as_slice-2.ensures.value c.in-Ok-write_report.ensures.written) c.in-Ok-write_report.ensures.flushed)
+    (subst (Appends _ _) c.as_slice-2.ensures.value c.in-Ok-write_report.ensures.written) c.in-Ok-write_report.ensures.flushed c.in-Ok-write_report.ensures.exact)
 
 pub returns-in-Err-Failed-clause-ends : goal.returns-in-Err-Failed-clause-ends
 returns-in-Err-Failed-clause-ends g c =
@@ -46,3 +54,4 @@ returns-clause-ends g c =
     (record { reads = c.in-Ok.ensures.read; alike = c.in-Ok.ensures.judged_alike task; ended = c.in-Ok.ensures.ended; at_most = c.read_input.ensures.at_most; unfailed = c.in-Ok.ensures.unfailed })
     (ap (judged_as task) (sym c.as_slice.ensures.value) ∙ c.in-Ok-read.ensures.logins) c.in-Ok-rehearse.ensures.reported
     (subst (AppendsFront _ _) c.as_slice-2.ensures.value c.in-Err-OutOfMemory-write_report.ensures.refused)
+    (rw c.in-Err-OutOfMemory-write_report.field-0-is at c.in-Err-OutOfMemory-write_report.ensures.exact)
