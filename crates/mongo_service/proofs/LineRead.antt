@@ -1,14 +1,14 @@
 -- What was taken of a source while its first line is read, byte by byte.
-use Rattle.std.proofs.Common.{◌≡◌, ◌≢◌, ℕ, ◌+◌, ◌≤◌, Option, None, Some, Result, Err, List, [], ◌∷◌, ◌++◌, length, IfSome, IfOk, IsErrOf, sym, subst, ◌∙◌, inr, arith, append-nil, length-append}
+use Rattle.std.proofs.Common.{◌≡◌, ◌≢◌, ℕ, ◌+◌, ◌≤◌, Option, None, Some, Result, Err, List, [], ◌∷◌, ◌++◌, length, IfSome, IfOk, IsErrOf, ap, sym, subst, ◌∙◌, inr, arith, append-nil, length-append}
 use Rattle.std.proofs.KnownBytes.{Consumes-trans}
 use Rattle.std.proofs.lemmas.List.Elements.{All-push}
 use Rattle.std.specs.Result.{IsErrAnd}
 use Rattle.std.specs.Io.KnownBytes.{Consumes}
 use Rattle.mongo_wire.proofs.ReadStopped.{stops_after, reads_on, unstopped_on}
 use Rattle.mongo_wire.proofs.Written.{error_passed_on}
-use Rattle.mongo_wire.specs.Outside.{State, ReadsOn, Unstopped, MeetsEnd, RanOut, ConsumesAtMost}
+use Rattle.mongo_wire.specs.Outside.{State, ReadsOn, Unstopped, FailsToRead, MeetsEnd, RanOut, ConsumesAtMost, risen}
 use Rattle.mongo_wire.specs.declared.error.ErrorKind.TheVariants.{EndOfInput}
-use Rattle.mongo_service.specs.Line.{maximum_line_length, HasNoLineFeed, TakesLine, HasNoLine, StopsWithin}
+use Rattle.mongo_service.specs.Line.{maximum_line_length, HasNoLineFeed, TakesLine, HasNoLine, StopsWithin, LineFails, LineRunsOut}
 
 -- what ran out after bytes without a line feed had none at all
 unended_whole : (old mid new : Option (List ℕ)) (line : List ℕ) → Consumes old mid line → HasNoLineFeed line → RanOut mid new 1 → IfSome old HasNoLineFeed
@@ -53,7 +53,7 @@ module _ (old mid new : State) (line : List ℕ) (so_far : LineSoFar old mid lin
       inr (record { met = all.0; ran_out = all.1; unended = unended_whole old.left mid.left new.left line so_far.front so_far.unended ended.1 })
 
   -- reading stopped at it
-  pub stops_within : ConsumesAtMost mid.left new.left 1 → StopsWithin old new
+  stops_within : ConsumesAtMost mid.left new.left 1 → StopsWithin old new
   stops_within last = record {
     front = line;
     last = last.0;
@@ -62,6 +62,21 @@ module _ (old mid new : State) (line : List ℕ) (so_far : LineSoFar old mid lin
     short = short;
     one = last.1;
   }
+
+  -- since the read of it failed
+  pub line_fails : FailsToRead mid new → ConsumesAtMost mid.left new.left 1 → LineFails old new
+  line_fails failed last = (record { reads = failed.reads ∙ ap risen so_far.still.reads; ends = failed.ends ∙ so_far.still.ends }, stops_within last)
+
+  -- or memory ran out for it
+  pub line_runs_out : Unstopped mid new → ConsumesAtMost mid.left new.left 1 → LineRunsOut old new
+  line_runs_out still last = (unstopped_on old mid new so_far.still still, stops_within last)
+
+-- memory ran out for what the line says
+pub line_taken_runs_out : (old new : State) (line : List ℕ) → TakesLine old new line → LineRunsOut old new
+line_taken_runs_out old new line t =
+    let last : List ℕ = 10 ∷ [] in
+    let one : length last ≤ 1 = omega arith in
+    (t.unstopped, record { front = line; last = last; taken = t.taken; unended = t.first; short = t.short; one = one })
 
 -- ---- what is answered
 

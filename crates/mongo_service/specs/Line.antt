@@ -1,7 +1,7 @@
 -- The first line of a stream, whose text is the settings; and why there are none.
 use Rattle.std.specs.Prelude.{◌≡◌, ◌≢◌, ℕ, ◌+◌, ◌≤◌, ◌⊎◌, None, Some, List, [], ◌∷◌, ◌++◌, length, All, IfSome, ⊤}
 use Rattle.std.specs.Io.KnownBytes.{Consumes}
-use Rattle.mongo_wire.specs.Outside.{State, ReadsOn, Unstopped, MeetsEnd, RanOut}
+use Rattle.mongo_wire.specs.Outside.{State, ReadsOn, Unstopped, FailsToRead, MeetsEnd, RanOut}
 use Rattle.mongo_wire.specs.declared.error.ErrorKind.{ErrorKind}
 use Rattle.mongo_wire.specs.declared.error.ErrorKind.TheVariants as kind
 use Rattle.mongo_session.specs.ServeSettings.{settings_said, settings_as_said}
@@ -63,6 +63,14 @@ pub record StopsWithin (old new : State) : Type 0 where
   pub unended : HasNoLineFeed front
   pub short : length front ≤ maximum_line_length
   pub one : length last ≤ 1
+
+-- a read failed within the line
+abbrev pub LineFails : State → State → Type 0
+LineFails old new = FailsToRead old new × StopsWithin old new
+
+-- memory ran out within the line, or for what it says: no read failed, and no end was met
+abbrev pub LineRunsOut : State → State → Type 0
+LineRunsOut old new = Unstopped old new × StopsWithin old new
 
 -- ---- what the line says
 

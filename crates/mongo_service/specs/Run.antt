@@ -1,14 +1,14 @@
 -- How a run ends.
 use Rattle.std.specs.Prelude.{◌≡◌, ℕ, ◌<◌, ◌⊎◌, Option, None, Some, List}
 use Rattle.std.specs.Io.KnownBytes.{Appends}
-use Rattle.mongo_wire.specs.Outside.{State, Rose, AppendsFront, IsFlushed}
+use Rattle.mongo_wire.specs.Outside.{State, Rose, AppendsFront, IsFlushed, NoWriteFailed}
 use Rattle.mongo_service.specs.declared.fault.ServeFault.{ServeFault}
 use Rattle.mongo_service.specs.declared.fault.ServeFault.TheVariants as fault
 use Rattle.mongo_service.specs.declared.serve.Served.{Served}
 use Rattle.mongo_session.specs.declared.serve_settings.ServeSettings.{ServeSettings}
 use Rattle.mongo_service.specs.declared.status.ServeStatus.{ServeStatus}
 use Rattle.mongo_service.specs.declared.status.ServeStatus.TheVariants.{Ended, Broken, BadSettings, Usage, NoMemory}
-use Rattle.mongo_service.specs.Line.{IsAfterLine, HasNoSettings, StopsWithin}
+use Rattle.mongo_service.specs.Line.{IsAfterLine, HasNoSettings, LineFails, LineRunsOut}
 use Rattle.mongo_service.specs.Report.{report_text, line_failed, no_memory, no_settings}
 use Rattle.mongo_service.specs.Served.{IsServed}
 
@@ -37,13 +37,17 @@ pub record ServeRun : Type 0 where
 
 -- the text stands whole in what was written, and is flushed, or the sink failed
 abbrev pub IsSaidWhole : State → State → List ℕ → Type 0
-IsSaidWhole old new text = (Appends old.written new.written text × IsFlushed new) ⊎ Rose old.write_faults new.write_faults
+IsSaidWhole old new text = (Appends old.written new.written text × IsFlushed new × NoWriteFailed old new) ⊎ Rose old.write_faults new.write_faults
+
+-- it doesn't, since memory ran out
+abbrev pub IsUnsaid : State → State → ServeStatus → Type 0
+IsUnsaid old new status = (status ≡ NoMemory) × NoWriteFailed old new
 
 -- A run that says this text of itself ends with the status that it is to end with, or with NoMemory where memory ran out for the text. A
 -- front of the text is written.
 pub record EndsTelling (old new : State) (text : List ℕ) (wanted status : ServeStatus) : Type 0 where
   pub front : AppendsFront old.written new.written text
-  pub whole : ((status ≡ wanted) × IsSaidWhole old new text) ⊎ (status ≡ NoMemory)
+  pub whole : ((status ≡ wanted) × IsSaidWhole old new text) ⊎ IsUnsaid old new status
 
 abbrev pub TellsReport : ServeRun → List ℕ → ServeStatus → ServeStatus → Type 0
 TellsReport run text wanted status = EndsTelling run.report_old run.report_new text wanted status
@@ -71,11 +75,11 @@ HasBadLine run status = HasNoSettings run.old run.new × SendsNothing run × Tel
 
 -- the link failed within it
 abbrev pub FailsWithin : ServeRun → ServeStatus → Type 0
-FailsWithin run status = Rose run.old.read_faults run.new.read_faults × StopsWithin run.old run.new × SendsNothing run × TellsReport run line_failed Broken status × TakesNoStep run
+FailsWithin run status = LineFails run.old run.new × SendsNothing run × TellsReport run line_failed Broken status × TakesNoStep run
 
 -- memory ran out within it
 abbrev pub RunsOutWithin : ServeRun → ServeStatus → Type 0
-RunsOutWithin run status = StopsWithin run.old run.new × SendsNothing run × TellsReport run no_memory NoMemory status × TakesNoStep run
+RunsOutWithin run status = LineRunsOut run.old run.new × SendsNothing run × TellsReport run no_memory NoMemory status × TakesNoStep run
 
 -- How a run without words ends. The link may fail, and memory run out, before there are settings: then no more than the first line was
 -- taken. Memory may run out for the report too, however the run is to end.

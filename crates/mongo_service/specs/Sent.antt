@@ -3,7 +3,7 @@ use Rattle.std.specs.Prelude.{◌≡◌, ℕ, ℤ, pos, ◌+◌, ◌≤◌, ◌<
 use Rattle.std.specs.Int.{to_le_bytes, w64}
 use Rattle.std.specs.Io.KnownBytes.{Appends}
 use Rattle.mongo_wire.specs.Bytes.{next_id}
-use Rattle.mongo_wire.specs.Frame.{Frame, IsFrame, IsFrameWith, int32, message_code, uint32}
+use Rattle.mongo_wire.specs.Frame.{Frame, IsFrame, IsFrameWith, int32, message_code, more_to_come_bit, uint32}
 use Rattle.mongo_wire.specs.Header.{header_bytes, signed_at}
 use Rattle.mongo_wire.specs.Outside.{State, AppendsFront, IsFlushed, Rose}
 use Rattle.mongo_wire.specs.declared.header.Header.{Header}
@@ -14,9 +14,9 @@ use Rattle.mongo_session.specs.declared.reply.Reply.{Reply}
 use Rattle.mongo_server.specs.Announced.{maximum_message_length}
 use Rattle.mongo_session.specs.Replies.{document_of_served}
 
--- MORE_TO_COME, bit 1, is set
+-- MORE_TO_COME is set
 abbrev pub WantsNone : ℕ → Type 0
-WantsNone flags = bit_and flags 2 ≡ 2
+WantsNone flags = bit_and flags more_to_come_bit ≡ more_to_come_bit
 
 -- the bytes of a reply in an OP_MSG, to the request of this id: no flags, and its document alone
 abbrev pub message_reply : ℤ → ℤ → List ℕ → List ℕ

@@ -112,6 +112,7 @@ fn say<K: Sink>(report: &mut K, text: &[u8], wanted: ServeStatus) -> ServeStatus
     match send_bytes(report, text) {
         Ok(()) => wanted,
         Err(ServeFault::WriteFault) => wanted,
-        Err(_) => ServeStatus::NoMemory,
+        Err(ServeFault::OutOfMemory) => ServeStatus::NoMemory,
+        Err(_) => unreachable!(),
     }
 }

@@ -2,8 +2,8 @@
 
 ghost use Rattle.std.specs.Prelude.{◌≡◌, [], ◌∷◌, IfOk, OnOk, IsErrOf};
 ghost use Rattle.std.specs.Io.KnownBytes.{Consumes};
-ghost use Rattle.mongo_wire.specs.Outside.{ConsumesAtMost, ReadsOn, Rose, Unstopped, MeetsEnd, RanOut};
-ghost use Rattle.mongo_service.specs.Line.{IsAfterLine, HasNoLine, HasNoSettings, StopsReading, StopsWithin, TakesLine, line_error_of};
+ghost use Rattle.mongo_wire.specs.Outside.{ConsumesAtMost, FailsToRead, ReadsOn, Unstopped, MeetsEnd, RanOut};
+ghost use Rattle.mongo_service.specs.Line.{IsAfterLine, HasNoLine, HasNoSettings, LineFails, LineRunsOut, StopsReading, TakesLine, line_error_of};
 
 use mongo_session::{ServeSettings, ServeSettingsError, serve_settings_of};
 use mongo_wire::{Error, ErrorKind, Source, SyncLittleEndianRead};
@@ -41,9 +41,8 @@ pub fn read_serve_settings<S: Source>(
 ) -> Result<ServeSettings, LineError>
     ensures line { IfOk result (IsAfterLine (S.state source.old) (S.state source.new)) }
     ensures none { IsErrOf result LineError.BadSettings → HasNoSettings (S.state source.old) (S.state source.new) }
-    ensures failed { IsErrOf result LineError.Fault → Rose (S.state source.old).read_faults (S.state source.new).read_faults }
-    ensures within { IsErrOf result LineError.Fault → StopsWithin (S.state source.old) (S.state source.new) }
-    ensures memory { IsErrOf result LineError.OutOfMemory → StopsWithin (S.state source.old) (S.state source.new) }
+    ensures failed { IsErrOf result LineError.Fault → LineFails (S.state source.old) (S.state source.new) }
+    ensures memory { IsErrOf result LineError.OutOfMemory → LineRunsOut (S.state source.old) (S.state source.new) }
     ensures on { ReadsOn (S.state source.old) (S.state source.new) }
 {
     let line = read_settings_line(alloc, source)?;
@@ -58,9 +57,8 @@ pub fn read_serve_settings<S: Source>(
 fn read_settings_line<S: Source>(alloc: Global, source: &mut S) -> Result<Vec<u8>, LineError>
     ensures line { IfOk result (λ line. TakesLine (S.state source.old) (S.state source.new) line.items) }
     ensures none { IsErrOf result LineError.BadSettings → HasNoLine (S.state source.old) (S.state source.new) }
-    ensures failed { IsErrOf result LineError.Fault → Rose (S.state source.old).read_faults (S.state source.new).read_faults }
-    ensures within { IsErrOf result LineError.Fault → StopsWithin (S.state source.old) (S.state source.new) }
-    ensures memory { IsErrOf result LineError.OutOfMemory → StopsWithin (S.state source.old) (S.state source.new) }
+    ensures failed { IsErrOf result LineError.Fault → LineFails (S.state source.old) (S.state source.new) }
+    ensures memory { IsErrOf result LineError.OutOfMemory → LineRunsOut (S.state source.old) (S.state source.new) }
     ensures on { ReadsOn (S.state source.old) (S.state source.new) }
 {
     let mut line = Vec::new(alloc);
@@ -83,7 +81,7 @@ fn next_byte<S: Source>(source: &mut S) -> Result<u8, LineError>
     ensures unstopped { OnOk result (Unstopped (S.state source.old) (S.state source.new)) }
     ensures ended { IsErrOf result LineError.BadSettings →
         MeetsEnd (S.state source.old) (S.state source.new) × RanOut (S.state source.old).left (S.state source.new).left 1 }
-    ensures failed { IsErrOf result LineError.Fault → Rose (S.state source.old).read_faults (S.state source.new).read_faults }
+    ensures failed { IsErrOf result LineError.Fault → FailsToRead (S.state source.old) (S.state source.new) }
     ensures within { IsErrOf result LineError.Fault → ConsumesAtMost (S.state source.old).left (S.state source.new).left 1 }
     ensures no_memory { IsErrOf result LineError.OutOfMemory → ⊥ }
     ensures on { ReadsOn (S.state source.old) (S.state source.new) }

@@ -31,7 +31,7 @@ returns-in-Err-Fault g c = record {
         steps_new = c.args.steps.now;
       } in
       let is : c.read_serve_settings.result ≡ Err Fault = c.in-Err-Fault.is ∙ ap Err c.in-Err-Fault.field-0-is in
-      failed_within_ends run c.say-in-Err-Fault.result (c.read_serve_settings.ensures.failed is, c.read_serve_settings.ensures.within is, c.in-Err-Fault.ensures.on.unwritten.written, c.say-in-Err-Fault.ensures, refl);
+      failed_within_ends run c.say-in-Err-Fault.result (c.read_serve_settings.ensures.failed is, c.in-Err-Fault.ensures.on.unwritten.written, c.say-in-Err-Fault.ensures, refl);
 }
 
 pub returns : goal.returns

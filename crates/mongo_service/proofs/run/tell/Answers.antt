@@ -4,4 +4,4 @@ use Rattle.mongo_service.proofs.Ran.{none_said}
 use Rattle.mongo_service.proofs.run.tell.Goals as goal
 
 pub returns-in-Err : goal.returns-in-Err
-returns-in-Err g c = record { front = none_said (g.K.Outside.state c.args.report.now).written (report_text c.args.served.now); whole = inr refl }
+returns-in-Err g c = record { front = none_said (g.K.Outside.state c.args.report.now).written (report_text c.args.served.now); whole = inr (refl, refl) }

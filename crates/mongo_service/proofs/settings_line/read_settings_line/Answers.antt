@@ -1,8 +1,7 @@
-use Rattle.std.proofs.Common.{[], ◌∷◌, ◌≤◌, length, inl, ap, ◌∙◌, arith}
+use Rattle.std.proofs.Common.{[], ◌∷◌, ◌≤◌, length, inl, arith}
 use Rattle.mongo_wire.proofs.ReadStopped.{reads_on}
-use Rattle.mongo_wire.specs.Outside.{risen}
 use Rattle.mongo_service.specs.declared.settings_line.LineError.TheVariants.{BadSettings, Fault, OutOfMemory}
-use Rattle.mongo_service.proofs.LineRead.{takes_line, one_more, has_no_line, stops_within, same_error, no_ok_behind}
+use Rattle.mongo_service.proofs.LineRead.{takes_line, one_more, has_no_line, line_fails, line_runs_out, same_error, no_ok_behind}
 use Rattle.mongo_service.proofs.settings_line.read_settings_line.Goals as goal
 
 -- ---- no next byte
@@ -18,13 +17,10 @@ returns-in_err-byte-clause-none g c = λ is.
 
 pub returns-in_err-byte-clause-failed : goal.returns-in_err-byte-clause-failed
 returns-in_err-byte-clause-failed g c = λ is.
-    c.in_err-byte.ensures.failed (same_error c.from_residual.result c.in_err-byte.field-0.0 Fault c.from_residual.ensures.1 is) ∙ ap risen c.reading.invariant.still.reads
-
-pub returns-in_err-byte-clause-within : goal.returns-in_err-byte-clause-within
-returns-in_err-byte-clause-within g c = λ is.
     let state = g.S.Outside.state in
-    stops_within (state c.args.source.now) (state c.reading.source) (state c.next_byte.new.source) c.reading.line.items c.reading.invariant (omega (arith, c.reading-test.true, c.len.ensures))
-    (c.in_err-byte.ensures.within (same_error c.from_residual.result c.in_err-byte.field-0.0 Fault c.from_residual.ensures.1 is))
+    let fault = same_error c.from_residual.result c.in_err-byte.field-0.0 Fault c.from_residual.ensures.1 is in
+    line_fails (state c.args.source.now) (state c.reading.source) (state c.next_byte.new.source) c.reading.line.items c.reading.invariant (omega (arith, c.reading-test.true, c.len.ensures))
+    (c.in_err-byte.ensures.failed fault) (c.in_err-byte.ensures.within fault)
 
 pub returns-in_err-byte-clause-memory : goal.returns-in_err-byte-clause-memory
 returns-in_err-byte-clause-memory g c = λ is. absurd (c.in_err-byte.ensures.no_memory (same_error c.from_residual.result c.in_err-byte.field-0.0 OutOfMemory c.from_residual.ensures.1 is))
@@ -52,7 +48,7 @@ returns-in-Err-clause-memory g c = λ is.
     let state = g.S.Outside.state in
     let last = c.in_ok-byte.byte ∷ [] in
     let one : length last ≤ 1 = omega arith in
-    stops_within (state c.args.source.now) (state c.reading.source) (state c.next_byte.new.source) c.reading.line.items c.reading.invariant (omega (arith, c.reading-test.true, c.len.ensures)) (last, one, c.in_ok-byte.ensures.byte)
+    line_runs_out (state c.args.source.now) (state c.reading.source) (state c.next_byte.new.source) c.reading.line.items c.reading.invariant (omega (arith, c.reading-test.true, c.len.ensures)) c.in_ok-byte.ensures.unstopped (last, one, c.in_ok-byte.ensures.byte)
 
 pub returns-in-Err-clause-on : goal.returns-in-Err-clause-on
 returns-in-Err-clause-on g c = reads_on _ _ _ c.reading.invariant.on c.in_ok-byte.ensures.on
