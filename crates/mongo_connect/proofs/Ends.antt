@@ -4,14 +4,14 @@ use Rattle.std.proofs.Common.{length-drop}
 use Rattle.std.proofs.lemmas.Bool.Decides.{nat_tests}
 use Rattle.std.specs.Io.KnownBytes.{Appends, Consumes}
 use Rattle.std.specs.List.{concat, position_or_len}
-use Rattle.mongo_wire.specs.Outside.{State, Rose, IsFlushed}
+use Rattle.mongo_wire.specs.Outside.{State, Rose, Unfailed, IsFlushed, NoReadFailed, EndsAtMostOnce, NoWriteFailed}
 use Rattle.mongo_settings.specs.declared.settings.Settings.{Settings}
 use Rattle.mongo_settings.specs.declared.settings.SettingsError.{SettingsError}
 use Rattle.mongo_settings.specs.declared.settings.SettingsError.TheVariants.{BadSettings as Bad, NotBuilt as Unbuilt}
 use Rattle.mongo_settings.specs.declared.rehearsal.Rehearsal.{Rehearsal}
 use Rattle.mongo_settings.specs.declared.rehearsal.RehearsalStatus.{RehearsalStatus}
 use Rattle.mongo_settings.specs.declared.rehearsal.RehearsalStatus.TheVariants as rehearsal
-use Rattle.mongo_settings.specs.Run.{Run, NoReadFailed, EndsAtMostOnce, NoWriteFailed}
+use Rattle.mongo_settings.specs.Run.{Run}
 use Rattle.mongo_settings.specs.Settings.{maximum_settings_length}
 use Rattle.mongo_settings.specs.Status.{status_after, JudgementDecides}
 use Rattle.mongo_settings.specs.Outcome.{taken_by}
@@ -20,7 +20,7 @@ use Rattle.mongo_settings.proofs.Endings.{decides_asked, decides_bad, decides_un
 use Rattle.mongo_settings.proofs.Outcomes.{one_status}
 use Rattle.mongo_settings.specs.declared.status.Status.{Status}
 use Rattle.mongo_settings.specs.declared.status.Status.TheVariants.{Done, Refused, BadSettings, Usage, SourceFault, SinkFault, NoMemory, NotBuilt}
-use Rattle.mongo_connect.specs.Connecting.{IsConnectionTold, TellsBytes, Faultless, ReportsConnection}
+use Rattle.mongo_connect.specs.Connecting.{IsConnectionTold, TellsBytes, ReportsConnection}
 use Rattle.mongo_connect.specs.Input.{is_line_feed, line_of, after_line, LineRead}
 use Rattle.mongo_connect.specs.Settings.{line_judged, with_replies}
 use Rattle.mongo_connect.specs.Run.{Connected, Attempt, ConnectReported, IsRefusedLine, IsSilent, LineRanOut, Ends, ConnectRunEnds, ConnectUnfailed, LineComesOut, ConnectDecided}
@@ -41,17 +41,17 @@ told_after input line old middle read told = record {
 }
 
 -- a fault after the line is one of the run
-faultless_after : (line : List ℕ) (old middle new : State) → LineRead line old middle → Faultless old new → Faultless middle new
-faultless_after line old middle new read f = record {
+unfailed_after : (line : List ℕ) (old middle new : State) → LineRead line old middle → Unfailed old new → Unfailed middle new
+unfailed_after line old middle new read f = record {
   reads = λ rose. f.reads (subst (λ n. Rose n new.read_faults) read.unfailed rose);
   writes = λ rose. f.writes (subst (λ n. Rose n new.write_faults) read.on.unwritten.writes rose);
 }
 
 -- what the settings of the line asked for, over told bytes
 connected : (input line : List ℕ) (settings : Settings) (steps : StepsTaken) (old middle new : State) (x : Rehearsal) → LineRead line old middle → line_judged line ≡ Ok settings
-    → ((bytes : List ℕ) → TellsBytes middle bytes → Faultless middle new → ReportsConnection settings bytes steps middle new x) → TellsBytes old input → Faultless old new → Connected input steps x old new
+    → ((bytes : List ℕ) → TellsBytes middle bytes → Unfailed middle new → ReportsConnection settings bytes steps middle new x) → TellsBytes old input → Unfailed old new → Connected input steps x old new
 connected input line settings steps old middle new x read judged rehearses told f =
-    let r = rehearses (after_line input) (told_after input line old middle read told) (faultless_after line old middle new read f) in
+    let r = rehearses (after_line input) (told_after input line old middle read told) (unfailed_after line old middle new read f) in
     record {
       settings = settings;
       settings_are = ap line_judged (sym (read.line_is input told.left)) ∙ judged;
@@ -64,7 +64,7 @@ connected input line settings steps old middle new x read judged rehearses told 
     }
 
 pub attempt : (line : List ℕ) (settings : Settings) (steps : StepsTaken) (old middle new : State) (x : Rehearsal)
-    → LineRead line old middle → line_judged line ≡ Ok settings → IsConnectionTold settings steps middle new x → ((bytes : List ℕ) → TellsBytes middle bytes → Faultless middle new → ReportsConnection settings bytes steps middle new x) → Attempt steps x old new
+    → LineRead line old middle → line_judged line ≡ Ok settings → IsConnectionTold settings steps middle new x → ((bytes : List ℕ) → TellsBytes middle bytes → Unfailed middle new → ReportsConnection settings bytes steps middle new x) → Attempt steps x old new
 attempt line settings steps old middle new x read judged told rehearses = record {
   told = record { line = line; middle = middle; line_read = read; settings = settings; settings_are = judged; done = told };
   connected = λ input is f. connected input line settings steps old middle new x read judged rehearses is f;
@@ -98,7 +98,7 @@ module _ {L K : Type 0} (link : L → State) (sink : K → State) (steps : Steps
   module _ (input : List ℕ) (told : TellsBytes (link run.source) input) (u : ConnectUnfailed link sink run) where
     reported_decides : (status : RehearsalStatus) → ConnectReported link sink steps status run → JudgementDecides (LineComesOut (after_line input)) (line_judged (line_of input)) (status_after status)
     reported_decides status r =
-        let c = r.attempt.connected input told u.link_faultless in
+        let c = r.attempt.connected input told u.link_unfailed in
         decides_asked _ _ c.settings status c.settings_are
         (λ other out. sym r.status_is ∙ c.status_is ∙ one_status (with_replies c.settings (after_line input)) r.rehearsal.report.items c.report other out)
 
@@ -112,7 +112,7 @@ module _ {L K : Type 0} (link : L → State) (sink : K → State) (steps : Steps
     settle NotBuilt e = decides_unbuilt _ _ (judged_input Unbuilt e)
     settle NoMemory e = decides_memory _ _
     settle Usage e = absurd e
-    settle SourceFault e = absurd (u.link_faultless.reads e.rose)
+    settle SourceFault e = absurd (u.link_unfailed.reads e.rose)
     settle SinkFault e = absurd (u.writes e.rose)
 
   pub decided : (words : ℕ) (result : Status) → Ends link sink steps run result → ConnectDecided link sink words run result

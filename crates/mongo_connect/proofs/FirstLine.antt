@@ -8,10 +8,9 @@ use Rattle.std.specs.Bool.{if◌then◌else◌}
 use Rattle.std.specs.Option.{option_to_list}
 use Rattle.std.specs.Io.KnownBytes.{Consumes, IsAtEnd, Keeps}
 use Rattle.std.proofs.KnownBytes.{Consumes-trans, Consumes-kept}
-use Rattle.mongo_wire.specs.Outside.{State, ReadsOn, Rose, risen}
+use Rattle.mongo_wire.specs.Outside.{State, ReadsOn, Rose, risen, NoReadFailed, NoReadEnded, EndsAtMostOnce}
 use Rattle.mongo_wire.proofs.ReadStopped.{reads_on}
 use Rattle.std.specs.List.{position_or_len, before_first, after_first}
-use Rattle.mongo_settings.specs.Run.{NoReadFailed, NoReadEnded, EndsAtMostOnce}
 use Rattle.mongo_settings.specs.Settings.{maximum_settings_length}
 use Rattle.mongo_connect.specs.Input.{is_line_feed, line_of, after_line, IsUnbroken, TakesOfLine, TakesNoLineFeed, MeetsEndUnless, MeetsEndOfLine, LineRead}
 

@@ -2,7 +2,7 @@
 -- told.
 use Rattle.std.proofs.Common.{◌≡◌, ℕ, ℤ, ◌-◌, ◌∙◌, ap, subst, arith, refl, inl, inr, Some, Result, Ok, Err, List, [], length, IfOk, OnErr}
 use Rattle.std.specs.Io.KnownBytes.{append_known}
-use Rattle.mongo_wire.specs.Outside.{State}
+use Rattle.mongo_wire.specs.Outside.{State, Unfailed}
 use Rattle.mongo_scram.specs.declared.cache.SaltedCache.{SaltedCache}
 use Rattle.mongo_scram.specs.Cache.{entries_of}
 use Rattle.mongo_scram.specs.Costs.{ledgers}
@@ -19,7 +19,7 @@ use Rattle.mongo_settings.specs.Task.{StepsTaken}
 use Rattle.mongo_settings.specs.Telling.{IsReported, Tells}
 use Rattle.mongo_settings.proofs.Rehearsing.{Replayed, rehearsed}
 use Rattle.mongo_settings.proofs.Taking.{counted_over}
-use Rattle.mongo_connect.specs.Connecting.{Attempted, IsConnectionTold, IsUntold, TellsBytes, Faultless, ReportsConnection}
+use Rattle.mongo_connect.specs.Connecting.{Attempted, IsConnectionTold, IsUntold, TellsBytes, ReportsConnection}
 use Rattle.mongo_connect.specs.Recording.{IsTakenCount}
 use Rattle.mongo_connect.specs.Settings.{with_replies}
 
@@ -66,17 +66,17 @@ same_asked settings bytes = refl
 
 -- bytes are left
 left_over : (settings : Settings) (bytes : List ℕ) (steps : StepsTaken) (old new : State) (ended : Result PooledConnection EstablishError) (written : List ℕ) (taken : ℕ) (x : Rehearsal)
-    → Attempted settings steps ended old new → TellsBytes old bytes → Faultless old new → Tells written taken ended x → (left : List ℕ) × (new.left ≡ Some left)
+    → Attempted settings steps ended old new → TellsBytes old bytes → Unfailed old new → Tells written taken ended x → (left : List ℕ) × (new.left ≡ Some left)
 left_over settings bytes steps old new (Ok pooled) written taken x a t f tells =
     let rest = a.ended.established.scripted.taken bytes t.left in
     (rest.rest, rest.left_is)
 left_over settings bytes steps old new (Err refusal) written taken x a t f tells =
-    elim (stopped_refusal refusal.handshake_phase (asked_of settings) refusal.cause.kind old new a.after _ _ bytes a.ended.refused t.left f.reads f.writes) [
+    elim (stopped_refusal refusal.handshake_phase (asked_of settings) refusal.cause.kind old new a.after _ _ bytes a.ended.refused t.left f) [
       | inl memory ↦ absurd (subst IsReported memory tells.reported)
       | inr r ↦ (r.refusal.unread, r.left_by.left)
     ]
 
-rehearses : (settings : Settings) (bytes : List ℕ) (steps : StepsTaken) (old new : State) (x : Rehearsal) → IsConnectionTold settings steps old new x → TellsBytes old bytes → Faultless old new → ReportsConnection settings bytes steps old new x
+rehearses : (settings : Settings) (bytes : List ℕ) (steps : StepsTaken) (old new : State) (x : Rehearsal) → IsConnectionTold settings steps old new x → TellsBytes old bytes → Unfailed old new → ReportsConnection settings bytes steps old new x
 rehearses settings bytes steps old new x told t f =
     let (left, left_is) = left_over settings bytes steps old new told.ended told.written told.taken x told.attempted t f told.tells in
     let fits = t.fits in
@@ -88,13 +88,12 @@ rehearses settings bytes steps old new x told t f =
       given = t.left;
       written_is = told.appended ∙ ap (λ o. append_known o told.written) t.written;
       left_is = left_is;
-      unfailed = f.reads;
-      unwritten = f.writes;
+      unfailed = f;
     } in
     let replays = rehearsed {E = ℕ} (with_replies settings bytes) (asked_of settings) old new told.attempted.after _ _ told.written left told.taken told.ended (Ok x) (same_asked settings bytes) told.attempted.ended.established told.attempted.ended.refused replayed count told.tells in
     let first = ledgers steps.before told.attempted.held in
     let last = ledgers steps.after told.attempted.held_after in
-    let over = subst (λ asked. CostsOver told.ended asked bytes first last) (same_asked settings bytes) (told.attempted.ended.led.over bytes t.left f.reads f.writes) in
+    let over = subst (λ asked. CostsOver told.ended asked bytes first last) (same_asked settings bytes) (told.attempted.ended.led.over bytes t.left f) in
     let counts = counted_over (with_replies settings bytes) first last told.ended told.written told.taken x told.attempted.none_held over told.tells in
     record {
       rehearsal_is = replays.rehearses.rehearsal_is;
@@ -103,6 +102,6 @@ rehearses settings bytes steps old new x told t f =
     }
 
 pub rehearsed_over : {E : Type 0} (settings : Settings) (steps : StepsTaken) (old new : State) (r : Result Rehearsal E) → IfOk r (IsConnectionTold settings steps old new)
-    → (bytes : List ℕ) → TellsBytes old bytes → Faultless old new → IfOk r (ReportsConnection settings bytes steps old new)
+    → (bytes : List ℕ) → TellsBytes old bytes → Unfailed old new → IfOk r (ReportsConnection settings bytes steps old new)
 rehearsed_over settings steps old new (Ok x) told bytes t f = rehearses settings bytes steps old new x told t f
 rehearsed_over settings steps old new (Err e) told bytes t f = tt

@@ -1,7 +1,7 @@
 -- What an establishment over a link does, and what is told of it.
 use Rattle.std.specs.Prelude.{◌≡◌, ℕ, ℤ, ◌^◌, ◌<◌, ◌⊎◌, Some, Result, List, [], length}
 use Rattle.std.specs.Io.KnownBytes.{append_known}
-use Rattle.mongo_wire.specs.Outside.{State, Rose}
+use Rattle.mongo_wire.specs.Outside.{State}
 use Rattle.mongo_scram.specs.declared.cache.SaltedCache.{SaltedCache}
 use Rattle.mongo_scram.specs.Cache.{entries_of}
 use Rattle.mongo_scram.specs.Costs.{ledgers}
@@ -48,11 +48,6 @@ pub record TellsBytes (link : State) (bytes : List ℕ) : Type 0 where
   pub fits : length bytes < 2 ^ 64
   pub before : List ℕ
   pub written : link.written ≡ Some before
-
--- it didn't fail
-pub record Faultless (old new : State) : Type 0 where
-  pub reads : Rose old.read_faults new.read_faults → ⊥
-  pub writes : Rose old.write_faults new.write_faults → ⊥
 
 -- The report is the one that the settings have with these reply bytes, the link is left as it says, and the steps rose by the
 -- rounds of the key that they lead to.

@@ -3,8 +3,8 @@
 use Rattle.std.specs.Prelude.{◌≡◌, ℕ, ◌==◌, ◌+◌, ◌<◌, ◌≤◌, Bool, nat_le, if◌then◌else◌, Option, None, Some, List, length, take, drop}
 use Rattle.std.specs.Io.KnownBytes.{Consumes}
 use Rattle.std.specs.List.{before_first, after_first, position_or_len}
-use Rattle.mongo_wire.specs.Outside.{State, Rose, ReadsOn}
-use Rattle.mongo_settings.specs.Run.{GaveInput, NoReadFailed, NoReadEnded, EndsAtMostOnce}
+use Rattle.mongo_wire.specs.Outside.{State, Rose, ReadsOn, NoReadFailed, NoReadEnded, EndsAtMostOnce}
+use Rattle.mongo_settings.specs.Run.{GaveInput}
 use Rattle.mongo_settings.specs.Settings.{maximum_settings_length}
 
 abbrev pub is_line_feed : ℕ → Bool

@@ -2,7 +2,7 @@
 use Rattle.std.specs.Prelude.{◌≡◌, ℕ, ◌<◌, ◌⊎◌, Some, Ok, Err, List, []}
 use Rattle.std.specs.Io.KnownBytes.{Appends, Consumes}
 use Rattle.std.specs.List.{concat}
-use Rattle.mongo_wire.specs.Outside.{State, Rose, Unwritten, AppendsFront, IsFlushed}
+use Rattle.mongo_wire.specs.Outside.{State, Rose, Unfailed, Unwritten, AppendsFront, IsFlushed, NoReadFailed, NoReadEnded, EndsAtMostOnce, NoWriteFailed}
 use Rattle.mongo_settings.specs.declared.settings.Settings.{Settings}
 use Rattle.mongo_settings.specs.declared.settings.SettingsError.{SettingsError}
 use Rattle.mongo_settings.specs.declared.settings.SettingsError.TheVariants.{BadSettings as Bad, NotBuilt as Unbuilt}
@@ -11,12 +11,12 @@ use Rattle.mongo_settings.specs.declared.rehearsal.RehearsalStatus.{RehearsalSta
 use Rattle.mongo_settings.specs.declared.rehearsal.RehearsalStatus.TheVariants as rehearsal
 use Rattle.mongo_settings.specs.declared.status.Status.{Status}
 use Rattle.mongo_settings.specs.declared.status.Status.TheVariants.{Done, Refused, BadSettings, Usage, SourceFault, SinkFault, NoMemory, NotBuilt}
-use Rattle.mongo_settings.specs.Run.{Run, NoReadFailed, NoReadEnded, EndsAtMostOnce, NoWriteFailed}
+use Rattle.mongo_settings.specs.Run.{Run}
 use Rattle.mongo_settings.specs.Status.{JudgementDecides, UnlessUsage}
 use Rattle.mongo_settings.specs.Outcome.{taken_by, status_of}
 use Rattle.mongo_settings.specs.Rehearsal.{IsReport}
 use Rattle.mongo_settings.specs.Task.{StepsTaken, CountsKey, LoginComesOut}
-use Rattle.mongo_connect.specs.Connecting.{IsConnectionTold, IsUntold, TellsBytes, Faultless}
+use Rattle.mongo_connect.specs.Connecting.{IsConnectionTold, IsUntold, TellsBytes}
 use Rattle.mongo_connect.specs.Input.{line_of, after_line, TakesOfLine, TakesNoLineFeed, LineRead}
 use Rattle.mongo_connect.specs.Settings.{line_judged, with_replies}
 
@@ -47,7 +47,7 @@ pub record LineAsked (P : Settings → State → State → Type 0) (old new : St
 -- The report tells how the establishment ended that the first line asks for, also over a link that fails or tells nothing.
 pub record Attempt (steps : StepsTaken) (rehearsal : Rehearsal) (old new : State) : Type 0 where
   pub told : LineAsked (λ settings middle after. IsConnectionTold settings steps middle after rehearsal) old new
-  pub connected : (input : List ℕ) → TellsBytes old input → Faultless old new → Connected input steps rehearsal old new
+  pub connected : (input : List ℕ) → TellsBytes old input → Unfailed old new → Connected input steps rehearsal old new
 
 -- ---- the ends, one a status
 
@@ -133,7 +133,7 @@ module _ {L K : Type 0} (link : L → State) (sink : K → State) where
 
   -- the link and the sink didn't fail
   pub record ConnectUnfailed (run : Run L K) : Type 0 where
-    pub link_faultless : Faultless (link run.source) (link run.source_after)
+    pub link_unfailed : Unfailed (link run.source) (link run.source_after)
     pub writes : Rose (sink run.sink).write_faults (sink run.sink_after).write_faults → ⊥
 
 -- how what follows the line comes out as the reply bytes of its settings

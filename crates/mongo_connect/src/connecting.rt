@@ -1,8 +1,9 @@
 //! One establishment over a link, and the report of it.
 ghost use Rattle.std.specs.Prelude.{◌≡◌, ◌≤◌, ℕ, List, IfOk, OnErr};
+ghost use Rattle.mongo_wire.specs.Outside.{Unfailed};
 ghost use Rattle.mongo_establish.specs.Speculation.{SpeaksFor};
 ghost use Rattle.mongo_settings.specs.Task.{steps_of};
-ghost use Rattle.mongo_connect.specs.Connecting.{IsConnectionTold, IsUntold, ReportsConnection, TellsBytes, Faultless};
+ghost use Rattle.mongo_connect.specs.Connecting.{IsConnectionTold, IsUntold, ReportsConnection, TellsBytes};
 
 use crate::origin::Origin;
 use crate::recording::Recording;
@@ -26,7 +27,7 @@ pub fn connect_over<L: Link, G: Ledger>(
     // what it derived.
     ensures told { IfOk result.0 (IsConnectionTold settings (steps_of steps.old steps.new) (L.state link) (L.state result.1)) }
     // Over one that tells its bytes and doesn't fail it is that of a rehearsal on them, and the link is left as it says.
-    ensures rehearsed { (bytes : List ℕ) → TellsBytes (L.state link) bytes → Faultless (L.state link) (L.state result.1) → IfOk result.0 (ReportsConnection settings bytes (steps_of steps.old steps.new) (L.state link) (L.state result.1)) }
+    ensures rehearsed { (bytes : List ℕ) → TellsBytes (L.state link) bytes → Unfailed (L.state link) (L.state result.1) → IfOk result.0 (ReportsConnection settings bytes (steps_of steps.old steps.new) (L.state link) (L.state result.1)) }
     ensures untold { OnErr result.0 (IsUntold settings (steps_of steps.old steps.new) (L.state link) (L.state result.1)) }
     ensures steps { steps.old ≤ steps.new }
 {

@@ -1,8 +1,7 @@
 //! Reading the line of settings from a source.
 ghost use Rattle.std.specs.Prelude.{◌≡◌, None, IfOk, OnOk, OnErr, IsErrOf, option_to_list};
 ghost use Rattle.std.specs.Io.KnownBytes.{Consumes, IsAtEnd, Keeps};
-ghost use Rattle.mongo_wire.specs.Outside.{ReadsOn, Rose};
-ghost use Rattle.mongo_settings.specs.Run.{NoReadFailed, NoReadEnded};
+ghost use Rattle.mongo_wire.specs.Outside.{ReadsOn, Rose, NoReadFailed, NoReadEnded};
 ghost use Rattle.mongo_connect.specs.Input.{LineRead, TakesOfLine, TakesNoLineFeed, MeetsEndUnless};
 
 use mongo_settings::{InputError, MAXIMUM_SETTINGS_LENGTH};

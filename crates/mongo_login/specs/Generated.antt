@@ -2,9 +2,8 @@
 use Rattle.std.specs.Prelude.{◌≡◌, ℕ, ◌⊎◌, List, [], ◌∷◌, ◌++◌, codes, decimal}
 use Rattle.std.specs.Io.KnownBytes.{Appends}
 use Rattle.hex.specs.Hex.{encode_lower}
-use Rattle.mongo_wire.specs.Outside.{State, Rose, AppendsFront, IsFlushed}
+use Rattle.mongo_wire.specs.Outside.{State, Rose, AppendsFront, IsFlushed, NoWriteFailed}
 use Rattle.mongo_settings.specs.Line.{line}
-use Rattle.mongo_settings.specs.Run.{NoWriteFailed}
 use Rattle.mongo_settings.specs.Task.{StepsTaken}
 use Rattle.mongo_generate.specs.declared.logins.Generated.{Generated}
 use Rattle.mongo_generate.specs.Generated.{IsGenerated}

@@ -1,7 +1,6 @@
 -- What is read of a source whose bytes are settings: all of it, or a front that is past the greatest length.
 use Rattle.std.specs.Prelude.{◌≡◌, ℕ, ◌+◌, ◌<◌, ◌≤◌, Option, Some, List, length, take, drop}
-use Rattle.mongo_wire.specs.Outside.{State, Rose}
-use Rattle.mongo_settings.specs.Run.{NoReadEnded}
+use Rattle.mongo_wire.specs.Outside.{State, Rose, NoReadEnded}
 use Rattle.mongo_settings.specs.Settings.{maximum_settings_length}
 
 -- What is left of an input that was read as settings: what follows the byte past the greatest length, and so nothing of one within

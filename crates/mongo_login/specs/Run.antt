@@ -1,14 +1,14 @@
 -- How a run ends, and what the source and the sink hold then.
 use Rattle.std.specs.Prelude.{◌≡◌, ℕ, ◌+◌, ◌⊎◌, Some, Ok, Err, List, []}
 use Rattle.std.specs.Io.KnownBytes.{Appends, Keeps}
-use Rattle.mongo_wire.specs.Outside.{State, Rose, AppendsFront, ConsumesAtMost, IsFlushed}
+use Rattle.mongo_wire.specs.Outside.{State, Rose, AppendsFront, ConsumesAtMost, IsFlushed, NoReadFailed, NoReadEnded, EndsAtMostOnce, NoWriteFailed}
 use Rattle.mongo_settings.specs.declared.settings.SettingsError.TheVariants.{BadSettings as Bad, NotBuilt as Unbuilt}
 use Rattle.mongo_settings.specs.declared.task.Task.{Task}
 use Rattle.mongo_settings.specs.declared.rehearsal.RehearsalStatus.{RehearsalStatus}
 use Rattle.mongo_settings.specs.declared.rehearsal.RehearsalStatus.TheVariants as rehearsal
 use Rattle.mongo_settings.specs.declared.status.Status.{Status}
 use Rattle.mongo_settings.specs.declared.status.Status.TheVariants.{Done, Refused, BadSettings, Usage, SourceFault, SinkFault, NoMemory, NotBuilt}
-use Rattle.mongo_settings.specs.Run.{Run, GaveInput, NoReadFailed, NoReadEnded, EndsAtMostOnce, NoWriteFailed}
+use Rattle.mongo_settings.specs.Run.{Run, GaveInput}
 use Rattle.mongo_settings.specs.Settings.{maximum_settings_length}
 use Rattle.mongo_settings.specs.Status.{EndsAs, JudgementDecides, UnlessUsage}
 use Rattle.mongo_settings.specs.Task.{Asks, judged_as, StepsTaken, Reports, ComesOut}
@@ -129,7 +129,7 @@ module _ {S K : Type 0} (source : S → State) (sink : K → State) where
   -- ---- what decides
 
   -- the source and the sink didn't fail
-  pub record Unfailed (run : Run S K) : Type 0 where
+  pub record RunUnfailed (run : Run S K) : Type 0 where
     pub reads : Rose (source run.source).read_faults (source run.source_after).read_faults → ⊥
     pub writes : Rose (sink run.sink).write_faults (sink run.sink_after).write_faults → ⊥
 
@@ -140,4 +140,4 @@ SubcommandDecides source sink (Generate count) run result = EndsAs Done result
 
 -- Where nothing fails, the words and the text decide; want of memory may stand in its place.
 abbrev pub IsDecided : {S K : Type 0} → (S → State) → (K → State) → List (List ℕ) → Run S K → Status → Type 0
-IsDecided source sink words run result = (command : Subcommand) → NamesSubcommand words command → Unfailed source sink run → SubcommandDecides source sink command run result
+IsDecided source sink words run result = (command : Subcommand) → NamesSubcommand words command → RunUnfailed source sink run → SubcommandDecides source sink command run result

@@ -2,8 +2,7 @@
 ghost use Rattle.std.specs.Prelude.{◌≡◌, ℕ, List, Some, ◌+◌, IfOk, OnOk, OnErr, IsErrOf};
 ghost use Rattle.mongo_settings.specs.declared.task.Task.{Task};
 ghost use Rattle.std.specs.Io.KnownBytes.{Consumes};
-ghost use Rattle.mongo_wire.specs.Outside.{ReadsOn, Rose, ConsumesAtMost};
-ghost use Rattle.mongo_settings.specs.Run.{NoReadFailed, NoReadEnded};
+ghost use Rattle.mongo_wire.specs.Outside.{ReadsOn, Rose, ConsumesAtMost, NoReadFailed, NoReadEnded};
 ghost use Rattle.mongo_settings.specs.Settings.{maximum_settings_length};
 ghost use Rattle.mongo_settings.specs.Task.{judged_as};
 ghost use Rattle.mongo_login.specs.Input.{ReadsInput, MeetsEndWithin};

@@ -5,7 +5,7 @@ use Rattle.mongo_wire.specs.declared.error.Error.{Error}
 use Rattle.mongo_wire.specs.declared.error.ErrorKind.{ErrorKind}
 use Rattle.mongo_wire.specs.declared.error.ErrorKind.TheVariants.{OutOfMemory}
 use Rattle.mongo_wire.specs.Buffer.{frames_taken, held_document, IsFrameTaken}
-use Rattle.mongo_wire.specs.Outside.{State, Rose, risen}
+use Rattle.mongo_wire.specs.Outside.{State, Unfailed, risen}
 use Rattle.mongo_command.specs.Connection.{kept_fault}
 use Rattle.mongo_command.specs.Conversation.{Said, Turn, refuses, ends, Plan, Reached, Stopped, Leads}
 use Rattle.mongo_command.proofs.Leads.{only_end, only_refusal}
@@ -20,20 +20,20 @@ use Rattle.mongo_sasl.proofs.StopsBy.{not_both_faults, stopped_by}
 module _ {A : Type 0} (plan : Plan A) (login : List (List ℕ) → List (List ℕ) → Type 0) (maximum : ℤ) (joins : JoinsLogin plan login maximum) (old new : State) (before after : ℤ) where
   -- over told bytes an answer is what they call for
   led : (r : Result (Unit {0}) Error) (bytes taken unread : List ℕ) (outcome : Turn A) (commands : List Said) → OnOk r ((answer : A) × Reached plan answer old new before after) → IfErr r (λ e. Stopped plan e.kind old new before after) → old.left ≡ Some bytes → Leads plan bytes outcome commands taken unread
-      → (Rose old.read_faults new.read_faults → ⊥) → (Rose old.write_faults new.write_faults → ⊥) → AnswersLed r outcome commands unread old new before after
-  led (Ok done) bytes taken unread outcome commands reached stopped is l unfailed unwritten =
+      → Unfailed old new → AnswersLed r outcome commands unread old new before after
+  led (Ok done) bytes taken unread outcome commands reached stopped is l unfailed =
       let end = only_end plan reached.0 outcome old new before after bytes commands taken unread joins.one reached.1 is l in
       (reached.0, end.0, end.1)
-  led (Err e) bytes taken unread outcome commands reached stopped is l unfailed unwritten = only_refusal plan e.kind outcome old new before after bytes commands taken unread joins.one stopped is l unfailed unwritten
+  led (Err e) bytes taken unread outcome commands reached stopped is l unfailed = only_refusal plan e.kind outcome old new before after bytes commands taken unread joins.one stopped is l unfailed
 
   -- where a login stands at their front, only memory is wanted
   completed : (r : Result (Unit {0}) Error) (bytes : List ℕ) → IfErr r (λ e. Stopped plan e.kind old new before after) → old.left ≡ Some bytes → HasLogin login maximum before bytes
-      → (Rose old.read_faults new.read_faults → ⊥) → (Rose old.write_faults new.write_faults → ⊥) → IfErr r (λ e. e.kind ≡ OutOfMemory)
-  completed (Ok done) bytes stopped is has unfailed unwritten = tt
-  completed (Err e) bytes stopped is has unfailed unwritten =
+      → Unfailed old new → IfErr r (λ e. e.kind ≡ OutOfMemory)
+  completed (Ok done) bytes stopped is has unfailed = tt
+  completed (Err e) bytes stopped is has unfailed =
       let found = joins.ends has.commands has.replies has.is_login in
       let l = login_leads plan login found.0 maximum before bytes has found.1 in
-      elim (only_refusal plan e.kind (ends found.0) old new before after bytes l.commands has.taken has.rest joins.one stopped is l.leads unfailed unwritten) [
+      elim (only_refusal plan e.kind (ends found.0) old new before after bytes l.commands has.taken has.rest joins.one stopped is l.leads unfailed) [
         | inl memory ↦ memory
         | inr other ↦ let same : ◌≡◌ {A = Turn A} (ends found.0) (refuses e.kind) = other.0 in let no : ⊥ = cc in absurd no
       ]
@@ -46,8 +46,8 @@ module _ {L A : Type 0} (state : L → State) (plan : Plan A) (login : List (Lis
     faultless = faultless;
     at_once = at_once;
     stops = stops;
-    complete = λ bytes none is has unfailed unwritten. completed plan login maximum joins (state old.link) (state new.link) old.id new.id r bytes (stopped_by state plan r old new stops none) is has unfailed unwritten;
-    exact = λ bytes taken unread outcome commands none is leads unfailed unwritten. led plan login maximum joins (state old.link) (state new.link) old.id new.id r bytes taken unread outcome commands reached (stopped_by state plan r old new stops none) is leads unfailed unwritten;
+    complete = λ bytes none is has unfailed. completed plan login maximum joins (state old.link) (state new.link) old.id new.id r bytes (stopped_by state plan r old new stops none) is has unfailed;
+    exact = λ bytes taken unread outcome commands none is leads unfailed. led plan login maximum joins (state old.link) (state new.link) old.id new.id r bytes taken unread outcome commands reached (stopped_by state plan r old new stops none) is leads unfailed;
   }
 
   -- one that was refused, and hands the refusal on

@@ -8,7 +8,7 @@ use Rattle.mongo_wire.specs.declared.frame_buffer.FrameBuffer.{FrameBuffer}
 use Rattle.mongo_wire.specs.Bytes.{next_id}
 use Rattle.mongo_wire.specs.Buffer.{frames_taken, held_document, HoldsFrame, HoldsNothing, IsFrameTaken}
 use Rattle.mongo_wire.specs.Frame.{Frame}
-use Rattle.mongo_wire.specs.Outside.{State, Rose, risen}
+use Rattle.mongo_wire.specs.Outside.{State, Unfailed, risen}
 use Rattle.mongo_command.specs.declared.connection.Connection.{Connection}
 use Rattle.mongo_command.specs.Connection.{kept_fault, KeepsRest}
 use Rattle.mongo_command.specs.Conversation.{Said, Turn, ends, Plan, Reached, Leads}
@@ -82,10 +82,10 @@ pub record EndsByScript {L A : Type 0} (state : L → State) (plan : Plan A) (Is
   pub stops : StopsBy state plan result old new
   -- a login at the front of the bytes left is accepted, unless the link fails or memory runs out
   pub complete : (bytes : List ℕ) → kept_fault old.connection ≡ None → (state old.link).left ≡ Some bytes → HasLogin IsLogin maximum old.id bytes
-      → (Rose (state old.link).read_faults (state new.link).read_faults → ⊥) → (Rose (state old.link).write_faults (state new.link).write_faults → ⊥) → IfErr result (λ e. e.kind ≡ OutOfMemory)
+      → Unfailed (state old.link) (state new.link) → IfErr result (λ e. e.kind ≡ OutOfMemory)
   -- what the bytes left call for is answered, and the link is left as that says
   pub exact : (bytes taken unread : List ℕ) (outcome : Turn A) (commands : List Said) → kept_fault old.connection ≡ None → (state old.link).left ≡ Some bytes → Leads plan bytes outcome commands taken unread
-      → (Rose (state old.link).read_faults (state new.link).read_faults → ⊥) → (Rose (state old.link).write_faults (state new.link).write_faults → ⊥) → AnswersLed result outcome commands unread (state old.link) (state new.link) old.id new.id
+      → Unfailed (state old.link) (state new.link) → AnswersLed result outcome commands unread (state old.link) (state new.link) old.id new.id
 
 -- The reply of a login's one exchange passed through the buffer, which holds just that.
 pub record HoldsItsReply {L A : Type 0} (state : L → State) (plan : Plan A) (answer : A) (maximum : ℤ) (old new : Standing L) : Type 0 where

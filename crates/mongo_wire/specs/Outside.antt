@@ -1,6 +1,6 @@
 -- The outside: sources that give bytes and sinks that take them. One that tells its bytes means a list; the
 -- counts of faults and ends mean numbers that never fall.
-use Rattle.std.specs.Prelude.{◌≡◌, ℕ, ◌+◌, ◌-◌, ◌^◌, ◌<◌, ◌≤◌, min, Option, None, Some, Result, Ok, Err, List, [], length, take, is_some, IfSome, ⊤}
+use Rattle.std.specs.Prelude.{◌≡◌, ℕ, ◌+◌, ◌-◌, ◌^◌, ◌<◌, ◌≤◌, ◌⊎◌, min, Option, None, Some, Result, Ok, Err, List, [], length, take, is_some, IfSome, ⊤}
 use Rattle.std.specs.Io.KnownBytes.{Appends, Consumes, Keeps}
 use Rattle.mongo_wire.specs.declared.outside.SinkError.{SinkError}
 use Rattle.mongo_wire.specs.declared.outside.SinkError.TheVariants.{Failed}
@@ -45,6 +45,27 @@ pub record Unwritten (old new : State) : Type 0 where
 pub record Unstopped (old new : State) : Type 0 where
   pub reads : new.read_faults ≡ old.read_faults
   pub ends : new.ends ≡ old.ends
+
+-- no read failed
+abbrev pub NoReadFailed : State → State → Type 0
+NoReadFailed old new = new.read_faults ≡ old.read_faults
+
+-- no read met the end
+abbrev pub NoReadEnded : State → State → Type 0
+NoReadEnded old new = new.ends ≡ old.ends
+
+-- the end was met once at most
+abbrev pub EndsAtMostOnce : State → State → Type 0
+EndsAtMostOnce old new = NoReadEnded old new ⊎ Rose old.ends new.ends
+
+-- no write failed
+abbrev pub NoWriteFailed : State → State → Type 0
+NoWriteFailed old new = new.write_faults ≡ old.write_faults
+
+-- neither a read nor a write failed
+pub record Unfailed (old new : State) : Type 0 where
+  pub reads : Rose old.read_faults new.read_faults → ⊥
+  pub writes : Rose old.write_faults new.write_faults → ⊥
 
 -- What reading keeps: whether the bytes are told, the counts from falling, what was written.
 pub record ReadsOn (old new : State) : Type 0 where

@@ -1,7 +1,6 @@
 use Rattle.std.proofs.Common.{◌≤◌, ◌+◌, ◌-◌, length}
 use Rattle.std.specs.Io.KnownBytes.{Consumes}
-use Rattle.mongo_wire.specs.Outside.{ReadsOn}
-use Rattle.mongo_settings.specs.Run.{NoReadFailed, NoReadEnded}
+use Rattle.mongo_wire.specs.Outside.{ReadsOn, NoReadFailed, NoReadEnded}
 use Rattle.mongo_settings.specs.Settings.{maximum_settings_length}
 use Rattle.mongo_login.proofs.input.read_input.Given as goal
 
