@@ -1,5 +1,5 @@
 -- What an establishment answers, by its handshake and what became of the connection after it; where either was stopped, its plan was.
-use Rattle.std.proofs.Common.{◌≡◌, ℤ, subst, sym, Option, Result, Ok, Err, IfOk, IfErr, OnOk}
+use Rattle.std.proofs.Common.{◌≡◌, ℤ, subst, sym, Option, Result, Ok, Err, IfOk, IfErr}
 use Rattle.std.proofs.lemmas.Result.{IfErr-weaker}
 use Rattle.mongo_wire.specs.declared.error.Error.{Error}
 use Rattle.mongo_wire.specs.Outside.{State}
@@ -7,20 +7,19 @@ use Rattle.mongo_command.specs.declared.connection.Connection.{Connection}
 use Rattle.mongo_command.specs.declared.hello.HelloReply.{HelloReply}
 use Rattle.mongo_command.specs.Conversation.{Stopped}
 use Rattle.mongo_sasl.specs.declared.credential.Credential.{Credential}
-use Rattle.mongo_scram.specs.Costs.{Ledgers, balance}
+use Rattle.mongo_scram.specs.Costs.{Ledgers}
 use Rattle.mongo_establish.specs.declared.establisher.EstablishError.{EstablishError}
 use Rattle.mongo_establish.specs.declared.establisher.PendingConnection.{PendingConnection}
 use Rattle.mongo_establish.specs.declared.establisher.PooledConnection.{PooledConnection}
 use Rattle.mongo_establish.specs.declared.login_state.Nonces.{Nonces}
 use Rattle.mongo_establish.specs.declared.options.HandshakerOptions.{HandshakerOptions}
 use Rattle.mongo_establish.specs.Asked.{Asked, asked_for, asked_over}
-use Rattle.mongo_establish.specs.Costs.{HandshakeCosts}
 use Rattle.mongo_establish.specs.Established.{Established, ShookHands, StoppedHandshake}
 use Rattle.mongo_establish.specs.Plan.{handshake_plan, establishment_plan}
 use Rattle.mongo_establish.specs.Pooled.{phase_at, IsPooled, UnnamedService}
 use Rattle.mongo_establish.specs.Stopped.{StoppedIn}
 use Rattle.mongo_establish.proofs.Establishment.{shaking_stops, handshake_stops, stopped_whole}
-use Rattle.mongo_establish.proofs.Handshaken.{established, shook_costs, stopped_in, unnamed_stopped}
+use Rattle.mongo_establish.proofs.Handshaken.{established, stopped_in, unnamed_stopped}
 
 -- a refusal comes where the establishment was stopped
 abbrev pub StopsIn : Asked → State → State → ℤ → Ledgers → Ledgers → EstablishError → Type 0
@@ -35,13 +34,9 @@ module _ (pending : PendingConnection) (options : HandshakerOptions) (credential
 
   -- after a handshake the connection is ready, or its server named no service
   pub answers_established : (r : Result PooledConnection EstablishError) (connection : Connection) (old new : State) (after : ℤ) (first last : Ledgers) (reply : HelloReply) → opened.id ≡ pending.id → opened.oidc_token_gen_id ≡ 0 → ShookHands over opened connection old new after first last reply
-      → IfOk r (IsPooled connection pending.generation) → IfOk r (Established wanted old new after)
+      → IfOk r (IsPooled connection pending.generation) → IfOk r (Established wanted old new after first last)
   answers_established (Ok pooled) connection old new after first last reply number token s p = established pending options credential nonces id opened same connection old new after first last reply pooled number token s p
   answers_established (Err e) connection old new after first last reply number token s p = tt
-
-  pub answers_costs : (r : Result PooledConnection EstablishError) (connection : Connection) (old new : State) (after : ℤ) (first last : Ledgers) (reply : HelloReply) → ShookHands over opened connection old new after first last reply → OnOk r (HandshakeCosts wanted (balance old id first) (balance new after last))
-  answers_costs (Ok pooled) connection old new after first last reply s = shook_costs pending options credential nonces id opened same connection old new after first last reply s
-  answers_costs (Err e) connection old new after first last reply s = tt
 
   pub answers_unnamed : (r : Result PooledConnection EstablishError) (connection : Connection) (old new : State) (after : ℤ) (first last : Ledgers) (reply : HelloReply) → ShookHands over opened connection old new after first last reply → IfErr r (UnnamedService connection pending.generation)
       → IfErr r (StopsIn wanted old new after first last)

@@ -1,5 +1,5 @@
 -- What a caller concludes from what an establishment costs.
-use Rattle.std.proofs.Common.{◌≡◌, ◌⊎◌, ◌↔◌, ◌<◌, ◌≤◌, ◌^◌, ℕ, ℤ, ap, subst, sym, inl, inr, Option, None, Some, Result, Ok, Err, List, Contains, IfErr, OnOk, arith}
+use Rattle.std.proofs.Common.{◌≡◌, ◌⊎◌, ◌↔◌, ◌<◌, ◌≤◌, ◌^◌, ℕ, ℤ, ap, subst, sym, inl, inr, Option, None, Some, Result, Ok, Err, List, Contains, IfOk, IfErr, arith}
 use Rattle.mongo_wire.specs.declared.error.ErrorKind.{ErrorKind}
 use Rattle.mongo_wire.specs.Outside.{State}
 use Rattle.mongo_command.specs.Conversation.{Plan}
@@ -7,8 +7,9 @@ use Rattle.mongo_scram.specs.declared.cache.SaltedKey.{SaltedKey}
 use Rattle.mongo_scram.specs.Cache.{entries_of, rounds_of}
 use Rattle.mongo_scram.specs.Costs.{Ledgers, Balance, balance, HasEntry, Counts, Derives, SameEntries, CostsNothing}
 use Rattle.mongo_establish.specs.declared.establisher.EstablishError.{EstablishError}
+use Rattle.mongo_establish.specs.declared.establisher.PooledConnection.{PooledConnection}
 use Rattle.mongo_establish.specs.Asked.{Asked}
-use Rattle.mongo_establish.specs.Costs.{HandshakeCosts}
+use Rattle.mongo_establish.specs.Established.{Established}
 use Rattle.mongo_establish.specs.Derivation.{LeadsToKey}
 use Rattle.mongo_establish.specs.KeyCosts.{TakesKey, AcceptedTakes, RefusedTakes, TakesAsLed}
 use Rattle.mongo_establish.specs.Stopped.{StoppedIn}
@@ -54,13 +55,13 @@ spent_some plan kind old new s =
     ]
 
 -- however an establishment came out
-pub costs_some : {T : Type 0} (r : Result T EstablishError) (asked : Asked) (old new : State) (after : ℤ) (first last : Ledgers) → OnOk r (HandshakeCosts asked (balance old asked.first_id first) (balance new after last))
+pub costs_some : (r : Result PooledConnection EstablishError) (asked : Asked) (old new : State) (after : ℤ) (first last : Ledgers) → IfOk r (Established asked old new after first last)
     → IfErr r (λ e. StoppedIn e.handshake_phase asked e.cause.kind old new after first last) → CostsSome first last
-costs_some (Ok x) asked old new after first last costs refused = taken_some _ _ _ (handshake_taken asked (balance old asked.first_id first) (balance new after last) costs)
-costs_some (Err e) asked old new after first last costs refused =
+costs_some (Ok pooled) asked old new after first last made refused = taken_some _ _ _ (handshake_taken asked made.script.greeting (balance old asked.first_id first) (balance new after last) made.costs)
+costs_some (Err e) asked old new after first last made refused =
     elim (establishment_spent e.handshake_phase asked e.cause.kind old new after first last refused) [
       | inl spent ↦ spent_some _ e.cause.kind (balance old asked.first_id first) (balance new after last) spent
-      | inr unnamed ↦ taken_some _ _ _ (handshake_taken asked (balance old asked.first_id first) (balance new after last) unnamed.1)
+      | inr unnamed ↦ taken_some _ _ _ (handshake_taken asked unnamed.1.0 (balance old asked.first_id first) (balance new after last) unnamed.1.1)
     ]
 
 -- the counter never falls

@@ -2,7 +2,7 @@
 use Rattle.std.proofs.Common.{◌≡◌, ℕ, ℤ, ◌⊎◌, ◌∙◌, refl, subst, sym, Some, Result, Ok, Err, IfErr, List, [], ◌∷◌, ◌++◌, ap, inl, inr}
 use Rattle.mongo_wire.specs.declared.error.ErrorKind.{ErrorKind}
 use Rattle.mongo_wire.specs.declared.error.ErrorKind.TheVariants.{OutOfMemory}
-use Rattle.mongo_wire.specs.Outside.{State, Rose}
+use Rattle.mongo_wire.specs.Outside.{State, Unfailed}
 use Rattle.mongo_command.specs.declared.connection.Connection.{Connection}
 use Rattle.mongo_command.specs.Connection.{kept_fault}
 use Rattle.mongo_command.specs.Conversation.{Said, Turn, refuses, ends, HasOneTurn, Plan, IsSaid, Reached, Stopped, Leads, LeftBy}
@@ -71,22 +71,22 @@ stopped_whole (PostHello generation) asked kind old new after first last r =
 
 -- over bytes left that begin with a script's replies, only memory is wanted
 pub establishment_only_memory : {T E : Type 0} (answer : Result T E) (kind_of : E → ErrorKind) (asked : Asked) (old new : State) (after : ℤ) → IfErr answer (λ e. Stopped (establishment_plan asked) (kind_of e) old new asked.first_id after)
-    → (bytes : List ℕ) → old.left ≡ Some bytes → HasScript asked bytes → (Rose old.read_faults new.read_faults → ⊥) → (Rose old.write_faults new.write_faults → ⊥) → IfErr answer (λ e. kind_of e ≡ OutOfMemory)
-establishment_only_memory (Ok x) kind_of asked old new after stops bytes is script unfailed unwritten = tt
-establishment_only_memory (Err e) kind_of asked old new after stops bytes is script unfailed unwritten =
+    → (bytes : List ℕ) → old.left ≡ Some bytes → HasScript asked bytes → Unfailed old new → IfErr answer (λ e. kind_of e ≡ OutOfMemory)
+establishment_only_memory (Ok x) kind_of asked old new after stops bytes is script unfailed = tt
+establishment_only_memory (Err e) kind_of asked old new after stops bytes is script unfailed =
     let l = script_leads asked bytes script in
-    elim (only_refusal (establishment_plan asked) (kind_of e) (ends script.script.greeting) old new asked.first_id after bytes l.commands script.taken script.rest (one_establishment asked) stops is l.whole unfailed unwritten) [
+    elim (only_refusal (establishment_plan asked) (kind_of e) (ends script.script.greeting) old new asked.first_id after bytes l.commands script.taken script.rest (one_establishment asked) stops is l.whole unfailed) [
       | inl memory ↦ memory
       | inr same ↦ let e = same.0 in let no : ⊥ = cc in absurd no
     ]
 
 -- over bytes left that lead a plan to an outcome, only that is refused, and the link is left as it says
 pub only_refused : {T E : Type 0} (answer : Result T E) (kind_of : E → ErrorKind) (plan : Plan Greeting) (old new : State) (before after : ℤ) → HasOneTurn plan → IfErr answer (λ e. Stopped plan (kind_of e) old new before after)
-    → (bytes taken unread : List ℕ) (outcome : Turn Greeting) (commands : List Said) → old.left ≡ Some bytes → Leads plan bytes outcome commands taken unread → (Rose old.read_faults new.read_faults → ⊥) → (Rose old.write_faults new.write_faults → ⊥)
+    → (bytes taken unread : List ℕ) (outcome : Turn Greeting) (commands : List Said) → old.left ≡ Some bytes → Leads plan bytes outcome commands taken unread → Unfailed old new
     → IfErr answer (λ e. (kind_of e ≡ OutOfMemory) ⊎ ((outcome ≡ refuses (kind_of e)) × LeftBy commands unread old new before after))
-only_refused (Ok x) kind_of plan old new before after one stops bytes taken unread outcome commands is leads unfailed unwritten = tt
-only_refused (Err e) kind_of plan old new before after one stops bytes taken unread outcome commands is leads unfailed unwritten =
-    only_refusal plan (kind_of e) outcome old new before after bytes commands taken unread one stops is leads unfailed unwritten
+only_refused (Ok x) kind_of plan old new before after one stops bytes taken unread outcome commands is leads unfailed = tt
+only_refused (Err e) kind_of plan old new before after one stops bytes taken unread outcome commands is leads unfailed =
+    only_refusal plan (kind_of e) outcome old new before after bytes commands taken unread one stops is leads unfailed
 
 -- a refusal that was met, and what it left
 pub record RefusedBy (phase : HandshakePhase) (asked : Asked) (bytes : List ℕ) (kind : ErrorKind) (old new : State) (after : ℤ) : Type 0 where
@@ -103,10 +103,10 @@ past_hello generation asked kind old new after first last bytes r is =
     record { greeting = r.greeting; commands = l.commands; taken = l.taken; unread = l.unread; leads = l.leads; generation_is = r.generation_is }
 
 -- where the link didn't fail, memory was wanted or the bytes lead to the refusal
-pub stopped_refusal : (phase : HandshakePhase) (asked : Asked) (kind : ErrorKind) (old new : State) (after : ℤ) (first last : Ledgers) (bytes : List ℕ) → StoppedIn phase asked kind old new after first last → old.left ≡ Some bytes → (Rose old.read_faults new.read_faults → ⊥) → (Rose old.write_faults new.write_faults → ⊥)
+pub stopped_refusal : (phase : HandshakePhase) (asked : Asked) (kind : ErrorKind) (old new : State) (after : ℤ) (first last : Ledgers) (bytes : List ℕ) → StoppedIn phase asked kind old new after first last → old.left ≡ Some bytes → Unfailed old new
     → (kind ≡ OutOfMemory) ⊎ RefusedBy phase asked bytes kind old new after
-stopped_refusal (PreHello generation) asked kind old new after first last bytes r is unfailed unwritten =
-    elim (stopped_led (hello_plan asked) kind old new asked.first_id after bytes r.1 is unfailed unwritten) [
+stopped_refusal (PreHello generation) asked kind old new after first last bytes r is unfailed =
+    elim (stopped_led (hello_plan asked) kind old new asked.first_id after bytes r.1 is unfailed) [
       | inl memory ↦ inl memory
       | inr l ↦ inr (record {
         refusal = record { phase = PreHello generation; kind = kind; commands = l.commands; taken = l.taken; unread = l.unread };
@@ -117,8 +117,8 @@ stopped_refusal (PreHello generation) asked kind old new after first last bytes 
         left_by = l.left_by;
       })
     ]
-stopped_refusal (PostHello generation) asked kind old new after first last bytes r is unfailed unwritten =
-    elim (stopped_led (establishment_plan asked) kind old new asked.first_id after bytes (stopped_whole (PostHello generation) asked kind old new after first last r) is unfailed unwritten) [
+stopped_refusal (PostHello generation) asked kind old new after first last bytes r is unfailed =
+    elim (stopped_led (establishment_plan asked) kind old new asked.first_id after bytes (stopped_whole (PostHello generation) asked kind old new after first last r) is unfailed) [
       | inl memory ↦ inl memory
       | inr l ↦ inr (record {
         refusal = record { phase = PostHello generation; kind = kind; commands = l.commands; taken = l.taken; unread = l.unread };

@@ -76,9 +76,21 @@ module _ (pending : PendingConnection) (options : HandshakerOptions) (credential
       let greeting = s.script.greeting in
       handshake_reached wanted greeting old s.middle new s.between after (hello_reached greeting old s.middle id s.between s.hello) (login_reached greeting s.middle new s.between after s.login)
 
+  shook_login_costs : (connection : Connection) (old new : State) (after : ℤ) (first last : Ledgers) (reply : HelloReply) (s : ShookHands over opened connection old new after first last reply) → LoginCosts wanted s.script.greeting (balance s.middle s.between first) (balance new after last)
+  shook_login_costs connection old new after first last reply s = costs_alike (pending_over opened) pending options credential nonces id id s.script.greeting (balance s.middle s.between first) (balance new after last) s.costs
+
+  -- what was derived and kept
+  pub shook_costs : (connection : Connection) (old new : State) (after : ℤ) (first last : Ledgers) (reply : HelloReply) (s : ShookHands over opened connection old new after first last reply) → HandshakeCosts wanted s.script.greeting (balance old id first) (balance new after last)
+  shook_costs connection old new after first last reply s = record {
+    middle = s.middle;
+    between = s.between;
+    hello = hello_reached s.script.greeting old s.middle id s.between s.hello;
+    login = shook_login_costs connection old new after first last reply s;
+  }
+
   -- is the connection that is ready for commands, where a service that has to be named is
   pub established : (connection : Connection) (old new : State) (after : ℤ) (first last : Ledgers) (reply : HelloReply) (pooled : PooledConnection) → opened.id ≡ pending.id → opened.oidc_token_gen_id ≡ 0 → ShookHands over opened connection old new after first last reply
-      → IsPooled connection pending.generation pooled → Established wanted old new after pooled
+      → IsPooled connection pending.generation pooled → Established wanted old new after first last pooled
   established connection old new after first last reply pooled number token s p =
       let greeting = s.script.greeting in
       let description : p.description ≡ greeting.description = same_description p.description greeting.description (sym p.described ∙ s.described.holds.description_is) in
@@ -89,20 +101,8 @@ module _ (pending : PendingConnection) (options : HandshakerOptions) (credential
         scripted = scripted_by wanted greeting old new after whole named;
         connection = subst (λ c. IsDescribed wanted c greeting) (sym p.connection_is) (is_described wanted opened connection greeting s.described same number token);
         generation = p.generation_is ∙ ap (generation_of pending.generation) description;
+        costs = shook_costs connection old new after first last reply s;
       }
-
-  shook_login_costs : (connection : Connection) (old new : State) (after : ℤ) (first last : Ledgers) (reply : HelloReply) (s : ShookHands over opened connection old new after first last reply) → LoginCosts wanted s.script.greeting (balance s.middle s.between first) (balance new after last)
-  shook_login_costs connection old new after first last reply s = costs_alike (pending_over opened) pending options credential nonces id id s.script.greeting (balance s.middle s.between first) (balance new after last) s.costs
-
-  -- and cost this
-  pub shook_costs : (connection : Connection) (old new : State) (after : ℤ) (first last : Ledgers) (reply : HelloReply) → ShookHands over opened connection old new after first last reply → HandshakeCosts wanted (balance old id first) (balance new after last)
-  shook_costs connection old new after first last reply s = record {
-    greeting = s.script.greeting;
-    middle = s.middle;
-    between = s.between;
-    hello = hello_reached s.script.greeting old s.middle id s.between s.hello;
-    login = shook_login_costs connection old new after first last reply s;
-  }
 
   -- ---- a handshake that was stopped, and one whose server named no service
 

@@ -4,7 +4,7 @@ use Rattle.mongo_wire.specs.declared.error.Error.{Error}
 use Rattle.mongo_wire.specs.declared.error.ErrorKind.{ErrorKind}
 use Rattle.mongo_wire.specs.declared.error.ErrorKind.TheVariants.{IncompatibleServer, OutOfMemory}
 use Rattle.mongo_wire.specs.declared.frame_buffer.FrameBuffer.{FrameBuffer}
-use Rattle.mongo_wire.specs.Outside.{State, Rose}
+use Rattle.mongo_wire.specs.Outside.{State, Unfailed}
 use Rattle.mongo_command.specs.declared.connection.Connection.{Connection}
 use Rattle.mongo_command.specs.declared.stream_description.StreamDescription.{StreamDescription}
 use Rattle.mongo_command.specs.Conversation.{refuses, ends, HasNone, ending, Reached, Stopped}
@@ -192,15 +192,19 @@ hello_made : (asked : Asked) (greeting : Greeting) (old middle : State) (before 
 hello_made asked greeting old middle before between r =
     who_made (holds_users greeting.description.initial_server_type) asked.credential (greeted asked r.events greeting (record { follows = r.talked.follows; answer_is = r.answer_is })).made
 
-pub handshake_taken : (asked : Asked) (old new : Balance) → HandshakeCosts asked old new → KeyTaken (derivation_plan asked) old new
+pub handshake_taken : (asked : Asked) (greeting : Greeting) (old new : Balance) → HandshakeCosts asked greeting old new → KeyTaken (derivation_plan asked) old new
 unfolding derivation_plan login_derivation
-handshake_taken asked old new h =
-    taken_after (hello_plan asked) (login_derivation asked) h.greeting h.middle h.between old new h.hello
-    (login_taken (logging_in asked h.greeting) asked h.greeting (balance h.middle h.between old.ledgers) new (hello_made asked h.greeting old.state h.middle old.id h.between h.hello) h.login)
+handshake_taken asked greeting old new h =
+    taken_after (hello_plan asked) (login_derivation asked) greeting h.middle h.between old new h.hello
+    (login_taken (logging_in asked greeting) asked greeting (balance h.middle h.between old.ledgers) new (hello_made asked greeting old.state h.middle old.id h.between h.hello) h.login)
+
+-- a login was accepted, and its server had named no service
+abbrev pub UnnamedCosts : Asked → ErrorKind → Balance → Balance → Type 0
+UnnamedCosts asked kind old new = (kind ≡ IncompatibleServer) × ((greeting : Greeting) × HandshakeCosts asked greeting old new)
 
 -- one that was stopped, or whose server named no service
 pub establishment_spent : (phase : HandshakePhase) (asked : Asked) (kind : ErrorKind) (old new : State) (after : ℤ) (first last : Ledgers) → StoppedIn phase asked kind old new after first last
-    → KeySpent (derivation_plan asked) kind (balance old asked.first_id first) (balance new after last) ⊎ ((kind ≡ IncompatibleServer) × HandshakeCosts asked (balance old asked.first_id first) (balance new after last))
+    → KeySpent (derivation_plan asked) kind (balance old asked.first_id first) (balance new after last) ⊎ UnnamedCosts asked kind (balance old asked.first_id first) (balance new after last)
 unfolding derivation_plan login_derivation
 establishment_spent (PreHello generation) asked kind old new after first last (is, stopped, nothing) = inl (inl (record { stopped = stopped_first (hello_plan asked) (login_derivation asked) kind old new asked.first_id after stopped; nothing = nothing }))
 establishment_spent (PostHello generation) asked kind old new after first last s =
@@ -208,7 +212,7 @@ establishment_spent (PostHello generation) asked kind old new after first last s
     elim s.stopped [
       | inl l ↦ inl (spent_after (hello_plan asked) (login_derivation asked) s.greeting kind s.middle s.between (balance old asked.first_id first) (balance new after last) s.hello
           (login_spent (logging_in asked s.greeting) asked s.greeting kind (balance s.middle s.between first) (balance new after last) made l.costs))
-      | inr u ↦ inr (u.unnamed.0, record { greeting = s.greeting; middle = s.middle; between = s.between; hello = s.hello; login = u.costs })
+      | inr u ↦ inr (u.unnamed.0, (s.greeting, record { middle = s.middle; between = s.between; hello = s.hello; login = u.costs }))
     ]
 
 -- ---- over told bytes
@@ -219,11 +223,11 @@ takes_led asked bytes old new a is =
     record { key = a.key; leads = record { outcome = ends a.key; commands = l.commands; taken = l.taken; unread = l.unread; leads = l.leads; key_is = refl }; taken = a.takes }
 
 -- memory ran out, or the bytes lead to the key
-spends_led : (asked : Asked) (kind : ErrorKind) (bytes : List ℕ) (old new : Balance) → KeySpent (derivation_plan asked) kind old new → old.state.left ≡ Some bytes → (Rose old.state.read_faults new.state.read_faults → ⊥) → (Rose old.state.write_faults new.state.write_faults → ⊥)
+spends_led : (asked : Asked) (kind : ErrorKind) (bytes : List ℕ) (old new : Balance) → KeySpent (derivation_plan asked) kind old new → old.state.left ≡ Some bytes → Unfailed old.state new.state
     → (kind ≡ OutOfMemory) ⊎ TakesAsLed asked bytes (λ key. RefusedTakes key old.ledgers new.ledgers)
-spends_led asked kind bytes old new s is unfailed unwritten =
+spends_led asked kind bytes old new s is unfailed =
     elim s [
-      | inl early ↦ elim (stopped_led (derivation_plan asked) kind old.state new.state old.id new.id bytes early.stopped is unfailed unwritten) [
+      | inl early ↦ elim (stopped_led (derivation_plan asked) kind old.state new.state old.id new.id bytes early.stopped is unfailed) [
         | inl memory ↦ inl memory
         | inr l ↦ inr (record { key = None; leads = record { outcome = refuses kind; commands = l.commands; taken = l.taken; unread = l.unread; leads = l.leads; key_is = refl }; taken = early.nothing })
       ]
@@ -236,9 +240,9 @@ spends_led asked kind bytes old new s is unfailed unwritten =
     ]
 
 -- a handshake that was accepted: the connection is ready, or its server named no service
-pub pooled_led : (r : Result PooledConnection EstablishError) (asked : Asked) (old new : Balance) → HandshakeCosts asked old new → IfErr r (λ e. e.cause.kind ≡ IncompatibleServer) → CostsAsLed r asked old.state new.state old.ledgers new.ledgers
-pooled_led (Ok pooled) asked old new h unnamed = record { over = λ bytes is unfailed unwritten. takes_led asked bytes old new (handshake_taken asked old new h) is }
-pooled_led (Err e) asked old new h unnamed = record { over = λ bytes is unfailed unwritten. inr (inl (record { kind_is = unnamed; led = takes_led asked bytes old new (handshake_taken asked old new h) is })) }
+pub pooled_led : (r : Result PooledConnection EstablishError) (asked : Asked) (greeting : Greeting) (old new : Balance) → HandshakeCosts asked greeting old new → IfErr r (λ e. e.cause.kind ≡ IncompatibleServer) → CostsAsLed r asked old.state new.state old.ledgers new.ledgers
+pooled_led (Ok pooled) asked greeting old new h unnamed = record { over = λ bytes is unfailed. takes_led asked bytes old new (handshake_taken asked greeting old new h) is }
+pooled_led (Err e) asked greeting old new h unnamed = record { over = λ bytes is unfailed. inr (inl (record { kind_is = unnamed; led = takes_led asked bytes old new (handshake_taken asked greeting old new h) is })) }
 
 pub unnamed_kind : (r : Result PooledConnection EstablishError) (connection : Connection) (pool : PoolGeneration) → IfErr r (UnnamedService connection pool) → IfErr r (λ e. e.cause.kind ≡ IncompatibleServer)
 unnamed_kind (Ok pooled) connection pool u = tt
@@ -252,9 +256,9 @@ unnamed_entries P (Err e) connection pool u = inl u.kind_is
 -- one that was refused
 pub refused_led : (e : EstablishError) (asked : Asked) (old new : State) (after : ℤ) (first last : Ledgers) → StoppedIn e.handshake_phase asked e.cause.kind old new after first last → (e.cause.kind ≡ IncompatibleServer → ⊥) → CostsAsLed {T = PooledConnection} (Err e) asked old new first last
 refused_led e asked old new after first last s other = record {
-  over = λ bytes is unfailed unwritten.
+  over = λ bytes is unfailed.
       elim (establishment_spent e.handshake_phase asked e.cause.kind old new after first last s) [
-        | inl spent ↦ elim (spends_led asked e.cause.kind bytes (balance old asked.first_id first) (balance new after last) spent is unfailed unwritten) [
+        | inl spent ↦ elim (spends_led asked e.cause.kind bytes (balance old asked.first_id first) (balance new after last) spent is unfailed) [
           | inl memory ↦ inl memory
           | inr led ↦ inr (inr (record { other = other; led = led }))
         ]

@@ -62,9 +62,8 @@ StoppedLoginCosts asked greeting kind old new = StoppedLoginCostsOf (logging_in 
 
 -- ---- a handshake that was followed to its end
 
--- the hello was followed to its end, with the old id, which costs nothing, and then the login
-pub record HandshakeCosts (asked : Asked) (old new : Balance) : Type 0 where
-  pub greeting : Greeting
+-- the hello was followed to its end, with the old id, and the server greeted so, which costs nothing, and then the login
+pub record HandshakeCosts (asked : Asked) (greeting : Greeting) (old new : Balance) : Type 0 where
   pub middle : State
   pub between : ℤ
   pub hello : Reached (hello_plan asked) greeting old.state middle old.id between

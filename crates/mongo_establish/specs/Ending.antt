@@ -1,14 +1,13 @@
 -- How an establishment ends over a link: all that is promised of it, for those who hand it on.
-use Rattle.std.specs.Prelude.{◌≡◌, ℕ, ℤ, ◌⊎◌, Some, List, Result, IfOk, IfErr, OnOk}
+use Rattle.std.specs.Prelude.{◌≡◌, ℕ, ℤ, ◌⊎◌, Some, List, Result, IfOk, IfErr}
 use Rattle.mongo_wire.specs.declared.error.ErrorKind.TheVariants.{IncompatibleServer, OutOfMemory}
-use Rattle.mongo_wire.specs.Outside.{State, Rose}
+use Rattle.mongo_wire.specs.Outside.{State, Unfailed}
 use Rattle.mongo_command.specs.Conversation.{Said, Turn, refuses, Leads, LeftBy}
 use Rattle.mongo_command.specs.Exchange.{CountsStay}
-use Rattle.mongo_scram.specs.Costs.{Ledgers, balance, SameEntries}
+use Rattle.mongo_scram.specs.Costs.{Ledgers, SameEntries}
 use Rattle.mongo_establish.specs.declared.establisher.EstablishError.{EstablishError}
 use Rattle.mongo_establish.specs.declared.establisher.PooledConnection.{PooledConnection}
 use Rattle.mongo_establish.specs.Asked.{Asked}
-use Rattle.mongo_establish.specs.Costs.{HandshakeCosts}
 use Rattle.mongo_establish.specs.Established.{Established}
 use Rattle.mongo_establish.specs.Greeting.{Greeting}
 use Rattle.mongo_establish.specs.KeyCosts.{CostsAsLed}
@@ -18,19 +17,17 @@ use Rattle.mongo_establish.specs.Stopped.{StoppedIn}
 
 -- The link stood so before and so after, the next id is this one, and the counter and the cache went on so.
 pub record EndsEstablishment (asked : Asked) (old new : State) (after : ℤ) (first last : Ledgers) (result : Result PooledConnection EstablishError) : Type 0 where
-  -- what was written and read is exactly a script, and the connection is what its replies say
-  pub established : IfOk result (Established asked old new after)
+  -- what was written and read is exactly a script, the connection is what its replies say, and what was derived and kept is what its login takes
+  pub established : IfOk result (Established asked old new after first last)
   -- a refusal says why it comes, how far the establishment had come, what it left, and what was derived
   pub refused : IfErr result (λ e. StoppedIn e.handshake_phase asked e.cause.kind old new after first last)
   -- a script's replies at the front of the bytes left are answered by a connection, unless the link fails or memory runs out
   pub complete : (bytes : List ℕ) → old.left ≡ Some bytes → HasScript asked bytes →
-      (Rose old.read_faults new.read_faults → ⊥) → (Rose old.write_faults new.write_faults → ⊥) → IfErr result (λ e. e.cause.kind ≡ OutOfMemory)
+      Unfailed old new → IfErr result (λ e. e.cause.kind ≡ OutOfMemory)
   -- bytes left that call for a refusal get just that one, and the link is left as it says; those that lead to an end get none
   pub exact : (bytes taken unread : List ℕ) (outcome : Turn Greeting) (commands : List Said) → old.left ≡ Some bytes → Leads (establishment_plan asked) bytes outcome commands taken unread →
-      (Rose old.read_faults new.read_faults → ⊥) → (Rose old.write_faults new.write_faults → ⊥) →
+      Unfailed old new →
       IfErr result (λ e. (e.cause.kind ≡ OutOfMemory) ⊎ ((outcome ≡ refuses e.cause.kind) × LeftBy commands unread old new asked.first_id after))
-  -- what was derived and which entries there are, once a login was accepted
-  pub costs : OnOk result (HandshakeCosts asked (balance old asked.first_id first) (balance new after last))
   -- the bytes left say which key was derived, if any, unless the link fails or memory runs out
   pub led : CostsAsLed result asked old new first last
   -- a refusal leaves the entries as they were, unless a login had been accepted

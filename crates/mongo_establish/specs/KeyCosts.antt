@@ -2,7 +2,7 @@
 use Rattle.std.specs.Prelude.{◌≡◌, ℕ, ◌⊎◌, Option, None, Some, Result, Ok, Err, List}
 use Rattle.mongo_wire.specs.declared.error.ErrorKind.{ErrorKind}
 use Rattle.mongo_wire.specs.declared.error.ErrorKind.TheVariants.{IncompatibleServer, OutOfMemory}
-use Rattle.mongo_wire.specs.Outside.{State, Rose}
+use Rattle.mongo_wire.specs.Outside.{State, Unfailed}
 use Rattle.mongo_scram.specs.declared.cache.SaltedKey.{SaltedKey}
 use Rattle.mongo_scram.specs.Cache.{entries_of, Adds}
 use Rattle.mongo_scram.specs.Costs.{Ledgers, HasEntry, Derives, SameEntries, CostsNothing}
@@ -59,4 +59,4 @@ CostsOver (Err e) asked bytes first last = (e.cause.kind ≡ OutOfMemory) ⊎ (U
 
 -- where a link tells its bytes and doesn't fail, they decide what an establishment costs
 pub record CostsAsLed {T : Type 0} (result : Result T EstablishError) (asked : Asked) (old new : State) (first last : Ledgers) : Type 0 where
-  pub over : (bytes : List ℕ) → old.left ≡ Some bytes → (Rose old.read_faults new.read_faults → ⊥) → (Rose old.write_faults new.write_faults → ⊥) → CostsOver result asked bytes first last
+  pub over : (bytes : List ℕ) → old.left ≡ Some bytes → Unfailed old new → CostsOver result asked bytes first last

@@ -44,7 +44,7 @@ impl Drop for Handshaker {
 impl Handshaker {
     ghost use Rattle.std.specs.Prelude.{◌≡◌, ◌⊎◌, List, ℕ, None, Some, option_copied, option_map, IfOk, IfErr, OnErr};
     ghost use Rattle.mongo_wire.specs.declared.error.ErrorKind.TheVariants.{OutOfMemory};
-    ghost use Rattle.mongo_wire.specs.Outside.{Rose};
+    ghost use Rattle.mongo_wire.specs.Outside.{Unfailed};
     ghost use Rattle.mongo_command.specs.Connection.{kept_fault};
     ghost use Rattle.mongo_command.specs.Conversation.{Said, Turn, refuses, Leads, LeftBy};
     ghost use Rattle.mongo_command.specs.Exchange.{CountsStay, DocumentRefused};
@@ -103,13 +103,13 @@ impl Handshaker {
 
         // A script's replies at the front of the bytes left are answered by Ok, unless the link fails or memory runs out.
         ensures complete { (bytes : List ℕ) → (L.state link.old).left ≡ Some bytes → HasScript (asked_over connection.old (options_in self.now) (option_copied credential.entry) inputs.now.nonces state.old.ids) bytes →
-            (Rose (L.state link.old).read_faults (L.state link.new).read_faults → ⊥) → (Rose (L.state link.old).write_faults (L.state link.new).write_faults → ⊥) →
+            Unfailed (L.state link.old) (L.state link.new) →
             IfErr result (λ e. e.kind ≡ OutOfMemory) }
 
         // Bytes left that call for a refusal get just that one, and the link is left as it says; those that lead to an end get none.
         ensures exact { (bytes taken unread : List ℕ) (outcome : Turn Greeting) (commands : List Said) → (L.state link.old).left ≡ Some bytes →
             Leads (handshake_plan (asked_over connection.old (options_in self.now) (option_copied credential.entry) inputs.now.nonces state.old.ids)) bytes outcome commands taken unread →
-            (Rose (L.state link.old).read_faults (L.state link.new).read_faults → ⊥) → (Rose (L.state link.old).write_faults (L.state link.new).write_faults → ⊥) →
+            Unfailed (L.state link.old) (L.state link.new) →
             IfErr result (λ e. (e.kind ≡ OutOfMemory) ⊎ ((outcome ≡ refuses e.kind) × LeftBy commands unread
             (L.state link.old) (L.state link.new) state.old.ids state.new.ids)) }
 

@@ -41,8 +41,8 @@ never_refused (Ok pooled) memory is = is
 never_refused (Err e) memory is = is memory
 
 -- what is written is the script's
-sent_by : (asked : Asked) (bytes : List ℕ) (old new : State) (after : ℤ) (pooled : PooledConnection) (h : HasScript asked bytes) → Established asked old new after pooled → old.left ≡ Some bytes → Appends old.written new.written h.sent
-sent_by asked bytes old new after pooled h e is =
+sent_by : (asked : Asked) (bytes : List ℕ) (old new : State) (after : ℤ) (first last : Ledgers) (pooled : PooledConnection) (h : HasScript asked bytes) → Established asked old new after first last pooled → old.left ≡ Some bytes → Appends old.written new.written h.sent
+sent_by asked bytes old new after first last pooled h e is =
     let s = e.scripted in
     let t = s.taken bytes is in
     let k : HasScript asked bytes = record { script = e.script; is_script = s.is_script; sent = s.sent; is_written = s.is_written; taken = t.taken; rest = t.rest; joined = t.joined; is_taken = t.is_taken } in
@@ -63,16 +63,16 @@ module _ (pending : PendingConnection) (options : HandshakerOptions) (first_id :
   has_its_script = subst (λ a. HasScript a bytes) (sym same) script_for
 
   -- what was written carries the client's last message
-  pub writes_close : (old new : State) (after : ℤ) (pooled : PooledConnection) (written : List ℕ) → Established asked old new after pooled → old.left ≡ Some bytes → old.written ≡ Some [] → new.written ≡ Some written → CarriesPayloadLast (close_of x) written
-  writes_close old new after pooled written e is nothing all =
-      let there = subst (λ a. Established a old new after pooled) same e in
-      let sent = sent_by (asked_by_exchange pending x login.inputs.nonces) bytes old new after pooled script_for there is in
+  pub writes_close : (old new : State) (after : ℤ) (earlier later : Ledgers) (pooled : PooledConnection) (written : List ℕ) → Established asked old new after earlier later pooled → old.left ≡ Some bytes → old.written ≡ Some [] → new.written ≡ Some written → CarriesPayloadLast (close_of x) written
+  writes_close old new after earlier later pooled written e is nothing all =
+      let there = subst (λ a. Established a old new after earlier later pooled) same e in
+      let sent = sent_by (asked_by_exchange pending x login.inputs.nonces) bytes old new after earlier later pooled script_for there is in
       let grown : Appends (Some []) (Some written) script_for.sent = subst (λ w. Appends w (Some written) script_for.sent) nothing (subst (λ w. Appends old.written w script_for.sent) all sent) in
       carries pending x login.inputs.nonces bytes logs.possible logs.nonce_is pool heard written (grown ∙ sent_is pending x login.inputs.nonces bytes logs.possible logs.nonce_is pool heard)
 
-  pub accepted_writes : (ended : Result PooledConnection EstablishError) (old new : State) (after : ℤ) (written : List ℕ) → IsAcceptedAs ended true → IfOk ended (Established asked old new after) → old.left ≡ Some bytes → old.written ≡ Some [] → new.written ≡ Some written → CarriesPayloadLast (close_of x) written
-  accepted_writes (Ok pooled) old new after written is e told nothing all = writes_close old new after pooled written e told nothing all
-  accepted_writes (Err e) old new after written is none told nothing all = absurd is
+  pub accepted_writes : (ended : Result PooledConnection EstablishError) (old new : State) (after : ℤ) (earlier later : Ledgers) (written : List ℕ) → IsAcceptedAs ended true → IfOk ended (Established asked old new after earlier later) → old.left ≡ Some bytes → old.written ≡ Some [] → new.written ≡ Some written → CarriesPayloadLast (close_of x) written
+  accepted_writes (Ok pooled) old new after earlier later written is e told nothing all = writes_close old new after earlier later pooled written e told nothing all
+  accepted_writes (Err e) old new after earlier later written is none told nothing all = absurd is
 
   -- and its key was taken
   pub takes_key : (before after : Ledgers) (pooled : PooledConnection) → CostsOver (Ok pooled) asked bytes before after → TakesKey (key_of x) before after

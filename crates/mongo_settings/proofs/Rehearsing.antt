@@ -4,7 +4,7 @@ use Rattle.std.proofs.lemmas.List.{append_cancel_left}
 use Rattle.std.specs.Io.KnownBytes.{Appends, Consumes}
 use Rattle.std.specs.List.{AllByRecursion, concat}
 use Rattle.mongo_wire.specs.declared.error.ErrorKind.{ErrorKind}
-use Rattle.mongo_wire.specs.Outside.{State, Rose, IsFlushed}
+use Rattle.mongo_wire.specs.Outside.{State, Rose, Unfailed, IsFlushed}
 use Rattle.mongo_command.specs.Conversation.{Said, IsSaid, IsFlushedAfter}
 use Rattle.mongo_scram.specs.Costs.{Ledgers}
 use Rattle.mongo_establish.specs.declared.establisher.EstablishError.{EstablishError}
@@ -35,8 +35,7 @@ pub record Replayed (replies output left : List ℕ) (old new : State) : Type 0 
   pub given : old.left ≡ Some replies
   pub written_is : new.written ≡ Some (front ++ output)
   pub left_is : new.left ≡ Some left
-  pub unfailed : Rose old.read_faults new.read_faults → ⊥
-  pub unwritten : Rose old.write_faults new.write_faults → ⊥
+  pub unfailed : Unfailed old new
 
 -- a count that stands still hasn't risen
 pub never_rose : Rose 0 0 → ⊥
@@ -79,13 +78,13 @@ pub record Replays (settings : Settings) (ended : Result PooledConnection Establ
 
 -- ---- a connection that was made
 
-pub described : (asked : Asked) (old new : State) (after : ℤ) (ended : Result PooledConnection EstablishError) → IfOk ended (Established asked old new after) → IfOk ended (λ pooled. IsSome pooled.connection.stream_description)
-described asked old new after (Ok pooled) made = rw made.connection.description_is refl
-described asked old new after (Err refusal) made = tt
+pub described : (asked : Asked) (old new : State) (after : ℤ) (first last : Ledgers) (ended : Result PooledConnection EstablishError) → IfOk ended (Established asked old new after first last) → IfOk ended (λ pooled. IsSome pooled.connection.stream_description)
+described asked old new after first last (Ok pooled) made = rw made.connection.description_is refl
+described asked old new after first last (Err refusal) made = tt
 
-made : (settings : Settings) (old new : State) (after : ℤ) (pooled : PooledConnection) (output left : List ℕ) (taken : ℕ) (x : Rehearsal)
-    → Established (asked_of settings) old new after pooled → Replayed settings.replies output left old new → taken ≡ length settings.replies - length left → TellsMade output taken pooled x → Replays settings (Ok pooled) old new x
-made settings old new after pooled output left taken x e p taken_is tells =
+made : (settings : Settings) (old new : State) (after : ℤ) (first last : Ledgers) (pooled : PooledConnection) (output left : List ℕ) (taken : ℕ) (x : Rehearsal)
+    → Established (asked_of settings) old new after first last pooled → Replayed settings.replies output left old new → taken ≡ length settings.replies - length left → TellsMade output taken pooled x → Replays settings (Ok pooled) old new x
+made settings old new after first last pooled output left taken x e p taken_is tells =
     let s = e.scripted in
     let sent : output ≡ s.sent = appended p.front output s.sent old.written new.written p.before p.written_is s.written in
     let f = Framed-from_sent _ _ e.script.commands (asked_of settings).first_id s.sent s.is_written in
@@ -158,7 +157,7 @@ told_refusal settings kind phase old new after output left taken refusal x kind_
 unmade : (settings : Settings) (old new : State) (after : ℤ) (first last : Ledgers) (refusal : EstablishError) (output left : List ℕ) (taken : ℕ) (x : Rehearsal)
     → StoppedIn refusal.handshake_phase (asked_of settings) refusal.cause.kind old new after first last → Replayed settings.replies output left old new → taken ≡ length settings.replies - length left → TellsRefused output taken refusal x → Replays settings (Err refusal) old new x
 unmade settings old new after first last refusal output left taken x s p taken_is tells =
-    elim (stopped_refusal refusal.handshake_phase (asked_of settings) refusal.cause.kind old new after first last settings.replies s p.given p.unfailed p.unwritten) [
+    elim (stopped_refusal refusal.handshake_phase (asked_of settings) refusal.cause.kind old new after first last settings.replies s p.given p.unfailed) [
       | inl memory ↦ absurd (subst IsReported memory tells.reported)
       | inr r ↦ told_refusal settings refusal.cause.kind refusal.handshake_phase old new after output left taken refusal x refl refl r p taken_is tells
     ]
@@ -167,8 +166,8 @@ unmade settings old new after first last refusal output left taken x s p taken_i
 
 -- however an establishment ended, what is told of it is the report
 pub rehearsed : {E : Type 0} (settings : Settings) (asked : Asked) (old new : State) (after : ℤ) (first last : Ledgers) (output left : List ℕ) (taken : ℕ) (ended : Result PooledConnection EstablishError) (r : Result Rehearsal E)
-    → asked ≡ asked_of settings → IfOk ended (Established asked old new after) → IfErr ended (λ e. StoppedIn e.handshake_phase asked e.cause.kind old new after first last)
+    → asked ≡ asked_of settings → IfOk ended (Established asked old new after first last) → IfErr ended (λ e. StoppedIn e.handshake_phase asked e.cause.kind old new after first last)
     → Replayed settings.replies output left old new → taken ≡ length settings.replies - length left → IfOk r (Tells output taken ended) → IfOk r (Replays settings ended old new)
-rehearsed settings asked old new after first last output left taken (Ok pooled) (Ok x) same m s p taken_is tells = made settings old new after pooled output left taken x (subst (λ a. Established a old new after pooled) same m) p taken_is tells
+rehearsed settings asked old new after first last output left taken (Ok pooled) (Ok x) same m s p taken_is tells = made settings old new after first last pooled output left taken x (subst (λ a. Established a old new after first last pooled) same m) p taken_is tells
 rehearsed settings asked old new after first last output left taken (Err refusal) (Ok x) same m s p taken_is tells = unmade settings old new after first last refusal output left taken x (subst (λ a. StoppedIn refusal.handshake_phase a refusal.cause.kind old new after first last) same s) p taken_is tells
 rehearsed settings asked old new after first last output left taken ended (Err error) same m s p taken_is tells = tt

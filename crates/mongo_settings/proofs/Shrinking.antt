@@ -87,7 +87,7 @@ shorter : (bytes left : List ℕ) → TakesSome (Some bytes) (Some left) → len
 shorter bytes left is = let parts : length bytes ≡ length is.0 + length left = ap length is.1 ∙ length-append is.0 left in omega (arith, parts)
 
 -- what is left isn't longer than what was left before
-pub left_within : (asked : Asked) (old new : State) (after : ℤ) (first last : Ledgers) (bytes left : List ℕ) (ended : Result PooledConnection EstablishError) → IfOk ended (Established asked old new after)
+pub left_within : (asked : Asked) (old new : State) (after : ℤ) (first last : Ledgers) (bytes left : List ℕ) (ended : Result PooledConnection EstablishError) → IfOk ended (Established asked old new after first last)
     → IfErr ended (λ e. StoppedIn e.handshake_phase asked e.cause.kind old new after first last) → old.left ≡ Some bytes → new.left ≡ Some left → length left ≤ length bytes
 left_within asked old new after first last bytes left (Ok pooled) made refused was is =
     let replies = made.scripted.taken bytes was in

@@ -46,7 +46,7 @@ pub taking : {E : Type 0} (settings : Settings) (asked : Asked) (old new : State
     → asked ≡ asked_of settings → CostsAsLed ended asked old new first last → Replayed settings.replies output left old new
     → IfOk r (Tells output count ended) → IfOk r (Replays settings ended old new) → IfOk r (IsTaking settings first last)
 taking settings asked old new first last output left count ended (Ok x) same costs p tells is =
-    let over = (subst (λ a. CostsAsLed ended a old new first last) same costs).over settings.replies p.given p.unfailed p.unwritten in
+    let over = (subst (λ a. CostsAsLed ended a old new first last) same costs).over settings.replies p.given p.unfailed in
     record {
       rehearsal_is = is.rehearses.rehearsal_is;
       takes = subst (λ b. TakesLedgers settings b first last) (sym is.rehearses.logs_in_is) (takes_over settings first last ended over (told_cause output count ended x tells));

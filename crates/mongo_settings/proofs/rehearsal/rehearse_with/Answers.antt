@@ -16,7 +16,7 @@ overflow_sub-taken g c =
     omega (arith, within, before, after)
 
 pub report_outcome-requires : goal.report_outcome-requires
-report_outcome-requires g c = record { described = described _ _ _ _ c.connect-ended.result c.connect-ended.ensures.ended.established }
+report_outcome-requires g c = record { described = described _ _ _ _ _ _ c.connect-ended.result c.connect-ended.ensures.ended.established }
 
 pub returns-clause-taking : goal.returns-clause-taking
 returns-clause-taking g c =
@@ -35,8 +35,7 @@ returns-clause-taking g c =
       given = ap Some given;
       written_is = ap Some (sym c.written.ensures);
       left_is = refl;
-      unfailed = never_rose;
-      unwritten = never_rose;
+      unfailed = record { reads = never_rose; writes = never_rose };
     } in
     let count : taken ≡ length settings.replies - length (bytes_left link) = ap (λ l. length l - length c.left.result.now) (c.left-total.ensures ∙ given)
     ∙ ap (λ l. length settings.replies - length l) c.left.ensures in

@@ -9,7 +9,7 @@ use Rattle.mongo_generate.proofs.options.Client.establish.Goals as goal
 pub returns-in_err-is_accepted-clause-steps : goal.returns-in_err-is_accepted-clause-steps
 returns-in_err-is_accepted-clause-steps g c =
     let made = c.establish_connection-ended in
-    some_rise _ _ (costs_some made.result _ _ _ _ _ _ made.ensures.costs made.ensures.refused)
+    some_rise _ _ (costs_some made.result _ _ _ _ _ _ made.ensures.ended.established made.ensures.ended.refused)
 
 pub returns-then-not-branch-clause-written : goal.returns-then-not-branch-clause-written
 returns-then-not-branch-clause-written g c = λ x logs heard.
@@ -17,7 +17,7 @@ returns-then-not-branch-clause-written g c = λ x logs heard.
     let link = c.new-link in
     let told = ap Some (ap (λ n. drop n link.result.input.items) link.ensures.at ∙ link.ensures.input) in
     let script = has_its_script c.in_ok-pending.pending (options_of_establisher c.args.self.now.establisher) c.new-state.result x c.args.login.now c.args.replies logs heard c.in_ok-pending.ensures.generation c.args.self.now.options c.new-state.ensures in
-    never_refused made.result (made.ensures.complete c.args.replies told script no_fault no_fault) (subst (IsAcceptedAs made.result) c.if-not-branch.true c.in_ok-is_accepted.ensures)
+    never_refused made.result (made.ensures.ended.complete c.args.replies told script (record { reads = no_fault; writes = no_fault })) (subst (IsAcceptedAs made.result) c.if-not-branch.true c.in_ok-is_accepted.ensures)
 
 pub returns-then-not-branch-clause-takes : goal.returns-then-not-branch-clause-takes
 returns-then-not-branch-clause-takes g c = λ x logs heard.
@@ -25,12 +25,12 @@ returns-then-not-branch-clause-takes g c = λ x logs heard.
     let link = c.new-link in
     let told = ap Some (ap (λ n. drop n link.result.input.items) link.ensures.at ∙ link.ensures.input) in
     let script = has_its_script c.in_ok-pending.pending (options_of_establisher c.args.self.now.establisher) c.new-state.result x c.args.login.now c.args.replies logs heard c.in_ok-pending.ensures.generation c.args.self.now.options c.new-state.ensures in
-    absurd (never_refused made.result (made.ensures.complete c.args.replies told script no_fault no_fault) (subst (IsAcceptedAs made.result) c.if-not-branch.true c.in_ok-is_accepted.ensures))
+    absurd (never_refused made.result (made.ensures.ended.complete c.args.replies told script (record { reads = no_fault; writes = no_fault })) (subst (IsAcceptedAs made.result) c.if-not-branch.true c.in_ok-is_accepted.ensures))
 
 pub returns-then-not-branch-clause-steps : goal.returns-then-not-branch-clause-steps
 returns-then-not-branch-clause-steps g c =
     let made = c.establish_connection-ended in
-    some_rise _ _ (costs_some made.result _ _ _ _ _ _ made.ensures.costs made.ensures.refused)
+    some_rise _ _ (costs_some made.result _ _ _ _ _ _ made.ensures.ended.established made.ensures.ended.refused)
 
 pub returns-clause-written : goal.returns-clause-written
 returns-clause-written g c = λ x logs heard.
@@ -38,7 +38,7 @@ returns-clause-written g c = λ x logs heard.
     let link = c.new-link in
     let told = ap Some (ap (λ n. drop n link.result.input.items) link.ensures.at ∙ link.ensures.input) in
     accepted_writes c.in_ok-pending.pending (options_of_establisher c.args.self.now.establisher) c.new-state.result x c.args.login.now c.args.replies logs heard c.in_ok-pending.ensures.generation c.args.self.now.options c.new-state.ensures
-    made.result _ _ _ c.into_written.result (subst (IsAcceptedAs made.result) c.if-not-branch.false c.in_ok-is_accepted.ensures) made.ensures.established told (ap Some link.ensures.output) (ap Some (sym c.into_written.ensures))
+    made.result _ _ _ _ _ c.into_written.result (subst (IsAcceptedAs made.result) c.if-not-branch.false c.in_ok-is_accepted.ensures) made.ensures.ended.established told (ap Some link.ensures.output) (ap Some (sym c.into_written.ensures))
 
 pub returns-clause-takes : goal.returns-clause-takes
 returns-clause-takes g c = λ x logs heard.
@@ -46,33 +46,33 @@ returns-clause-takes g c = λ x logs heard.
     let link = c.new-link in
     let told = ap Some (ap (λ n. drop n link.result.input.items) link.ensures.at ∙ link.ensures.input) in
     accepted_takes c.in_ok-pending.pending (options_of_establisher c.args.self.now.establisher) c.new-state.result x c.args.login.now c.args.replies logs heard c.in_ok-pending.ensures.generation c.args.self.now.options c.new-state.ensures
-    made.result (ledgers c.args.steps.now c.args.state.now.salted) (ledgers made.new.steps made.new.state.salted) (subst (IsAcceptedAs made.result) c.if-not-branch.false c.in_ok-is_accepted.ensures) (made.ensures.led.over c.args.replies told no_fault no_fault)
+    made.result (ledgers c.args.steps.now c.args.state.now.salted) (ledgers made.new.steps made.new.state.salted) (subst (IsAcceptedAs made.result) c.if-not-branch.false c.in_ok-is_accepted.ensures) (made.ensures.ended.led.over c.args.replies told (record { reads = no_fault; writes = no_fault }))
 
 pub returns-clause-steps : goal.returns-clause-steps
 returns-clause-steps g c =
     let made = c.establish_connection-ended in
-    some_rise _ _ (costs_some made.result _ _ _ _ _ _ made.ensures.costs made.ensures.refused)
+    some_rise _ _ (costs_some made.result _ _ _ _ _ _ made.ensures.ended.established made.ensures.ended.refused)
 
 pub returns-in_err-is_accepted-clause-keeps : goal.returns-in_err-is_accepted-clause-keeps
 returns-in_err-is_accepted-clause-keeps g c =
     let made = c.establish_connection-ended in
     let link = c.new-link in
     let told = ap Some (ap (λ n. drop n link.result.input.items) link.ensures.at ∙ link.ensures.input) in
-    keeps_entries made.result _ c.args.replies _ _ (costs_some made.result _ _ _ _ _ _ made.ensures.costs made.ensures.refused) (made.ensures.led.over c.args.replies told no_fault no_fault) made.ensures.entries
+    keeps_entries made.result _ c.args.replies _ _ (costs_some made.result _ _ _ _ _ _ made.ensures.ended.established made.ensures.ended.refused) (made.ensures.ended.led.over c.args.replies told (record { reads = no_fault; writes = no_fault })) made.ensures.ended.entries
 
 pub returns-then-not-branch-clause-keeps : goal.returns-then-not-branch-clause-keeps
 returns-then-not-branch-clause-keeps g c =
     let made = c.establish_connection-ended in
     let link = c.new-link in
     let told = ap Some (ap (λ n. drop n link.result.input.items) link.ensures.at ∙ link.ensures.input) in
-    keeps_entries made.result _ c.args.replies _ _ (costs_some made.result _ _ _ _ _ _ made.ensures.costs made.ensures.refused) (made.ensures.led.over c.args.replies told no_fault no_fault) made.ensures.entries
+    keeps_entries made.result _ c.args.replies _ _ (costs_some made.result _ _ _ _ _ _ made.ensures.ended.established made.ensures.ended.refused) (made.ensures.ended.led.over c.args.replies told (record { reads = no_fault; writes = no_fault })) made.ensures.ended.entries
 
 pub returns-clause-keeps : goal.returns-clause-keeps
 returns-clause-keeps g c =
     let made = c.establish_connection-ended in
     let link = c.new-link in
     let told = ap Some (ap (λ n. drop n link.result.input.items) link.ensures.at ∙ link.ensures.input) in
-    keeps_entries made.result _ c.args.replies _ _ (costs_some made.result _ _ _ _ _ _ made.ensures.costs made.ensures.refused) (made.ensures.led.over c.args.replies told no_fault no_fault) made.ensures.entries
+    keeps_entries made.result _ c.args.replies _ _ (costs_some made.result _ _ _ _ _ _ made.ensures.ended.established made.ensures.ended.refused) (made.ensures.ended.led.over c.args.replies told (record { reads = no_fault; writes = no_fault })) made.ensures.ended.entries
 
 pub returns-in_err-pending-clause-keeps : goal.returns-in_err-pending-clause-keeps
 returns-in_err-pending-clause-keeps g c = keeps_still c.args.steps.now c.args.state.now.salted
