@@ -62,3 +62,4 @@ pub use raw_document_buf::{Documents, RawDocumentBuf};
 pub use raw_value::{GENERIC, ObjectId, RawValue};
 pub use text::{Text, Texts};
 pub use try_clone::{TryClone, copy_of};
+pub use writing::value_size;

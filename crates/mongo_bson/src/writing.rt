@@ -206,9 +206,9 @@ fn kind_byte(value: RawValue<'_>) -> u8
     }
 }
 
-// How many bytes a value is written as.
+/// How many bytes a value is written as, without the kind and the key of its element.
 #[inline(always)]
-fn value_size(value: RawValue<'_>) -> usize
+pub fn value_size(value: RawValue<'_>) -> usize
     ensures { result ≡ length (bytes_of value.entry) }
 {
     match value {

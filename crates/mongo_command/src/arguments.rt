@@ -1,15 +1,14 @@
-ghost use Rattle.std.specs.Prelude.{◌≡◌, ◌++◌, ◌∷◌, length, flat_map, IfOk, IfErr, OnOk};
+ghost use Rattle.std.specs.Prelude.{◌≡◌, ◌++◌, ◌∷◌, flat_map, IfOk, IfErr, OnOk};
 ghost use Rattle.std.specs.List.{AllByRecursion};
 ghost use Rattle.mongo_bson.specs.Framed.{IsFramed, element_bytes, enclosed};
 ghost use Rattle.mongo_bson.specs.Document.{spell};
-ghost use Rattle.mongo_bson.specs.Value.{bytes_of};
 ghost use Rattle.mongo_command.specs.Literal.{text_element, document_of};
 ghost use Rattle.mongo_command.specs.Arguments.{field_elements, size_of_elements, IsNamed, TooLongFor};
 ghost use Rattle.mongo_command.specs.Keys.{db_key};
 
 use crate::argument_field::{ArgumentField, text_field};
 use crate::keys::DB;
-use mongo_bson::{BsonFault, Bytes, RawDocumentBuf, RawValue};
+use mongo_bson::{BsonFault, Bytes, RawDocumentBuf, RawValue, value_size};
 use std::alloc::Global;
 
 // A copy of a document with memory for so many bytes more.
@@ -54,28 +53,10 @@ fn size_of_field(field: &ArgumentField<'_>) -> usize
     ensures { result ≡ size_of_elements (field_elements field.now) }
 {
     match field {
-        Some((key, value)) => size_of_value(*value)
+        Some((key, value)) => value_size(*value)
             .saturating_add(key.len())
             .saturating_add(2),
         None => 0,
-    }
-}
-
-// How many bytes a value takes.
-fn size_of_value(value: RawValue<'_>) -> usize
-    ensures { result ≡ length (bytes_of value.entry) }
-{
-    match value {
-        RawValue::Double(_) | RawValue::DateTime(_) | RawValue::Int64(_) => 8,
-        RawValue::Str(text) => text.len() + 5,
-        RawValue::Document(document) => document.as_bytes().len(),
-        RawValue::Array(array) => array.as_bytes().len(),
-        RawValue::Binary(_, content) => content.len() + 5,
-        RawValue::ObjectId(_) => 12,
-        RawValue::Bool(_) => 1,
-        RawValue::Null => 0,
-        RawValue::Int32(_) => 4,
-        RawValue::Other(_, content) => content.len(),
     }
 }
 

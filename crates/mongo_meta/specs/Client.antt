@@ -37,12 +37,12 @@ with_short_platform m = record (without_environment m) { platform = m.platform_s
 -- ---- the form that is sent
 
 -- the maximum of a hello's body, the key and the metadata together, in bytes
-abbrev pub max_hello_size : ℕ
-max_hello_size = 512
+abbrev pub maximum_hello_length : ℕ
+maximum_hello_length = 512
 
 -- the body, the kind byte, `client` and its zero, and the document are within it together
 abbrev pub fits : ℕ → List ℕ → Bool
-fits body document = nat_le (body + 8 + length document) max_hello_size
+fits body document = nat_le (body + 8 + length document) maximum_hello_length
 
 abbrev pub forms : ClientMetadata → List ClientMetadata
 forms m = m ∷ with_environment_name m ∷ with_os_type m ∷ without_environment m ∷ with_short_platform m ∷ []
