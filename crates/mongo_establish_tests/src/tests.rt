@@ -11,7 +11,6 @@ mod kept_faults;
 mod long_replies;
 mod monitoring;
 mod replies;
-mod standard;
 
 use causes::cause_of;
 use mongo_establish::{
