@@ -5,5 +5,5 @@ use Rattle.mongo_service.proofs.settings_line.read_serve_settings.Goals as goal
 pub returns-in-Ok-clause-none : goal.returns-in-Ok-clause-none
 returns-in-Ok-clause-none g c = search rules
 
-pub returns-clause-memory : goal.returns-in-Err-OutOfMemory-clause-memory
+pub returns-clause-memory : goal.returns-clause-memory
 returns-clause-memory g c = λ is. line_taken_runs_out _ _ _ c.in_ok-line.ensures.line
