@@ -12,8 +12,8 @@
 //! [`Message`] owns its parts, and is what is written.
 //!
 //! Proved: bytes begin with at most one frame, and a read takes just that frame or answers the first row of
-//! `specs/Rows.antt` that the bytes call for; what was taken by then is said, and nothing past it is read. A write appends
-//! just the message's frame and flushes it, or leaves a front of it. A fault of the outside is answered only where its count rose.
+//! `specs/Rows.antt` that the bytes call for; what was taken by then is said, and nothing past it is read. A message's
+//! write appends just its frame and flushes it, or leaves a front of it. A fault of the outside is answered only where its count rose.
 //!
 //! A call that reads into memory or copies may answer want of memory, in the place of any other answer; where nothing else is
 //! said, that is its only refusal.

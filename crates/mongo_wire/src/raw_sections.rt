@@ -3,7 +3,7 @@ ghost use Rattle.std.specs.Io.KnownBytes.{Appends};
 ghost use Rattle.mongo_bson.specs.Framed.{maximum_length};
 ghost use Rattle.mongo_wire.specs.Frame.{uint32};
 ghost use Rattle.mongo_wire.specs.Header.{maximum_of};
-ghost use Rattle.mongo_wire.specs.Outside.{WritesOn, IsFlushed};
+ghost use Rattle.mongo_wire.specs.Outside.{WritesOn};
 ghost use Rattle.mongo_wire.specs.Sending.{unsummed_flags, sections_frame, SectionsFit, SectionsRow, SectionsRefused, IsFrameOfSections};
 ghost use Rattle.mongo_wire.specs.declared.fault.ArgumentFault.{ArgumentFault};
 ghost use Rattle.mongo_wire.specs.declared.error.ErrorKind.TheVariants.{InvalidArgument};
@@ -11,12 +11,12 @@ ghost use Rattle.mongo_wire.specs.declared.error.ErrorKind.TheVariants.{InvalidA
 use crate::measure::FLAGS_END;
 use crate::message::DEFAULT_MAX_MESSAGE_SIZE_BYTES;
 use crate::write_message::message_header;
-use crate::writing::{flush_out, write_pieces};
+use crate::writing::write_pieces;
 use crate::{ArgumentFault, Error, ErrorKind, MessageFlags, Sink};
 use bitflags::Flags;
 
-/// Writes an OP_MSG whose sections are given as bytes, and flushes the sink: header, flags and sections one after
-/// another. Flags are written without `CHECKSUM_PRESENT`, as no checksum follows.
+/// Writes an OP_MSG whose sections are given as bytes: header, flags and sections one after another. It doesn't flush.
+/// Flags are written without `CHECKSUM_PRESENT`, as no checksum follows.
 ///
 /// Refusals, in this order: `MaximumNegative`, `TooLong` where the frame passes the maximum, 50331648 where none is given,
 /// each with nothing written; then `WriteFault` or the sink's want of memory, with a front of the frame written.
@@ -30,7 +30,6 @@ pub fn write_sections<K: Sink>(
 ) -> Result<(), Error>
     ensures fits { OnOk result (SectionsFit (maximum_of maximum) sections.now) }
     ensures written { OnOk result (Appends (K.state sink.old).written (K.state sink.new).written (sections_frame request_id response_to flags.0 sections.now)) }
-    ensures flushed { OnOk result (IsFlushed (K.state sink.new)) }
     ensures writes { OnOk result ((K.state sink.new).write_faults ≡ (K.state sink.old).write_faults) }
     // It is a frame of the grammar, where the bytes are sections with one body.
     ensures frame { OnOk result (IsFrameOfSections request_id response_to flags.0 sections.now) }
@@ -44,8 +43,7 @@ pub fn write_sections<K: Sink>(
         Err(fault) => return Err(ErrorKind::InvalidArgument(fault).into()),
     };
     let header = message_header(length, request_id, response_to);
-    write_pieces(sink, &header, &unsummed_word(flags), sections)?;
-    flush_out(sink)
+    write_pieces(sink, &header, &unsummed_word(flags), sections)
 }
 
 // The length of the frame of these sections, where it can be written within the maximum.
