@@ -29,6 +29,14 @@ pub record BeginsWithCstring (bytes text rest : List ℕ) : Type 0 where
 abbrev pub HasNoCstring : List ℕ → Type 0
 HasNoCstring bytes = (text rest : List ℕ) → IsCstring text → bytes ≡ text ++ 0 ∷ rest → ⊥
 
+-- a document and the rest
+pub record BeginsWithDocument (bytes document rest : List ℕ) : Type 0 where
+  pub framed : IsFramed document
+  pub spelled : bytes ≡ document ++ rest
+
+abbrev pub HasNoDocument : List ℕ → Type 0
+HasNoDocument bytes = NoneAtFront IsFramed bytes
+
 -- the bytes are a value of this kind
 abbrev pub HoldsKind : ℕ → List ℕ → Type 0
 HoldsKind kind v = (shape : Shape) × (shape_of kind ≡ Some shape) × Holds shape v

@@ -27,6 +27,7 @@ mod element;
 mod extend;
 mod fault;
 mod find;
+mod front;
 mod id_field;
 mod items;
 mod iter;
@@ -51,6 +52,7 @@ pub use checks::{
 pub use cstring::take_cstring;
 pub use extend::extend_raw_document_buf;
 pub use fault::BsonFault;
+pub use front::take_document;
 pub use id_field::get_or_prepend_id_field;
 pub use items::Items;
 pub use iter::Iter;

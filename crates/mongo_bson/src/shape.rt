@@ -94,7 +94,7 @@ fn string_len(bytes: &[u8]) -> Option<usize>
 }
 
 // The length of a document.
-fn document_len(bytes: &[u8]) -> Option<usize>
+pub(crate) fn document_len(bytes: &[u8]) -> Option<usize>
     ensures { MatchOption result (NoneAtFront IsFramed bytes.now) (IsAtFront IsFramed bytes.now) }
 {
     let size = counted_len(bytes, 0)?;

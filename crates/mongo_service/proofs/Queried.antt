@@ -4,7 +4,7 @@ use Rattle.std.proofs.lemmas.Str.{IsUtf8-from_is_utf8}
 use Rattle.std.specs.Str.{chars, is_utf8}
 use Rattle.mongo_bson.specs.Document.{IsCstring}
 use Rattle.mongo_bson.specs.Framed.{IsFramed}
-use Rattle.mongo_bson.specs.Reading.{HasNoCstring, NoneAtFront}
+use Rattle.mongo_bson.specs.Reading.{HasNoCstring, BeginsWithDocument, HasNoDocument}
 use Rattle.mongo_bson.specs.declared.raw_document.RawDocument.{RawDocument}
 use Rattle.mongo_bson.proofs.Cstrings.{one_cstring}
 use Rattle.mongo_wire.proofs.OneFrame.{one_framed, same_front}
@@ -51,15 +51,19 @@ document_there : (body flags rest name after_name numbers last document : List �
 document_there body flags rest name after_name numbers last document four p is_cstring s eight r q =
     (same_front numbers q.numbers last (document ++ q.more) (sym r ∙ (after_name_of body flags rest name after_name document four p is_cstring s q).1) (eight ∙ sym q.numbers_eight)).1
 
-pub query_found : (body flags rest name after_name numbers last : List ℕ) → length flags ≡ 4 → body ≡ flags ++ rest → IsCstring name → rest ≡ name ++ (0 ∷ after_name) → name ≡ command_collection → length numbers ≡ 8 → after_name ≡ numbers ++ last
-    → (r : Option RawDocument) → MatchOption r (NoneAtFront IsFramed last) (λ document. (more : List ℕ) × (last ≡ document.bytes.now ++ more)) → MatchOption r (HasNoQuery body) (λ document. IsQueryOf body document.bytes.now)
-query_found body flags rest name after_name numbers last four p is_cstring q named eight s None h =
-    λ document framed other. h document other.more framed (document_there body flags rest name after_name numbers last document four p is_cstring q eight s other)
-query_found body flags rest name after_name numbers last four p is_cstring q named eight s (Some document) h = record {
+-- no document after them
+pub no_query_document : (body flags rest name after_name numbers last : List ℕ) → length flags ≡ 4 → body ≡ flags ++ rest → IsCstring name → rest ≡ name ++ (0 ∷ after_name) → length numbers ≡ 8 → after_name ≡ numbers ++ last
+    → HasNoDocument last → HasNoQuery body
+no_query_document body flags rest name after_name numbers last four p is_cstring s eight r none document framed q =
+    none document q.more framed (document_there body flags rest name after_name numbers last document four p is_cstring s eight r q)
+
+pub query_found : (body flags rest name after_name numbers last document more : List ℕ) → length flags ≡ 4 → body ≡ flags ++ rest → rest ≡ name ++ (0 ∷ after_name) → name ≡ command_collection → length numbers ≡ 8 → after_name ≡ numbers ++ last
+    → BeginsWithDocument last document more → IsQueryOf body document
+query_found body flags rest name after_name numbers last document more four p q named eight r begins = record {
   flags = flags;
   numbers = numbers;
-  more = h.0;
-  spelled = p ∙ ap (λ l. flags ++ l) (q ∙ ap (λ n. n ++ (0 ∷ after_name)) named ∙ ap (λ l. command_collection ++ (0 ∷ l)) (s ∙ ap (λ l. numbers ++ l) h.1));
+  more = more;
+  spelled = p ∙ ap (λ l. flags ++ l) (q ∙ ap (λ n. n ++ (0 ∷ after_name)) named ∙ ap (λ l. command_collection ++ (0 ∷ l)) (r ∙ ap (λ l. numbers ++ l) begins.spelled));
   flags_four = four;
   numbers_eight = eight;
 }

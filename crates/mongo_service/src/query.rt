@@ -1,11 +1,9 @@
 //! OP_QUERY, the question of old clients, with which new ones still say their first hello.
 
 ghost use Rattle.std.specs.Prelude.{◌≡◌, ℕ, ◌<◌, List, ◌++◌, length, MatchOption};
-ghost use Rattle.mongo_bson.specs.Framed.{IsFramed};
-ghost use Rattle.mongo_bson.specs.Reading.{NoneAtFront};
 ghost use Rattle.mongo_service.specs.Taken.{HasNoQuery, IsCommandOf, IsQueryBody, IsQueryOf};
 
-use mongo_bson::{RawDocument, take_cstring};
+use mongo_bson::{RawDocument, take_cstring, take_document};
 use mongo_session::{command_name, inner_document};
 
 // The key that wraps a command.
@@ -41,7 +39,10 @@ fn document_of_query<'a>(body: &'a [u8]) -> Option<RawDocument<'a>>
     let after_flags = bytes_after(body, 4)?;
     let (collection, after_name) = take_cstring(after_flags)?;
     match collection {
-        "admin.$cmd" => document_at_front(bytes_after(after_name, 8)?),
+        "admin.$cmd" => {
+            let (document, _more) = take_document(bytes_after(after_name, 8)?)?;
+            Some(document)
+        }
         _ => None,
     }
 }
@@ -55,22 +56,4 @@ fn bytes_after(bytes: &[u8], count: usize) -> Option<&[u8]>
     }
     let (_front, rest) = bytes.split_at(count);
     Some(rest)
-}
-
-// The document at the front of the bytes.
-fn document_at_front<'a>(bytes: &'a [u8]) -> Option<RawDocument<'a>>
-    ensures { MatchOption result (NoneAtFront IsFramed bytes.now) (λ document. (more : List ℕ) × (bytes.now ≡ document.bytes.now ++ more)) }
-{
-    let [a, b, c, d, ..] = bytes else {
-        return None;
-    };
-    let length = u32::from_le_bytes([*a, *b, *c, *d]) as usize;
-    if bytes.len() < length {
-        return None;
-    }
-    let (front, _more) = bytes.split_at(length);
-    match RawDocument::from_bytes(front) {
-        Ok(document) => Some(document),
-        Err(_) => None,
-    }
 }

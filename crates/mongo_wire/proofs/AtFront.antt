@@ -5,11 +5,11 @@ use Rattle.std.specs.Int.{from_le_bytes, w32}
 use Rattle.std.proofs.lemmas.List.{take_at, length-append, append_assoc, take-append-drop, length-drop, length-take-le, take-take}
 use Rattle.std.proofs.lemmas.Nat.{from_le_bytes-to_le_bytes_4}
 use Rattle.mongo_bson.specs.Framed.{maximum_length}
-use Rattle.mongo_bson.specs.Reading.{BeginsWithCstring, HasNoCstring}
+use Rattle.mongo_bson.specs.Reading.{BeginsWithCstring, HasNoCstring, BeginsWithDocument, HasNoDocument}
 use Rattle.mongo_bson.proofs.Cstrings.{one_cstring}
 use Rattle.mongo_bson.proofs.Sizes.{number_at_front}
 use Rattle.mongo_wire.specs.Frame.{Section, body, sequence, IsSection, IsSequence, section_bytes, sequence_bytes, uint32}
-use Rattle.mongo_wire.specs.Sections.{BeginsWithDocument, HasNoDocument, AreDocuments, sized, BeginsWithSequence, SplitsSequence, HasNoSequence, BeginsWithSection, SplitsSequenceSection}
+use Rattle.mongo_wire.specs.Sections.{AreDocuments, sized, BeginsWithSequence, SplitsSequence, HasNoSequence, BeginsWithSection, SplitsSequenceSection}
 use Rattle.mongo_wire.specs.declared.document_sequence.DocumentSequence.{DocumentSequence}
 use Rattle.mongo_bson.specs.declared.raw_document.RawDocument.{RawDocument}
 use Rattle.mongo_wire.specs.declared.sections.SectionRef.TheVariants.{Body, Sequence}

@@ -2,9 +2,10 @@
 use Rattle.std.proofs.Common.{◌≡◌, ◌≢◌, ◌+◌, ◌≤◌, ℕ, length, length-append, List, [], ◌∷◌, ◌++◌, refl, sym, ap, ◌∙◌, subst, arith, append-nil, append_assoc}
 use Rattle.std.specs.List.{AllByRecursion, flat_map}
 use Rattle.mongo_bson.specs.Framed.{IsFramed}
+use Rattle.mongo_bson.specs.Reading.{HasNoDocument}
 use Rattle.mongo_wire.specs.Frame.{Section, body, sequence, IsSection, IsSequence, section_bytes, bodies, sequences_of}
 use Rattle.mongo_bson.specs.declared.raw_document.RawDocument.{RawDocument}
-use Rattle.mongo_wire.specs.Sections.{AreDocuments, HasNoDocument, BeginsWithSection, SplitsSequenceSection, AreSections, HasNoSection, Shows, ShowsSequence}
+use Rattle.mongo_wire.specs.Sections.{AreDocuments, BeginsWithSection, SplitsSequenceSection, AreSections, HasNoSection, Shows, ShowsSequence}
 use Rattle.mongo_wire.specs.declared.sections.SectionRef.TheVariants.{Body, Sequence}
 use Rattle.mongo_wire.specs.declared.sections.SequenceRef.{SequenceRef}
 use Rattle.mongo_wire.proofs.OneFrame.{one_documents, one_sections}

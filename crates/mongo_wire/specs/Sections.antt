@@ -8,14 +8,6 @@ use Rattle.mongo_wire.specs.declared.sections.SectionRef.{SectionRef}
 use Rattle.mongo_wire.specs.declared.sections.SectionRef.TheVariants.{Body, Sequence}
 use Rattle.mongo_wire.specs.declared.sections.SequenceRef.{SequenceRef}
 
--- a document and the rest
-pub record BeginsWithDocument (bytes : List ℕ) (document rest : List ℕ) : Type 0 where
-  pub framed : IsFramed document
-  pub spelled : bytes ≡ document ++ rest
-
-abbrev pub HasNoDocument : List ℕ → Type 0
-HasNoDocument bytes = (document rest : List ℕ) → IsFramed document → bytes ≡ document ++ rest → ⊥
-
 -- documents, one after another, fill the bytes
 abbrev pub AreDocuments : List ℕ → Type 0
 AreDocuments bytes = (documents : List (List ℕ)) × AllByRecursion IsFramed documents × (bytes ≡ flat_map (λ d. d) documents)

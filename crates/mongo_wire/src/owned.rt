@@ -9,9 +9,9 @@ ghost use Rattle.mongo_wire.specs.declared.error.ErrorKind.TheVariants.{OutOfMem
 ghost use Rattle.mongo_wire.specs.declared.document_sequence.DocumentSequence.{DocumentSequence as SequenceValue};
 
 use crate::measure::KIND_LENGTH;
-use crate::sections::{SectionRef, SequenceRef, split_section, take_document};
+use crate::sections::{SectionRef, SequenceRef, split_section};
 use crate::{DocumentSequence, Error, FrameBuffer, Message, Sequences};
-use mongo_bson::{BsonFault, Documents, RawDocument, Text};
+use mongo_bson::{BsonFault, Documents, RawDocument, Text, take_document};
 use std::alloc::Global;
 
 // A message of its own from the buffer that holds its frame. Its body keeps the buffer's memory.

@@ -1,8 +1,8 @@
 ghost use Rattle.std.specs.Prelude.{◌↔◌, IsTrue, MatchOption};
-ghost use Rattle.mongo_wire.specs.Sections.{BeginsWithDocument, HasNoDocument, AreDocuments, SplitsSequence, HasNoSequence, BeginsWithSection, SplitsSection, HasNoSection};
+ghost use Rattle.mongo_wire.specs.Sections.{AreDocuments, SplitsSequence, HasNoSequence, BeginsWithSection, SplitsSection, HasNoSection};
 
 use crate::header::number;
-use mongo_bson::{MAXIMUM_LENGTH, RawDocument, take_cstring};
+use mongo_bson::{MAXIMUM_LENGTH, RawDocument, take_cstring, take_document};
 
 // A section as it lies in a frame.
 #[derive(Debug, Clone, Copy)]
@@ -52,24 +52,6 @@ pub(crate) fn split_section<'a>(bytes: &'a [u8]) -> Option<(SectionRef<'a>, &'a 
             None => None,
         },
         _ => None,
-    }
-}
-
-// The document at the front and the bytes after it. Its length field and its final zero alone are judged.
-pub(crate) fn take_document<'a>(bytes: &'a [u8]) -> Option<(RawDocument<'a>, &'a [u8])>
-    ensures { MatchOption result (HasNoDocument bytes.now) (λ p. BeginsWithDocument bytes.now p.0.bytes.now p.1.now) }
-{
-    if bytes.len() < 4 {
-        return None;
-    }
-    let length = number(bytes, 0) as usize;
-    if length > bytes.len() {
-        return None;
-    }
-    let (document, rest) = bytes.split_at(length);
-    match RawDocument::from_bytes(document) {
-        Ok(document) => Some((document, rest)),
-        Err(_) => None,
     }
 }
 

@@ -2,6 +2,7 @@ use super::rows::{Asked, each_row_tells};
 use super::spelling::{document_of, holding, printed};
 use mongo_bson::{
     BsonFault, RawDocument, RawValue, first_key, get_int_raw, get_u64_raw, take_cstring,
+    take_document,
 };
 use std::alloc::{AllocError, Global};
 use std::test::Fail;
@@ -154,8 +155,21 @@ fn are_keys_taken() -> bool {
         && take_cstring(b"a").is_none()
 }
 
+// Whether a document is taken with what follows it, and none where its length passes the bytes, where that isn't whole, and
+// where no zero ends it.
+fn are_documents_taken() -> bool {
+    let Ok(document) = RawDocument::from_bytes(b"\x05\0\0\0\0") else {
+        return false;
+    };
+    take_document(b"\x05\0\0\0\0b\0") == Some((document, b"b\0".as_slice()))
+        && take_document(b"\x06\0\0\0\0").is_none()
+        && take_document(b"\x05\0\0").is_none()
+        && take_document(b"\x05\0\0\0\x01b\0").is_none()
+}
+
 #[test]
 fn a_frame_is_as_long_as_it_says(rt: HostRuntime) -> Result<(), Fail> {
     assert!(rt; are_keys_taken());
+    assert!(rt; are_documents_taken());
     each_row_tells(rt.alloc(), Asked::Frame, FRAMES)
 }
