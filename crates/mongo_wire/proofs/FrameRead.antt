@@ -13,7 +13,7 @@ use Rattle.mongo_wire.specs.Message.{ReadRefused, IsUnreadable}
 use Rattle.std.proofs.lemmas.List.{drop_at}
 use Rattle.mongo_wire.specs.Held.{NoFrame, IsHeld}
 use Rattle.mongo_wire.specs.declared.held_frame.HeldFrame.{HeldFrame}
-use Rattle.mongo_wire.specs.Buffer.{HoldsFrame, held_bytes, IsFrameTaken, GrowsFor, StaysWithin, memory_of, piece_length}
+use Rattle.mongo_wire.specs.Buffer.{HoldsFrame, held_bytes, IsFrameTaken, GrowsFor, StaysWithin, UsesMemory, memory_of, piece_length}
 use Rattle.mongo_wire.specs.declared.op_code.OpCode.{OpCode}
 use Rattle.mongo_wire.specs.declared.op_code.OpCode.TheVariants as op_code
 use Rattle.mongo_wire.specs.declared.fault.ArgumentFault.{ArgumentFault}
@@ -208,7 +208,7 @@ stays_within maximum start first memory less (inl p) = inl (omega (arith, less, 
 stays_within maximum start first memory less (inr p) = inr (omega (arith, ints, less, p))
 
 -- memory for what came behind other bytes
-pub grows_later : (old mid new : State) (taken : List ℕ) (start first last : FrameBuffer) → memory_of first ≡ memory_of start → Consumes old.left mid.left taken → GrowsFor mid new first last → GrowsFor old new start last
+grows_later : (old mid new : State) (taken : List ℕ) (start first last : FrameBuffer) → memory_of first ≡ memory_of start → Consumes old.left mid.left taken → GrowsFor mid new first last → GrowsFor old new start last
 grows_later old mid new taken start first last same p grows had left had_is left_is = by mid.left p grows
   where
     by : (there : Option (List ℕ)) → Consumes old.left there taken
@@ -220,8 +220,20 @@ grows_later old mid new taken start first last same p grows had left had_is left
         omega (arith, same, ap length spelled, length-append taken bytes, g bytes left refl left_is)
 
 -- no more memory than a buffer of the same memory has, or than the maximum
-pub stays_later : (maximum : ℤ) (start first last : FrameBuffer) → memory_of first ≡ memory_of start → StaysWithin maximum first last → StaysWithin maximum start last
+stays_later : (maximum : ℤ) (start first last : FrameBuffer) → memory_of first ≡ memory_of start → StaysWithin maximum first last → StaysWithin maximum start last
 stays_later maximum start first last same within = subst (λ memory. (memory_of last ≤ memory) ⊎ (pos (memory_of last) ≤ℤ maximum)) same within
+
+-- the memory of what is read into a buffer, where other bytes were taken before
+pub memory_later : (maximum : ℤ) (old mid new : State) (taken : List ℕ) (start first last : FrameBuffer) → memory_of first ≡ memory_of start → Consumes old.left mid.left taken → UsesMemory maximum mid new first last → UsesMemory maximum old new start last
+memory_later maximum old mid new taken start first last same p uses = record {
+  came = grows_later old mid new taken start first last same p uses.came;
+  within = stays_later maximum start first last same uses.within;
+  keeps = omega (arith, same, uses.keeps);
+}
+
+-- the same, where nothing is read into it
+pub memory_same : (maximum : ℤ) (old new : State) (start last : FrameBuffer) → memory_of last ≡ memory_of start → UsesMemory maximum old new start last
+memory_same maximum old new start last same = record { came = λ had left had_is left_is. omega (arith, same); within = inl (omega (arith, same)); keeps = omega (arith, same) }
 
 -- ---- what the bytes that were taken say of those that were left
 

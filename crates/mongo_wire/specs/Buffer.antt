@@ -92,16 +92,12 @@ pub record IsReadInto (maximum : ℤ) (source_old source_new : State) (old : Fra
   pub is_taken : IsFrameTaken maximum source_old source_new new
   pub shown : IsRefOf is_taken.frame is_taken.parts message
   pub counted : frames_taken new ≡ risen (frames_taken old)
-  pub came : GrowsFor source_old source_new old new
-  pub within : StaysWithin maximum old new
-  pub keeps : KeepsMemory old new
+  pub memory : UsesMemory maximum source_old source_new old new
 
 -- no frame was taken: the buffer holds nothing, in memory for what came
 pub record IsUnreadInto (maximum : ℤ) (source_old source_new : State) (old new : FrameBuffer) : Type 0 where
   pub cleared : IsCleared old new
-  pub came : GrowsFor source_old source_new old new
-  pub within : StaysWithin maximum old new
-  pub keeps : KeepsMemory old new
+  pub memory : UsesMemory maximum source_old source_new old new
 
 -- what the buffer is after a read
 abbrev pub ReadsInto : ℤ → State → State → FrameBuffer → Result MessageRef FrameFault → FrameBuffer → Type 0

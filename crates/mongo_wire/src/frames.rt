@@ -9,7 +9,7 @@ ghost use Rattle.mongo_wire.specs.Outside.{State, ReadsOn, Unstopped, HasEnded, 
 ghost use Rattle.mongo_wire.specs.Header.{maximum_of, header_bytes};
 ghost use Rattle.mongo_wire.specs.Message.{ReadRefused, IsUnreadable, WhereFrameStands};
 ghost use Rattle.mongo_wire.specs.Ref.{IsFrameRead, ShowsAgain, FoundAgain};
-ghost use Rattle.mongo_wire.specs.Buffer.{IsFrameTaken, IsCleared, FindsAgain, TakesAgain, ReadsInto, NextInto, StaysWithin, GrowsFor, KeepsMemory, frames_taken};
+ghost use Rattle.mongo_wire.specs.Buffer.{IsFrameTaken, IsCleared, FindsAgain, TakesAgain, ReadsInto, NextInto, UsesMemory, frames_taken};
 
 use crate::held_frame::HeldFrame;
 use crate::reading::{fill_or_end, take_into};
@@ -90,9 +90,7 @@ impl FrameBuffer {
         ensures emptied { OnErr result (IsCleared self.old self.new) }
         // Memory is for bytes that came, for twice as many at most and one piece, and never for more than the maximum:
         // the buffer's capacity says so. None of it is given back.
-        ensures came { GrowsFor (S.state source.old) (S.state source.new) self.old self.new }
-        ensures within { StaysWithin (maximum_of maximum) self.old self.new }
-        ensures keeps { KeepsMemory self.old self.new }
+        ensures memory { UsesMemory (maximum_of maximum) (S.state source.old) (S.state source.new) self.old self.new }
         ensures on { ReadsOn (S.state source.old) (S.state source.new) }
     {
         match self.take_next_frame(source, maximum) {
@@ -118,9 +116,7 @@ impl FrameBuffer {
         ensures counted { IfOk result (λ found. found ≡ true → frames_taken self.new ≡ risen (frames_taken self.old)) }
         ensures none { IfOk result (λ found. found ≡ false → IsCleared self.old self.new) }
         ensures emptied { OnErr result (IsCleared self.old self.new) }
-        ensures came { GrowsFor (S.state source.old) (S.state source.new) self.old self.new }
-        ensures within { StaysWithin (maximum_of maximum) self.old self.new }
-        ensures keeps { KeepsMemory self.old self.new }
+        ensures memory { UsesMemory (maximum_of maximum) (S.state source.old) (S.state source.new) self.old self.new }
         ensures on { ReadsOn (S.state source.old) (S.state source.new) }
     {
         self.clear();
@@ -155,9 +151,7 @@ impl FrameBuffer {
             IfErr result (λ fault. ReadRefused (kind_of_frame_fault fault) (maximum_of maximum) before (S.state source.new)) }
         ensures counted { OnOk result (frames_taken self.new ≡ risen (frames_taken self.old)) }
         ensures emptied { OnErr result (IsCleared self.old self.new) }
-        ensures came { GrowsFor (S.state source.old) (S.state source.new) self.old self.new }
-        ensures within { StaysWithin (maximum_of maximum) self.old self.new }
-        ensures keeps { KeepsMemory self.old self.new }
+        ensures memory { UsesMemory (maximum_of maximum) (S.state source.old) (S.state source.new) self.old self.new }
         ensures on { ReadsOn (S.state source.old) (S.state source.new) }
     {
         self.clear();

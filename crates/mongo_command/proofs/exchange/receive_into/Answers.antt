@@ -17,7 +17,7 @@ pub returns-in-Ok-clause-taken : goal.returns-in-Ok-clause-taken
 returns-in-Ok-clause-taken g c = c.in-Ok.ensures.taken
 
 pub returns-in-Ok-clause-memory : goal.returns-in-Ok-clause-memory
-returns-in-Ok-clause-memory g c = let taken = c.in-Ok.ensures in record { came = taken.came; within = taken.within; keeps = taken.keeps }
+returns-in-Ok-clause-memory g c = c.in-Ok.ensures.memory
 
 pub returns-in-Err-clause-memory : goal.returns-in-Err-clause-memory
-returns-in-Err-clause-memory g c = let refused = c.in-Err.ensures in record { came = refused.came; within = refused.within; keeps = refused.keeps }
+returns-in-Err-clause-memory g c = c.in-Err.ensures.memory

@@ -11,7 +11,7 @@ pub returns-in-Some : goal.returns-in-Some
 returns-in-Some g c =
     let taken = c.in-Ok-true.ensures.taken c.in-Ok-true.field-0-test in
     let shown = c.in-Some.ensures.shown taken.frame taken.parts taken.holds in (
-      (refl, (λ _. tt), record { is_taken = taken; shown = shown; counted = c.in-Ok-true.ensures.counted c.in-Ok-true.field-0-test; came = c.in-Ok-true.ensures.came; within = c.in-Ok-true.ensures.within; keeps = c.in-Ok-true.ensures.keeps }),
+      (refl, (λ _. tt), record { is_taken = taken; shown = shown; counted = c.in-Ok-true.ensures.counted c.in-Ok-true.field-0-test; memory = c.in-Ok-true.ensures.memory }),
       record {
         after = tt;
         read = record { frame = taken.frame; parts = taken.parts; ref_of = shown; within = taken.within; taken = taken.taken; unstopped = taken.unstopped };

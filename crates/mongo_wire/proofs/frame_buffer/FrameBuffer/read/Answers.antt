@@ -11,7 +11,7 @@ pub returns-in-Some : goal.returns-in-Some
 returns-in-Some g c =
     let taken = c.in-Ok.ensures.taken in
     let shown = c.in-Some.ensures.shown taken.frame taken.parts taken.holds in (
-      (refl, (λ _. tt), record { is_taken = taken; shown = shown; counted = c.in-Ok.ensures.counted; came = c.in-Ok.ensures.came; within = c.in-Ok.ensures.within; keeps = c.in-Ok.ensures.keeps }),
+      (refl, (λ _. tt), record { is_taken = taken; shown = shown; counted = c.in-Ok.ensures.counted; memory = c.in-Ok.ensures.memory }),
       record {
         after = tt;
         read = record { frame = taken.frame; parts = taken.parts; ref_of = shown; within = taken.within; taken = taken.taken; unstopped = taken.unstopped };

@@ -1,4 +1,4 @@
-use Rattle.std.proofs.Common.{rules, arith, ◌∙◌, ◌≡◌, ◌≤◌, ◌≤ℤ◌, pos, ◌⊎◌, sym, ℕ, ◌-◌, ◌++◌, length, take, inl, subst, ap, vec_capacity}
+use Rattle.std.proofs.Common.{rules, arith, ◌∙◌, ◌≡◌, ◌≤◌, ◌≤ℤ◌, pos, ◌⊎◌, sym, ℕ, ◌-◌, ◌++◌, length, take, subst, ap, vec_capacity}
 use Rattle.std.proofs.lemmas.List.{length-take-le}
 use Rattle.std.specs.Io.KnownBytes.{Consumes}
 use Rattle.mongo_wire.specs.Error.{kind_of_frame_fault}
@@ -9,7 +9,7 @@ use Rattle.mongo_wire.specs.Held.{NoFrame, IsHeld}
 use Rattle.mongo_wire.proofs.Found.{parts_lie}
 use Rattle.mongo_wire.proofs.ReadStopped.{reads_still, unstopped_on}
 use Rattle.mongo_wire.proofs.HeaderBack.{sixteen_bytes, length_back, row_back}
-use Rattle.mongo_wire.proofs.FrameRead.{header_refused, within_rest, rest_stopped, sections_refused, frame_taken}
+use Rattle.mongo_wire.proofs.FrameRead.{header_refused, within_rest, rest_stopped, sections_refused, frame_taken, memory_same}
 use Rattle.mongo_wire.proofs.frame_buffer.FrameBuffer.take_after.Goals as goal
 
 -- nothing comes before what is wanted
@@ -53,14 +53,37 @@ returns-in-Some-clause-taken g c = λ before p still.
     frame_taken (maximum_of c.args.maximum) before (state c.args.source.now) (state c.take_into.new.source) (header_bytes c.args.header) bytes rest c.in-Some.frame c.keep.new.self p taken (unstopped_on _ _ _ still c.in-Ok-take_into.ensures.unstopped) (sixteen_bytes c.args.header) size c.in-Ok.ensures.within
     (subst (λ s. IsHeld (header_bytes c.args.header ++ take rest s) c.in-Some.frame) c.as_slice.ensures.value c.in-Some.ensures) c.keep.ensures.last c.keep.ensures.held
 
-pub returns-in-Err-take_into-clause-came : goal.returns-in-Err-take_into-clause-came
-returns-in-Err-take_into-clause-came g c = λ had left had_is left_is. omega (arith, ap (λ s. vec_capacity s) c.clear.ensures.store, c.in-Err-take_into.ensures.came had left had_is left_is)
+pub returns-in-Err-take_into-clause-memory : goal.returns-in-Err-take_into-clause-memory
+returns-in-Err-take_into-clause-memory g c =
+    let same = ap (λ s. vec_capacity s) c.clear.ensures.store in
+    let taken = c.in-Err-take_into.ensures in
+    record {
+      came = λ had left had_is left_is. omega (arith, same, taken.came had left had_is left_is);
+      within = within_rest (maximum_of c.args.maximum) _ _ c.in-Ok.rest c.in-Ok.ensures.within (omega (arith, same, taken.wanted));
+      keeps = omega (arith, same, taken.keeps);
+    }
 
-pub returns-in-Some-clause-came : goal.returns-in-Some-clause-came
-returns-in-Some-clause-came g c = λ had left had_is left_is. omega (arith, ap (λ s. vec_capacity s) c.clear.ensures.store, c.keep.ensures.memory, c.in-Ok-take_into.ensures.came had left had_is left_is)
+pub returns-in-Some-clause-memory : goal.returns-in-Some-clause-memory
+returns-in-Some-clause-memory g c =
+    let maximum = maximum_of c.args.maximum in
+    let had = memory_of c.args.self.now in
+    let same = ap (λ s. vec_capacity s) c.clear.ensures.store in
+    let taken = c.in-Ok-take_into.ensures in
+    record {
+      came = λ had left had_is left_is. omega (arith, same, c.keep.ensures.memory, taken.came had left had_is left_is);
+      within = subst (λ memory. (memory ≤ had) ⊎ (pos memory ≤ℤ maximum)) (sym c.keep.ensures.memory) (within_rest maximum had _ c.in-Ok.rest c.in-Ok.ensures.within (omega (arith, same, taken.wanted)));
+      keeps = omega (arith, same, c.keep.ensures.memory, taken.keeps);
+    }
 
-pub returns-in-None-clause-came : goal.returns-in-None-clause-came
-returns-in-None-clause-came g c = λ had left had_is left_is. omega (arith, ap (λ s. vec_capacity s) c.clear.ensures.store, c.in-Ok-take_into.ensures.came had left had_is left_is)
+pub returns-in-None-clause-memory : goal.returns-in-None-clause-memory
+returns-in-None-clause-memory g c =
+    let same = ap (λ s. vec_capacity s) c.clear.ensures.store in
+    let taken = c.in-Ok-take_into.ensures in
+    record {
+      came = λ had left had_is left_is. omega (arith, same, taken.came had left had_is left_is);
+      within = within_rest (maximum_of c.args.maximum) _ _ c.in-Ok.rest c.in-Ok.ensures.within (omega (arith, same, taken.wanted));
+      keeps = omega (arith, same, taken.keeps);
+    }
 
 pub returns-in-Err-clause-on : goal.returns-in-Err-clause-on
 returns-in-Err-clause-on g c = reads_still (g.S.Outside.state c.args.source.now)
@@ -77,23 +100,8 @@ returns-in-Some-clause-on g c = c.in-Ok-take_into.ensures.on
 pub returns-in-Some-clause-counted : goal.returns-in-Some-clause-counted
 returns-in-Some-clause-counted g c = c.keep.ensures.frames ∙ ap risen c.clear.ensures.frames
 
-pub returns-in-Err-clause-came : goal.returns-in-Err-clause-came
-returns-in-Err-clause-came g c = λ had left had_is left_is. omega (arith, ap (λ s. vec_capacity s) c.clear.ensures.store)
-
-pub returns-in-Err-clause-within : goal.returns-in-Err-clause-within
-returns-in-Err-clause-within g c = inl (omega (arith, ap (λ s. vec_capacity s) c.clear.ensures.store))
+pub returns-in-Err-clause-memory : goal.returns-in-Err-clause-memory
+returns-in-Err-clause-memory g c = memory_same _ _ _ c.args.self.now c.clear.new.self (ap (λ s. vec_capacity s) c.clear.ensures.store)
 
 pub returns-in-Err-clause-emptied : goal.returns-in-Err-clause-emptied
 returns-in-Err-clause-emptied g c = record { nothing = c.clear.ensures.nothing; frames = c.clear.ensures.frames }
-
-pub returns-in-Err-take_into-clause-within : goal.returns-in-Err-take_into-clause-within
-returns-in-Err-take_into-clause-within g c = within_rest (maximum_of c.args.maximum) _ _ c.in-Ok.rest c.in-Ok.ensures.within (omega (arith, ap (λ s. vec_capacity s) c.clear.ensures.store, c.in-Err-take_into.ensures.wanted))
-
-pub returns-in-None-clause-within : goal.returns-in-None-clause-within
-returns-in-None-clause-within g c = within_rest (maximum_of c.args.maximum) _ _ c.in-Ok.rest c.in-Ok.ensures.within (omega (arith, ap (λ s. vec_capacity s) c.clear.ensures.store, c.in-Ok-take_into.ensures.wanted))
-
-pub returns-in-Some-clause-within : goal.returns-in-Some-clause-within
-returns-in-Some-clause-within g c =
-    let maximum = maximum_of c.args.maximum in
-    let had = memory_of c.args.self.now in
-    subst (λ memory. (memory ≤ had) ⊎ (pos memory ≤ℤ maximum)) (sym c.keep.ensures.memory) (within_rest maximum had _ c.in-Ok.rest c.in-Ok.ensures.within (omega (arith, ap (λ s. vec_capacity s) c.clear.ensures.store, c.in-Ok-take_into.ensures.wanted)))

@@ -22,11 +22,8 @@ returns-in-Ok-true-clause-again g c = λ frame rest parts is frame_is within. le
 pub returns-in-Ok-true-clause-counted : goal.returns-in-Ok-true-clause-counted
 returns-in-Ok-true-clause-counted g c = c.in-Ok-true.ensures.counted c.in-Ok-true.field-0-test
 
-pub returns-in-Ok-true-clause-came : goal.returns-in-Ok-true-clause-came
-returns-in-Ok-true-clause-came g c = c.in-Ok-true.ensures.came
-
-pub returns-in-Ok-true-clause-within : goal.returns-in-Ok-true-clause-within
-returns-in-Ok-true-clause-within g c = c.in-Ok-true.ensures.within
+pub returns-in-Ok-true-clause-memory : goal.returns-in-Ok-true-clause-memory
+returns-in-Ok-true-clause-memory g c = let memory = c.in-Ok-true.ensures.memory in record { came = memory.came; within = memory.within; keeps = memory.keeps }
 
 pub returns-in-Ok-true-clause-on : goal.returns-in-Ok-true-clause-on
 returns-in-Ok-true-clause-on g c = c.in-Ok-true.ensures.on
@@ -39,11 +36,14 @@ returns-in-Ok-false-clause-emptied g c =
       frames = cleared.frames;
     }
 
-pub returns-in-Ok-false-clause-came : goal.returns-in-Ok-false-clause-came
-returns-in-Ok-false-clause-came g c = λ had left had_is left_is. omega (arith, c.in-Ok-false.ensures.came had left had_is left_is)
-
-pub returns-in-Ok-false-clause-within : goal.returns-in-Ok-false-clause-within
-returns-in-Ok-false-clause-within g c = stays_within (maximum_of c.args.maximum) c.args.self.now c.take_next_frame.new.self _ (omega arith) c.in-Ok-false.ensures.within
+pub returns-in-Ok-false-clause-memory : goal.returns-in-Ok-false-clause-memory
+returns-in-Ok-false-clause-memory g c =
+    let memory = c.in-Ok-false.ensures.memory in
+    record {
+      came = λ had left had_is left_is. omega (arith, memory.came had left had_is left_is);
+      within = stays_within (maximum_of c.args.maximum) c.args.self.now c.take_next_frame.new.self _ (omega arith) memory.within;
+      keeps = omega (arith, memory.keeps);
+    }
 
 pub returns-in-Ok-false-clause-on : goal.returns-in-Ok-false-clause-on
 returns-in-Ok-false-clause-on g c = c.in-Ok-false.ensures.on
@@ -54,11 +54,8 @@ returns-in-Err-clause-refused g c = c.in-Err.ensures.refused
 pub returns-in-Err-clause-emptied : goal.returns-in-Err-clause-emptied
 returns-in-Err-clause-emptied g c = c.in-Err.ensures.emptied
 
-pub returns-in-Err-clause-came : goal.returns-in-Err-clause-came
-returns-in-Err-clause-came g c = c.in-Err.ensures.came
-
-pub returns-in-Err-clause-within : goal.returns-in-Err-clause-within
-returns-in-Err-clause-within g c = c.in-Err.ensures.within
+pub returns-in-Err-clause-memory : goal.returns-in-Err-clause-memory
+returns-in-Err-clause-memory g c = c.in-Err.ensures.memory
 
 pub returns-in-Err-clause-on : goal.returns-in-Err-clause-on
 returns-in-Err-clause-on g c = c.in-Err.ensures.on

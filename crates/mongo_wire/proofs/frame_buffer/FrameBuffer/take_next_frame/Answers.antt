@@ -1,10 +1,10 @@
-use Rattle.std.proofs.Common.{rules, sym, subst, ◌≡◌, length, refl, ap, inl, ◌∙◌, vec_capacity, arith}
+use Rattle.std.proofs.Common.{rules, sym, subst, ◌≡◌, length, refl, ap, ◌∙◌, vec_capacity, arith}
 use Rattle.std.specs.Io.KnownBytes.{Consumes}
 use Rattle.mongo_wire.specs.Error.{kind_of_frame_fault}
 use Rattle.mongo_wire.specs.Header.{maximum_of}
 use Rattle.mongo_wire.specs.Outside.{risen}
 use Rattle.mongo_wire.specs.declared.error.ErrorKind.TheVariants.{InvalidResponse}
-use Rattle.mongo_wire.proofs.FrameRead.{header_refused, unknown_row, header_stopped, same_taken, no_refused_frame, grows_later, stays_later, more_came, no_end}
+use Rattle.mongo_wire.proofs.FrameRead.{header_refused, unknown_row, header_stopped, same_taken, no_refused_frame, memory_same, memory_later, more_came, no_end}
 use Rattle.mongo_wire.proofs.ReadStopped.{reads_on}
 use Rattle.mongo_wire.proofs.frame_buffer.FrameBuffer.take_next_frame.Goals as goal
 
@@ -25,15 +25,15 @@ returns-in-Err-clause-refused g c =
     let refused = c.in-Err.ensures in
     header_stopped (kind_of_frame_fault c.in-Err.fault) (maximum_of c.args.maximum) _ _ refused.on.tells refused.refused
 
-pub returns-in-Ok-take_after-clause-came : goal.returns-in-Ok-take_after-clause-came
-returns-in-Ok-take_after-clause-came g c =
+pub returns-in-Ok-take_after-clause-memory : goal.returns-in-Ok-take_after-clause-memory
+returns-in-Ok-take_after-clause-memory g c =
     let state = g.S.Outside.state in
-    grows_later (state c.args.source.now) (state c.fill_or_end.new.source) (state c.take_after.new.source) _ c.args.self.now c.clear.new.self c.take_after.new.self (ap (λ s. vec_capacity s) c.clear.ensures.store) (c.in-Ok-true.ensures.filled c.in-Ok-true.field-0-test) c.in-Ok-take_after.ensures.came
+    memory_later (maximum_of c.args.maximum) (state c.args.source.now) (state c.fill_or_end.new.source) (state c.take_after.new.source) _ c.args.self.now c.clear.new.self c.take_after.new.self (ap (λ s. vec_capacity s) c.clear.ensures.store) (c.in-Ok-true.ensures.filled c.in-Ok-true.field-0-test) c.in-Ok-take_after.ensures.memory
 
-pub returns-in-Err-take_after-clause-came : goal.returns-in-Err-take_after-clause-came
-returns-in-Err-take_after-clause-came g c =
+pub returns-in-Err-take_after-clause-memory : goal.returns-in-Err-take_after-clause-memory
+returns-in-Err-take_after-clause-memory g c =
     let state = g.S.Outside.state in
-    grows_later (state c.args.source.now) (state c.fill_or_end.new.source) (state c.take_after.new.source) _ c.args.self.now c.clear.new.self c.take_after.new.self (ap (λ s. vec_capacity s) c.clear.ensures.store) (c.in-Ok-true.ensures.filled c.in-Ok-true.field-0-test) c.in-Err-take_after.ensures.came
+    memory_later (maximum_of c.args.maximum) (state c.args.source.now) (state c.fill_or_end.new.source) (state c.take_after.new.source) _ c.args.self.now c.clear.new.self c.take_after.new.self (ap (λ s. vec_capacity s) c.clear.ensures.store) (c.in-Ok-true.ensures.filled c.in-Ok-true.field-0-test) c.in-Err-take_after.ensures.memory
 
 pub returns-in-Ok-take_after-clause-taken : goal.returns-in-Ok-take_after-clause-taken
 returns-in-Ok-take_after-clause-taken g c = λ _. c.in-Ok-take_after.ensures.taken (g.S.Outside.state c.args.source.now) (subst (Consumes _ _) (sym c.in-Ok.ensures.spelled) (c.in-Ok-true.ensures.filled c.in-Ok-true.field-0-test)) (c.in-Ok-true.ensures.unstopped c.in-Ok-true.field-0-test)
@@ -73,26 +73,17 @@ returns-in-Err-clause-more g c = c.in-Err.ensures.more
 pub returns-in-Err-clause-on : goal.returns-in-Err-clause-on
 returns-in-Err-clause-on g c = c.in-Err.ensures.on
 
-pub returns-in-Ok-take_after-clause-within : goal.returns-in-Ok-take_after-clause-within
-returns-in-Ok-take_after-clause-within g c = stays_later (maximum_of c.args.maximum) c.args.self.now c.clear.new.self c.take_after.new.self (ap (λ s. vec_capacity s) c.clear.ensures.store) c.in-Ok-take_after.ensures.within
-
 pub returns-in-Err-take_after-clause-more : goal.returns-in-Err-take_after-clause-more
 returns-in-Err-take_after-clause-more g c = λ _.
     let some : length c.fill_or_end.new.buf ≡ 16 = search rules in
     more_came _ _ c.fill_or_end.new.buf (c.in-Ok-true.ensures.filled c.in-Ok-true.field-0-test) (omega (arith, some))
 
-pub returns-in-Err-take_after-clause-within : goal.returns-in-Err-take_after-clause-within
-returns-in-Err-take_after-clause-within g c = stays_later (maximum_of c.args.maximum) c.args.self.now c.clear.new.self c.take_after.new.self (ap (λ s. vec_capacity s) c.clear.ensures.store) c.in-Err-take_after.ensures.within
-
 pub returns-in-Ok-false-clause-again : goal.returns-in-Ok-false-clause-again
 returns-in-Ok-false-clause-again g c = λ frame rest parts is frame_is within.
     absurd (no_end _ frame rest parts is frame_is (c.in-Ok-false.ensures.ended c.in-Ok-false.field-0-test).none)
 
-pub returns-in-Ok-false-clause-came : goal.returns-in-Ok-false-clause-came
-returns-in-Ok-false-clause-came g c = λ had left had_is left_is. omega (arith, ap (λ s. vec_capacity s) c.clear.ensures.store)
-
-pub returns-in-Ok-false-clause-within : goal.returns-in-Ok-false-clause-within
-returns-in-Ok-false-clause-within g c = inl (omega (arith, ap (λ s. vec_capacity s) c.clear.ensures.store))
+pub returns-in-Ok-false-clause-memory : goal.returns-in-Ok-false-clause-memory
+returns-in-Ok-false-clause-memory g c = memory_same _ _ _ c.args.self.now c.clear.new.self (ap (λ s. vec_capacity s) c.clear.ensures.store)
 
 pub returns-in-Err-clause-again : goal.returns-in-Err-clause-again
 returns-in-Err-clause-again g c = λ frame rest parts is frame_is within.
@@ -100,11 +91,8 @@ returns-in-Err-clause-again g c = λ frame rest parts is frame_is within.
     let kind = kind_of_frame_fault c.in-Err.fault in
     no_refused_frame kind (maximum_of c.args.maximum) _ _ frame rest parts is frame_is within (header_stopped kind (maximum_of c.args.maximum) _ _ refused.on.tells refused.refused)
 
-pub returns-in-Err-clause-came : goal.returns-in-Err-clause-came
-returns-in-Err-clause-came g c = λ had left had_is left_is. omega (arith, ap (λ s. vec_capacity s) c.clear.ensures.store)
-
-pub returns-in-Err-clause-within : goal.returns-in-Err-clause-within
-returns-in-Err-clause-within g c = inl (omega (arith, ap (λ s. vec_capacity s) c.clear.ensures.store))
+pub returns-in-Err-clause-memory : goal.returns-in-Err-clause-memory
+returns-in-Err-clause-memory g c = memory_same _ _ _ c.args.self.now c.clear.new.self (ap (λ s. vec_capacity s) c.clear.ensures.store)
 
 -- the op code is unknown
 
@@ -130,11 +118,8 @@ returns-in-Err-decode-clause-more g c = λ _.
 pub returns-in-Err-decode-clause-emptied : goal.returns-in-Err-decode-clause-emptied
 returns-in-Err-decode-clause-emptied g c = record { nothing = c.clear.ensures.nothing; frames = c.clear.ensures.frames }
 
-pub returns-in-Err-decode-clause-came : goal.returns-in-Err-decode-clause-came
-returns-in-Err-decode-clause-came g c = λ had left had_is left_is. omega (arith, ap (λ s. vec_capacity s) c.clear.ensures.store)
-
-pub returns-in-Err-decode-clause-within : goal.returns-in-Err-decode-clause-within
-returns-in-Err-decode-clause-within g c = inl (omega (arith, ap (λ s. vec_capacity s) c.clear.ensures.store))
+pub returns-in-Err-decode-clause-memory : goal.returns-in-Err-decode-clause-memory
+returns-in-Err-decode-clause-memory g c = memory_same _ _ _ c.args.self.now c.clear.new.self (ap (λ s. vec_capacity s) c.clear.ensures.store)
 
 pub returns-in-Err-decode-clause-on : goal.returns-in-Err-decode-clause-on
 returns-in-Err-decode-clause-on g c = c.in-Ok-true.ensures.on
