@@ -6,8 +6,7 @@ use Rattle.mongo_wire.specs.declared.message.Message.{Message}
 use Rattle.mongo_wire.specs.Outside.{State}
 use Rattle.mongo_command.specs.Exchange.{ExchangeRefused}
 use Rattle.mongo_command.specs.declared.connection.Connection.{Connection}
-use Rattle.mongo_command.specs.Connection.{kept_fault}
-use Rattle.mongo_command.specs.Conversation.{Plan, ending, reading, saying, plain_message, Stopped}
+use Rattle.mongo_command.specs.Conversation.{Plan, ending, reading, saying, plain_message, StoppedKeeping}
 use Rattle.mongo_command.proofs.OneReply.{description_row_other}
 use Rattle.mongo_command.proofs.Leads.{never_ending, never_unless, never_reading, never_saying}
 use Rattle.mongo_sasl.specs.declared.credential.Credential.{Credential}
@@ -25,7 +24,6 @@ use Rattle.mongo_establish.specs.Speculation.{mechanism_before, ConversationRow,
 use Rattle.mongo_establish.specs.Spoken.{conversation_of, HasConversation}
 use Rattle.mongo_establish.proofs.Conversations.{joins}
 use Rattle.mongo_sasl.proofs.Fits.{NeverIncompatible}
-use Rattle.mongo_sasl.proofs.StoppedKeeping.{stopped_of}
 use Rattle.mongo_scram.specs.Costs.{Ledgers}
 use Rattle.mongo_scram.proofs.ScramFits.{credential_other}
 
@@ -34,11 +32,11 @@ use Rattle.mongo_scram.proofs.ScramFits.{credential_other}
 no_exchange : (maximum : ℤ) (m : Message) (old new : State) (before after : ℤ) (kept : Option ErrorKind) → ExchangeRefused IncompatibleServer maximum m old new before after kept → ⊥
 no_exchange maximum m old new before after kept r = elim r [ inl x ↦ x | inr u ↦ u.refused.refused ]
 
-no_stop : {A : Type 0} (plan : Plan A) (old new : State) (before after : ℤ) → NeverIncompatible plan → Stopped plan IncompatibleServer old new before after → ⊥
-no_stop plan old new before after fits r =
+no_stop : {A : Type 0} {kept : Option ErrorKind} (plan : Plan A) (old new : State) (before after : ℤ) → NeverIncompatible plan → StoppedKeeping plan IncompatibleServer old new before after kept → ⊥
+no_stop {kept = kept} plan old new before after fits r =
     elim r.stop [
-      | inl h ↦ elim h.cause [ inl is ↦ fits r.events is | inr memory ↦ cc ]
-      | inr f ↦ no_exchange f.said.maximum (plain_message f.said.document) r.middle new r.between after f.kept f.refused
+      | inl h ↦ elim h.0.cause [ inl is ↦ fits r.events is | inr memory ↦ cc ]
+      | inr f ↦ no_exchange f.said.maximum (plain_message f.said.document) r.middle new r.between after kept f.refused
     ]
 
 -- ---- the hello
@@ -91,8 +89,6 @@ pub compatible : (asked : Asked) (opened connection : Connection) (kind : ErrorK
 unfolding login_plan
 compatible asked opened connection kind old new after first last s is =
     elim (subst (λ k. StoppedHandshake asked opened connection k old new after first last) is s) [
-      | inl hello ↦ no_stop (hello_plan asked) old new asked.first_id after (fits_hello asked) (stopped_of (hello_plan asked) IncompatibleServer old new asked.first_id after (kept_fault connection) hello.hello)
-      | inr login ↦
-          no_stop (login_plan asked login.greeting) login.middle new login.between after (fits_login_by (logging_in asked login.greeting) asked login.greeting)
-          (stopped_of (login_plan asked login.greeting) IncompatibleServer login.middle new login.between after (kept_fault connection) login.login)
+      | inl hello ↦ no_stop (hello_plan asked) old new asked.first_id after (fits_hello asked) hello.hello
+      | inr login ↦ no_stop (login_plan asked login.greeting) login.middle new login.between after (fits_login_by (logging_in asked login.greeting) asked login.greeting) login.login
     ]

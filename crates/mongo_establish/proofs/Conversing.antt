@@ -8,10 +8,10 @@ use Rattle.mongo_command.specs.declared.connection.Connection.{Connection}
 use Rattle.mongo_command.specs.Connection.{kept_fault}
 use Rattle.mongo_command.specs.declared.server_api.ServerApi.{ServerApi}
 use Rattle.mongo_command.specs.declared.stream_description.StreamDescription.{StreamDescription}
-use Rattle.mongo_command.specs.Conversation.{Event, Turn, Plan, ending, followed_by, Reached}
+use Rattle.mongo_command.specs.Conversation.{Event, Turn, Plan, ending, followed_by, Reached, StoppedKeeping}
 use Rattle.mongo_command.specs.Exchange.{frame_maximum}
-use Rattle.mongo_command.proofs.Steps.{reached_ending, reached_more}
-use Rattle.mongo_command.proofs.FollowedBy.{reached_both}
+use Rattle.mongo_command.proofs.Steps.{reached_ending, reached_more, stopped_more}
+use Rattle.mongo_command.proofs.FollowedBy.{reached_both, stopped_first}
 use Rattle.mongo_sasl.specs.declared.credential.Credential.{Credential}
 use Rattle.mongo_sasl.specs.EndsByScript.{standing, EndsByScript}
 use Rattle.mongo_sasl.specs.Plain.{plain_handed, plain_plan}
@@ -23,9 +23,7 @@ use Rattle.mongo_scram.specs.Client.{speculated_of, handed_to}
 use Rattle.mongo_scram.specs.Costs.{Ledgers, Balance, balance, CostsNothing, Accepted, StoppedScram}
 use Rattle.mongo_scram.specs.EndsByScram.{EndsByScram}
 use Rattle.mongo_scram.specs.Plan.{Handed, scram_plan}
-use Rattle.mongo_sasl.specs.Stops.{StoppedKeeping}
 use Rattle.mongo_sasl.proofs.Handed.{on_refusal}
-use Rattle.mongo_sasl.proofs.StoppedKeeping.{keeping_more, keeping_first}
 use Rattle.mongo_scram.proofs.ScramCosts.{accepted_reached}
 use Rattle.mongo_scram.proofs.LoginSteps.{StopsScram}
 use Rattle.mongo_establish.specs.declared.conversation.Conversation.{Conversation}
@@ -48,7 +46,7 @@ then_reached : {A : Type 0} (plan : Plan A) (answer : A) (greeting : Greeting) (
 then_reached plan answer greeting old new before after r = reached_both plan (λ done. ending greeting) answer greeting old new new before after after r (reached_ending greeting new after)
 
 then_stopped : {A : Type 0} {kept : Option ErrorKind} (plan : Plan A) (greeting : Greeting) (kind : ErrorKind) (old new : State) (before after : ℤ) → StoppedKeeping plan kind old new before after kept → StoppedKeeping (followed plan greeting) kind old new before after kept
-then_stopped plan greeting kind old new before after s = keeping_first plan (λ done. ending greeting) kind old new before after s
+then_stopped plan greeting kind old new before after s = stopped_first plan (λ done. ending greeting) kind old new before after s
 
 -- ---- SCRAM
 
@@ -124,7 +122,7 @@ module _ (own conversation : Conversation) (is : conversation ≡ own) (free : s
       → IfErr r (λ e. StoppedKeeping plan e.kind old.state new.state old.id new.id (kept_fault left)) → IfErr r (λ e. ConversationStopped own asked credential greeting e.kind (kept_fault left) old new)
   free_failed greeting (Ok done) old new nothing described went stopped = tt
   free_failed greeting (Err e) old new nothing described went stopped = record {
-    stopped = keeping_more (followed plan greeting) (conversation_plan own asked credential greeting) e.kind old.state new.state old.id new.id (part greeting described went) (then_stopped plan greeting e.kind old.state new.state old.id new.id stopped);
+    stopped = stopped_more (followed plan greeting) (conversation_plan own asked credential greeting) e.kind old.state new.state old.id new.id (part greeting described went) (then_stopped plan greeting e.kind old.state new.state old.id new.id stopped);
     costs = subst (λ version. StoppedCosts version asked credential greeting e.kind old new) (sym free) nothing;
   }
 

@@ -54,7 +54,7 @@ taken_more plan other old new more a = record {
 pub spent_more : (plan other : Plan (Option SaltedKey)) (kind : ErrorKind) (old new : Balance) → TellsMore plan other → KeySpent plan kind old new → KeySpent other kind old new
 spent_more plan other kind old new more r =
     elim r [
-      | inl early ↦ inl (record { stopped = stopped_more plan other kind old.state new.state old.id new.id more early.stopped; nothing = early.nothing })
+      | inl early ↦ inl (record { stopped = (early.stopped.0, stopped_more plan other kind old.state new.state old.id new.id more early.stopped.1); nothing = early.nothing })
       | inr late ↦ inr (record { key = late.key; middle = late.middle; between = late.between; reached = reached_more plan other late.key old.state late.middle old.id late.between more late.reached; takes = late.takes })
     ]
 
@@ -74,6 +74,6 @@ pub spent_after : {A : Type 0} (plan : Plan A) (next : A → Plan (Option Salted
     → Reached plan answer old.state middle old.id between → KeySpent (next answer) kind (balance middle between old.ledgers) new → KeySpent (followed_by plan next) kind old new
 spent_after plan next answer kind middle between old new r s =
     elim s [
-      | inl early ↦ inl (record { stopped = stopped_second plan next answer kind old.state middle new.state old.id between new.id r early.stopped; nothing = early.nothing })
+      | inl early ↦ inl (record { stopped = (early.stopped.0, stopped_second plan next answer kind old.state middle new.state old.id between new.id r early.stopped.1); nothing = early.nothing })
       | inr late ↦ inr (record { key = late.key; middle = late.middle; between = late.between; reached = reached_both plan next answer late.key old.state middle late.middle old.id between late.between r late.reached; takes = late.takes })
     ]

@@ -1,5 +1,5 @@
 -- What the bytes left say of an answer: where it was stopped, and that they lead to one thing.
-use Rattle.std.proofs.Common.{◌≡◌, ℕ, ℤ, ◌⊎◌, ◌∙◌, refl, subst, sym, Some, Result, Ok, Err, IfErr, List, [], ◌∷◌, ◌++◌, ap, inl, inr}
+use Rattle.std.proofs.Common.{◌≡◌, ℕ, ℤ, ◌⊎◌, ◌∙◌, refl, subst, sym, None, Some, Result, Ok, Err, IfErr, List, [], ◌∷◌, ◌++◌, ap, inl, inr}
 use Rattle.mongo_wire.specs.declared.error.ErrorKind.{ErrorKind}
 use Rattle.mongo_wire.specs.declared.error.ErrorKind.TheVariants.{OutOfMemory}
 use Rattle.mongo_wire.specs.Outside.{State, Unfailed}
@@ -10,7 +10,6 @@ use Rattle.mongo_command.proofs.FollowedBy.{stopped_first, stopped_second}
 use Rattle.mongo_command.proofs.Steps.{stopped_row}
 use Rattle.mongo_command.proofs.OneSaid.{one_said}
 use Rattle.mongo_command.proofs.Leads.{one_way, no_refusal, only_refusal, reached_led, stopped_led}
-use Rattle.mongo_sasl.proofs.StoppedKeeping.{stopped_of}
 use Rattle.mongo_scram.specs.Costs.{Ledgers, balance}
 use Rattle.mongo_establish.specs.declared.establisher.HandshakePhase.{HandshakePhase}
 use Rattle.mongo_establish.specs.declared.establisher.HandshakePhase.TheVariants.{PreHello, PostHello}
@@ -31,32 +30,32 @@ use Rattle.mongo_establish.proofs.EstablishedScript.{handshake_reached, script_l
 -- a hello that was stopped is a handshake that was
 hello_stops : (asked : Asked) (kind : ErrorKind) (old new : State) (after : ℤ) → Stopped (hello_plan asked) kind old new asked.first_id after → Stopped (handshake_plan asked) kind old new asked.first_id after
 unfolding handshake_plan
-hello_stops asked kind old new after s = stopped_first (hello_plan asked) (login_plan asked) kind old new asked.first_id after s
+hello_stops asked kind old new after s = (s.0, stopped_first (hello_plan asked) (login_plan asked) kind old new asked.first_id after s.1)
 
 -- and so is a login after its hello
 login_stops : (asked : Asked) (greeting : Greeting) (kind : ErrorKind) (old middle new : State) (between after : ℤ) → Reached (hello_plan asked) greeting old middle asked.first_id between → Stopped (login_plan asked greeting) kind middle new between after → Stopped (handshake_plan asked) kind old new asked.first_id after
 unfolding handshake_plan
-login_stops asked greeting kind old middle new between after hello s = stopped_second (hello_plan asked) (login_plan asked) greeting kind old middle new asked.first_id between after hello s
+login_stops asked greeting kind old middle new between after hello s = (s.0, stopped_second (hello_plan asked) (login_plan asked) greeting kind old middle new asked.first_id between after hello s.1)
 
 -- whatever part of a handshake was stopped
 pub shaking_stops : (asked : Asked) (opened connection : Connection) (kind : ErrorKind) (old new : State) (after : ℤ) (first last : Ledgers) → StoppedHandshake asked opened connection kind old new after first last → Stopped (handshake_plan asked) kind old new asked.first_id after
 shaking_stops asked opened connection kind old new after first last s =
     elim s [
-      | inl h ↦ hello_stops asked kind old new after (stopped_of (hello_plan asked) kind old new asked.first_id after (kept_fault connection) h.hello)
-      | inr l ↦ login_stops asked l.greeting kind old l.middle new l.between after l.hello (stopped_of (login_plan asked l.greeting) kind l.middle new l.between after (kept_fault connection) l.login)
+      | inl h ↦ hello_stops asked kind old new after (kept_fault connection, h.hello)
+      | inr l ↦ login_stops asked l.greeting kind old l.middle new l.between after l.hello (kept_fault connection, l.login)
     ]
 
 -- the establishment was stopped with its handshake
 pub handshake_stops : (asked : Asked) (kind : ErrorKind) (old new : State) (after : ℤ) → Stopped (handshake_plan asked) kind old new asked.first_id after → Stopped (establishment_plan asked) kind old new asked.first_id after
 unfolding establishment_plan
-handshake_stops asked kind old new after s = stopped_first (handshake_plan asked) (service_plan asked) kind old new asked.first_id after s
+handshake_stops asked kind old new after s = (s.0, stopped_first (handshake_plan asked) (service_plan asked) kind old new asked.first_id after s.1)
 
 -- or at its end
 service_stops : (asked : Asked) (greeting : Greeting) (kind : ErrorKind) (old middle new : State) (between after : ℤ) (first last : Ledgers) → Reached (hello_plan asked) greeting old middle asked.first_id between → UnnamedAfterLogin asked greeting kind (balance middle between first) (balance new after last)
     → Stopped (establishment_plan asked) kind old new asked.first_id after
 unfolding establishment_plan
 service_stops asked greeting kind old middle new between after first last hello u =
-    stopped_second (handshake_plan asked) (service_plan asked) greeting kind old new new asked.first_id after after (handshake_reached asked greeting old middle new between after hello u.login) (stopped_row _ _ kind new after u.unnamed)
+    (None, stopped_second (handshake_plan asked) (service_plan asked) greeting kind old new new asked.first_id after after (handshake_reached asked greeting old middle new between after hello u.login) (stopped_row _ _ kind new after u.unnamed))
 
 -- whatever part of an establishment was stopped
 pub stopped_whole : (phase : HandshakePhase) (asked : Asked) (kind : ErrorKind) (old new : State) (after : ℤ) (first last : Ledgers) → StoppedIn phase asked kind old new after first last → Stopped (establishment_plan asked) kind old new asked.first_id after
@@ -106,7 +105,7 @@ past_hello generation asked kind old new after first last bytes r is =
 pub stopped_refusal : (phase : HandshakePhase) (asked : Asked) (kind : ErrorKind) (old new : State) (after : ℤ) (first last : Ledgers) (bytes : List ℕ) → StoppedIn phase asked kind old new after first last → old.left ≡ Some bytes → Unfailed old new
     → (kind ≡ OutOfMemory) ⊎ RefusedBy phase asked bytes kind old new after
 stopped_refusal (PreHello generation) asked kind old new after first last bytes r is unfailed =
-    elim (stopped_led (hello_plan asked) kind old new asked.first_id after bytes r.1 is unfailed) [
+    elim (stopped_led (hello_plan asked) kind old new asked.first_id after bytes r.1.1 is unfailed) [
       | inl memory ↦ inl memory
       | inr l ↦ inr (record {
         refusal = record { phase = PreHello generation; kind = kind; commands = l.commands; taken = l.taken; unread = l.unread };
@@ -118,7 +117,7 @@ stopped_refusal (PreHello generation) asked kind old new after first last bytes 
       })
     ]
 stopped_refusal (PostHello generation) asked kind old new after first last bytes r is unfailed =
-    elim (stopped_led (establishment_plan asked) kind old new asked.first_id after bytes (stopped_whole (PostHello generation) asked kind old new after first last r) is unfailed) [
+    elim (stopped_led (establishment_plan asked) kind old new asked.first_id after bytes (stopped_whole (PostHello generation) asked kind old new after first last r).1 is unfailed) [
       | inl memory ↦ inl memory
       | inr l ↦ inr (record {
         refusal = record { phase = PostHello generation; kind = kind; commands = l.commands; taken = l.taken; unread = l.unread };

@@ -9,8 +9,6 @@ use Rattle.mongo_command.specs.declared.server_address.ServerAddress.{ServerAddr
 use Rattle.mongo_command.specs.Connection.{kept_fault}
 use Rattle.mongo_command.specs.Conversation.{Plan, unless, saying, Reached, Stopped}
 use Rattle.mongo_sasl.specs.declared.credential.Credential.{Credential}
-use Rattle.mongo_sasl.specs.Stops.{StoppedKeeping}
-use Rattle.mongo_sasl.proofs.StoppedKeeping.{stopped_of}
 use Rattle.mongo_scram.specs.Costs.{Ledgers, balance}
 use Rattle.mongo_establish.specs.declared.establisher.EstablishError.{EstablishError}
 use Rattle.mongo_establish.specs.declared.establisher.HandshakePhase.{HandshakePhase}
@@ -65,10 +63,6 @@ module _ (pending : PendingConnection) (options : HandshakerOptions) (credential
   login_reached : (greeting : Greeting) (old new : State) (before after : ℤ) → Reached (login_plan over greeting) greeting old new before after → Reached (login_plan wanted greeting) greeting old new before after
   login_reached = reached_alike (pending_over opened) pending options credential nonces id id
 
-  login_stopped : (greeting : Greeting) (kind : ErrorKind) (old new : State) (before after : ℤ) (kept : Option ErrorKind) → StoppedKeeping (login_plan over greeting) kind old new before after kept → Stopped (login_plan wanted greeting) kind old new before after
-  login_stopped greeting kind old new before after kept s =
-      stopped_of (login_plan wanted greeting) kind old new before after kept (stopped_alike (pending_over opened) pending options credential nonces id id greeting kind old new before after s)
-
   -- ---- a handshake that was followed to its end
 
   handshake_wanted : (connection : Connection) (old new : State) (after : ℤ) (first last : Ledgers) (reply : HelloReply) (s : ShookHands over opened connection old new after first last reply) → Reached (handshake_plan wanted) s.script.greeting old new id after
@@ -113,7 +107,7 @@ module _ (pending : PendingConnection) (options : HandshakerOptions) (credential
   stopped_hello : (phase : HandshakePhase) (connection : Connection) (kind : ErrorKind) (old new : State) (after : ℤ) (first last : Ledgers) → phase ≡ phase_at connection.stream_description pending.generation → StoppedHello over opened connection kind old new after first last → StoppedIn phase wanted kind old new after first last
   stopped_hello phase connection kind old new after first last is s =
       let early : phase ≡ PreHello pending.generation = is ∙ ap (λ d. phase_at d pending.generation) s.undescribed in
-      subst (λ p. StoppedIn p wanted kind old new after first last) (sym early) (refl, hello_stopped kind old new id after (stopped_of (hello_plan over) kind old new id after (kept_fault connection) s.hello), s.costs)
+      subst (λ p. StoppedIn p wanted kind old new after first last) (sym early) (refl, hello_stopped kind old new id after (kept_fault connection, s.hello), s.costs)
 
   stopped_login : (phase : HandshakePhase) (connection : Connection) (kind : ErrorKind) (old new : State) (after : ℤ) (first last : Ledgers) → phase ≡ phase_at connection.stream_description pending.generation → StoppedLogin over opened connection kind old new after first last → StoppedIn phase wanted kind old new after first last
   stopped_login phase connection kind old new after first last is s =
@@ -124,7 +118,7 @@ module _ (pending : PendingConnection) (options : HandshakerOptions) (credential
         hello = hello_reached s.greeting old s.middle id s.between s.hello;
         generation_is = refl;
         stopped = inl (record {
-          login = login_stopped s.greeting kind s.middle new s.between after (kept_fault connection) s.login;
+          login = (kept_fault connection, stopped_alike (pending_over opened) pending options credential nonces id id s.greeting kind s.middle new s.between after s.login);
           costs = stopped_login_costs_alike (pending_over opened) pending options credential nonces id id s.greeting kind (balance s.middle s.between first) (balance new after last) s.costs;
         });
       })

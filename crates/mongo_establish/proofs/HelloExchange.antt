@@ -12,16 +12,16 @@ use Rattle.mongo_command.specs.declared.server_address.ServerAddress.{ServerAddr
 use Rattle.mongo_command.specs.declared.stream_description.StreamDescription.{StreamDescription}
 use Rattle.mongo_command.specs.Command.{command_document}
 use Rattle.mongo_command.specs.Connection.{kept_fault, KeepsRest}
-use Rattle.mongo_command.specs.Conversation.{Plan, AreMet, Reached, plain_message}
+use Rattle.mongo_command.specs.Conversation.{Plan, AreMet, Reached, StoppedKeeping, plain_message}
 use Rattle.mongo_command.specs.Exchange.{command_message, frame_maximum, CountsStay, DocumentRefused}
 use Rattle.mongo_command.specs.Hello.{IsHelloResponse, HelloRefused, description_demands, DescriptionRefused, description_of}
 use Rattle.mongo_command.specs.HelloExchange.{RunsHello, RunHelloRefused}
 use Rattle.mongo_command.proofs.Rest.{keeps_all}
-use Rattle.mongo_command.proofs.Steps.{reached_ending, reached_unless, reached_reading, reached_saying}
+use Rattle.mongo_command.proofs.Steps.{reached_ending, reached_unless, reached_reading, reached_saying, stopped_saying}
 use Rattle.mongo_sasl.specs.declared.credential.Credential.{Credential}
-use Rattle.mongo_sasl.specs.Stops.{StoppedKeeping, RefusedAtOnce}
+use Rattle.mongo_sasl.specs.Stops.{RefusedAtOnce}
+use Rattle.mongo_sasl.proofs.AtOnce.{at_once_keeping, refused_later}
 use Rattle.mongo_sasl.proofs.NotBuilt.{not_built}
-use Rattle.mongo_sasl.proofs.StoppedKeeping.{keeping_saying, at_once_keeping, refused_later}
 use Rattle.mongo_establish.specs.declared.options.HandshakerOptions.{HandshakerOptions}
 use Rattle.mongo_establish.specs.Client.{hello_with}
 use Rattle.mongo_establish.specs.Established.{HoldsGreeting, GreetedBy, UngreetedBy}
@@ -95,7 +95,7 @@ module _ (options : HandshakerOptions) (credential : Option Credential) (login :
     unrun kind old new before after kept counts r =
         let said = hello_said_with options credential login in
         elim r [
-          | inl x ↦ keeping_saying said (after_hello opened.address) kind old new before after kept x counts
+          | inl x ↦ stopped_saying said (after_hello opened.address) kind old new before after kept x counts
           | inr n ↦ subst (StoppedKeeping plan kind old new before after) (sym n.kept_is) (refused_later said (after_hello opened.address) n.document kind old new before after n.exchanges counts (no_hello opened.address kind n.document n.refused))
         ]
 

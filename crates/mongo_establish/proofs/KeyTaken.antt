@@ -83,7 +83,7 @@ opening_stopped : (version : ScramVersion) (mechanism : AuthMechanism) (asked : 
 unfolding derivation_by
 opening_stopped version mechanism asked credential greeting kind old new before after none s =
     let handed = scram_handed_by version asked credential greeting in
-    stopped_unless _ _ kind old new before after none (stopped_first (opening handed) (λ challenge. ending (Some (key_by handed challenge))) kind old new before after s)
+    (s.0, stopped_unless _ _ kind old new before after none (stopped_first (opening handed) (λ challenge. ending (Some (key_by handed challenge))) kind old new before after s.1))
 
 module _ (version : ScramVersion) (mechanism : AuthMechanism) (asked : Asked) (credential : Credential) (greeting : Greeting) (none : HasNone (InvalidRow (speculative_reply asked greeting) mechanism credential)) where
   abbrev handed : Handed
@@ -206,7 +206,7 @@ UnnamedCosts asked kind old new = (kind ≡ IncompatibleServer) × ((greeting : 
 pub establishment_spent : (phase : HandshakePhase) (asked : Asked) (kind : ErrorKind) (old new : State) (after : ℤ) (first last : Ledgers) → StoppedIn phase asked kind old new after first last
     → KeySpent (derivation_plan asked) kind (balance old asked.first_id first) (balance new after last) ⊎ UnnamedCosts asked kind (balance old asked.first_id first) (balance new after last)
 unfolding derivation_plan login_derivation
-establishment_spent (PreHello generation) asked kind old new after first last (is, stopped, nothing) = inl (inl (record { stopped = stopped_first (hello_plan asked) (login_derivation asked) kind old new asked.first_id after stopped; nothing = nothing }))
+establishment_spent (PreHello generation) asked kind old new after first last (is, stopped, nothing) = inl (inl (record { stopped = (stopped.0, stopped_first (hello_plan asked) (login_derivation asked) kind old new asked.first_id after stopped.1); nothing = nothing }))
 establishment_spent (PostHello generation) asked kind old new after first last s =
     let made = hello_made asked s.greeting old s.middle asked.first_id s.between s.hello in
     elim s.stopped [
@@ -227,7 +227,7 @@ spends_led : (asked : Asked) (kind : ErrorKind) (bytes : List ℕ) (old new : Ba
     → (kind ≡ OutOfMemory) ⊎ TakesAsLed asked bytes (λ key. RefusedTakes key old.ledgers new.ledgers)
 spends_led asked kind bytes old new s is unfailed =
     elim s [
-      | inl early ↦ elim (stopped_led (derivation_plan asked) kind old.state new.state old.id new.id bytes early.stopped is unfailed) [
+      | inl early ↦ elim (stopped_led (derivation_plan asked) kind old.state new.state old.id new.id bytes early.stopped.1 is unfailed) [
         | inl memory ↦ inl memory
         | inr l ↦ inr (record { key = None; leads = record { outcome = refuses kind; commands = l.commands; taken = l.taken; unread = l.unread; leads = l.leads; key_is = refl }; taken = early.nothing })
       ]

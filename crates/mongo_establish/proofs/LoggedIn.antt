@@ -6,14 +6,14 @@ use Rattle.mongo_wire.specs.declared.error.ErrorKind.TheVariants.{Authentication
 use Rattle.mongo_wire.specs.declared.auth_fault.AuthFault.TheVariants.{MongoDbCr as MongoDbCrFault}
 use Rattle.mongo_wire.specs.Outside.{State}
 use Rattle.mongo_command.specs.declared.stream_description.StreamDescription.{StreamDescription}
-use Rattle.mongo_command.specs.Conversation.{HasNone, Reached}
-use Rattle.mongo_command.proofs.Steps.{reached_ending, reached_unless, reached_reading}
+use Rattle.mongo_command.specs.Conversation.{HasNone, Reached, StoppedKeeping}
+use Rattle.mongo_command.proofs.Steps.{reached_ending, reached_unless, reached_reading, stopped_unless, stopped_reading}
 use Rattle.mongo_sasl.specs.declared.credential.Credential.{Credential}
 use Rattle.mongo_sasl.specs.declared.mechanism.AuthMechanism.{AuthMechanism}
 use Rattle.mongo_sasl.specs.declared.mechanism.AuthMechanism.TheVariants.{MongoDbCr, ScramSha1, ScramSha256}
 use Rattle.mongo_sasl.specs.Mechanism.{IsNegotiated}
-use Rattle.mongo_sasl.specs.Stops.{StoppedKeeping, RefusedAtOnce}
-use Rattle.mongo_sasl.proofs.StoppedKeeping.{keeping_unless, keeping_reading, at_once_keeping}
+use Rattle.mongo_sasl.specs.Stops.{RefusedAtOnce}
+use Rattle.mongo_sasl.proofs.AtOnce.{at_once_keeping}
 use Rattle.mongo_scram.specs.Costs.{Balance, CostsNothing}
 use Rattle.mongo_establish.specs.declared.conversation.Conversation.{Conversation}
 use Rattle.mongo_establish.specs.declared.answered_round.AnsweredRound.{AnsweredRound}
@@ -102,7 +102,7 @@ validated_stopped : {kept : Option ErrorKind} (mechanism : AuthMechanism) (conve
     → StoppedKeeping (conversation_plan conversation asked credential greeting) kind old new before after kept → StoppedKeeping (mechanism_plan mechanism asked credential greeting) kind old new before after kept
 unfolding mechanism_plan
 validated_stopped mechanism conversation asked credential greeting kind old new before after has none s =
-    keeping_reading (HasConversation mechanism) (validated mechanism asked credential greeting) conversation kind old new before after has (keeping_unless _ _ kind old new before after none s)
+    stopped_reading (HasConversation mechanism) (validated mechanism asked credential greeting) conversation kind old new before after has (stopped_unless _ _ kind old new before after none s)
 
 row_refused : (mechanism : AuthMechanism) (conversation : Conversation) (asked : Asked) (credential : Credential) (greeting : Greeting) (kind : ErrorKind) → HasConversation mechanism conversation → InvalidRow (speculative_reply asked greeting) mechanism credential kind → RefusedAtOnce (mechanism_plan mechanism asked credential greeting) kind
 unfolding mechanism_plan
@@ -127,7 +127,7 @@ module _ (asked : Asked) (greeting : Greeting) (credential : Credential) (round 
   login_stopped : {kept : Option ErrorKind} (kind : ErrorKind) (old new : State) (before after : ℤ) → StoppedKeeping (mechanism_plan mechanism asked credential greeting) kind old new before after kept → StoppedKeeping (login_plan asked greeting) kind old new before after kept
   unfolding login_plan
   login_stopped {kept = kept} kind old new before after s =
-      subst (λ w. StoppedKeeping (login_by w asked greeting) kind old new before after kept) (sym (a_user asked greeting credential holds who)) (keeping_reading (IsMechanism credential.mechanism (speculative_reply asked greeting) greeting.description) (λ m. mechanism_plan m asked credential greeting) mechanism kind old new before after by_mechanism s)
+      subst (λ w. StoppedKeeping (login_by w asked greeting) kind old new before after kept) (sym (a_user asked greeting credential holds who)) (stopped_reading (IsMechanism credential.mechanism (speculative_reply asked greeting) greeting.description) (λ m. mechanism_plan m asked credential greeting) mechanism kind old new before after by_mechanism s)
 
   -- the mechanism doesn't take the credential, which it is asked only where no first round was answered
   invalid_row : (kind : ErrorKind) → is_some round ≡ false → InvalidRow None mechanism credential kind → InvalidRow (speculative_reply asked greeting) mechanism credential kind

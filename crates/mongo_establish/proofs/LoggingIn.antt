@@ -5,10 +5,9 @@ use Rattle.mongo_wire.specs.declared.error.ErrorKind.{ErrorKind}
 use Rattle.mongo_command.specs.declared.connection.Connection.{Connection}
 use Rattle.mongo_command.specs.declared.stream_description.StreamDescription.{StreamDescription}
 use Rattle.mongo_command.specs.Connection.{kept_fault}
-use Rattle.mongo_command.specs.Conversation.{HasNone}
+use Rattle.mongo_command.specs.Conversation.{HasNone, StoppedKeeping}
 use Rattle.mongo_sasl.specs.declared.credential.Credential.{Credential}
 use Rattle.mongo_sasl.specs.declared.mechanism.AuthMechanism.{AuthMechanism}
-use Rattle.mongo_sasl.specs.Stops.{StoppedKeeping}
 use Rattle.mongo_scram.specs.Costs.{Balance, CostsNothing}
 use Rattle.mongo_establish.specs.declared.conversation.Conversation.{Conversation}
 use Rattle.mongo_establish.specs.declared.answered_round.AnsweredRound.{AnsweredRound}

@@ -3,12 +3,10 @@ use Rattle.std.proofs.Common.{ℤ, Option, None, Some, List, inl, inr}
 use Rattle.mongo_wire.specs.declared.error.ErrorKind.{ErrorKind}
 use Rattle.mongo_wire.specs.Outside.{State}
 use Rattle.mongo_command.specs.declared.connection.Connection.{Connection}
-use Rattle.mongo_command.specs.Conversation.{Event, Turn, Reached}
-use Rattle.mongo_command.proofs.Steps.{reached_more}
+use Rattle.mongo_command.specs.Conversation.{Event, Turn, Reached, StoppedKeeping}
+use Rattle.mongo_command.proofs.Steps.{reached_more, stopped_more}
 use Rattle.mongo_sasl.specs.declared.credential.Credential.{Credential}
 use Rattle.mongo_sasl.specs.declared.mechanism.AuthMechanism.{AuthMechanism}
-use Rattle.mongo_sasl.specs.Stops.{StoppedKeeping}
-use Rattle.mongo_sasl.proofs.StoppedKeeping.{keeping_more}
 use Rattle.mongo_scram.specs.declared.scram_version.ScramVersion.{ScramVersion}
 use Rattle.mongo_scram.specs.Costs.{Balance}
 use Rattle.mongo_establish.specs.declared.conversation.Conversation.{Conversation}
@@ -52,7 +50,7 @@ module _ (first second : PendingConnection) (options : HandshakerOptions) (crede
 
   pub stopped_alike : {kept : Option ErrorKind} (greeting : Greeting) (kind : ErrorKind) (old new : State) (before after : ℤ) → StoppedKeeping (login_plan this greeting) kind old new before after kept → StoppedKeeping (login_plan that greeting) kind old new before after kept
   unfolding login_plan
-  stopped_alike greeting kind old new before after s = keeping_more (login_plan this greeting) (login_plan that greeting) kind old new before after (login_alike (logging_in that greeting) greeting) s
+  stopped_alike greeting kind old new before after s = stopped_more (login_plan this greeting) (login_plan that greeting) kind old new before after (login_alike (logging_in that greeting) greeting) s
 
   -- ---- and so is what it costs
 

@@ -8,11 +8,10 @@ use Rattle.mongo_command.specs.declared.connection.Connection.{Connection}
 use Rattle.mongo_command.specs.declared.hello.HelloReply.{HelloReply}
 use Rattle.mongo_command.specs.declared.server_address.ServerAddress.{ServerAddress}
 use Rattle.mongo_command.specs.Connection.{kept_fault}
-use Rattle.mongo_command.specs.Conversation.{Reached, Stopped}
+use Rattle.mongo_command.specs.Conversation.{Reached, StoppedKeeping, Stopped}
 use Rattle.mongo_command.specs.Hello.{description_of}
 use Rattle.mongo_command.proofs.FollowedBy.{stopped_first}
 use Rattle.mongo_command.proofs.Steps.{reached_unless, stopped_unless}
-use Rattle.mongo_sasl.proofs.StoppedKeeping.{stopped_of}
 use Rattle.mongo_establish.specs.declared.options.HandshakerOptions.{HandshakerOptions}
 use Rattle.mongo_establish.specs.Asked.{Asked, asked_alone}
 use Rattle.mongo_establish.specs.Established.{GreetedBy, UngreetedBy, IsReplyOf, Monitored}
@@ -63,11 +62,11 @@ module _ (address : ServerAddress) (number : ℕ) (options : HandshakerOptions) 
   stopped : (kind : ErrorKind) (old new : State) (after : ℤ) → Stopped (hello_exchange options None None opened.address) kind old new id after → Stopped (hello_plan alone) kind old new id after
   unfolding hello_plan
   stopped kind old new after s =
-      stopped_unless _ _ kind old new id after (λ k row. row) (subst (λ a. Stopped (hello_exchange options None None a) kind old new id after) at s)
+      (s.0, stopped_unless _ _ kind old new id after (λ k row. row) (subst (λ a. StoppedKeeping (hello_exchange options None None a) kind old new id after s.0) at s.1))
 
   pub unmonitored : {T : Type 0} (r : Result T Error) (connection : Connection) (old new : State) (after : ℤ) → IfErr r (λ e. UngreetedBy options None None opened connection e.kind old new id after) → IfErr r (λ e. Stopped (hello_plan alone) e.kind old new id after)
-  unmonitored r connection old new after = IfErr-weaker r _ _ (λ e h. stopped e.kind old new after (stopped_of (hello_exchange options None None opened.address) e.kind old new id after (kept_fault connection) h.stopped))
+  unmonitored r connection old new after = IfErr-weaker r _ _ (λ e h. stopped e.kind old new after (kept_fault connection, h.stopped))
 
   pub unmonitored_whole : {T : Type 0} (r : Result T Error) (old new : State) (after : ℤ) → IfErr r (λ e. Stopped (hello_plan alone) e.kind old new id after) → IfErr r (λ e. Stopped (establishment_plan alone) e.kind old new id after)
   unfolding handshake_plan
-  unmonitored_whole r old new after = IfErr-weaker r _ _ (λ e s. handshake_stops alone e.kind old new after (stopped_first (hello_plan alone) (login_plan alone) e.kind old new id after s))
+  unmonitored_whole r old new after = IfErr-weaker r _ _ (λ e s. handshake_stops alone e.kind old new after (s.0, stopped_first (hello_plan alone) (login_plan alone) e.kind old new id after s.1))

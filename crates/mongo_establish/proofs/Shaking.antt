@@ -7,13 +7,13 @@ use Rattle.mongo_wire.specs.Outside.{State}
 use Rattle.mongo_command.specs.declared.connection.Connection.{Connection}
 use Rattle.mongo_command.specs.declared.hello.HelloReply.{HelloReply}
 use Rattle.mongo_command.specs.Connection.{kept_fault, KeepsRest}
-use Rattle.mongo_command.specs.Conversation.{HasNone, or_else, Reached}
+use Rattle.mongo_command.specs.Conversation.{HasNone, or_else, Reached, StoppedKeeping}
 use Rattle.mongo_command.specs.Hello.{description_of}
 use Rattle.mongo_command.proofs.Rest.{keeps_all}
-use Rattle.mongo_command.proofs.Steps.{reached_unless}
+use Rattle.mongo_command.proofs.Steps.{reached_unless, stopped_unless}
 use Rattle.mongo_sasl.specs.declared.credential.Credential.{Credential}
-use Rattle.mongo_sasl.specs.Stops.{StoppedKeeping, RefusedAtOnce}
-use Rattle.mongo_sasl.proofs.StoppedKeeping.{keeping_unless, at_once_more, at_once_keeping}
+use Rattle.mongo_sasl.specs.Stops.{RefusedAtOnce}
+use Rattle.mongo_sasl.proofs.AtOnce.{at_once_more, at_once_keeping}
 use Rattle.mongo_scram.specs.Client.{speculated_of}
 use Rattle.mongo_scram.specs.Costs.{Ledgers, balance, CostsNothing}
 use Rattle.mongo_establish.specs.declared.client_first.ClientFirst.{ClientFirst}
@@ -88,7 +88,7 @@ module _ (opened : Connection) (options : HandshakerOptions) (credential : Optio
     stopped_so : {kept : Option ErrorKind} (kind : ErrorKind) (old new : State) (after : ℤ) → StoppedKeeping (hello_exchange options credential sent opened.address) kind old new id after kept → StoppedKeeping (hello_plan asked) kind old new id after kept
     unfolding hello_plan
     stopped_so {kept = kept} kind old new after s =
-        keeping_unless _ _ kind old new id after made (subst (λ login. StoppedKeeping (hello_exchange options credential login opened.address) kind old new id after kept) (first_speculation credential nonces.first first is_first) s)
+        stopped_unless _ _ kind old new id after made (subst (λ login. StoppedKeeping (hello_exchange options credential login opened.address) kind old new id after kept) (first_speculation credential nonces.first first is_first) s)
 
     reached_so : (greeting : Greeting) (old new : State) (after : ℤ) → Reached (hello_exchange options credential sent opened.address) greeting old new id after → Reached (hello_plan asked) greeting old new id after
     unfolding hello_plan

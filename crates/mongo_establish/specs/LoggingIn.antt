@@ -5,11 +5,10 @@ use Rattle.mongo_wire.specs.declared.error.ErrorKind.{ErrorKind}
 use Rattle.mongo_command.specs.declared.connection.Connection.{Connection}
 use Rattle.mongo_command.specs.declared.stream_description.StreamDescription.{StreamDescription}
 use Rattle.mongo_command.specs.Connection.{kept_fault, KeepsRest}
-use Rattle.mongo_command.specs.Conversation.{Reached}
+use Rattle.mongo_command.specs.Conversation.{Reached, StoppedKeeping}
 use Rattle.mongo_command.specs.Exchange.{CountsStay}
 use Rattle.mongo_sasl.specs.declared.credential.Credential.{Credential}
 use Rattle.mongo_sasl.specs.declared.mechanism.AuthMechanism.{AuthMechanism}
-use Rattle.mongo_sasl.specs.Stops.{StoppedKeeping}
 use Rattle.mongo_sasl.specs.Validation.{IsValidated}
 use Rattle.mongo_scram.specs.Costs.{Balance, SameEntries}
 use Rattle.mongo_establish.specs.declared.conversation.Conversation.{Conversation}

@@ -2,7 +2,7 @@ pub mod OneReply
 pub mod NotBuilt
 pub mod Unsent
 pub mod Handed
-pub mod StoppedKeeping
+pub mod AtOnce
 pub mod DrawnIds
 pub mod LeftInBuffer
 pub mod StopsBy

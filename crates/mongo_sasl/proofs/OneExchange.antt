@@ -6,9 +6,8 @@ use Rattle.mongo_command.specs.declared.command.Command.{Command}
 use Rattle.mongo_command.specs.declared.server_api.ServerApi.{ServerApi}
 use Rattle.mongo_command.specs.Command.{command_of, command_document}
 use Rattle.mongo_command.specs.Exchange.{command_message, CountsStay, Exchanges, ExchangeRefused}
-use Rattle.mongo_command.specs.Conversation.{Said, Plan, plain_message, saying}
-use Rattle.mongo_sasl.specs.Stops.{StoppedKeeping}
-use Rattle.mongo_sasl.proofs.StoppedKeeping.{keeping_saying}
+use Rattle.mongo_command.specs.Conversation.{Said, Plan, plain_message, saying, StoppedKeeping}
+use Rattle.mongo_command.proofs.Steps.{stopped_saying}
 
 -- the command as it is said
 abbrev pub said_as : List ℕ → List ℕ → List ℕ → Option ServerApi → ℤ → Said
@@ -22,4 +21,4 @@ exchanged_as name db body api maximum command old new before after held reply is
 pub unanswered_as : {A : Type 0} (name db body : List ℕ) (api : Option ServerApi) (maximum : ℤ) (command : Command) (plan : List ℕ → Plan A) (kind : ErrorKind) (old new : State) (before after : ℤ) (kept : Option ErrorKind) → command ≡ command_of name db body api → CountsStay old new
     → ExchangeRefused kind maximum (command_message command) old new before after kept → StoppedKeeping (saying (said_as name db body api maximum) plan) kind old new before after kept
 unanswered_as name db body api maximum command plan kind old new before after kept is counts refused =
-    keeping_saying (said_as name db body api maximum) plan kind old new before after kept (subst (λ x. ExchangeRefused kind maximum (command_message x) old new before after kept) is refused) counts
+    stopped_saying (said_as name db body api maximum) plan kind old new before after kept (subst (λ x. ExchangeRefused kind maximum (command_message x) old new before after kept) is refused) counts

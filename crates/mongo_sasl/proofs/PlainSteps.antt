@@ -6,11 +6,12 @@ use Rattle.mongo_wire.specs.declared.error.Error.{Error}
 use Rattle.mongo_wire.specs.declared.error.ErrorKind.{ErrorKind}
 use Rattle.mongo_wire.specs.declared.error.ErrorKind.TheVariants.{OutOfMemory}
 use Rattle.mongo_wire.specs.Outside.{State}
-use Rattle.mongo_command.specs.Conversation.{Event, Turn, plain_message, saying}
+use Rattle.mongo_command.specs.Conversation.{Event, Turn, plain_message, saying, StoppedKeeping}
 use Rattle.mongo_command.specs.Exchange.{DocumentRefused, CountsStay, Exchanges}
+use Rattle.mongo_command.proofs.Steps.{stopped_more}
 use Rattle.mongo_sasl.specs.declared.mechanism.AuthMechanism.TheVariants.{Plain}
 use Rattle.mongo_sasl.specs.Commands.{start_elements}
-use Rattle.mongo_sasl.specs.Stops.{StoppedKeeping, BeginsWithCommand, RefusedAtOnce}
+use Rattle.mongo_sasl.specs.Stops.{BeginsWithCommand, RefusedAtOnce}
 use Rattle.mongo_sasl.specs.Login.{EndsByReply}
 use Rattle.mongo_sasl.specs.Plain.{plain_payload, PlainUser, IsPlainUser, PlainRow, plain_body, plain_command, PlainHanded, plain_said, FinishedRow, plain_heard, plain_plan, IsFinished}
 use Rattle.mongo_sasl.specs.Reply.{SaslRow}
@@ -18,7 +19,7 @@ use Rattle.mongo_sasl.proofs.LastReply.{ends_by_reply}
 use Rattle.mongo_sasl.proofs.OneReply.{sasl_reply_no_row}
 use Rattle.mongo_sasl.proofs.PlainPlan.{no_plain_row, finished_no_row}
 use Rattle.mongo_sasl.proofs.NotBuilt.{not_built}
-use Rattle.mongo_sasl.proofs.StoppedKeeping.{keeping_more, at_once_more, refused_later}
+use Rattle.mongo_sasl.proofs.AtOnce.{at_once_more, refused_later}
 
 module _ (handed : PlainHanded) (user : PlainUser) (is_user : IsPlainUser handed.credential user) where
   -- what is said
@@ -31,7 +32,7 @@ module _ (handed : PlainHanded) (user : PlainUser) (is_user : IsPlainUser handed
 
   -- a stop after them
   pub user_stopped : {kept : Option ErrorKind} (kind : ErrorKind) (old new : State) (before after : ℤ) → StoppedKeeping (saying (plain_said handed user) plain_heard) kind old new before after kept → StoppedKeeping (plain_plan handed) kind old new before after kept
-  user_stopped kind old new before after s = keeping_more (saying (plain_said handed user) plain_heard) (plain_plan handed) kind old new before after after_tests s
+  user_stopped kind old new before after s = stopped_more (saying (plain_said handed user) plain_heard) (plain_plan handed) kind old new before after after_tests s
 
   -- the command wasn't built
   pub plain_unbuilt : (kind : ErrorKind) → DocumentRefused kind (plain_body user) → RefusedAtOnce (plain_plan handed) kind

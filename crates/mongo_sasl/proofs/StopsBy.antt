@@ -9,18 +9,18 @@ use Rattle.mongo_wire.specs.Buffer.{IsFrameTaken}
 use Rattle.mongo_wire.specs.Outside.{State}
 use Rattle.mongo_command.specs.declared.command.Command.{Command}
 use Rattle.mongo_command.specs.Connection.{kept_fault}
-use Rattle.mongo_command.specs.Conversation.{Plan, Stopped}
+use Rattle.mongo_command.specs.Conversation.{Plan, StoppedKeeping, Stopped}
 use Rattle.mongo_command.specs.EndsExchange.{Footing, footing, EndsExchange}
 use Rattle.mongo_command.specs.Exchange.{command_message, frame_maximum, BufferRefused, Exchanges, ExchangeRefused}
 use Rattle.mongo_command.proofs.EndsExchange.{HasRefusalCause}
 use Rattle.mongo_command.proofs.Rest.{keeps_all}
 use Rattle.mongo_command.proofs.Talked.{still_counts}
 use Rattle.mongo_sasl.specs.EndsByScript.{Standing, DrawsOnce, LeavesInBuffer, StopsBy}
-use Rattle.mongo_sasl.specs.Stops.{StoppedKeeping, BeginsWithCommand, RefusedAtOnce}
+use Rattle.mongo_sasl.specs.Stops.{BeginsWithCommand, RefusedAtOnce}
+use Rattle.mongo_sasl.proofs.AtOnce.{keeping_none, at_once_keeping}
 use Rattle.mongo_sasl.proofs.DrawnIds.{once_buffer, refused_draws}
 use Rattle.mongo_sasl.proofs.Handed.{handed_on}
 use Rattle.mongo_sasl.proofs.LeftInBuffer.{leaves_all, leaves_same, refused_leaves, taken_leaves}
-use Rattle.mongo_sasl.proofs.StoppedKeeping.{stopped_of, keeping_none, at_once_keeping}
 use Rattle.mongo_sasl.proofs.Unsent.{answered_fault, not_replied}
 
 -- what its exchange stands on
@@ -126,4 +126,4 @@ module _ {L T A : Type 0} (state : L → State) (plan : Plan A) where
 
   -- where the plan was stopped
   pub stopped_by : (r : Result T Error) (old new : Standing L) → StopsBy state plan r old new → kept_fault old.connection ≡ None → IfErr r (λ e. Stopped plan e.kind (state old.link) (state new.link) old.id new.id)
-  stopped_by r old new stops faultless = IfErr-weaker r _ _ (λ e. stopped_of plan e.kind (state old.link) (state new.link) old.id new.id (kept_fault new.connection)) (stops.refused faultless)
+  stopped_by r old new stops faultless = IfErr-weaker r _ _ (λ e s. (kept_fault new.connection, s)) (stops.refused faultless)

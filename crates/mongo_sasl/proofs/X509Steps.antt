@@ -8,19 +8,19 @@ use Rattle.mongo_wire.specs.declared.error.ErrorKind.{ErrorKind}
 use Rattle.mongo_wire.specs.declared.error.ErrorKind.TheVariants.{OutOfMemory}
 use Rattle.mongo_wire.specs.Outside.{State}
 use Rattle.mongo_command.specs.Command.{present}
-use Rattle.mongo_command.specs.Conversation.{plain_message, ends, saying, Reached}
+use Rattle.mongo_command.specs.Conversation.{plain_message, ends, saying, Reached, StoppedKeeping}
 use Rattle.mongo_command.specs.Exchange.{DocumentRefused, CountsStay, Exchanges}
 use Rattle.mongo_command.specs.Literal.{text_element, int32_element}
 use Rattle.mongo_command.proofs.Steps.{reached_ending}
 use Rattle.mongo_sasl.specs.declared.mechanism.AuthMechanism.TheVariants.{MongoDbX509}
-use Rattle.mongo_sasl.specs.Stops.{StoppedKeeping, BeginsWithCommand, RefusedAtOnce}
+use Rattle.mongo_sasl.specs.Stops.{BeginsWithCommand, RefusedAtOnce}
 use Rattle.mongo_sasl.specs.Login.{EndsByReply}
 use Rattle.mongo_sasl.specs.X509.{IsCertificateTaken, X509Row, x509_body, x509_command, X509Handed, x509_said, x509_heard, x509_plan_from, x509_plan}
 use Rattle.mongo_sasl.specs.Keys.{authenticate_key, mechanism_key, username_key}
 use Rattle.mongo_sasl.specs.Mechanism.{name_of}
 use Rattle.mongo_sasl.proofs.LastReply.{ends_by_reply}
 use Rattle.mongo_sasl.proofs.NotBuilt.{not_built}
-use Rattle.mongo_sasl.proofs.StoppedKeeping.{refused_later}
+use Rattle.mongo_sasl.proofs.AtOnce.{refused_later}
 use Rattle.mongo_sasl.proofs.X509Plan.{certificate_no_row}
 
 module _ (handed : X509Handed) (later : handed.speculated ≡ false) where

@@ -11,9 +11,9 @@ use Rattle.mongo_wire.specs.Frame.{Frame}
 use Rattle.mongo_wire.specs.Outside.{State, Unfailed, risen}
 use Rattle.mongo_command.specs.declared.connection.Connection.{Connection}
 use Rattle.mongo_command.specs.Connection.{kept_fault, KeepsRest}
-use Rattle.mongo_command.specs.Conversation.{Said, Turn, ends, Plan, Reached, Leads}
+use Rattle.mongo_command.specs.Conversation.{Said, Turn, ends, Plan, Reached, StoppedKeeping, Leads}
 use Rattle.mongo_command.specs.Exchange.{frame_maximum, CountsStay}
-use Rattle.mongo_sasl.specs.Stops.{StoppedKeeping, BeginsWithCommand, RefusedAtOnce}
+use Rattle.mongo_sasl.specs.Stops.{BeginsWithCommand, RefusedAtOnce}
 use Rattle.mongo_sasl.specs.Login.{HasLogin, AnswersLed, EndsByReply}
 
 -- what a call stands on: its connection, its link, the next id, and the buffer that its replies pass through

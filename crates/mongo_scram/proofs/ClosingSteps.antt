@@ -5,9 +5,9 @@ use Rattle.mongo_wire.specs.declared.error.ErrorKind.{ErrorKind}
 use Rattle.mongo_wire.specs.declared.frame_buffer.FrameBuffer.{FrameBuffer}
 use Rattle.mongo_wire.specs.Buffer.{IsFrameTaken}
 use Rattle.mongo_wire.specs.Outside.{State}
-use Rattle.mongo_command.specs.Conversation.{Said}
+use Rattle.mongo_command.specs.Conversation.{Said, StoppedKeeping}
 use Rattle.mongo_sasl.specs.Login.{EndsByReply}
-use Rattle.mongo_sasl.specs.Stops.{StoppedKeeping, RefusedAtOnce}
+use Rattle.mongo_sasl.specs.Stops.{RefusedAtOnce}
 use Rattle.mongo_scram.specs.declared.scram_version.ScramVersion.{ScramVersion}
 use Rattle.mongo_scram.specs.declared.messages.ClientFirst.{ClientFirst}
 use Rattle.mongo_scram.specs.declared.messages.ClientFinal.{ClientFinal}

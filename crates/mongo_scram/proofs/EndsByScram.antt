@@ -11,7 +11,7 @@ use Rattle.mongo_command.specs.Exchange.{CountsStay}
 use Rattle.mongo_sasl.specs.EndsByScript.{Standing, LeavesInBuffer, StopsBy}
 use Rattle.mongo_sasl.proofs.EndsByScript.{ends_by_script}
 use Rattle.mongo_sasl.proofs.Handed.{handed_on, on_answer}
-use Rattle.mongo_sasl.proofs.StoppedKeeping.{keeping_none}
+use Rattle.mongo_sasl.proofs.AtOnce.{keeping_none}
 use Rattle.mongo_sasl.proofs.StopsBy.{not_both_faults}
 use Rattle.mongo_scram.specs.Costs.{Ledgers, Balance, SameEntries, Accepted, FaultCosts, ScramRefused}
 use Rattle.mongo_scram.specs.EndsByScram.{balance_at, EndsByScram}

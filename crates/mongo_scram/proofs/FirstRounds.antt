@@ -12,10 +12,11 @@ use Rattle.mongo_command.specs.declared.connection.Connection.{Connection}
 use Rattle.mongo_command.specs.Connection.{kept_fault}
 use Rattle.mongo_command.specs.declared.command.Command.{Command}
 use Rattle.mongo_command.specs.Exchange.{command_message, DocumentRefused, CountsStay, Exchanges, ExchangeRefused}
-use Rattle.mongo_command.specs.Conversation.{Plan, plain_message, saying}
+use Rattle.mongo_command.specs.Conversation.{Plan, plain_message, saying, StoppedKeeping}
+use Rattle.mongo_command.proofs.Steps.{stopped_saying}
 use Rattle.mongo_sasl.specs.Commands.{start_elements}
 use Rattle.mongo_sasl.specs.EndsByScript.{Standing, StopsBy}
-use Rattle.mongo_sasl.specs.Stops.{StoppedKeeping, RefusedAtOnce}
+use Rattle.mongo_sasl.specs.Stops.{RefusedAtOnce}
 use Rattle.mongo_sasl.proofs.Handed.{on_answer}
 use Rattle.mongo_sasl.proofs.StopsBy.{not_both_faults, no_exchange}
 use Rattle.mongo_scram.specs.declared.messages.ClientFirst.{ClientFirst}
@@ -29,7 +30,7 @@ use Rattle.mongo_scram.specs.Plan.{Handed, Challenge, message_by, nonce_by, star
 use Rattle.mongo_scram.specs.Replies.{CarriesFirst, FirstReplyRow}
 use Rattle.mongo_scram.specs.Login.{handed_by, LeavesOneExchange, Replies, Opens, frames_opened}
 use Rattle.mongo_sasl.proofs.NotBuilt.{not_built}
-use Rattle.mongo_sasl.proofs.StoppedKeeping.{keeping_saying, refused_later}
+use Rattle.mongo_sasl.proofs.AtOnce.{refused_later}
 
 -- the command of the first message, as the plan has it
 abbrev planned_first_command : Handed → User → Command
@@ -68,7 +69,7 @@ start_unbuilt handed user first kind is unbuilt =
 pub start_unanswered : (handed : Handed) (user : User) (first : ClientFirst) (command : Command) (kind : ErrorKind) (old new : State) (before after : ℤ) (kept : Option ErrorKind) → IsPlannedFirst handed user first → command ≡ first_command handed.version (includes_db first) (first_source first) (message_of first) (server_api_of first) → CountsStay old new
     → ExchangeRefused kind handed.maximum (command_message command) old new before after kept → StoppedKeeping (saying (start_said handed user) (challenged handed user)) kind old new before after kept
 start_unanswered handed user first command kind old new before after kept start is counts refused =
-    keeping_saying (start_said handed user) (challenged handed user) kind old new before after kept (subst (λ x. ExchangeRefused kind handed.maximum (command_message x) old new before after kept) (is ∙ same_command handed user first start) refused) counts
+    stopped_saying (start_said handed user) (challenged handed user) kind old new before after kept (subst (λ x. ExchangeRefused kind handed.maximum (command_message x) old new before after kept) (is ∙ same_command handed user first start) refused) counts
 
 -- the exchange was that of the command
 pub start_exchanged : (handed : Handed) (user : User) (first : ClientFirst) (command : Command) (old new : State) (before after : ℤ) (reply : List ℕ) → IsPlannedFirst handed user first → command ≡ first_command handed.version (includes_db first) (first_source first) (message_of first) (server_api_of first)

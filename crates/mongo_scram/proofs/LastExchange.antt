@@ -10,11 +10,12 @@ use Rattle.mongo_wire.specs.Buffer.{held_document, IsFrameTaken}
 use Rattle.mongo_wire.specs.Outside.{State}
 use Rattle.mongo_command.specs.declared.command.Command.{Command}
 use Rattle.mongo_command.specs.Exchange.{command_message, DocumentRefused, CountsStay, Exchanges, ExchangeRefused}
-use Rattle.mongo_command.specs.Conversation.{Said, plain_message}
+use Rattle.mongo_command.specs.Conversation.{Said, plain_message, StoppedKeeping}
+use Rattle.mongo_command.proofs.Steps.{stopped_saying}
 use Rattle.mongo_sasl.specs.Commands.{continue_elements, continue_body}
 use Rattle.mongo_sasl.specs.EndsByScript.{Standing}
 use Rattle.mongo_sasl.specs.Login.{EndsByReply}
-use Rattle.mongo_sasl.specs.Stops.{StoppedKeeping, RefusedAtOnce}
+use Rattle.mongo_sasl.specs.Stops.{RefusedAtOnce}
 use Rattle.mongo_sasl.proofs.LastReply.{ends_by_reply}
 use Rattle.mongo_scram.specs.declared.messages.ClientFinal.{ClientFinal}
 use Rattle.mongo_scram.specs.Client.{final_of, final_conversation, final_source_of, final_api_of}
@@ -24,7 +25,7 @@ use Rattle.mongo_scram.specs.Costs.{TakesLastMessage}
 use Rattle.mongo_scram.specs.Login.{final_said, LastRefusal, EndsLastExchange}
 use Rattle.mongo_scram.proofs.OneMessage.{no_final_row}
 use Rattle.mongo_sasl.proofs.NotBuilt.{not_built}
-use Rattle.mongo_sasl.proofs.StoppedKeeping.{keeping_saying, refused_later}
+use Rattle.mongo_sasl.proofs.AtOnce.{refused_later}
 
 -- ---- the command
 
@@ -36,7 +37,7 @@ final_unbuilt final maximum conversation owed c kind unbuilt =
 pub final_unanswered : (final : ClientFinal) (command : Command) (maximum : ℤ) (conversation : OwnedValue) (owed : List ℕ) (c : Challenge) (kind : ErrorKind) (old new : State) (before after : ℤ) (kept : Option ErrorKind) → command ≡ final_command (final_conversation final) (final_source_of final) (final_of final) (final_api_of final) → CountsStay old new
     → ExchangeRefused kind maximum (command_message command) old new before after kept → StoppedKeeping (last_exchange (final_said final maximum) conversation owed c) kind old new before after kept
 final_unanswered final command maximum conversation owed c kind old new before after kept is counts refused =
-    keeping_saying (final_said final maximum) (last_heard conversation owed c) kind old new before after kept (subst (λ x. ExchangeRefused kind maximum (command_message x) old new before after kept) is refused) counts
+    stopped_saying (final_said final maximum) (last_heard conversation owed c) kind old new before after kept (subst (λ x. ExchangeRefused kind maximum (command_message x) old new before after kept) is refused) counts
 
 -- the exchange was that of the command
 pub final_exchanged : (final : ClientFinal) (command : Command) (maximum : ℤ) (old new : State) (before after : ℤ) (held reply : List ℕ) → command ≡ final_command (final_conversation final) (final_source_of final) (final_of final) (final_api_of final) → reply ≡ held

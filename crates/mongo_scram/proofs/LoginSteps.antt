@@ -6,11 +6,11 @@ use Rattle.mongo_wire.specs.declared.error.ErrorKind.TheVariants.{OutOfMemory}
 use Rattle.mongo_wire.specs.declared.frame_buffer.FrameBuffer.{FrameBuffer}
 use Rattle.mongo_wire.specs.Buffer.{held_document, IsFrameTaken}
 use Rattle.mongo_wire.specs.Outside.{State, risen}
-use Rattle.mongo_command.specs.Conversation.{Plan, Reached}
+use Rattle.mongo_command.specs.Conversation.{Plan, Reached, StoppedKeeping}
+use Rattle.mongo_command.proofs.FollowedBy.{stopped_first, stopped_second}
 use Rattle.mongo_sasl.specs.Login.{EndsByReply}
-use Rattle.mongo_sasl.specs.Stops.{StoppedKeeping, RefusedAtOnce}
+use Rattle.mongo_sasl.specs.Stops.{RefusedAtOnce}
 use Rattle.mongo_sasl.proofs.LastReply.{ends_reached}
-use Rattle.mongo_sasl.proofs.StoppedKeeping.{stopped_of, keeping_first, keeping_second}
 use Rattle.mongo_scram.specs.declared.cache.SaltedCache.{SaltedCache}
 use Rattle.mongo_scram.specs.declared.cache.SaltedKey.{SaltedKey}
 use Rattle.mongo_scram.specs.declared.conversation.FirstRound.{FirstRound}
@@ -67,7 +67,7 @@ StopsScram handed kind kept old new = StoppedScram handed kind old new × Stoppe
 -- in its opening
 pub stopped_early : {kept : Option ErrorKind} (handed : Handed) (kind : ErrorKind) (old new : Balance) → StoppedKeeping (opening handed) kind old.state new.state old.id new.id kept → CostsNothing old.ledgers new.ledgers → StopsScram handed kind kept old new
 stopped_early {kept = kept} handed kind old new s nothing =
-    (inl (stopped_of (opening handed) kind old.state new.state old.id new.id kept s, nothing), keeping_first (opening handed) (closing handed) kind old.state new.state old.id new.id s)
+    (inl ((kept, s), nothing), stopped_first (opening handed) (closing handed) kind old.state new.state old.id new.id s)
 
 -- ---- from between the exchanges
 
@@ -96,11 +96,11 @@ module _ (handed : Handed) (user : User) (o : Opened) (key : SaltedKey) (tag : L
       middle = middle.state;
       between = middle.id;
       opened = opening_followed;
-      stopped = stopped_of (closing handed challenge) kind middle.state new middle.id after kept s;
+      stopped = (kept, s);
       derived = inl derives;
       entries = entries;
     }),
-    keeping_second (opening handed) (closing handed) challenge kind old.state middle.state new old.id middle.id after opening_followed s,
+    stopped_second (opening handed) (closing handed) challenge kind old.state middle.state new old.id middle.id after opening_followed s,
   )
 
   -- one before anything is put in

@@ -4,10 +4,10 @@ use Rattle.std.proofs.lemmas.Bool.{false≢true}
 use Rattle.mongo_wire.specs.declared.error.ErrorKind.{ErrorKind}
 use Rattle.mongo_wire.specs.declared.error.ErrorKind.TheVariants.{OutOfMemory}
 use Rattle.mongo_wire.specs.Outside.{State}
-use Rattle.mongo_command.specs.Conversation.{Said, Event, Turn, says, ends, HasNone, ending, unless, Reached}
-use Rattle.mongo_command.proofs.Steps.{reached_ending, reached_unless, reached_reading, reached_saying}
-use Rattle.mongo_sasl.specs.Stops.{StoppedKeeping, BeginsWithCommand, RefusedAtOnce}
-use Rattle.mongo_sasl.proofs.StoppedKeeping.{keeping_more, at_once_more, at_once_keeping, refused_later}
+use Rattle.mongo_command.specs.Conversation.{Said, Event, Turn, says, ends, HasNone, ending, unless, Reached, StoppedKeeping}
+use Rattle.mongo_command.proofs.Steps.{reached_ending, reached_unless, reached_reading, reached_saying, stopped_more}
+use Rattle.mongo_sasl.specs.Stops.{BeginsWithCommand, RefusedAtOnce}
+use Rattle.mongo_sasl.proofs.AtOnce.{at_once_more, at_once_keeping, refused_later}
 use Rattle.mongo_scram.specs.declared.login.Opened.{Opened}
 use Rattle.mongo_scram.specs.declared.server_first.ServerFirst.{ServerFirst}
 use Rattle.mongo_scram.specs.Client.{nonce_of}
@@ -48,7 +48,7 @@ after_tests : (handed : Handed) (user : User) → IsUser handed.credential user 
 after_tests handed user is past turn h = inr (no_credential_row handed.credential user is, (user, is, h))
 
 pub user_stopped : {kept : Option ErrorKind} (handed : Handed) (user : User) (kind : ErrorKind) (old new : State) (before after : ℤ) → IsUser handed.credential user → StoppedKeeping (opened handed.speculated handed user) kind old new before after kept → StoppedKeeping (opening handed) kind old new before after kept
-user_stopped handed user kind old new before after is s = keeping_more (opened handed.speculated handed user) (opening handed) kind old new before after (after_tests handed user is) s
+user_stopped handed user kind old new before after is s = stopped_more (opened handed.speculated handed user) (opening handed) kind old new before after (after_tests handed user is) s
 
 pub user_refused : (handed : Handed) (user : User) (kind : ErrorKind) → IsUser handed.credential user → RefusedAtOnce (opened handed.speculated handed user) kind → RefusedAtOnce (opening handed) kind
 user_refused handed user kind is r = at_once_more (opened handed.speculated handed user) (opening handed) kind (after_tests handed user is []) r

@@ -7,7 +7,7 @@ use Rattle.mongo_command.specs.Conversation.{says, ends, Reached}
 use Rattle.mongo_command.proofs.FollowedBy.{reached_both}
 use Rattle.mongo_sasl.specs.Stops.{BeginsWithCommand, RefusedAtOnce}
 use Rattle.mongo_sasl.proofs.LastReply.{ends_reached}
-use Rattle.mongo_sasl.proofs.StoppedKeeping.{at_once_first, at_once_second}
+use Rattle.mongo_sasl.proofs.AtOnce.{at_once_first, at_once_second}
 use Rattle.mongo_scram.specs.Plan.{Handed, start_said, close_said, opened, opening, closing, scram_plan}
 use Rattle.mongo_scram.specs.Costs.{Ledgers, Balance, Accepted, StartUnsaid, FaultCosts, ScramRefused}
 use Rattle.mongo_scram.proofs.OneRow.{no_credential_row}

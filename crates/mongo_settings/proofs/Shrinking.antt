@@ -9,7 +9,7 @@ use Rattle.mongo_bson.specs.declared.fault.BsonFault.TheVariants.{TooLong}
 use Rattle.mongo_wire.specs.declared.message.Message.{Message}
 use Rattle.mongo_wire.specs.Message.{ReadRefused}
 use Rattle.mongo_wire.specs.Outside.{State}
-use Rattle.mongo_command.specs.Conversation.{Plan, Stopped, Reached}
+use Rattle.mongo_command.specs.Conversation.{Plan, StoppedKeeping, Reached}
 use Rattle.mongo_command.specs.Exchange.{ExchangeRefused, SendRefused, Unsent, Cut}
 use Rattle.mongo_scram.specs.Costs.{Ledgers}
 use Rattle.mongo_establish.specs.declared.establisher.EstablishError.{EstablishError}
@@ -64,22 +64,22 @@ exchange_refused kind maximum message old new before after kept (inr is) =
 reached : {A : Type 0} (plan : Plan A) (answer : A) (old new : State) (before after : ℤ) → Reached plan answer old new before after → TakesSome old.left new.left
 reached plan answer old new before after is = (is.talked.heard, is.talked.consumed)
 
-stopped : {A : Type 0} (plan : Plan A) (kind : ErrorKind) (old new : State) (before after : ℤ) → Stopped plan kind old new before after → TakesSome old.left new.left
+stopped : {A : Type 0} {kept : Option ErrorKind} (plan : Plan A) (kind : ErrorKind) (old new : State) (before after : ℤ) → StoppedKeeping plan kind old new before after kept → TakesSome old.left new.left
 stopped plan kind old new before after is =
     more_taken old.left is.middle.left new.left (is.talked.heard, is.talked.consumed)
     (elim is.stop [
-      | inl halted ↦ none_taken is.middle.left new.left (ap (λ s. s.left) halted.link)
+      | inl halted ↦ none_taken is.middle.left new.left (ap (λ s. s.left) halted.0.link)
       | inr failed ↦ exchange_refused _ _ _ is.middle new _ _ _ failed.refused
     ])
 
 -- ---- an establishment
 
 stopped_in : (phase : HandshakePhase) (asked : Asked) (kind : ErrorKind) (old new : State) (after : ℤ) (first last : Ledgers) → StoppedIn phase asked kind old new after first last → TakesSome old.left new.left
-stopped_in (PreHello generation) asked kind old new after first last is = stopped _ kind old new _ after is.1
+stopped_in (PreHello generation) asked kind old new after first last is = stopped _ kind old new _ after is.1.1
 stopped_in (PostHello generation) asked kind old new after first last is =
     more_taken old.left is.middle.left new.left (reached _ is.greeting old is.middle _ _ is.hello)
     (elim is.stopped [
-      | inl refused ↦ stopped _ kind is.middle new _ after refused.login
+      | inl refused ↦ stopped _ kind is.middle new _ after refused.login.1
       | inr unnamed ↦ reached _ is.greeting is.middle new _ after unnamed.login
     ])
 

@@ -9,7 +9,7 @@ use Rattle.mongo_scram.specs.Plan.{closing}
 use Rattle.mongo_sasl.proofs.Handed.{no_answer_on, on_answer, rest_on}
 use Rattle.mongo_sasl.proofs.DrawnIds.{twice_buffer}
 use Rattle.mongo_sasl.proofs.LeftInBuffer.{leaves_all, leaves_both}
-use Rattle.mongo_sasl.proofs.StoppedKeeping.{at_once_keeping}
+use Rattle.mongo_sasl.proofs.AtOnce.{at_once_keeping}
 use Rattle.mongo_sasl.proofs.StopsBy.{faultless_before}
 use Rattle.mongo_scram.proofs.ScramPlan.{challenge_by_first}
 use Rattle.mongo_scram.proofs.Derived.{costs_nothing}
