@@ -9,7 +9,7 @@ use Rattle.mongo_sasl.specs.X509.{x509_command}
 use Rattle.mongo_scram.specs.declared.scram_version.ScramVersion.{ScramVersion}
 use Rattle.mongo_scram.specs.declared.messages.ClientFirst.{ClientFirst as ScramFirst}
 use Rattle.mongo_scram.specs.declared.conversation.FirstRound.{FirstRound as ScramRound}
-use Rattle.mongo_scram.specs.Client.{message_of, nonce_of, first_source, includes_db, speculated_of}
+use Rattle.mongo_scram.specs.Client.{message_of, nonce_of, first_source, includes_db, SameFirst, speculated_of}
 use Rattle.mongo_scram.specs.Commands.{first_body}
 use Rattle.mongo_scram.specs.Plan.{Speculated}
 use Rattle.mongo_establish.specs.Asked.{Asked}
@@ -30,6 +30,12 @@ use Rattle.mongo_establish.specs.Speculation.{mechanism_before, scram_speculatio
 abbrev pub first_document : ClientFirst → List ℕ
 first_document (Scram version first) = first_body version (includes_db first) (first_source first) (message_of first)
 first_document (X509 command) = command.body
+
+-- two messages are of one kind and version, and say the same
+abbrev pub IsSameFirst : ClientFirst → ClientFirst → Type 0
+IsSameFirst (Scram version first) (Scram also other) = (version ≡ also) × SameFirst first other
+IsSameFirst (X509 command) (X509 other) = command ≡ other
+IsSameFirst first other = ⊥
 
 -- a SCRAM login's first message says who logs in and its nonce
 pub record IsScramMessage (version : ScramVersion) (credential : Credential) (nonce : List ℕ) (also : ScramVersion) (first : ScramFirst) : Type 0 where

@@ -26,7 +26,7 @@ pub enum ClientFirst {
 impl ClientFirst {
     ghost use Rattle.std.specs.Prelude.{◌≡◌, IfOk, IfErr};
     ghost use Rattle.mongo_command.specs.Exchange.{DocumentRefused};
-    ghost use Rattle.mongo_establish.specs.First.{first_document};
+    ghost use Rattle.mongo_establish.specs.First.{first_document, IsSameFirst};
 
     /// The document that carries it in a hello: the body of the command that would say it.
     ///
@@ -38,6 +38,19 @@ impl ClientFirst {
         match self {
             ClientFirst::Scram(version, first) => Ok(first.to_command(alloc, version)?.body),
             ClientFirst::X509(command) => Ok(command.body.try_clone(alloc)?),
+        }
+    }
+
+    /// A copy of the message.
+    pub fn try_clone(&self, alloc: Global) -> Result<ClientFirst, Error>
+        ensures copied { IfOk result (λ first. IsSameFirst first self.now) }
+        ensures refused { IfErr result (λ e. e.kind ≡ OutOfMemory) }
+    {
+        match self {
+            ClientFirst::Scram(version, first) => {
+                Ok(ClientFirst::Scram(*version, first.try_clone(alloc)?))
+            }
+            ClientFirst::X509(command) => Ok(ClientFirst::X509(command.try_clone(alloc)?)),
         }
     }
 }

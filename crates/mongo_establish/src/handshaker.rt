@@ -69,6 +69,18 @@ impl Handshaker {
         Ok(Handshaker { hello, options })
     }
 
+    /// A copy. It builds no hello anew.
+    pub fn try_clone(&self, alloc: Global) -> Result<Handshaker, Error>
+        ensures copied { IfOk result (λ handshaker. handshaker ≡ self.now) }
+        ensures refused { IfErr result (λ e. e.kind ≡ OutOfMemory) }
+    {
+        let options = self.options.try_clone(alloc)?;
+        Ok(Handshaker {
+            hello: self.hello.try_clone(alloc)?,
+            options,
+        })
+    }
+
     /// Says hello over a fresh connection, describes the server by the reply, and logs in where there is a credential and
     /// the server holds users.
     ///

@@ -1,6 +1,6 @@
 use mongo_sasl::Moment;
 use mongo_scram::SaltedCache;
-use mongo_wire::RequestIds;
+use mongo_wire::{Error, RequestIds};
 use std::alloc::Global;
 
 /// What logins share, and each of them may change.
@@ -13,8 +13,9 @@ pub struct LoginState {
 }
 
 impl LoginState {
-    ghost use Rattle.std.specs.Prelude.{◌≡◌, [], pos};
+    ghost use Rattle.std.specs.Prelude.{◌≡◌, [], pos, IfOk, IfErr};
     ghost use Rattle.mongo_scram.specs.Cache.{entries_of, rounds_of};
+    ghost use Rattle.mongo_wire.specs.declared.error.ErrorKind.TheVariants.{OutOfMemory};
 
     /// What logins share of which none was made. The ids begin at 0. It takes no memory.
     pub fn new(alloc: Global) -> LoginState
@@ -26,6 +27,20 @@ impl LoginState {
             salted: SaltedCache::new(alloc),
             ids: RequestIds::new(0),
         }
+    }
+
+    /// A copy: the salted passwords, and ids that go on from the same one. From here on each counts and keeps for itself, so
+    /// logins with both may draw the same ids: each belongs to connections of its own.
+    pub fn try_clone(&self, alloc: Global) -> Result<LoginState, Error>
+        ensures entries { IfOk result (λ state. entries_of state.salted ≡ entries_of self.now.salted) }
+        ensures rounds { IfOk result (λ state. rounds_of state.salted ≡ rounds_of self.now.salted) }
+        ensures ids { IfOk result (λ state. state.ids ≡ self.now.ids) }
+        ensures refused { IfErr result (λ e. e.kind ≡ OutOfMemory) }
+    {
+        Ok(LoginState {
+            salted: self.salted.try_clone(alloc)?,
+            ids: RequestIds::new(self.ids.next()),
+        })
     }
 }
 

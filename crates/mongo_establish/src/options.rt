@@ -52,6 +52,19 @@ impl TopologySpec {
             max_iterations,
         })
     }
+
+    /// A copy.
+    pub fn try_clone(&self, alloc: Global) -> Result<TopologySpec, Error>
+        ensures copied { IfOk result (λ spec. spec ≡ self.now) }
+        ensures refused { IfErr result (λ e. e.kind ≡ OutOfMemory) }
+    {
+        let metadata = self.metadata.try_clone(alloc)?;
+        Ok(TopologySpec {
+            options: self.options.try_clone(alloc)?,
+            metadata,
+            max_iterations: self.max_iterations,
+        })
+    }
 }
 
 /// What the handshakes of a client are made of.
@@ -82,6 +95,22 @@ impl Drop for HandshakerOptions {
     }
 }
 
+impl HandshakerOptions {
+    /// A copy.
+    pub fn try_clone(&self, alloc: Global) -> Result<HandshakerOptions, Error>
+        ensures copied { IfOk result (λ options. options ≡ self.now) }
+        ensures refused { IfErr result (λ e. e.kind ≡ OutOfMemory) }
+    {
+        Ok(HandshakerOptions {
+            server_api: self.server_api,
+            load_balanced: self.load_balanced,
+            auth_options: self.auth_options,
+            metadata: self.metadata.try_clone(alloc)?,
+            max_iterations: self.max_iterations,
+        })
+    }
+}
+
 /// What an establisher is made of.
 #[derive(Debug, Drop)]
 pub struct EstablisherOptions {
@@ -107,6 +136,16 @@ impl EstablisherOptions {
                 metadata: spec.metadata.try_clone(alloc)?,
                 max_iterations: spec.max_iterations,
             },
+        })
+    }
+
+    /// A copy.
+    pub fn try_clone(&self, alloc: Global) -> Result<EstablisherOptions, Error>
+        ensures copied { IfOk result (λ options. options ≡ self.now) }
+        ensures refused { IfErr result (λ e. e.kind ≡ OutOfMemory) }
+    {
+        Ok(EstablisherOptions {
+            handshake_options: self.handshake_options.try_clone(alloc)?,
         })
     }
 }

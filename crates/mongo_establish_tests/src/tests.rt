@@ -153,13 +153,21 @@ fn options_of(alloc: Global, spec: &TopologySpec) -> Result<EstablisherOptions, 
     given(EstablisherOptions::from_spec(alloc, spec))
 }
 
+// Those of a copy of the specification.
 fn establisher_options(alloc: Global) -> Result<EstablisherOptions, Fail> {
-    let spec = spec(alloc)?;
+    let spec = given(spec(alloc)?.try_clone(alloc))?;
     options_of(alloc, &spec)
 }
 
+// An establisher of a copy of its options.
+fn first_establisher(alloc: Global) -> Result<ConnectionEstablisher, Fail> {
+    let options = given(establisher_options(alloc)?.try_clone(alloc))?;
+    given(ConnectionEstablisher::new(alloc, options))
+}
+
+// A copy of it.
 fn establisher(alloc: Global) -> Result<ConnectionEstablisher, Fail> {
-    given(ConnectionEstablisher::new(alloc, establisher_options(alloc)?))
+    given(first_establisher(alloc)?.try_clone(alloc))
 }
 
 fn text(alloc: Global, given: &str) -> Result<Option<Text>, Fail> {
@@ -223,7 +231,7 @@ fn made_with<L: Link, G: Ledger>(
     requires has_a_part { 0 < G.parts }
     requires spoken { SpeaksFor (option_copied credential) }
 {
-    let pending = pending(alloc, pool)?;
+    let pending = given(pending(alloc, pool)?.try_clone(alloc))?;
     let mut steps = Steps::<G>::new(blank);
     Ok(ended(establisher.establish_connection(
         alloc,

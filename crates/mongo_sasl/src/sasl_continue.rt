@@ -1,7 +1,7 @@
 use crate::commands::login_command;
 use crate::keys::SASL_CONTINUE;
 use crate::login_bodies::continue_body;
-use mongo_bson::{Bytes, OwnedValue, Text};
+use mongo_bson::{BsonFault, Bytes, OwnedValue, Text};
 use mongo_command::{Command, ServerApi};
 use mongo_wire::Error;
 use std::alloc::Global;
@@ -53,5 +53,18 @@ impl SaslContinue {
             body,
             self.server_api,
         )
+    }
+
+    /// A copy of the step.
+    pub fn try_clone(&self, alloc: Global) -> Result<SaslContinue, BsonFault>
+        ensures copied { IfOk result (λ step. step ≡ self.now) }
+        ensures refused { IfErr result (λ fault. fault ≡ BsonFault.OutOfMemory) }
+    {
+        Ok(SaslContinue {
+            source: self.source.try_clone(alloc)?,
+            conversation_id: self.conversation_id.try_clone(alloc)?,
+            payload: self.payload.try_clone(alloc)?,
+            server_api: self.server_api,
+        })
     }
 }

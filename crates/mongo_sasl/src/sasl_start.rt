@@ -2,7 +2,7 @@ use crate::AuthMechanism;
 use crate::commands::login_command;
 use crate::keys::SASL_START;
 use crate::login_bodies::start_body;
-use mongo_bson::{Bytes, Text};
+use mongo_bson::{BsonFault, Bytes, Text};
 use mongo_command::{Command, ServerApi};
 use mongo_wire::Error;
 use std::alloc::Global;
@@ -54,5 +54,18 @@ impl SaslStart {
             body,
             self.server_api,
         )
+    }
+
+    /// A copy of the start.
+    pub fn try_clone(&self, alloc: Global) -> Result<SaslStart, BsonFault>
+        ensures copied { IfOk result (λ start. start ≡ self.now) }
+        ensures refused { IfErr result (λ fault. fault ≡ BsonFault.OutOfMemory) }
+    {
+        Ok(SaslStart {
+            source: self.source.try_clone(alloc)?,
+            mechanism: self.mechanism,
+            payload: self.payload.try_clone(alloc)?,
+            server_api: self.server_api,
+        })
     }
 }

@@ -7,7 +7,7 @@ use crate::salted_password::SaltedPassword;
 use mongo_bson::{BsonFault, Bytes, Text};
 use mongo_mac::Tag;
 use mongo_wire::Error;
-use std::alloc::Global;
+use std::alloc::{AllocError, Global};
 use std::cmp::Ordering;
 use std::collections::BTreeMap;
 use std::fmt;
@@ -54,6 +54,20 @@ impl SaltedKey {
             salt: self.salt.try_clone(alloc)?,
             count: self.count,
         })
+    }
+}
+
+// The map asks its keys for this where it is copied.
+impl Clone for SaltedKey {
+    ghost use Rattle.std.specs.Prelude.{◌≡◌};
+
+    ghost is_clone = { λ key copy. copy ≡ key };
+
+    fn clone(&self) -> Result<SaltedKey, AllocError> {
+        match self.try_clone(self.username.allocator()) {
+            Ok(key) => Ok(key),
+            Err(_) => Err(AllocError),
+        }
     }
 }
 
@@ -198,6 +212,19 @@ impl SaltedCache {
         ensures { IsTrue result ↔ (entries_of self.now ≡ []) }
     {
         self.entries.is_empty()
+    }
+
+    /// A copy of the cache: its entries, and the rounds that were derived so far. It derives nothing, and what is put in
+    /// later or derived is that cache's alone.
+    pub fn try_clone(&self, _alloc: Global) -> Result<SaltedCache, BsonFault>
+        ensures entries { IfOk result (λ cache. entries_of cache ≡ entries_of self.now) }
+        ensures rounds { IfOk result (λ cache. rounds_of cache ≡ rounds_of self.now) }
+        ensures refused { IfErr result (λ fault. fault ≡ BsonFault.OutOfMemory) }
+    {
+        Ok(SaltedCache {
+            entries: self.entries.clone()?,
+            rounds: self.rounds,
+        })
     }
 
     /// How many rounds of Hi the logins with this cache have derived; it stays at 18446744073709551615.

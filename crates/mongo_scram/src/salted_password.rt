@@ -5,6 +5,7 @@ ghost use Rattle.mongo_scram.specs.Version.{digest_of};
 use crate::ScramVersion;
 use crate::keys::Keys;
 use mongo_mac::Tag;
+use std::alloc::AllocError;
 use std::fmt;
 use std::marker::Model;
 
@@ -83,6 +84,17 @@ impl SaltedPassword {
         } else {
             Keys::new(*version, &self.tag).verifier(auth_message)
         }
+    }
+}
+
+// The map asks its values for this where it is copied.
+impl Clone for SaltedPassword {
+    ghost use Rattle.std.specs.Prelude.{◌≡◌};
+
+    ghost is_clone = { λ salted copy. copy ≡ salted };
+
+    fn clone(&self) -> Result<SaltedPassword, AllocError> {
+        Ok(self.copy())
     }
 }
 

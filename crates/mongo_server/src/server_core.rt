@@ -7,7 +7,8 @@ use crate::fault::ServerFault;
 use crate::messages::{joined_nonce, server_final_text, server_first_text};
 use crate::parse::{ClientFirstParts, read_client_final, read_client_first};
 use crate::user::ServerUser;
-use mongo_bson::Text;
+use mongo_bson::{BsonFault, Text, TryClone, copy_of};
+use mongo_command::both;
 use mongo_mac::{Tag, are_same_bytes};
 use mongo_scram::transcript_text;
 use std::alloc::Global;
@@ -28,6 +29,19 @@ impl Drop for ServerConversation {
             nonce: _,
             auth_message: _,
         } = self;
+    }
+}
+
+impl TryClone for ServerConversation {
+    fn try_clone(&self, alloc: Global) -> Result<ServerConversation, BsonFault> {
+        let (nonce, auth_message) = both(
+            self.nonce.try_clone(alloc),
+            self.auth_message.try_clone(alloc),
+        )?;
+        Ok(ServerConversation {
+            nonce,
+            auth_message,
+        })
     }
 }
 
@@ -170,6 +184,21 @@ impl ServerCore {
             Ok(()) => self.expected_final(alloc),
             Err(fault) => Err(fault),
         }
+    }
+
+    /// A copy of the server, with the conversation that it holds: either goes on in it by itself. It signs nothing.
+    pub fn try_clone(&self, alloc: Global) -> Result<ServerCore, BsonFault>
+        ensures copied { IfOk result (λ server. server ≡ self.now) }
+        ensures refused { IfErr result (λ fault. fault ≡ BsonFault.OutOfMemory) }
+    {
+        let known = both(self.user.try_clone(alloc), self.suffix.try_clone(alloc));
+        let ((user, suffix), conversation) = both(known, copy_of(alloc, &self.conversation))?;
+        Ok(ServerCore {
+            user,
+            suffix,
+            conversation,
+            verifier: self.verifier,
+        })
     }
 
     // What a client's first message says, where it is one of the user. It takes no memory.

@@ -1,7 +1,8 @@
 ghost use Rattle.std.specs.Prelude.{◌≡◌};
 ghost use Rattle.mongo_scram.specs.UserName.{escaped};
 
-use mongo_bson::{Bytes, Text};
+use mongo_bson::{BsonFault, Bytes, Text};
+use mongo_command::both;
 use mongo_mac::{Steps, Tag};
 use mongo_scram::{Keys, ScramVersion, saslname};
 use mongo_wire::Error;
@@ -75,6 +76,22 @@ impl ServerUser {
             steps,
         )?;
         ServerUser::with_key(alloc, version, username, &salted, salt, count)
+    }
+
+    /// A copy of the user. It derives nothing.
+    pub fn try_clone(&self, alloc: Global) -> Result<ServerUser, BsonFault>
+        ensures copied { IfOk result (λ user. user ≡ self.now) }
+        ensures refused { IfErr result (λ fault. fault ≡ BsonFault.OutOfMemory) }
+    {
+        let names = both(self.username.try_clone(alloc), self.saslname.try_clone(alloc));
+        let ((username, saslname), salt) = both(names, self.salt.try_clone(alloc))?;
+        Ok(ServerUser {
+            username,
+            saslname,
+            salt,
+            count: self.count,
+            keys: self.keys.copy(),
+        })
     }
 
     // The user whose salted password this is.

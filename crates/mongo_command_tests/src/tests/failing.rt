@@ -286,8 +286,9 @@ impl Talk {
         })
     }
 
-    // Makes a call, and gives what is seen after it.
+    // Makes a call over a copy of the connection, and gives what is seen after it.
     fn ask(&mut self, alloc: Global, asked: Asked) -> Result<Seen, Fail> {
+        self.connection = given(self.connection.try_clone(alloc))?;
         let told = self.tell(alloc, asked)?;
         Ok(self.seen(told))
     }

@@ -28,8 +28,12 @@ trait Goes {
 
 impl Goes for ClientFirst {
     fn is_document(&self, alloc: Global, wanted: &[u8]) -> Result<bool, Fail> {
-        Ok(given(self.to_document(alloc))?.as_bytes() == wanted)
+        Ok(first_is(alloc, self, wanted)? && first_is(alloc, &given(self.try_clone(alloc))?, wanted)?)
     }
+}
+
+fn first_is(alloc: Global, first: &ClientFirst, wanted: &[u8]) -> Result<bool, Fail> {
+    Ok(given(first.to_document(alloc))?.as_bytes() == wanted)
 }
 
 // Whether there is a first message of this document, or none.

@@ -236,6 +236,7 @@ const API: ServerApi = ServerApi {
     deprecation_errors: None,
 };
 
+// A copy of a start, and of a step.
 fn start(
     alloc: Global,
     source: &str,
@@ -245,7 +246,7 @@ fn start(
 ) -> Result<SaslStart, BsonFault> {
     let source = Text::from_slice(alloc, source)?;
     let payload = bytes(alloc, payload)?;
-    Ok(SaslStart::new(source, mechanism, payload, server_api))
+    SaslStart::new(source, mechanism, payload, server_api).try_clone(alloc)
 }
 
 fn step(alloc: Global) -> Result<SaslContinue, BsonFault> {
@@ -255,7 +256,7 @@ fn step(alloc: Global) -> Result<SaslContinue, BsonFault> {
         kind: 0x12,
         bytes: bytes(alloc, ID)?,
     };
-    Ok(SaslContinue::new(source, id, payload, Some(API)))
+    SaslContinue::new(source, id, payload, Some(API)).try_clone(alloc)
 }
 
 // A command of a login.

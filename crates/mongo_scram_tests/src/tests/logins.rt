@@ -357,12 +357,14 @@ fn end_where_one_fails(
     Ok((refusal.fault, refusal.kept, cache.rounds(), cache.len()))
 }
 
-// Fails where a cache isn't new, or one of the logins with it ends otherwise.
+// Fails where a cache isn't new, or one of the logins ends otherwise, each of them with a copy of the cache that the login before
+// it left.
 fn check_logins(alloc: Global, cache: &mut SaltedCache) -> Result<(), Fail> {
     if !cache.is_empty() || cache.rounds() != 0 {
         return Err(Fail::from("no new cache"));
     }
     for place in 0..10 {
+        *cache = given(cache.try_clone(alloc))?;
         if !ends_so(alloc, &login_at(place), &end_at(place), cache)? {
             return Err(Fail::new(format_args!("{place}")));
         }

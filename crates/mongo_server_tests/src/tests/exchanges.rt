@@ -63,6 +63,14 @@ fn owes(alloc: Global, server: &ServerCore, text: &str) -> bool {
     }
 }
 
+// Whether a copy of the server owes that too.
+fn copy_owes(alloc: Global, server: &ServerCore, text: &str) -> bool {
+    match server.try_clone(alloc) {
+        Ok(copy) => owes(alloc, &copy, text),
+        Err(_) => false,
+    }
+}
+
 #[test]
 fn exchanges_of_the_standards(rt: HostRuntime) -> Result<(), Fail> {
     let alloc = rt.alloc();
@@ -79,6 +87,7 @@ fn exchanges_of_the_standards(rt: HostRuntime) -> Result<(), Fail> {
             "{place}"
         );
         assert!(rt; owes(alloc, &server, row.server_final), "{place}");
+        assert!(rt; copy_owes(alloc, &server, row.server_final), "{place}");
         assert!(rt;
             last_is(
                 alloc,
