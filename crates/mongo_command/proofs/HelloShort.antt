@@ -40,9 +40,9 @@ short_fault OutOfMemory document long short = refl
 short_fault fault document long short = absurd long
 
 -- where a document is short, only memory can be wanting for it
-pub hello_only_memory : {T : Type 0} (answer : Result T BsonFault) (fields elements : List Element) → fields ≡ elements → length (document_of elements) ≤ maximum_length → IfErr answer (λ fault. TooLongFor fault (document_of fields)) → IfErr answer (λ fault. fault ≡ OutOfMemory)
-hello_only_memory (Ok value) fields elements same short refused = tt
-hello_only_memory (Err fault) fields elements same short refused = short_fault fault (document_of elements) (subst (λ es. TooLongFor fault (document_of es)) same refused) short
+pub short_only_memory : {T : Type 0} (answer : Result T BsonFault) (fields elements : List Element) → fields ≡ elements → length (document_of elements) ≤ maximum_length → IfErr answer (λ fault. TooLongFor fault (document_of fields)) → IfErr answer (λ fault. fault ≡ OutOfMemory)
+short_only_memory (Ok value) fields elements same short refused = tt
+short_only_memory (Err fault) fields elements same short refused = short_fault fault (document_of elements) (subst (λ es. TooLongFor fault (document_of es)) same refused) short
 
 -- and what is made is as short
 pub short_document : (answer : Result (List ℕ) BsonFault) (fields elements : List Element) → fields ≡ elements → length (document_of elements) < 2 ^ 8 → IfOk answer (λ document. document ≡ document_of fields) → IfOk answer (λ document. length document < 2 ^ 8)

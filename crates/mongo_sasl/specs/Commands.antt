@@ -27,13 +27,16 @@ start_options ScramSha1 = document_element options_key skip_empty_exchange ∷ [
 start_options ScramSha256 = document_element options_key skip_empty_exchange ∷ []
 start_options other = []
 
--- the elements of a `saslStart`
-abbrev pub start_elements : AuthMechanism → List ℕ → List Element
-start_elements mechanism payload =
+-- the elements of a `saslStart` with these options
+abbrev pub start_with : AuthMechanism → List ℕ → List Element → List Element
+start_with mechanism payload options =
     int32_element sasl_start_key (pos 1)
     ∷ text_element mechanism_key (name_of mechanism)
     ∷ generic_element payload_key payload
-    ∷ start_options mechanism
+    ∷ options
+
+abbrev pub start_elements : AuthMechanism → List ℕ → List Element
+start_elements mechanism payload = start_with mechanism payload (start_options mechanism)
 
 -- the elements of a `saslContinue`
 abbrev pub continue_elements : OwnedValue → List ℕ → List Element

@@ -1,14 +1,16 @@
 use Rattle.std.proofs.Common.{◌≡◌, IfOk, IfErr, subst}
-use Rattle.mongo_command.specs.Arguments.{TooLongFor}
+use Rattle.mongo_command.specs.Arguments.{TooLongFor, field_elements}
 use Rattle.mongo_sasl.proofs.StartBody.{scram_started}
 use Rattle.mongo_sasl.proofs.login_bodies.start_body.Goals as goal
 
-pub returns-in-ScramSha1-clause-body : goal.returns-in-ScramSha1-clause-body
-returns-in-ScramSha1-clause-body c =
-    let started = scram_started c.args.mechanism c.as_str.result.now c.as_bytes.result.now c.args.payload.now c.skip_empty_exchange.result.bytes.now c.in-ScramSha1.is c.as_str.ensures.name c.as_bytes.ensures c.skip_empty_exchange.ensures in
-    subst (λ d. IfOk c.document_of.result (λ body. body ≡ d)) started c.document_of.ensures.document
+pub returns-in_ok-options-in-ScramSha1-clause-body : goal.returns-in_ok-options-in-ScramSha1-clause-body
+returns-in_ok-options-in-ScramSha1-clause-body c =
+    let options = c.in_ok-options-in-ScramSha1 in
+    let started = scram_started c.args.mechanism c.args.payload.now options.options (field_elements c.document_field.result) c.in-ScramSha1.is c.document_field.ensures.elements options.ensures.options in
+    subst (λ d. IfOk c.start_with.result (λ body. body ≡ d)) started c.start_with.ensures.body
 
-pub returns-in-ScramSha1-clause-refused : goal.returns-in-ScramSha1-clause-refused
-returns-in-ScramSha1-clause-refused c =
-    let started = scram_started c.args.mechanism c.as_str.result.now c.as_bytes.result.now c.args.payload.now c.skip_empty_exchange.result.bytes.now c.in-ScramSha1.is c.as_str.ensures.name c.as_bytes.ensures c.skip_empty_exchange.ensures in
-    subst (λ d. IfErr c.document_of.result (λ fault. TooLongFor fault d)) started c.document_of.ensures.refused
+pub returns-in_ok-options-in-ScramSha1-clause-refused : goal.returns-in_ok-options-in-ScramSha1-clause-refused
+returns-in_ok-options-in-ScramSha1-clause-refused c =
+    let options = c.in_ok-options-in-ScramSha1 in
+    let started = scram_started c.args.mechanism c.args.payload.now options.options (field_elements c.document_field.result) c.in-ScramSha1.is c.document_field.ensures.elements options.ensures.options in
+    subst (λ d. IfErr c.start_with.result (λ fault. TooLongFor fault d)) started c.start_with.ensures.refused
