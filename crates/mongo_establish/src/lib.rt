@@ -66,6 +66,7 @@ pub use mongo_bson::get_u64_raw;
 pub use mongo_bson::replacement_document_check;
 pub use mongo_bson::replacement_raw_document_check;
 pub use mongo_bson::take_cstring;
+pub use mongo_bson::take_document;
 pub use mongo_bson::to_raw_bson_array;
 pub use mongo_bson::update_document_check;
 pub use mongo_bson::vec_to_raw_array_buf;
