@@ -1,9 +1,8 @@
 -- A handshake that was followed to its end is a script, and a script's replies lead there.
-use Rattle.std.proofs.Common.{◌≡◌, ℕ, ℤ, ◌∙◌, append-nil, append_assoc, refl, subst, sym, List, [], ◌∷◌, ◌++◌, ap}
+use Rattle.std.proofs.Common.{◌≡◌, ℕ, ℤ, ◌∙◌, append-nil, append_assoc, refl, subst, sym, List, [], ◌∷◌, ◌++◌, ap, map}
 use Rattle.mongo_wire.specs.Outside.{State}
-use Rattle.mongo_wire.specs.Bytes.{IsSent, IsWhole, next_id}
-use Rattle.mongo_command.specs.Conversation.{Said, Event, exchanged, ends, Plan, said_in, given_in, id_after_said, IsSaid, IsHeard, IsFlushedAfter, Reached, Leads}
-use Rattle.mongo_command.specs.Conversation as conversation
+use Rattle.mongo_wire.specs.Bytes.{IsSent, IsWhole, next_id, id_after_all}
+use Rattle.mongo_command.specs.Conversation.{Said, Event, exchanged, ends, Plan, said_in, given_in, IsSaid, IsHeard, IsFlushedAfter, Reached, Leads}
 use Rattle.mongo_command.proofs.Ends.{PlanEnds}
 use Rattle.mongo_command.proofs.FollowedBy.{reached_both}
 use Rattle.mongo_command.proofs.Leads.{told_taken}
@@ -11,7 +10,7 @@ use Rattle.mongo_command.proofs.OneSaid.{framed_sendable}
 use Rattle.mongo_sasl.proofs.LoginEvents.{replies_in, documents_in, within_sent, events_sent_within, within_heard, heard_within, within_given, said_sendable}
 use Rattle.mongo_establish.specs.Asked.{Asked}
 use Rattle.mongo_establish.specs.Client.{hello_document}
-use Rattle.mongo_establish.specs.Established.{Scripted, id_after_all}
+use Rattle.mongo_establish.specs.Established.{Scripted}
 use Rattle.mongo_establish.specs.Generation.{NamesService}
 use Rattle.mongo_establish.specs.Greeting.{Greeting}
 use Rattle.mongo_establish.specs.Plan.{hello_said, hello_plan, login_plan, handshake_plan, establishment_plan}
@@ -61,10 +60,9 @@ abbrev pub script_by : (asked : Asked) (greeting : Greeting) (old new : State) (
 script_by asked greeting old new after r named = script_of asked r.events greeting (ended_by asked greeting old new after r named)
 
 -- the ids that a login's commands draw
-within_ids : (events : List Event) (id : ℤ) → id_after_said (said_in events) id ≡ id_after_all (documents_in events) id
+within_ids : (said : List Said) (id : ℤ) → id_after_all said id ≡ id_after_all (map (λ s. s.document) said) id
 within_ids [] id = refl
-within_ids (exchanged s reply ∷ events) id = within_ids events (next_id id)
-within_ids (conversation.asked question answer ∷ events) id = within_ids events id
+within_ids (s ∷ said) id = within_ids said (next_id id)
 
 pub scripted_by : (asked : Asked) (greeting : Greeting) (old new : State) (after : ℤ) (r : Reached (handshake_plan asked) greeting old new asked.first_id after) (named : NamesService asked.pending.generation greeting.description) → Scripted asked (script_by asked greeting old new after r named) old new after
 scripted_by asked greeting old new after r named =
@@ -76,7 +74,7 @@ scripted_by asked greeting old new after r named =
       is_written = script_sent asked r.events greeting e t.sent t.sent_is;
       written = t.written;
       flushed = subst (λ events. IsFlushedAfter (said_in events) old new) e.events_are t.flushed;
-      drawn = t.drawn ∙ ap (λ events. id_after_said (said_in events) asked.first_id) e.events_are ∙ within_ids e.more (next_id asked.first_id);
+      drawn = t.drawn ∙ ap (λ events. id_after_all (said_in events) asked.first_id) e.events_are ∙ within_ids (said_in e.more) (next_id asked.first_id);
       taken = λ bytes is.
           let told = told_taken bytes t.heard old.left new.left is t.consumed in
           record { taken = t.heard; rest = told.0; joined = told.1; is_taken = script_heard asked r.events greeting e t.heard t.heard_is; left_is = told.2 };

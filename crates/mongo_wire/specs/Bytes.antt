@@ -11,6 +11,11 @@ first_maximum = pos 50331648
 abbrev pub next_id : ℤ → ℤ
 next_id id = int_wrapping_add w32 id (pos 1)
 
+-- the next id after as many frames as there are things in the list
+abbrev pub id_after_all : {X : Type 0} → List X → ℤ → ℤ
+id_after_all [] id = id
+id_after_all (thing ∷ things) id = id_after_all things (next_id id)
+
 -- a frame of a command that has no sequences: response-to 0, no checksum, and a flag word of zero
 abbrev pub IsCommandFrame : List ℕ → ℤ → List ℕ → Type 0
 IsCommandFrame frame id command = IsFrameWith frame (record { request_id = id; response_to = pos 0; flags = 0; body = command; sequences = []; checksum = None }) 0
