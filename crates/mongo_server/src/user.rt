@@ -83,7 +83,10 @@ impl ServerUser {
         ensures copied { IfOk result (λ user. user ≡ self.now) }
         ensures refused { IfErr result (λ fault. fault ≡ BsonFault.OutOfMemory) }
     {
-        let names = both(self.username.try_clone(alloc), self.saslname.try_clone(alloc));
+        let names = both(
+            self.username.try_clone(alloc),
+            self.saslname.try_clone(alloc),
+        );
         let ((username, saslname), salt) = both(names, self.salt.try_clone(alloc))?;
         Ok(ServerUser {
             username,

@@ -28,7 +28,10 @@ trait Goes {
 
 impl Goes for ClientFirst {
     fn is_document(&self, alloc: Global, wanted: &[u8]) -> Result<bool, Fail> {
-        Ok(first_is(alloc, self, wanted)? && first_is(alloc, &given(self.try_clone(alloc))?, wanted)?)
+        Ok(
+            first_is(alloc, self, wanted)?
+                && first_is(alloc, &given(self.try_clone(alloc))?, wanted)?,
+        )
     }
 }
 
