@@ -97,14 +97,18 @@ fn address(alloc: Global) -> Result<ServerAddress, Fail> {
     Ok(ServerAddress::Tcp { host, port: None })
 }
 
-// The fifth connection of a pool.
-fn pending(alloc: Global, pool: PoolKind) -> Result<PendingConnection, Fail> {
+fn first_pending(alloc: Global, pool: PoolKind) -> Result<PendingConnection, Fail> {
     let address = address(alloc)?;
     Ok(PendingConnection {
         id: 5,
         address,
         generation: generation(alloc, pool)?,
     })
+}
+
+// The fifth connection of a pool, a copy.
+fn pending(alloc: Global, pool: PoolKind) -> Result<PendingConnection, Fail> {
+    given(first_pending(alloc, pool)?.try_clone(alloc))
 }
 
 fn os(alloc: Global) -> Result<OsMetadata, Fail> {
@@ -231,7 +235,7 @@ fn made_with<L: Link, G: Ledger>(
     requires has_a_part { 0 < G.parts }
     requires spoken { SpeaksFor (option_copied credential) }
 {
-    let pending = given(pending(alloc, pool)?.try_clone(alloc))?;
+    let pending = pending(alloc, pool)?;
     let mut steps = Steps::<G>::new(blank);
     Ok(ended(establisher.establish_connection(
         alloc,
