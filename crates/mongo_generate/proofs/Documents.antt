@@ -1,5 +1,5 @@
 -- Documents that are written out, as the commands and replies of a login are.
-use Rattle.std.proofs.Common.{◌≡◌, ◌≢◌, ℕ, zero, suc, ℤ, ◌+◌, ◌<◌, ◌≤◌, nat_lt, ◌==◌, ◌&&◌, Bool, true, false, not, FitsSigned, List, [], ◌∷◌, length, length-append, refl, sym, ◌∙◌, false-eqb, arith}
+use Rattle.std.proofs.Common.{◌≡◌, ◌≢◌, ℕ, zero, suc, ℤ, ◌+◌, ◌<◌, ◌≤◌, nat_lt, ◌==◌, ◌&&◌, Bool, true, false, not, FitsSigned, List, [], ◌∷◌, length, refl, sym, ◌∙◌, false-eqb, arith}
 use Rattle.std.specs.Int.{w32}
 use Rattle.std.specs.List.{AllByRecursion, flat_map}
 use Rattle.std.specs.Str.{IsUtf8, IsAscii, bytes_eq}
@@ -10,7 +10,7 @@ use Rattle.std.proofs.lemmas.Slice.Eq.{bytes_eq-Decides}
 use Rattle.mongo_bson.specs.Document.{Element, document, IsCstring, IsElement, IsDocument, IsInside, IsReadable, spell}
 use Rattle.mongo_bson.specs.Framed.{IsFramed, maximum_length}
 use Rattle.mongo_bson.specs.declared.raw_value.RawValue.TheVariants.{Str, Binary, Bool as Boolean, Int32}
-use Rattle.mongo_bson.proofs.Enclosed.{length-enclosed, element_bytes-enclosed, framed-enclosed}
+use Rattle.mongo_bson.proofs.Enclosed.{element_bytes-enclosed, framed-enclosed}
 use Rattle.mongo_bson.proofs.ReadBack.{written_element}
 use Rattle.mongo_command.proofs.HelloShort.{spelled_length, length-spelled}
 use Rattle.mongo_command.specs.Literal.{text_element, document_element, boolean_element, int32_element, document_of, generic_element}

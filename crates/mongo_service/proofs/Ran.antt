@@ -7,7 +7,7 @@ use Rattle.mongo_wire.specs.Outside.{AppendsFront}
 use Rattle.mongo_service.specs.declared.fault.ServeFault.{ServeFault}
 use Rattle.mongo_service.specs.declared.fault.ServeFault.TheVariants.{OutOfMemory}
 use Rattle.mongo_service.specs.declared.status.ServeStatus.{ServeStatus}
-use Rattle.mongo_service.specs.declared.status.ServeStatus.TheVariants.{Broken, BadSettings, Usage, NoMemory}
+use Rattle.mongo_service.specs.declared.status.ServeStatus.TheVariants.{Broken, BadSettings, Usage}
 use Rattle.mongo_service.specs.Report.{report_text, line_failed, no_settings}
 use Rattle.mongo_service.specs.Run.{ServeRun, status_of_fault, FailsWithin, HasBadLine, IsSaidWhole, IsUnsaid, Ran, ServingEnds, ServeRunEnds}
 

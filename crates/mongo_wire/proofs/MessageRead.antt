@@ -1,8 +1,6 @@
 -- What reading a message of its own says.
 use Rattle.std.proofs.Common.{◌≡◌, ℕ, ℤ, pos, ◌≤ℤ◌, Option, None, Some, Result, Ok, Err, IfOk, IfErr, List, ◌++◌, length, bit_and, refl, sym, ap, ◌∙◌, subst, inr, arith}
 use Rattle.std.proofs.lemmas.Int.{ints}
-use Rattle.std.proofs.lemmas.Nat.{and_assoc}
-use Rattle.std.specs.Int.Bits.{and_self}
 use Rattle.std.specs.Io.KnownBytes.{Consumes}
 use Rattle.mongo_wire.specs.Frame.{Frame, IsFrame, known_flags}
 use Rattle.mongo_wire.specs.Message.{parts_of, IsRead, ReadRefused, ReadsAgain}

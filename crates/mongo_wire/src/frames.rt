@@ -1,7 +1,7 @@
 ghost use denote.Follow.{follows_so};
 ghost use mathlib.Core.Option.{none};
 ghost use Rattle.std.specs.Borrow.{sem};
-ghost use Rattle.std.specs.Prelude.{◌≡◌, Some, true, false, length, IfOk, IfErr, OnOk, OnErr, IfSome, IsNone, MatchResult, ⊤};
+ghost use Rattle.std.specs.Prelude.{◌≡◌, Some, true, false, IfOk, IfErr, OnOk, OnErr, IfSome, IsNone, MatchResult, ⊤};
 ghost use Rattle.std.specs.Io.KnownBytes.{Consumes};
 ghost use Rattle.mongo_wire.specs.contracts.frame_buffer.FrameBuffer.{the_row};
 ghost use Rattle.mongo_wire.specs.Error.{kind_of_frame_fault};
