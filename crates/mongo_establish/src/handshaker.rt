@@ -88,7 +88,8 @@ impl Handshaker {
     /// hello is longer than 2147483647 bytes and at `TooLong` where its frame is longer than 50331648. `WriteFault` where the
     /// link failed to take it; those of [`mongo_wire::FrameBuffer::read`]; `Command`, `Hello`, `SessionTimeout`. Up to here
     /// the connection has no description; then it has that of the reply, and the refusals of the mechanism follow. A
-    /// connection on which a fault of the link was met, bytes that are no frame among them, keeps it, and answers it from then on.
+    /// connection on which a fault of the link was met, bytes that are no frame among them, or on which want of memory cut an
+    /// exchange, keeps that, and answers it from then on.
     pub fn handshake<L: Link, G: Ledger>(
         &self,
         alloc: Global,
